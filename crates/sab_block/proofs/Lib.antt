@@ -1,0 +1,3 @@
+pub mod RawElements
+pub mod ElementBytes
+pub mod Combining

@@ -1,0 +1,54 @@
+-- The kind table.
+use Rattle.std.specs.Prelude.{ℕ, ◌*◌, ◌^◌, Bool, true, false}
+use Rattle.sab_block.specs.declared.kind.Kind.{Kind}
+use Rattle.sab_block.specs.declared.kind.Kind.TheVariants.{Int8, Uint8, Uint8Clamped, Int16, Uint16, Int32, Uint32, Float32, Float64, BigInt64, BigUint64}
+
+-- what the standard says of an element type
+pub record Properties : Type 0 where
+  -- bytes of an element (table "The TypedArray Constructors")
+  pub size : ℕ
+  -- IsUnsignedElementType is false; of a float it isn't used
+  pub signed : Bool
+  -- IsBigIntElementType
+  pub big : Bool
+  -- ValidateIntegerTypedArray takes it, where waitable is false
+  pub atomic : Bool
+  -- ValidateIntegerTypedArray takes it, where waitable is true
+  pub waitable : Bool
+
+abbrev pub row : ℕ → Bool → Bool → Bool → Bool → Properties
+row size signed big atomic waitable =
+    record { size = size; signed = signed; big = big; atomic = atomic; waitable = waitable }
+
+-- the table: size, signed, BigInt, atomic, waitable
+abbrev pub properties : Kind → Properties
+properties Int8 = row 1 true false true false
+properties Uint8 = row 1 false false true false
+properties Uint8Clamped = row 1 false false false false
+properties Int16 = row 2 true false true false
+properties Uint16 = row 2 false false true false
+properties Int32 = row 4 true false true true
+properties Uint32 = row 4 false false true false
+properties Float32 = row 4 false false false false
+properties Float64 = row 8 false false false false
+properties BigInt64 = row 8 true true true true
+properties BigUint64 = row 8 false true true false
+
+abbrev pub element_size : Kind → ℕ
+element_size kind = (properties kind).size
+
+abbrev pub is_signed : Kind → Bool
+is_signed kind = (properties kind).signed
+
+abbrev pub is_big : Kind → Bool
+is_big kind = (properties kind).big
+
+abbrev pub is_atomic : Kind → Bool
+is_atomic kind = (properties kind).atomic
+
+abbrev pub is_waitable : Kind → Bool
+is_waitable kind = (properties kind).waitable
+
+-- how many raw elements there are
+abbrev pub raw_count : Kind → ℕ
+raw_count kind = 2 ^ (8 * element_size kind)

@@ -1,0 +1,6 @@
+pub mod Kind
+pub mod Operand
+pub mod View
+pub mod Block
+pub mod RmwOp
+pub mod Access

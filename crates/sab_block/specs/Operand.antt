@@ -1,0 +1,36 @@
+-- Operands, raw elements, and the values that raw elements stand for.
+use Rattle.std.specs.Prelude.{ℕ, ◌-◌, ◌*◌, ◌^◌, nat_le, ℤ, pos, neg_ℤ, ◌-ℤ◌, ◌≤ℤ◌, Bool, not, ◌&&◌, if◌then◌else◌}
+use Rattle.std.specs.Int.{int_rem_euclid}
+use Rattle.std.specs.Int.RustNames.{unsigned_abs}
+use Rattle.sab_block.specs.declared.kind.Kind.{Kind}
+use Rattle.sab_block.specs.Kind.{element_size, is_signed, is_big, raw_count}
+
+-- a Number or a BigInt (Numeric Types), here one that is whole
+pub record Numeric : Type 0 where
+  pub big : Bool
+  pub whole : ℤ
+
+-- v lies within ±(2^53 - 1) (Number.MAX_SAFE_INTEGER, Number.MIN_SAFE_INTEGER)
+abbrev pub IsSafeInteger : ℤ → Type 0
+IsSafeInteger v = (neg_ℤ (pos (2 ^ 53 - 1)) ≤ℤ v) × (v ≤ℤ pos (2 ^ 53 - 1))
+
+-- v modulo m, which is never negative (Notational Conventions, Mathematical Operations)
+abbrev pub modulo : ℤ → ℕ → ℕ
+modulo v m = unsigned_abs (int_rem_euclid v (pos m))
+
+-- the raw element that v is written as (NumericToRawBytes)
+unfoldable pub raw : Kind → ℤ → ℕ
+raw kind v = modulo v (raw_count kind)
+
+-- the whole number that a raw element is read as (RawBytesToNumeric)
+unfoldable pub value : Kind → ℕ → ℤ
+value kind r =
+    if is_signed kind && nat_le (2 ^ (8 * element_size kind - 1)) r then pos r -ℤ pos (raw_count kind) else pos r
+
+-- the Number or BigInt that a raw element is read as
+abbrev pub numeric : Kind → ℕ → Numeric
+numeric kind r = record { big = is_big kind; whole = value kind r }
+
+-- the operand is a BigInt exactly if the kind's elements are (ToBigInt, ToIntegerOrInfinity)
+abbrev pub agrees : Kind → Numeric → Bool
+agrees kind x = if is_big kind then x.big else not x.big

@@ -1,0 +1,122 @@
+//! Operands, and the raw elements that they are written as and read from.
+
+ghost use Rattle.std.specs.Prelude.{◌≡◌, ◌+◌, ◌*◌, ◌^◌, ◌<◌, ◌≤◌, Ok, Err, true, false, IsTrue, IfOk, MatchBool, SomeIff};
+ghost use Rattle.sab_block.specs.Kind.{is_atomic, raw_count};
+ghost use Rattle.sab_block.specs.declared.thrown.Thrown.TheVariants.{TypeError};
+ghost use Rattle.sab_block.specs.Operand.{IsSafeInteger, agrees, raw, value, numeric};
+
+use crate::kind::Kind;
+use crate::thrown::Thrown;
+use std::marker::Model;
+
+/// A Number or a BigInt that is whole: what a call is handed, and the value that it answers.
+#[derive(Clone, Copy, Debug, PartialEq, Eq, Hash)]
+pub struct Operand {
+    big: bool,
+    whole: i128,
+}
+
+impl Model for Operand {
+    ghost use Rattle.std.specs.Prelude.{◌≡◌, false};
+    ghost use Rattle.sab_block.specs.Operand.{Numeric, IsSafeInteger};
+
+    ghost Value = { Numeric };
+
+    ghost view = { λ o. record { big = o.big; whole = o.whole } };
+
+    ghost invariant = { λ o. o.big ≡ false → IsSafeInteger o.whole };
+
+    ghost inverse = { λ n. record { big = n.big; whole = n.whole } };
+}
+
+impl Operand {
+    /// The greatest safe integer, 2^53 - 1 (Number.MAX_SAFE_INTEGER); its negative is the least.
+    pub const MAX_SAFE_INTEGER: i64 = 9_007_199_254_740_991;
+
+    /// The Number `v`, or `None` exactly where `v` is no safe integer.
+    pub fn number(v: i64) -> Option<Operand>
+        ensures { SomeIff result (IsSafeInteger v) (record { big = false; whole = v }) }
+    {
+        if v < -Self::MAX_SAFE_INTEGER || Self::MAX_SAFE_INTEGER < v {
+            return None;
+        }
+        Some(Operand {
+            big: false,
+            whole: i128::from(v),
+        })
+    }
+
+    /// The BigInt `v`.
+    pub fn big(v: i128) -> Operand
+        ensures { result ≡ record { big = true; whole = v } }
+    {
+        Operand {
+            big: true,
+            whole: v,
+        }
+    }
+
+    /// Whether it is a BigInt, and not a Number.
+    pub fn is_big(self) -> bool
+        ensures { result ≡ self.big }
+    {
+        self.big
+    }
+
+    /// Its value; a Number's is within ±(2^53 - 1).
+    pub fn whole(self) -> i128
+        ensures value { result ≡ self.whole }
+        ensures safe { self.big ≡ false → IsSafeInteger result }
+    {
+        self.whole
+    }
+}
+
+/// The raw element that `v` is written as in an element of the kind: `v` modulo 2^(8 × size) (NumericToRawBytes).
+///
+/// TypeError exactly where one of `v` and the kind is BigInt and the other isn't (ToBigInt, ToIntegerOrInfinity).
+pub fn to_raw(kind: Kind, v: Operand) -> Result<u64, Thrown>
+    requires { IsTrue (is_atomic kind) }
+    ensures value { MatchBool (agrees kind v) (result ≡ Ok (raw kind v.whole)) (result ≡ Err TypeError) }
+    ensures fits { IfOk result (λ r. r < raw_count kind) }
+{
+    if v.big != kind.is_big() {
+        return Err(Thrown::TypeError);
+    }
+    Ok(wrapped(kind, v.whole))
+}
+
+/// The operand that a raw element of the kind, below 2^(8 × size), is read as (RawBytesToNumeric).
+pub fn from_raw(kind: Kind, raw: u64) -> Operand
+    requires atomic { IsTrue (is_atomic kind) }
+    requires fits { raw < raw_count kind }
+    ensures { result ≡ numeric kind raw }
+{
+    Operand {
+        big: kind.is_big(),
+        whole: unwrapped(kind, raw),
+    }
+}
+
+/// The low bits of a whole number, as many as an element has.
+#[tactic(auto, using(crate::proofs::RawElements::wraps))]
+fn wrapped(kind: Kind, v: i128) -> u64
+    ensures value { result ≡ raw kind v }
+    ensures fits { result < raw_count kind }
+{
+    (v.cast_unsigned() & u128::from(kind.max_raw())) as u64
+}
+
+/// The whole number that the bits of an element stand for, by two's complement where the kind is signed.
+#[tactic(auto, using(crate::proofs::RawElements::value_cases))]
+fn unwrapped(kind: Kind, raw: u64) -> i128
+    requires { raw < raw_count kind }
+    ensures { result ≡ value kind raw }
+{
+    let whole = i128::from(raw);
+    let max_raw = kind.max_raw();
+    if kind.is_signed() && max_raw / 2 < raw {
+        return whole - i128::from(max_raw) - 1;
+    }
+    whole
+}
