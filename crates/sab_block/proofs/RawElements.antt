@@ -1,5 +1,5 @@
 -- Raw elements: numbers modulo the count of a kind's raw elements, and the values that these stand for.
-use Rattle.std.proofs.Common.{◌≡◌, ℕ, suc, ◌+◌, ◌-◌, ◌*◌, ◌/◌, ◌%◌, ◌^◌, ◌<◌, ◌≤◌, ℤ, pos, negsuc, ◌+ℤ◌, ◌-ℤ◌, Bool, true, false, IsTrue, ◌&&◌, cond, if◌then◌else◌, nat_le, refl, ap, sym, ◌∙◌, arith}
+use Rattle.std.proofs.Common.{◌≡◌, ℕ, suc, ◌+◌, ◌-◌, ◌*◌, ◌/◌, ◌%◌, ◌^◌, ◌<◌, ◌≤◌, ℤ, pos, negsuc, ◌+ℤ◌, ◌-ℤ◌, true, false, ◌&&◌, cond, nat_le, refl, ap, sym, ◌∙◌, arith}
 use Rattle.std.proofs.lemmas.Nat.{and_mask, pow-add, pow_pos}
 use Rattle.std.proofs.lemmas.Int.{ints, int_rem_euclid_is}
 use Rattle.std.specs.Int.{w128, cast_unsigned}
@@ -9,8 +9,8 @@ use Rattle.sab_block.specs.declared.kind.Kind.{Kind}
 use Rattle.sab_block.specs.declared.kind.Kind.TheVariants.{Int8, Uint8, Uint8Clamped, Int16, Uint16, Int32, Uint32, Float32, Float64, BigInt64, BigUint64}
 use Rattle.std.proofs.Math.Nat.{mod-lt}
 use Rattle.std.proofs.lemmas.Bool.Decides.{nat_tests}
-use Rattle.sab_block.specs.Kind.{element_size, is_signed, is_atomic, is_big, raw_count}
-use Rattle.sab_block.specs.Operand.{modulo, raw, value, IsSafeInteger}
+use Rattle.sab_block.specs.Kind.{element_size, is_signed, raw_count}
+use Rattle.sab_block.specs.Operand.{modulo, raw, value}
 
 -- z modulo 2 ^ n, where z and the natural m differ by 2 ^ (j + n)
 pub modulo-pow : (z : ℤ) (j n m : ℕ) → z +ℤ pos (2 ^ (j + n)) ≡ pos m → modulo z (2 ^ n) ≡ m % 2 ^ n
@@ -88,30 +88,6 @@ value-high kind r m e h s =
     let above : 2 ^ (8 * element_size kind - 1) ≤ r = omega (arith, half kind m e) in
     let high : nat_le (2 ^ (8 * element_size kind - 1)) r ≡ true = grind (arith, nat_tests) in
     rw (s, high) (omega (arith, ints))
-
--- an element that is no BigInt has at most 32 bits
-number_count : (kind : Kind) → IsTrue (is_atomic kind) → is_big kind ≡ false → raw_count kind ≤ 2 ^ 32
-number_count Int8 a b = omega arith
-number_count Uint8 a b = omega arith
-number_count Uint8Clamped a b = cc
-number_count Int16 a b = omega arith
-number_count Uint16 a b = omega arith
-number_count Int32 a b = omega arith
-number_count Uint32 a b = omega arith
-number_count Float32 a b = cc
-number_count Float64 a b = cc
-number_count BigInt64 a b = cc
-number_count BigUint64 a b = cc
-
--- so its value is a safe integer
-pub value-safe : (kind : Kind) (r : ℕ) → IsTrue (is_atomic kind) → r < raw_count kind → is_big kind ≡ false → IsSafeInteger (value kind r)
-unfolding value
-value-safe kind r a h b =
-    go (raw_count kind) h (number_count kind a b) (is_signed kind && nat_le (2 ^ (8 * element_size kind - 1)) r)
-  where
-    go : (n : ℕ) → r < n → n ≤ 2 ^ 32 → (t : Bool) → IsSafeInteger (if t then pos r -ℤ pos n else pos r)
-    go n low few true = (omega (arith, ints), omega (arith, ints))
-    go n low few false = (omega (arith, ints), omega (arith, ints))
 
 pub ruleset value_cases = (value-unsigned, value-low, value-high)
 

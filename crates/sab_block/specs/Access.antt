@@ -2,11 +2,13 @@
 use Rattle.std.specs.Prelude.{◌≡◌, ◌≢◌, ℕ, ◌*◌, Bool, if◌then◌else◌, is_some, ℤ, List, [], ◌∷◌, map, Option, Some, None}
 use Rattle.sab_block.specs.declared.thrown.Thrown.{Thrown}
 use Rattle.sab_block.specs.declared.thrown.Thrown.TheVariants.{TypeError, RangeError}
+use Rattle.sab_block.specs.declared.operand.Operand.{Operand}
+use Rattle.sab_block.specs.declared.view.View.{View}
 use Rattle.sab_block.specs.declared.access.Access.{Access}
 use Rattle.sab_block.specs.declared.access.Access.TheVariants.{Load, Store, Rmw, CompareExchange}
 use Rattle.sab_block.specs.Kind.{element_size, is_atomic}
-use Rattle.sab_block.specs.Operand.{Numeric, agrees, raw, numeric}
-use Rattle.sab_block.specs.View.{TypedArray, place}
+use Rattle.sab_block.specs.Operand.{whole_of, agrees, raw, operand}
+use Rattle.sab_block.specs.View.{kind_of, place}
 use Rattle.sab_block.specs.Block.{number, put}
 use Rattle.sab_block.specs.RmwOp.{combined}
 
@@ -17,7 +19,7 @@ index_of (Rmw op index x) = index
 index_of (CompareExchange index x y) = index
 
 -- the operands, from left to right
-abbrev pub operands_of : Access → List Numeric
+abbrev pub operands_of : Access → List Operand
 operands_of (Load index) = []
 operands_of (Store index x) = x ∷ []
 operands_of (Rmw op index x) = x ∷ []
@@ -33,50 +35,50 @@ abbrev pub first_failure : List Check → Option Thrown
 first_failure [] = None
 first_failure (check ∷ checks) = if check.passes then first_failure checks else Some check.thrown
 
--- the kind is one that the functions of Atomics take (ValidateIntegerTypedArray)
-abbrev pub kind_check : TypedArray → Check
-kind_check view = record { passes = is_atomic view.kind; thrown = TypeError }
+-- the kind is one that the functions of Atomics take (ValidateIntegerView)
+abbrev pub kind_check : View → Check
+kind_check view = record { passes = is_atomic (kind_of view); thrown = TypeError }
 
 -- there is an element at the index (ValidateAtomicAccess)
-abbrev pub index_check : TypedArray → ℤ → Check
+abbrev pub index_check : View → ℤ → Check
 index_check view index = record { passes = is_some (place view index); thrown = RangeError }
 
 -- the operand is a BigInt exactly if the elements are (ToBigInt, ToIntegerOrInfinity)
-abbrev pub operand_check : TypedArray → Numeric → Check
-operand_check view x = record { passes = agrees view.kind x; thrown = TypeError }
+abbrev pub operand_check : View → Operand → Check
+operand_check view x = record { passes = agrees (kind_of view) x; thrown = TypeError }
 
-abbrev pub access_checks : TypedArray → Access → List Check
+abbrev pub access_checks : View → Access → List Check
 access_checks view access =
     kind_check view ∷ index_check view (index_of access) ∷ map (operand_check view) (operands_of access)
 
 -- what an access throws, or none where all checks pass
-abbrev pub access_verdict : TypedArray → Access → Option Thrown
+abbrev pub access_verdict : View → Access → Option Thrown
 access_verdict view access = first_failure (access_checks view access)
 
 -- the raw element at a place (GetValueFromBuffer)
-abbrev pub element : TypedArray → List ℕ → ℕ → ℕ
-element view mem p = number mem p (element_size view.kind)
+abbrev pub element : View → List ℕ → ℕ → ℕ
+element view mem p = number mem p (element_size (kind_of view))
 
 -- the bytes after a raw element was written at a place (SetValueInBuffer)
-abbrev pub written : TypedArray → List ℕ → ℕ → ℕ → List ℕ
-written view mem p r = put mem p (element_size view.kind) r
+abbrev pub written : View → List ℕ → ℕ → ℕ → List ℕ
+written view mem p r = put mem p (element_size (kind_of view)) r
 
 -- at the place p of its element, the access answers x, and leaves the bytes mem as mem'
-abbrev pub ActsAt : TypedArray → Access → ℕ → List ℕ → Numeric → List ℕ → Type 0
+abbrev pub ActsAt : View → Access → ℕ → List ℕ → Operand → List ℕ → Type 0
 -- Atomics.load
-ActsAt view (Load index) p mem x mem' = (x ≡ numeric view.kind (element view mem p)) × (mem' ≡ mem)
+ActsAt view (Load index) p mem x mem' = (x ≡ operand (kind_of view) (element view mem p)) × (mem' ≡ mem)
 -- Atomics.store
-ActsAt view (Store index y) p mem x mem' = (x ≡ y) × (mem' ≡ written view mem p (raw view.kind y.whole))
--- AtomicReadModifyWrite
+ActsAt view (Store index y) p mem x mem' = (x ≡ y) × (mem' ≡ written view mem p (raw (kind_of view) (whole_of y)))
+-- AtomicReadModifyWrite, GetModifySetValueInBuffer
 ActsAt view (Rmw op index y) p mem x mem' =
-    (x ≡ numeric view.kind (element view mem p))
-    × (mem' ≡ written view mem p (combined op (8 * element_size view.kind) (element view mem p) (raw view.kind y.whole)))
--- Atomics.compareExchange
+    (x ≡ operand (kind_of view) (element view mem p))
+    × (mem' ≡ written view mem p (combined op (8 * element_size (kind_of view)) (element view mem p) (raw (kind_of view) (whole_of y))))
+-- Atomics.compareExchange, ByteListEqual
 ActsAt view (CompareExchange index y z) p mem x mem' =
-    (x ≡ numeric view.kind (element view mem p))
-    × (element view mem p ≡ raw view.kind y.whole → mem' ≡ written view mem p (raw view.kind z.whole))
-    × (element view mem p ≢ raw view.kind y.whole → mem' ≡ mem)
+    (x ≡ operand (kind_of view) (element view mem p))
+    × (element view mem p ≡ raw (kind_of view) (whole_of y) → mem' ≡ written view mem p (raw (kind_of view) (whole_of z)))
+    × (element view mem p ≢ raw (kind_of view) (whole_of y) → mem' ≡ mem)
 
 -- the access has an element, and acts at its place
-abbrev pub Acts : TypedArray → Access → List ℕ → Numeric → List ℕ → Type 0
+abbrev pub Acts : View → Access → List ℕ → Operand → List ℕ → Type 0
 Acts view access mem x mem' = (p : ℕ) × (place view (index_of access) ≡ Some p) × ActsAt view access p mem x mem'

@@ -11,7 +11,7 @@ pub record Properties : Type 0 where
   pub signed : Bool
   -- IsBigIntElementType
   pub big : Bool
-  -- ValidateIntegerTypedArray takes it, where waitable is false
+  -- ValidateIntegerTypedArray takes it, where waitable is false (IsUnclampedIntegerElementType, IsBigIntElementType)
   pub atomic : Bool
   -- ValidateIntegerTypedArray takes it, where waitable is true
   pub waitable : Bool

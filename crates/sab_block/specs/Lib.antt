@@ -1,4 +1,5 @@
 pub mod Kind
+pub mod Thrown
 pub mod Operand
 pub mod View
 pub mod Block

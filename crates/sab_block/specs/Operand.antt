@@ -1,14 +1,25 @@
 -- Operands, raw elements, and the values that raw elements stand for.
-use Rattle.std.specs.Prelude.{ℕ, ◌-◌, ◌*◌, ◌^◌, nat_le, ℤ, pos, neg_ℤ, ◌-ℤ◌, ◌≤ℤ◌, Bool, not, ◌&&◌, if◌then◌else◌}
+use Rattle.std.specs.Prelude.{ℕ, ◌-◌, ◌*◌, ◌^◌, nat_le, ℤ, pos, neg_ℤ, ◌-ℤ◌, ◌≤ℤ◌, Bool, true, false, not, ◌&&◌, if◌then◌else◌}
 use Rattle.std.specs.Int.{int_rem_euclid}
 use Rattle.std.specs.Int.RustNames.{unsigned_abs}
 use Rattle.sab_block.specs.declared.kind.Kind.{Kind}
+use Rattle.sab_block.specs.declared.operand.Operand.{Operand}
 use Rattle.sab_block.specs.Kind.{element_size, is_signed, is_big, raw_count}
 
--- a Number or a BigInt (Numeric Types), here one that is whole
-pub record Numeric : Type 0 where
-  pub big : Bool
-  pub whole : ℤ
+-- the Number v, and the BigInt v
+abbrev pub number_operand : ℤ → Operand
+number_operand v = record { big = false; whole = v }
+
+abbrev pub bigint_operand : ℤ → Operand
+bigint_operand v = record { big = true; whole = v }
+
+-- the operand is a BigInt, and not a Number (Numeric Types)
+abbrev pub is_bigint : Operand → Bool
+is_bigint x = x.big
+
+-- the whole number that it is
+abbrev pub whole_of : Operand → ℤ
+whole_of x = x.whole
 
 -- v lies within ±(2^53 - 1) (Number.MAX_SAFE_INTEGER, Number.MIN_SAFE_INTEGER)
 abbrev pub IsSafeInteger : ℤ → Type 0
@@ -28,9 +39,9 @@ value kind r =
     if is_signed kind && nat_le (2 ^ (8 * element_size kind - 1)) r then pos r -ℤ pos (raw_count kind) else pos r
 
 -- the Number or BigInt that a raw element is read as
-abbrev pub numeric : Kind → ℕ → Numeric
-numeric kind r = record { big = is_big kind; whole = value kind r }
+abbrev pub operand : Kind → ℕ → Operand
+operand kind r = record { big = is_big kind; whole = value kind r }
 
 -- the operand is a BigInt exactly if the kind's elements are (ToBigInt, ToIntegerOrInfinity)
-abbrev pub agrees : Kind → Numeric → Bool
-agrees kind x = if is_big kind then x.big else not x.big
+abbrev pub agrees : Kind → Operand → Bool
+agrees kind x = if is_big kind then is_bigint x else not (is_bigint x)

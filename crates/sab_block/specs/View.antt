@@ -1,14 +1,24 @@
 -- Views, and the places of their elements.
 use Rattle.std.specs.Prelude.{◌≡◌, ℕ, ◌+◌, ◌-◌, ◌*◌, ◌/◌, ◌%◌, ◌==◌, nat_lt, nat_le, if◌then◌else◌, ℤ, pos, negsuc, Option, Some, None}
 use Rattle.sab_block.specs.declared.kind.Kind.{Kind}
+use Rattle.sab_block.specs.declared.view.View.{View}
 use Rattle.sab_block.specs.Kind.{element_size}
 
--- a typed array on a block of block_len bytes (TypedArray Instances)
-pub record TypedArray : Type 0 where
-  pub kind : Kind
-  pub block_len : ℕ
-  pub offset : ℕ
-  pub len : ℕ
+-- the kind of its elements ([[TypedArrayName]])
+abbrev pub kind_of : View → Kind
+kind_of view = view.kind
+
+-- the length of the blocks that it is made for
+abbrev pub block_len_of : View → ℕ
+block_len_of view = view.block_len
+
+-- the byte at which its first element begins ([[ByteOffset]])
+abbrev pub offset_of : View → ℕ
+offset_of view = view.offset
+
+-- how many elements it has ([[ArrayLength]])
+abbrev pub len_of : View → ℕ
+len_of view = view.len
 
 -- the given length, where so many elements end within the block
 abbrev pub given_count : ℕ → ℕ → ℕ → ℤ → Option ℕ
@@ -31,13 +41,13 @@ count kind block_len (pos offset) length =
 count kind block_len (negsuc offset) length = None
 
 -- the byte at which the element of an index begins, or none where there is no such element (ValidateAtomicAccess)
-abbrev pub place : TypedArray → ℤ → Option ℕ
-place view (pos i) = if nat_lt i view.len then Some (view.offset + i * element_size view.kind) else None
+abbrev pub place : View → ℤ → Option ℕ
+place view (pos i) = if nat_lt i (len_of view) then Some (offset_of view + i * element_size (kind_of view)) else None
 place view (negsuc i) = None
 
 -- the view has what was given, and n elements
-pub record IsViewOf (kind : Kind) (block_len : ℕ) (offset : ℤ) (n : ℕ) (view : TypedArray) : Type 0 where
-  pub kind_is : view.kind ≡ kind
-  pub block_len_is : view.block_len ≡ block_len
-  pub offset_is : pos view.offset ≡ offset
-  pub len_is : view.len ≡ n
+pub record IsViewOf (kind : Kind) (block_len : ℕ) (offset : ℤ) (n : ℕ) (view : View) : Type 0 where
+  pub kind_is : kind_of view ≡ kind
+  pub block_len_is : block_len_of view ≡ block_len
+  pub offset_is : pos (offset_of view) ≡ offset
+  pub len_is : len_of view ≡ n

@@ -2,6 +2,7 @@
 
 ghost use Rattle.std.specs.Prelude.{◌≡◌, ◌+◌, ◌*◌, ◌^◌, ◌<◌, ◌≤◌, ◌↔◌, [], length, replicate, Err, IsTrue, IsOk, IfOk, OnErr, MatchOption};
 ghost use Rattle.sab_block.specs.Block.{number, put, IsElementSize};
+ghost use Rattle.sab_block.specs.View.{block_len_of};
 ghost use Rattle.sab_block.specs.Access.{access_verdict, Acts};
 
 use crate::access::Access;
@@ -12,7 +13,7 @@ use byteorder::{ByteOrder, LittleEndian};
 use std::alloc::{AllocError, Global};
 use std::marker::Model;
 
-/// A shared block of bytes, of a fixed length (Shared Data Block).
+/// A shared block of bytes, of a fixed length (Data Blocks: a Shared Data Block).
 #[derive(Debug, Drop)]
 pub struct Block {
     bytes: Vec<u8>,
@@ -96,7 +97,7 @@ impl Block {
     /// from left to right, is a BigInt exactly if the elements are, else TypeError. An access that throws leaves every
     /// byte as it was.
     pub fn access(&mut self, view: &View, access: &Access) -> Result<Operand, Thrown>
-        requires { view.now.block_len ≡ length self.old }
+        requires { block_len_of view.now ≡ length self.old }
 
         ensures thrown { MatchOption (access_verdict view.now access.now) (IsOk result) (λ e. result ≡ Err e) }
         ensures act { IfOk result (λ answer. Acts view.now access.now self.old answer self.new) }
@@ -169,3 +170,6 @@ fn write_at(bytes: &mut [u8], place: usize, size: u32, raw: u64)
         _ => LittleEndian::write_u64(element, raw),
     }
 }
+
+#[cfg(test)]
+mod tests;

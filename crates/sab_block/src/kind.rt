@@ -35,7 +35,7 @@ impl Kind {
         }
     }
 
-    /// Whether a raw element is read as a signed number (IsUnsignedElementType).
+    /// Whether a raw element is read as a signed number (IsUnsignedElementType); of a float it is false, and not used.
     pub fn is_signed(self) -> bool
         ensures { result ≡ is_signed self }
     {
@@ -52,7 +52,7 @@ impl Kind {
         matches!(self, Kind::BigInt64 | Kind::BigUint64)
     }
 
-    /// Whether the functions of `Atomics` take it (ValidateIntegerTypedArray).
+    /// Whether the functions of `Atomics` take it (ValidateIntegerTypedArray, IsUnclampedIntegerElementType).
     pub fn is_atomic(self) -> bool
         ensures { result ≡ is_atomic self }
     {
@@ -78,3 +78,6 @@ impl Kind {
         }
     }
 }
+
+#[cfg(test)]
+mod tests;

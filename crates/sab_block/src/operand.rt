@@ -3,11 +3,10 @@
 ghost use Rattle.std.specs.Prelude.{◌≡◌, ◌+◌, ◌*◌, ◌^◌, ◌<◌, ◌≤◌, Ok, Err, true, false, IsTrue, IfOk, MatchBool, SomeIff};
 ghost use Rattle.sab_block.specs.Kind.{is_atomic, raw_count};
 ghost use Rattle.sab_block.specs.declared.thrown.Thrown.TheVariants.{TypeError};
-ghost use Rattle.sab_block.specs.Operand.{IsSafeInteger, agrees, raw, value, numeric};
+ghost use Rattle.sab_block.specs.Operand.{IsSafeInteger, whole_of, agrees, raw, value, operand};
 
 use crate::kind::Kind;
 use crate::thrown::Thrown;
-use std::marker::Model;
 
 /// A Number or a BigInt that is whole: what a call is handed, and the value that it answers.
 #[derive(Clone, Copy, Debug, PartialEq, Eq, Hash)]
@@ -16,26 +15,15 @@ pub struct Operand {
     whole: i128,
 }
 
-impl Model for Operand {
-    ghost use Rattle.std.specs.Prelude.{◌≡◌, false};
-    ghost use Rattle.sab_block.specs.Operand.{Numeric, IsSafeInteger};
-
-    ghost Value = { Numeric };
-
-    ghost view = { λ o. record { big = o.big; whole = o.whole } };
-
-    ghost invariant = { λ o. o.big ≡ false → IsSafeInteger o.whole };
-
-    ghost inverse = { λ n. record { big = n.big; whole = n.whole } };
-}
-
 impl Operand {
+    ghost use Rattle.sab_block.specs.Operand.{number_operand, bigint_operand, is_bigint};
+
     /// The greatest safe integer, 2^53 - 1 (Number.MAX_SAFE_INTEGER); its negative is the least.
     pub const MAX_SAFE_INTEGER: i64 = 9_007_199_254_740_991;
 
     /// The Number `v`, or `None` exactly where `v` is no safe integer.
     pub fn number(v: i64) -> Option<Operand>
-        ensures { SomeIff result (IsSafeInteger v) (record { big = false; whole = v }) }
+        ensures { SomeIff result (IsSafeInteger v) (number_operand v) }
     {
         if v < -Self::MAX_SAFE_INTEGER || Self::MAX_SAFE_INTEGER < v {
             return None;
@@ -48,7 +36,7 @@ impl Operand {
 
     /// The BigInt `v`.
     pub fn big(v: i128) -> Operand
-        ensures { result ≡ record { big = true; whole = v } }
+        ensures { result ≡ bigint_operand v }
     {
         Operand {
             big: true,
@@ -58,15 +46,14 @@ impl Operand {
 
     /// Whether it is a BigInt, and not a Number.
     pub fn is_big(self) -> bool
-        ensures { result ≡ self.big }
+        ensures { result ≡ is_bigint self }
     {
         self.big
     }
 
-    /// Its value; a Number's is within ±(2^53 - 1).
+    /// The whole number that it is.
     pub fn whole(self) -> i128
-        ensures value { result ≡ self.whole }
-        ensures safe { self.big ≡ false → IsSafeInteger result }
+        ensures { result ≡ whole_of self }
     {
         self.whole
     }
@@ -77,7 +64,7 @@ impl Operand {
 /// TypeError exactly where one of `v` and the kind is BigInt and the other isn't (ToBigInt, ToIntegerOrInfinity).
 pub fn to_raw(kind: Kind, v: Operand) -> Result<u64, Thrown>
     requires { IsTrue (is_atomic kind) }
-    ensures value { MatchBool (agrees kind v) (result ≡ Ok (raw kind v.whole)) (result ≡ Err TypeError) }
+    ensures value { MatchBool (agrees kind v) (result ≡ Ok (raw kind (whole_of v))) (result ≡ Err TypeError) }
     ensures fits { IfOk result (λ r. r < raw_count kind) }
 {
     if v.big != kind.is_big() {
@@ -90,7 +77,7 @@ pub fn to_raw(kind: Kind, v: Operand) -> Result<u64, Thrown>
 pub fn from_raw(kind: Kind, raw: u64) -> Operand
     requires atomic { IsTrue (is_atomic kind) }
     requires fits { raw < raw_count kind }
-    ensures { result ≡ numeric kind raw }
+    ensures { result ≡ operand kind raw }
 {
     Operand {
         big: kind.is_big(),
@@ -120,3 +107,6 @@ fn unwrapped(kind: Kind, raw: u64) -> i128
     }
     whole
 }
+
+#[cfg(test)]
+mod tests;

@@ -3,11 +3,9 @@
 ghost use Rattle.std.specs.Prelude.{◌≡◌, ◌+◌, ◌*◌, ◌<◌, ◌≤◌, ◌↔◌, Ok, Err, IsTrue, IfOk, IsOkAnd, MatchOption};
 ghost use Rattle.sab_block.specs.declared.thrown.Thrown.TheVariants.{RangeError};
 ghost use Rattle.sab_block.specs.Kind.{element_size};
-ghost use Rattle.sab_block.specs.View.{count, place, IsViewOf};
 
 use crate::kind::Kind;
 use crate::thrown::Thrown;
-use std::marker::Model;
 
 /// A typed array: the elements of one kind that lie one after the other in a block.
 ///
@@ -18,23 +16,12 @@ pub struct View {
     block_len: u32,
     offset: u32,
     len: u32,
-}
-
-impl Model for View {
-    ghost use Rattle.std.specs.Prelude.{◌+◌, ◌*◌, ◌≤◌};
-    ghost use Rattle.sab_block.specs.Kind.{element_size};
-    ghost use Rattle.sab_block.specs.View.{TypedArray};
-
-    ghost Value = { TypedArray };
-
-    ghost view = { λ v. record { kind = v.kind; block_len = v.block_len; offset = v.offset; len = v.len } };
-
-    ghost invariant = { λ v. v.offset + v.len * element_size v.kind ≤ v.block_len };
-
-    ghost inverse = { λ a. record { kind = a.kind; block_len = a.block_len; offset = a.offset; len = a.len } };
+    ghost inside: { offset + len * element_size kind ≤ block_len },
 }
 
 impl View {
+    ghost use Rattle.sab_block.specs.View.{kind_of, block_len_of, offset_of, len_of, count, place, IsViewOf};
+
     /// A view of a block of `block_len` bytes, from byte `offset` on, of `length` elements or, without a length, of all
     /// that are left (InitializeTypedArrayFromArrayBuffer).
     ///
@@ -69,35 +56,35 @@ impl View {
 
     /// The kind of its elements (\[\[TypedArrayName\]\]).
     pub fn kind(self) -> Kind
-        ensures { result ≡ self.kind }
+        ensures { result ≡ kind_of self }
     {
         self.kind
     }
 
     /// The length, in bytes, of the blocks that it is made for.
     pub fn block_len(self) -> u32
-        ensures { result ≡ self.block_len }
+        ensures { result ≡ block_len_of self }
     {
         self.block_len
     }
 
     /// The byte at which its first element begins (\[\[ByteOffset\]\]).
     pub fn offset(self) -> u32
-        ensures { result ≡ self.offset }
+        ensures { result ≡ offset_of self }
     {
         self.offset
     }
 
     /// The number of its elements (\[\[ArrayLength\]\]).
     pub fn len(self) -> u32
-        ensures { result ≡ self.len }
+        ensures { result ≡ len_of self }
     {
         self.len
     }
 
     /// Whether it has no element.
     pub fn is_empty(self) -> bool
-        ensures { IsTrue result ↔ (self.len ≡ 0) }
+        ensures { IsTrue result ↔ (len_of self ≡ 0) }
     {
         self.len == 0
     }
@@ -107,7 +94,7 @@ impl View {
     /// RangeError exactly where the index is negative or at least the number of elements.
     pub fn place(self, index: i64) -> Result<u32, Thrown>
         ensures place { MatchOption (place self index) (result ≡ Err RangeError) (λ p. result ≡ Ok p) }
-        ensures inside { IfOk result (λ p. p + element_size self.kind ≤ self.block_len) }
+        ensures inside { IfOk result (λ p. p + element_size (kind_of self) ≤ block_len_of self) }
     {
         if index < 0 || i64::from(self.len) <= index {
             return Err(Thrown::RangeError);
@@ -115,3 +102,6 @@ impl View {
         Ok(self.offset + index as u32 * self.kind.size())
     }
 }
+
+#[cfg(test)]
+mod tests;

@@ -1,0 +1,68 @@
+//! Numbers and BigInts, and the raw elements between them.
+
+use super::{Operand, from_raw, to_raw};
+use crate::kind::Kind;
+use crate::thrown::Thrown;
+use std::test::Fail;
+
+fn number(v: i64) -> Result<Operand, Fail> {
+    Ok(Operand::number(v).ok_or("no safe integer")?)
+}
+
+#[test]
+fn a_number_is_a_safe_integer(rt: HostRuntime) {
+    let table = [
+        (9_007_199_254_740_991, true),
+        (9_007_199_254_740_992, false),
+        (-9_007_199_254_740_991, true),
+        (-9_007_199_254_740_992, false),
+    ];
+    for (v, safe) in table {
+        let whole = Operand::number(v).map(Operand::whole);
+        assert_eq!(rt; whole, safe.then_some(i128::from(v)), "the Number {v}");
+    }
+}
+
+#[test]
+fn a_big_is_told_from_a_number(rt: HostRuntime) -> Result<(), Fail> {
+    for (operand, big, whole) in [(number(-1)?, false, -1), (Operand::big(-1), true, -1)] {
+        assert_eq!(rt; operand.is_big(), big, "whether {operand:?} is a BigInt");
+        assert_eq!(rt; operand.whole(), whole, "the value of {operand:?}");
+    }
+    Ok(())
+}
+
+#[test]
+fn an_operand_is_wrapped_to_the_element(rt: HostRuntime) -> Result<(), Fail> {
+    let table = [
+        (Kind::Uint8, number(300)?, Ok(44)),
+        (Kind::Int32, number(-1)?, Ok(4_294_967_295)),
+        (Kind::BigInt64, Operand::big(i128::MIN), Ok(0)),
+        (Kind::Int8, Operand::big(1), Err(Thrown::TypeError)),
+    ];
+    for (kind, operand, raw) in table {
+        assert!(rt; kind.is_atomic());
+        assert_eq!(rt; to_raw(kind, operand), raw, "{operand:?} as {kind:?}");
+    }
+    Ok(())
+}
+
+#[test]
+fn a_raw_element_is_read_by_the_sign_of_its_kind(rt: HostRuntime) -> Result<(), Fail> {
+    let table = [
+        (Kind::Int8, 128, number(-128)?),
+        (Kind::Uint8, 128, number(128)?),
+        (Kind::BigInt64, u64::MAX, Operand::big(-1)),
+        (
+            Kind::BigUint64,
+            u64::MAX,
+            Operand::big(18_446_744_073_709_551_615),
+        ),
+    ];
+    for (kind, raw, operand) in table {
+        assert!(rt; kind.is_atomic());
+        assert!(rt; raw <= kind.max_raw());
+        assert_eq!(rt; from_raw(kind, raw), operand, "{raw} as {kind:?}");
+    }
+    Ok(())
+}
