@@ -12,6 +12,7 @@ use Rattle.sab_block.specs.View.{kind_of, place}
 use Rattle.sab_block.specs.Block.{number, put}
 use Rattle.sab_block.specs.RmwOp.{combined}
 
+-- the index that an access names
 abbrev pub index_of : Access → ℤ
 index_of (Load index) = index
 index_of (Store index x) = index
@@ -35,7 +36,7 @@ abbrev pub first_failure : List Check → Option Thrown
 first_failure [] = None
 first_failure (check ∷ checks) = if check.passes then first_failure checks else Some check.thrown
 
--- the kind is one that the functions of Atomics take (ValidateIntegerView)
+-- the kind is one that the functions of Atomics take (ValidateIntegerTypedArray)
 abbrev pub kind_check : View → Check
 kind_check view = record { passes = is_atomic (kind_of view); thrown = TypeError }
 
@@ -55,9 +56,21 @@ access_checks view access =
 abbrev pub access_verdict : View → Access → Option Thrown
 access_verdict view access = first_failure (access_checks view access)
 
+-- how many bits an element has
+abbrev pub bits_of : View → ℕ
+bits_of view = 8 * element_size (kind_of view)
+
+-- the raw element that an operand is written as (NumericToRawBytes)
+abbrev pub raw_of : View → Operand → ℕ
+raw_of view x = raw (kind_of view) (whole_of x)
+
 -- the raw element at a place (GetValueFromBuffer)
 abbrev pub element : View → List ℕ → ℕ → ℕ
 element view mem p = number mem p (element_size (kind_of view))
+
+-- the operand that the raw element at a place is read as (RawBytesToNumeric)
+abbrev pub value_at : View → List ℕ → ℕ → Operand
+value_at view mem p = operand (kind_of view) (element view mem p)
 
 -- the bytes after a raw element was written at a place (SetValueInBuffer)
 abbrev pub written : View → List ℕ → ℕ → ℕ → List ℕ
@@ -66,18 +79,18 @@ written view mem p r = put mem p (element_size (kind_of view)) r
 -- at the place p of its element, the access answers x, and leaves the bytes mem as mem'
 abbrev pub ActsAt : View → Access → ℕ → List ℕ → Operand → List ℕ → Type 0
 -- Atomics.load
-ActsAt view (Load index) p mem x mem' = (x ≡ operand (kind_of view) (element view mem p)) × (mem' ≡ mem)
+ActsAt view (Load index) p mem x mem' = (x ≡ value_at view mem p) × (mem' ≡ mem)
 -- Atomics.store
-ActsAt view (Store index y) p mem x mem' = (x ≡ y) × (mem' ≡ written view mem p (raw (kind_of view) (whole_of y)))
+ActsAt view (Store index y) p mem x mem' = (x ≡ y) × (mem' ≡ written view mem p (raw_of view y))
 -- AtomicReadModifyWrite, GetModifySetValueInBuffer
 ActsAt view (Rmw op index y) p mem x mem' =
-    (x ≡ operand (kind_of view) (element view mem p))
-    × (mem' ≡ written view mem p (combined op (8 * element_size (kind_of view)) (element view mem p) (raw (kind_of view) (whole_of y))))
+    (x ≡ value_at view mem p)
+    × (mem' ≡ written view mem p (combined op (bits_of view) (element view mem p) (raw_of view y)))
 -- Atomics.compareExchange, ByteListEqual
 ActsAt view (CompareExchange index y z) p mem x mem' =
-    (x ≡ operand (kind_of view) (element view mem p))
-    × (element view mem p ≡ raw (kind_of view) (whole_of y) → mem' ≡ written view mem p (raw (kind_of view) (whole_of z)))
-    × (element view mem p ≢ raw (kind_of view) (whole_of y) → mem' ≡ mem)
+    (x ≡ value_at view mem p)
+    × (element view mem p ≡ raw_of view y → mem' ≡ written view mem p (raw_of view z))
+    × (element view mem p ≢ raw_of view y → mem' ≡ mem)
 
 -- the access has an element, and acts at its place
 abbrev pub Acts : View → Access → List ℕ → Operand → List ℕ → Type 0
