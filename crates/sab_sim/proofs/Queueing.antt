@@ -1,0 +1,206 @@
+-- Moves into the line and out of it.
+use Rattle.std.proofs.Common.{◌≡◌, ◌≢◌, ℕ, zero, suc, ◌<◌, ◌≤◌, ◌==◌, ◌&&◌, ◌||◌, not, Bool, true, false, cond, List, [], ◌∷◌, ◌++◌, set, slice_get, Some, None, refl, ap, sym, ◌∙◌, subst, arith}
+use Rattle.std.specs.Prelude.{Contains, filter}
+use Rattle.std.proofs.Math.Bool.{or-false, or-true, and-false, and-true}
+use Rattle.std.proofs.lemmas.Option.{slice_get_within}
+use Rattle.std.proofs.lemmas.Bool.{ne_eqb, eq-eqb, eqb-true, false≢true}
+use Rattle.std.proofs.lemmas.List.Folds.{list_any-append}
+use Rattle.sab_sim.specs.declared.place.Place.{Place}
+use Rattle.sab_sim.specs.declared.plan_view.PlanView.{PlanView}
+use Rattle.sab_sim.specs.declared.call.Call.{Call}
+use Rattle.sab_sim.specs.declared.call.Call.TheVariants as C
+use Rattle.sab_sim.specs.declared.answer.Answer.TheVariants as A
+use Rattle.sab_sim.specs.declared.entry.What.TheVariants.{Enlisted, Left}
+use Rattle.sab_sim.specs.declared.agent.Agent.{Agent}
+use Rattle.sab_sim.specs.declared.agent.Phase.{Phase}
+use Rattle.sab_sim.specs.declared.agent.Phase.TheVariants as P
+use Rattle.sab_sim.specs.Call.{view_of}
+use Rattle.sab_sim.specs.Place.{same_place}
+use Rattle.sab_sim.specs.Plan.{PlanParts, calls_of, call_of, is_timed}
+use Rattle.sab_sim.specs.Object.{State, Waiter, stands, is_at, joined, taken_off, left, Does, DoesCall}
+use Rattle.sab_sim.specs.Agent.{waiting_phase, woken_phase, WaitsAt, IsSeated, Stands, WaitsOn, HasCall, IsAtCall, IsInLine, Turns}
+use Rattle.sab_sim.proofs.Lists.{slice_get-set, slice_get-set_other}
+use Rattle.sab_sim.proofs.Seating.{same_place-same, free_waits, one_ticket, stands_in, without, seated_without, stands_without_own, stands_without}
+use Rattle.sab_sim.proofs.Turning.{HasTurn, DiffersAt, stands_set, free_ticket, seated_set, own_turn, does_call}
+
+-- ---- joining the line
+
+-- the line with one more at its end
+seated_push : (agents : List Agent) (low ticket a : ℕ) (p : Place) (line : List Waiter) → IsSeated agents low line
+    → ((w : Waiter) (t : ℕ) → WaitsAt agents w.agent w.place t → Contains line w → t < ticket)
+    → low ≤ ticket → WaitsAt agents a p ticket
+    → IsSeated agents low (line ++ record { place = p; agent = a } ∷ [])
+seated_push agents low ticket a p [] s below h waits = (ticket, h, waits, tt)
+seated_push agents low ticket a p (w ∷ line) s below h waits =
+    let t_lt : s.0 < ticket = below w s.0 s.2 (0, (omega arith), refl) in
+    (s.0, s.1, s.2, seated_push agents (suc s.0) ticket a p line s.3 (λ v t vs there. below v t vs (suc there.0, (omega (arith, there.1)), there.2)) (omega (arith, t_lt)) waits)
+
+-- who stands in the line waits
+seated_waits : (agents : List Agent) (low : ℕ) (line : List Waiter) (w : Waiter) → IsSeated agents low line → Contains line w → (t : ℕ) × WaitsAt agents w.agent w.place t
+seated_waits agents low [] w s there = absurd (omega (arith, there.1))
+seated_waits agents low (v ∷ line) w s (zero, lt, e) =
+    (s.0, subst (λ (x : Waiter). WaitsAt agents x.agent x.place s.0) e s.2)
+seated_waits agents low (v ∷ line) w s (suc k, lt, e) = seated_waits agents (suc s.0) line w s.3 (k, omega (arith, lt), e)
+
+-- a wait joins the line
+pub enlisted_turn : {plan : PlanParts} {a : ℕ} {mem : List (List ℕ)} {agents : List Agent} {ticket : ℕ} {g : Agent} (turn : HasTurn plan agents a g) (call : Call) (p : Place)
+    → g.phase ≡ P.Begun → call_of plan a g.returned ≡ Some call → WaitsOn plan p call
+    → ((S : State) → S.mem ≡ mem → Does plan S (record { agent = a; call = g.returned; what = Enlisted }) (joined p a S))
+    → Turns plan a mem agents ticket Enlisted mem (set agents a (record { returned = g.returned; phase = P.Waiting p ticket }))
+enlisted_turn {plan} {a} {mem} {agents} {ticket} {g} turn call p begun call_is waits does =
+    own_turn turn Enlisted h (begun, (p, ticket, refl)) (call, call_is, waits)
+    (λ S stood. (joined p a S, record { acts = does S stood.mem_is; justified = tt }, stands_after S stood))
+  where
+    h : Agent
+    h = record { returned = g.returned; phase = P.Waiting p ticket }
+
+    free : waiting_phase g.phase ≡ false
+    free = ap waiting_phase begun
+
+    here : slice_get (set agents a h) a ≡ Some h
+    here = slice_get-set agents a h (slice_get_within agents a g turn.agent_is)
+
+    stands_after : (S : State) → Stands mem agents ticket S → Stands mem (set agents a h) (suc ticket) (joined p a S)
+    stands_after S stood =
+        stands_set stood turn.agent_is h (suc ticket) (joined p a S) stood.mem_is differs seated (omega arith)
+        (λ q t waits. let same : t ≡ ticket = cc in omega (arith, same))
+      where
+        seated : IsSeated (set agents a h) 0 (S.line ++ record { place = p; agent = a } ∷ [])
+        seated = seated_push (set agents a h) 0 ticket a p S.line (seated_set agents a g h 0 S.line turn.agent_is free stood.seated)
+            (λ w t waiting there.
+            let old = seated_waits agents 0 S.line w stood.seated there in
+            let other : w.agent ≢ a = λ e. free_waits agents a g w.place old.0 turn.agent_is free (subst (λ n. WaitsAt agents n w.place old.0) e old.1) in
+            stood.tickets w.agent w.place t (waiting.0, sym (slice_get-set_other agents a w.agent h other) ∙ waiting.1, waiting.2))
+            (omega arith) (h, here, refl)
+
+        differs : DiffersAt a h.phase S (joined p a S)
+        differs = record {
+          own_called = stood.called_is a ∙ (rw turn.agent_is (ap woken_phase begun));
+          other_called = λ b n. refl;
+          own_stands = list_any-append (λ (w : Waiter). w.agent == a) S.line (record { place = p; agent = a } ∷ []) ∙ (let own : (a == a) ≡ true = eq-eqb a a refl in rw (own, or-true (stands S a)) refl);
+          other_stands = λ b n. list_any-append (λ (w : Waiter). w.agent == b) S.line (record { place = p; agent = a } ∷ []) ∙ (let other : (a == b) ≡ false = ne_eqb a b (λ r. n (sym r)) in rw (other, or-false (stands S b)) refl);
+        }
+
+-- ---- leaving the line
+
+-- an agent that waits stands at its own place only, so the pair of both is all that there is of it
+taken_off-without : (agents : List Agent) (low a : ℕ) (p : Place) (t : ℕ) (line : List Waiter) → IsSeated agents low line → WaitsAt agents a p t
+    → filter (λ (w : Waiter). not (is_at p w && (w.agent == a))) line ≡ without a line
+taken_off-without agents low a p t [] s waits = refl
+taken_off-without agents low a p t (w ∷ line) s waits = go (taken_off-without agents (suc s.0) a p t line s.3 waits) (w.agent == a) refl
+  where
+    rest : List Waiter
+    rest = filter (λ (w : Waiter). not (is_at p w && (w.agent == a))) line
+
+    go : rest ≡ without a line → (b : Bool) → (w.agent == a) ≡ b → cond (not (is_at p w && b)) (w ∷ rest) rest ≡ cond (not b) (w ∷ without a line) (without a line)
+    go e true own =
+        let places = one_ticket agents a w.place s.0 p t (subst (λ n. WaitsAt agents n w.place s.0) (eqb-true w.agent a own) s.2) waits in
+        let at : same_place w.place p ≡ true = same_place-same w.place p places.0 in
+        rw at e
+    go e false own = rw (and-false (is_at p w)) (ap (λ (ws : List Waiter). w ∷ ws) e)
+
+-- who waits, and stands in the line, stands there at its place
+stands_at : (agents : List Agent) (low a : ℕ) (p : Place) (t : ℕ) (line : List Waiter) → IsSeated agents low line → WaitsAt agents a p t → stands_in a line ≡ true → Contains line (record { place = p; agent = a })
+stands_at agents low a p t [] s waits e = absurd (false≢true e)
+stands_at agents low a p t (w ∷ line) s waits e = go (stands_at agents (suc s.0) a p t line s.3 waits) (w.agent == a) refl e
+  where
+    go : (stands_in a line ≡ true → Contains line (record { place = p; agent = a })) → (b : Bool) → (w.agent == a) ≡ b → (b || stands_in a line) ≡ true → Contains (w ∷ line) (record { place = p; agent = a })
+    go rest true f e' =
+        let own : w.agent ≡ a = eqb-true w.agent a f in
+        let places = one_ticket agents a w.place s.0 p t (subst (λ n. WaitsAt agents n w.place s.0) own s.2) waits in
+        (0, omega arith, ap (λ (q : Place). record { place = q; agent = w.agent }) places.0 ∙ ap (λ (n : ℕ). record { place = p; agent = n }) own)
+    go rest false f e' = let there = rest e' in (suc there.0, omega (arith, there.1), there.2)
+
+-- the timeout of a wait is one of the object's
+timed_does : (plan : PlanParts) (can_block : Bool) (a : ℕ) (p : Place) (call : Call) (S : State) → WaitsOn plan p call → is_timed (Some call) ≡ true → Contains S.line (record { place = p; agent = a })
+    → (v : PlanView) × (slice_get plan.views (view_of call) ≡ Some v) × DoesCall can_block a v call S (Left A.TimedOut) (taken_off p a S)
+timed_does plan can_block a p (C.Wait n index x (Some timeout)) S waits timed there = (waits.0, waits.1, (p, waits.2, there, refl))
+timed_does plan can_block a p (C.Wait n index x None) S waits timed there = absurd (false≢true timed)
+timed_does plan can_block a p (C.Access n access) S waits timed there = absurd waits
+timed_does plan can_block a p (C.Notify n index count) S waits timed there = absurd waits
+
+-- a phase of waiting has a place and a ticket
+pub waiting_is : (phase : Phase) → waiting_phase phase ≡ true → (p : Place) × (t : ℕ) × (phase ≡ P.Waiting p t)
+waiting_is (P.Waiting p t) e = (p, t, refl)
+waiting_is P.Ready e = absurd (false≢true e)
+waiting_is P.Begun e = absurd (false≢true e)
+waiting_is P.Woken e = absurd (false≢true e)
+waiting_is (P.Answered x) e = absurd (false≢true e)
+
+-- a wait ends by its timeout
+pub timed_turn : {plan : PlanParts} {a : ℕ} {mem : List (List ℕ)} {agents : List Agent} {ticket : ℕ} {g : Agent} (turn : HasTurn plan agents a g) (p : Place) (t : ℕ)
+    → g.phase ≡ P.Waiting p t → is_timed (call_of plan a g.returned) ≡ true
+    → Turns plan a mem agents ticket (Left A.TimedOut) mem (set agents a (record { returned = g.returned; phase = P.Answered A.TimedOut }))
+timed_turn {plan} {a} {mem} {agents} {ticket} {g} turn p t waits timed =
+    own_turn turn (Left A.TimedOut) h (subst IsInLine (sym waits) tt, refl) (has.0, has.1, tt)
+    (λ S stood.
+    let stands_now : stands S a ≡ true = stood.stands_is a ∙ (rw turn.agent_is (ap waiting_phase waits)) in
+    let there = stands_at agents 0 a p t S.line stood.seated (g, turn.agent_is, waits) stands_now in
+    let does = timed_does plan turn.script.can_block a p has.0 S has.2 timed' there in
+    (taken_off p a S, record { acts = does_call turn has.0 does.0 (Left A.TimedOut) S (taken_off p a S) has.1 does.1 does.2; justified = tt }, stands_after S stood))
+  where
+    h : Agent
+    h = record { returned = g.returned; phase = P.Answered A.TimedOut }
+
+    has : HasCall plan (calls_of plan a) g.returned (P.Waiting p t)
+    has = subst (IsAtCall plan (calls_of plan a) g.returned) waits turn.at_call
+
+    timed' : is_timed (Some has.0) ≡ true
+    timed' = rw has.1 at timed
+
+    stands_after : (S : State) → Stands mem agents ticket S → Stands mem (set agents a h) ticket (taken_off p a S)
+    stands_after S stood =
+        stands_set stood turn.agent_is h ticket (taken_off p a S) stood.mem_is differs
+        (subst (IsSeated (set agents a h) 0) (sym line_is) (seated_without agents a h 0 S.line stood.seated)) (omega arith)
+        (λ q u answered. free_ticket h.phase q u ticket refl answered)
+      where
+        line_is : (taken_off p a S).line ≡ without a S.line
+        line_is = taken_off-without agents 0 a p t S.line stood.seated (g, turn.agent_is, waits)
+
+        differs : DiffersAt a h.phase S (taken_off p a S)
+        differs = record {
+          own_called = stood.called_is a ∙ (rw turn.agent_is (ap woken_phase waits));
+          other_called = λ b n. refl;
+          own_stands = rw line_is (stands_without_own a S.line);
+          other_stands = λ b n. rw line_is (stands_without a b S.line n);
+        }
+
+-- ---- those who were woken
+
+-- the leaving of a woken wait is one of the object's
+left_does : (plan : PlanParts) (can_block : Bool) (a : ℕ) (p : Place) (call : Call) (S : State) → WaitsOn plan p call → S.called a ≡ true
+    → (v : PlanView) × (slice_get plan.views (view_of call) ≡ Some v) × DoesCall can_block a v call S (Left A.Woken) (left a S)
+left_does plan can_block a p (C.Wait n index x timeout) S waits called = (waits.0, waits.1, (called, refl))
+left_does plan can_block a p (C.Access n access) S waits called = absurd waits
+left_does plan can_block a p (C.Notify n index count) S waits called = absurd waits
+
+-- a woken agent leaves its wait
+pub woken_turn : {plan : PlanParts} {a : ℕ} {mem : List (List ℕ)} {agents : List Agent} {ticket : ℕ} {g : Agent} (turn : HasTurn plan agents a g)
+    → g.phase ≡ P.Woken
+    → Turns plan a mem agents ticket (Left A.Woken) mem (set agents a (record { returned = g.returned; phase = P.Answered A.Woken }))
+woken_turn {plan} {a} {mem} {agents} {ticket} {g} turn is_called =
+    own_turn turn (Left A.Woken) h (subst IsInLine (sym is_called) tt, refl) (has.0, has.1, tt)
+    (λ S stood.
+    let called_now : S.called a ≡ true = stood.called_is a ∙ (rw turn.agent_is (ap woken_phase is_called)) in
+    let does = left_does plan turn.script.can_block a has.2.0 has.0 S has.2.1 called_now in
+    (left a S, record { acts = does_call turn has.0 does.0 (Left A.Woken) S (left a S) has.1 does.1 does.2; justified = tt }, stands_after S stood))
+  where
+    h : Agent
+    h = record { returned = g.returned; phase = P.Answered A.Woken }
+
+    has : HasCall plan (calls_of plan a) g.returned P.Woken
+    has = subst (IsAtCall plan (calls_of plan a) g.returned) is_called turn.at_call
+
+    stands_after : (S : State) → Stands mem agents ticket S → Stands mem (set agents a h) ticket (left a S)
+    stands_after S stood =
+        stands_set stood turn.agent_is h ticket (left a S) stood.mem_is differs
+        (seated_set agents a g h 0 S.line turn.agent_is (ap waiting_phase is_called) stood.seated) (omega arith)
+        (λ q u answered. free_ticket h.phase q u ticket refl answered)
+      where
+        differs : DiffersAt a h.phase S (left a S)
+        differs = record {
+          own_called = let own : (a == a) ≡ true = eq-eqb a a refl in rw (own, and-false (S.called a)) refl;
+          other_called = λ b n. let other : (b == a) ≡ false = ne_eqb b a n in rw (other, and-true (S.called b)) refl;
+          own_stands = stood.stands_is a ∙ (rw turn.agent_is (ap waiting_phase is_called));
+          other_stands = λ b n. refl;
+        }

@@ -1,0 +1,99 @@
+-- Journals: runs, tracks, entries that answer moves, and entries that are stuck.
+use Rattle.std.specs.Prelude.{◌≡◌, ℕ, ◌==◌, ◌&&◌, not, Bool, true, false, List, [], ◌∷◌, ◌++◌, length, map, flat_map, take, filter, slice_get, Some, None, ⊤}
+use Rattle.sab_sim.specs.declared.call.Call.{Call}
+use Rattle.sab_sim.specs.declared.call.Call.TheVariants as C
+use Rattle.sab_sim.specs.declared.answer.Answer.{Answer}
+use Rattle.sab_sim.specs.declared.answer.Answer.TheVariants.{TimedOut}
+use Rattle.sab_sim.specs.declared.entry.Why.TheVariants as Y
+use Rattle.sab_sim.specs.declared.entry.What.{What}
+use Rattle.sab_sim.specs.declared.entry.What.TheVariants.{Began, Acted, Enlisted, Left, Returned, Stuck}
+use Rattle.sab_sim.specs.declared.entry.Entry.{Entry}
+use Rattle.sab_sim.specs.declared.schedule.Move.{Move}
+use Rattle.sab_sim.specs.declared.schedule.Move.TheVariants.{Step, TimeUp}
+use Rattle.sab_sim.specs.Schedule.{agent_of}
+use Rattle.sab_sim.specs.Entry.{is_act, is_stuck, is_return}
+use Rattle.sab_sim.specs.Plan.{PlanParts, calls_of, call_of}
+use Rattle.sab_sim.specs.Object.{State, opening, stands, Does}
+
+-- the entries that act
+abbrev pub acts : List Entry → List Entry
+acts journal = filter (λ (e : Entry). is_act e.what) journal
+
+-- each of these acts leads from one state to the next
+abbrev pub Run : PlanParts → State → List Entry → State → Type 0
+Run plan S [] T = T ≡ S
+Run plan S (e ∷ es) T = (U : State) × Does plan S e U × Run plan U es T
+
+-- the acts of these entries are a run from zero blocks, and this is its last state
+abbrev pub Reaches : PlanParts → List Entry → State → Type 0
+Reaches plan journal S = Run plan (opening plan.lens) (acts journal) S
+
+-- an agent's track: what it did that had an effect
+abbrev pub track : List Entry → ℕ → List What
+track journal a =
+    map (λ (e : Entry). e.what) (filter (λ (e : Entry). (e.agent == a) && not (is_stuck e.what)) journal)
+
+-- how a call goes: it acts at once, or it is a wait that joins the line
+pub data Course : Type 0 where
+  AtOnce : Answer → Course
+  InLine : Answer → Course
+
+-- the entries of a call; it returns the answer of its last act
+abbrev pub course : Course → List What
+course (AtOnce x) = Began ∷ Acted x ∷ Returned x ∷ []
+course (InLine x) = Began ∷ Enlisted ∷ Left x ∷ Returned x ∷ []
+
+-- it is the front of a list that has n calls, one after the other
+abbrev pub IsTrack : ℕ → List What → Type 0
+IsTrack n whats =
+    (courses : List Course) × (rest : List What) × (length courses ≡ n) × (whats ++ rest ≡ flat_map course courses)
+
+-- how many calls of an agent returned
+abbrev pub returned_of : List Entry → ℕ → ℕ
+returned_of journal a = length (filter (λ (e : Entry). (e.agent == a) && is_return e.what) journal)
+
+-- a TimeUp ends a wait or finds none that it can end, and a Step does neither
+abbrev pub answers_move : Move → What → Bool
+answers_move (TimeUp a) (Left TimedOut) = true
+answers_move (TimeUp a) (Stuck Y.NotWaiting) = true
+answers_move (TimeUp a) (Stuck Y.Endless) = true
+answers_move (TimeUp a) _ = false
+answers_move (Step a) (Left TimedOut) = false
+answers_move (Step a) (Stuck Y.NotWaiting) = false
+answers_move (Step a) (Stuck Y.Endless) = false
+answers_move (Step a) _ = true
+
+-- the entry answers the move, after the entries before it
+pub record Answers (before : List Entry) (m : Move) (e : Entry) : Type 0 where
+  pub agent : e.agent ≡ agent_of m
+  pub call : e.call ≡ returned_of before e.agent
+  pub kind : answers_move m e.what ≡ true
+
+-- each entry answers the move at its position
+abbrev pub EachAnswers : List Move → List Entry → Type 0
+EachAnswers moves journal =
+    (k : ℕ) (m : Move) (e : Entry) → slice_get moves k ≡ Some m → slice_get journal k ≡ Some e → Answers (take k journal) m e
+
+abbrev pub WaitsForever : Call → Type 0
+WaitsForever (C.Wait n index x None) = ⊤
+WaitsForever _ = ⊥
+
+-- the agent's call is a wait without a timeout
+abbrev pub IsEndless : PlanParts → Entry → Type 0
+IsEndless plan e = (call : Call) × (call_of plan e.agent e.call ≡ Some call) × WaitsForever call
+
+-- the state allows that the agent is stuck so
+abbrev pub Justifies : PlanParts → State → Entry → What → Type 0
+Justifies plan S e (Stuck Y.Done) = e.call ≡ length (calls_of plan e.agent)
+Justifies plan S e (Stuck Y.Waiting) = stands S e.agent ≡ true
+Justifies plan S e (Stuck Y.Endless) = (stands S e.agent ≡ true) × IsEndless plan e
+Justifies plan S e (Stuck Y.NotWaiting) = stands S e.agent ≡ false
+Justifies plan S e _ = ⊤
+
+-- the state before the entry allows it
+abbrev pub IsJustified : PlanParts → List Entry → Entry → Type 0
+IsJustified plan before e = (S : State) × Reaches plan before S × Justifies plan S e e.what
+
+-- a fact of each entry and of the entries before it
+abbrev pub EachAfter : (List Entry → Entry → Type 0) → List Entry → Type 0
+EachAfter P journal = (k : ℕ) (e : Entry) → slice_get journal k ≡ Some e → P (take k journal) e

@@ -1,0 +1,12 @@
+pub mod Call
+pub mod Schedule
+pub mod Script
+pub mod Plan
+pub mod Place
+pub mod Check
+pub mod Object
+pub mod Entry
+pub mod Journal
+pub mod Report
+pub mod Agent
+pub mod Sim

@@ -1,0 +1,66 @@
+//! The acts of calls on the blocks.
+
+ghost use Rattle.std.specs.Prelude.{◌≡◌, length, map, slice_get, Some};
+ghost use Rattle.sab_block.specs.View.{block_len_of};
+ghost use Rattle.sab_sim.specs.Agent.{AnswersAccess, FindsWait, FindsNotify};
+
+use crate::answer::Answer;
+use crate::place::Place;
+use crate::plan_view::PlanView;
+use sab_block::{Access, Block, Operand, Thrown, to_raw};
+
+/// Makes an access on its view's block.
+pub fn act_access(blocks: &mut [Block], view: &PlanView, access: &Access) -> Answer
+    requires { slice_get (map length blocks.old) view.now.block ≡ Some (block_len_of view.now.view) }
+    ensures answer { AnswersAccess view.now access.now blocks.old result blocks.new }
+    ensures lens { map length blocks.new ≡ map length blocks.old }
+{
+    let block = &mut blocks[view.block as usize];
+    match block.access(&view.view, access) {
+        Ok(value) => Answer::Value(value),
+        Err(thrown) => Answer::Threw(thrown),
+    }
+}
+
+/// What the act of a wait finds: a place to wait at, or `None` where the value isn't the element there.
+pub fn find_wait(
+    blocks: &[Block],
+    view: &PlanView,
+    index: i64,
+    value: Operand,
+    can_block: bool,
+) -> Result<Option<Place>, Thrown>
+    requires { slice_get (map length blocks.now) view.now.block ≡ Some (block_len_of view.now.view) }
+    ensures { FindsWait can_block view.now index value blocks.now result }
+{
+    let kind = view.view.kind();
+    if !kind.is_waitable() {
+        return Err(Thrown::TypeError);
+    }
+    let byte = view.view.place(index)?;
+    let raw = to_raw(kind, value)?;
+    if !can_block {
+        return Err(Thrown::TypeError);
+    }
+    if blocks[view.block as usize].read(byte, kind.size()) != raw {
+        return Ok(None);
+    }
+    Ok(Some(Place {
+        block: view.block,
+        byte,
+    }))
+}
+
+/// The place of a notify.
+pub fn find_notify(view: &PlanView, index: i64) -> Result<Place, Thrown>
+    ensures { FindsNotify view.now index result }
+{
+    if !view.view.kind().is_waitable() {
+        return Err(Thrown::TypeError);
+    }
+    let byte = view.view.place(index)?;
+    Ok(Place {
+        block: view.block,
+        byte,
+    })
+}

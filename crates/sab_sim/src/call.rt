@@ -1,0 +1,40 @@
+//! Calls of an agent.
+
+ghost use Rattle.std.specs.Prelude.{◌≡◌};
+ghost use Rattle.sab_sim.specs.Call.{view_of};
+
+use sab_block::{Access, Operand};
+
+/// A call of an agent, on a view that is named by its position in the plan.
+#[derive(Clone, Copy, Debug, PartialEq, Eq, Hash)]
+pub enum Call {
+    /// One of the functions that read or write an element.
+    Access {
+        view: u32,
+        access: Access,
+    },
+    /// `Atomics.wait`. A timeout that is absent never ends the wait; of one that is there the number has no effect.
+    Wait {
+        view: u32,
+        index: i64,
+        value: Operand,
+        timeout: Option<i64>,
+    },
+    /// `Atomics.notify`. A count that is absent is no bound, and a negative one is 0.
+    Notify {
+        view: u32,
+        index: i64,
+        count: Option<i64>,
+    },
+}
+
+impl Call {
+    /// The position of the view that it names.
+    pub(crate) fn view(self) -> u32
+        ensures { result ≡ view_of self }
+    {
+        match self {
+            Call::Access { view, .. } | Call::Wait { view, .. } | Call::Notify { view, .. } => view,
+        }
+    }
+}

@@ -1,0 +1,31 @@
+//! A whole schedule.
+
+ghost use Rattle.std.specs.Prelude.{◌≡◌, length, None, IfOk, IfErr, OnOk};
+ghost use Rattle.sab_sim.specs.Report.{Fits, IsOnly, IsRefusal, first_refusal};
+
+use crate::plan::Plan;
+use crate::report::Report;
+use crate::schedule::Move;
+use crate::sim::Sim;
+use crate::sim_fault::SimFault;
+use std::alloc::Global;
+
+/// The report of a plan after all moves of a schedule, in order.
+///
+/// The first move that `Sim::step` would refuse decides between NoAgent and Full, and OutOfMemory may come in place of
+/// either; no other schedule is refused but for want of memory.
+pub fn replay(alloc: Global, plan: Plan, schedule: &[Move]) -> Result<Report, SimFault>
+    ensures fits { IfOk result (λ report. Fits plan report) }
+    ensures schedule { IfOk result (λ report. report.schedule ≡ schedule.now) }
+    ensures one { IfOk result (λ report. IsOnly plan report) }
+    ensures refused { IfErr result (λ fault. IsRefusal plan schedule.now fault) }
+    ensures unrefused { OnOk result (first_refusal (length plan.scripts) 0 schedule.now ≡ None) }
+{
+    let Ok(mut sim) = Sim::new(alloc, plan) else {
+        return Err(SimFault::OutOfMemory);
+    };
+    for m in schedule {
+        sim.step(*m)?;
+    }
+    Ok(sim.finish())
+}
