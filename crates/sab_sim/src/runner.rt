@@ -24,6 +24,10 @@ pub fn replay(alloc: Global, plan: Plan, schedule: &[Move]) -> Result<Report, Si
     let Ok(mut sim) = Sim::new(alloc, plan) else {
         return Err(SimFault::OutOfMemory);
     };
+    let moves = schedule.len().min(Sim::MAX_ENTRIES);
+    if sim.reserve(moves as u32).is_err() {
+        return Err(SimFault::OutOfMemory);
+    }
     for m in schedule {
         sim.step(*m)?;
     }
