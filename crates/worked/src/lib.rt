@@ -1,0 +1,9 @@
+//! Worked examples that go through several crates, as tests.
+#![tactic(auto)]
+
+#[cfg(test)]
+mod limits;
+#[cfg(test)]
+mod run;
+#[cfg(test)]
+mod waiting;
