@@ -31,9 +31,13 @@ pub record State : Type 0 where
   -- the agents that were woken and haven't left
   pub called : ℕ → Bool
 
--- zero blocks, nobody waits, nobody was called (CreateSharedByteDataBlock)
+-- blocks of these lengths, all of whose bytes are zero (CreateSharedByteDataBlock)
+abbrev pub zero_blocks : List ℕ → List (List ℕ)
+zero_blocks lens = map (λ len. replicate len 0) lens
+
+-- zero blocks, nobody waits, nobody was called
 abbrev pub opening : List ℕ → State
-opening lens = record { mem = map (λ len. replicate len 0) lens; line = []; called = λ a. false }
+opening lens = record { mem = zero_blocks lens; line = []; called = λ a. false }
 
 -- the bytes of a block
 abbrev pub bytes_of : List (List ℕ) → ℕ → List ℕ

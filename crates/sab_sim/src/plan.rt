@@ -180,6 +180,3 @@ impl PartialEq for Plan {
 impl Eq for Plan {
     ghost laws = { Prim.search (comparing, view_laws.laws-law, script_laws.laws-law) };
 }
-
-#[cfg(test)]
-mod tests;

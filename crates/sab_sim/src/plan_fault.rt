@@ -1,5 +1,8 @@
 //! Refusals of plans.
 
+use std::error::Error;
+use std::fmt;
+
 /// Why a plan is refused.
 #[derive(Clone, Copy, Debug, PartialEq, Eq, Hash)]
 pub enum PlanFault {
@@ -11,3 +14,16 @@ pub enum PlanFault {
     /// A view was made for another length than its block's, or a call names a view that isn't there.
     NoView,
 }
+
+impl fmt::Display for PlanFault {
+    fn fmt<W: fmt::Write>(&self, f: &mut fmt::Formatter<W>) -> fmt::Result {
+        f.write_str(match self {
+            PlanFault::TooMany => "the plan has more of something than it can have",
+            PlanFault::NoBlock => "the plan has no block, or a view on a block that isn't there",
+            PlanFault::NoView =>
+                "a view doesn't fit its block, or a call is on a view that isn't there",
+        })
+    }
+}
+
+impl Error for PlanFault {}

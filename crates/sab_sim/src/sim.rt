@@ -4,6 +4,7 @@ ghost use Rattle.std.specs.Prelude.{◌≡◌, ℕ, ◌<◌, ◌≤◌, ◌^◌,
 ghost use Rattle.sab_sim.specs.declared.entry.Entry.{Entry};
 ghost use Rattle.sab_sim.specs.declared.sim_fault.SimFault.TheVariants.{NoAgent, Full, OutOfMemory};
 ghost use Rattle.sab_sim.specs.Schedule.{agent_of};
+ghost use Rattle.sab_sim.specs.Object.{zero_blocks};
 ghost use Rattle.sab_sim.specs.Report.{FitsMoves, Fits, IsOnly};
 
 use crate::agent::{Agent, Phase};
@@ -56,6 +57,7 @@ impl Sim {
         ensures plan { IfOk result (λ sim. sim.plan ≡ plan) }
         ensures moves { IfOk result (λ sim. sim.moves ≡ []) }
         ensures journal { IfOk result (λ sim. sim.journal ≡ []) }
+        ensures blocks { IfOk result (λ sim. sim.blocks ≡ zero_blocks plan.lens) }
     {
         let mut blocks = Vec::with_capacity(alloc, plan.block_lens().len())?;
         for &len in plan.block_lens() {

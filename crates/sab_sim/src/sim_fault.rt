@@ -1,5 +1,8 @@
 //! Refusals of moves.
 
+use std::error::Error;
+use std::fmt;
+
 /// Why a move is refused.
 #[derive(Clone, Copy, Debug, PartialEq, Eq, Hash)]
 pub enum SimFault {
@@ -10,3 +13,15 @@ pub enum SimFault {
     /// A growth was refused.
     OutOfMemory,
 }
+
+impl fmt::Display for SimFault {
+    fn fmt<W: fmt::Write>(&self, f: &mut fmt::Formatter<W>) -> fmt::Result {
+        f.write_str(match self {
+            SimFault::NoAgent => "the move names no agent",
+            SimFault::Full => "the journal is full",
+            SimFault::OutOfMemory => "there is no memory for the move",
+        })
+    }
+}
+
+impl Error for SimFault {}

@@ -4,6 +4,8 @@
 #[cfg(test)]
 mod limits;
 #[cfg(test)]
+mod plans;
+#[cfg(test)]
 mod run;
 #[cfg(test)]
 mod waiting;

@@ -1,9 +1,10 @@
 //! Ends of limits, and refusals.
 
-use crate::run::{notify, plan, wait, whole};
+use crate::run::{acted, began, enlisted, left, notify, plan, returned, stuck, wait, whole};
 use sab_block::Kind;
+use sab_sim::Answer::{Count, Woken};
 use sab_sim::Move::{self, Step};
-use sab_sim::{Entry, Sim, SimFault, What, Why, replay};
+use sab_sim::{Sim, SimFault, Why, replay};
 use std::alloc::Global;
 use std::test::Fail;
 
@@ -18,11 +19,7 @@ fn a_journal_ends_at_its_limit(rt: HostRuntime) -> Result<(), Fail> {
     for _ in 0..1_048_576 {
         sim.step(Step(0)).ok().ok_or("refused")?;
     }
-    let done = Entry {
-        agent: 0,
-        call: 0,
-        what: What::Stuck(Why::Done),
-    };
+    let done = stuck(0, 0, Why::Done);
     assert!(rt; sim.journal().iter().all(|entry| *entry == done));
     assert_eq!(rt; sim.step(Step(0)), Err(SimFault::Full));
     assert_eq!(rt; sim.step(Step(1)), Err(SimFault::NoAgent));
@@ -55,13 +52,25 @@ fn reserved_steps_are_made(rt: HostRuntime) -> Result<(), Fail> {
         (true, notifies.as_slice()),
     ];
     let plan = plan(alloc, &[4], &[whole(Kind::Int32, 0, 4)?], &agents)?;
-    let mut sim = Sim::new(alloc, plan)?;
+    let mut sim = Sim::new(alloc, plan.copy(alloc)?)?;
+    assert!(rt; *sim.plan() == plan);
     sim.reserve(10)?;
     for agent in [0, 0, 1, 1, 2, 2, 0, 1, 2, 0] {
         assert_eq!(rt; sim.step(Step(agent)), Ok(()));
     }
-    assert_eq!(rt; sim.plan().scripts().len(), 3);
-    assert_eq!(rt; sim.journal().len(), 10);
+    let journal = [
+        began(0, 0),
+        enlisted(0, 0),
+        began(1, 0),
+        enlisted(1, 0),
+        began(2, 0),
+        acted(2, 0, Count(1)),
+        left(0, 0, Woken),
+        stuck(1, 0, Why::Waiting),
+        returned(2, 0, Count(1)),
+        returned(0, 0, Woken),
+    ];
+    assert_eq!(rt; sim.journal(), journal.as_slice());
     Ok(())
 }
 
