@@ -3,9 +3,7 @@ use Rattle.std.specs.Prelude.{◌≡◌, ◌≢◌, ◌⊎◌, ℕ, suc, ◌<◌
 use Rattle.sab_block.specs.declared.thrown.Thrown.{Thrown}
 use Rattle.sab_block.specs.declared.access.Access.{Access}
 use Rattle.sab_block.specs.declared.operand.Operand.{Operand}
-use Rattle.sab_block.specs.Operand.{raw, whole_of}
-use Rattle.sab_block.specs.View.{kind_of}
-use Rattle.sab_block.specs.Access.{Acts, access_verdict, first_failure}
+use Rattle.sab_block.specs.Access.{Acts, access_verdict, first_failure, raw_of}
 use Rattle.sab_sim.specs.declared.place.Place.{Place}
 use Rattle.sab_sim.specs.declared.plan_view.PlanView.{PlanView}
 use Rattle.sab_sim.specs.declared.call.Call.{Call}
@@ -164,10 +162,10 @@ abbrev pub FindsWait : Bool → PlanView → ℤ → Operand → List (List ℕ)
 FindsWait can_block v index x mem (Err e) = first_failure (wait_checks can_block v.view index x) ≡ Some e
 FindsWait can_block v index x mem (Ok (Some p)) =
     (first_failure (wait_checks can_block v.view index x) ≡ None) × (place_of v index ≡ Some p)
-    × (raw (kind_of v.view) (whole_of x) ≡ element_at v mem p)
+    × (raw_of v.view x ≡ element_at v mem p)
 FindsWait can_block v index x mem (Ok None) =
     (first_failure (wait_checks can_block v.view index x) ≡ None)
-    × ((p : Place) × (place_of v index ≡ Some p) × (raw (kind_of v.view) (whole_of x) ≢ element_at v mem p))
+    × ((p : Place) × (place_of v index ≡ Some p) × (raw_of v.view x ≢ element_at v mem p))
 
 -- what the act of a notify finds: an error, or its place
 abbrev pub FindsNotify : PlanView → ℤ → Result Place Thrown → Type 0

@@ -1,9 +1,7 @@
 -- The sequential object: the bytes of all blocks, one line of waiters, and the agents called.
 use Rattle.std.specs.Prelude.{◌≡◌, ◌≢◌, ℕ, zero, suc, ◌==◌, ◌&&◌, ◌||◌, not, min, Bool, true, false, if◌then◌else◌, ℤ, pos, negsuc, List, [], ◌∷◌, ◌++◌, length, map, take, filter, replicate, slice_get, slice_set, slice_index_or, Contains, Option, Some, None}
 use Rattle.std.specs.List.{list_any}
-use Rattle.sab_block.specs.Operand.{raw, whole_of}
-use Rattle.sab_block.specs.View.{kind_of}
-use Rattle.sab_block.specs.Access.{Acts, element}
+use Rattle.sab_block.specs.Access.{Acts, element, raw_of}
 use Rattle.sab_sim.specs.declared.place.Place.{Place}
 use Rattle.sab_sim.specs.declared.call.Call.{Call}
 use Rattle.sab_sim.specs.declared.call.Call.TheVariants as C
@@ -23,6 +21,7 @@ pub record Waiter : Type 0 where
   pub place : Place
   pub agent : ℕ
 
+-- a state of the object
 pub record State : Type 0 where
   -- the bytes of each block (Shared Data Block)
   pub mem : List (List ℕ)
@@ -43,10 +42,11 @@ opening lens = record { mem = zero_blocks lens; line = []; called = λ a. false 
 abbrev pub bytes_of : List (List ℕ) → ℕ → List ℕ
 bytes_of mem b = slice_index_or mem b []
 
--- the raw element at a place of a view
+-- the raw element at a place of a view (GetValueFromBuffer)
 abbrev pub element_at : PlanView → List (List ℕ) → Place → ℕ
 element_at v mem p = element v.view (bytes_of mem v.block) p.byte
 
+-- the waiter waits at this place
 abbrev pub is_at : Place → Waiter → Bool
 is_at p w = same_place w.place p
 
@@ -106,11 +106,11 @@ DoesCall can_block a v (C.Notify n index count) S (Acted (Count k)) T =
 -- Atomics.wait, where the value isn't the element
 DoesCall can_block a v (C.Wait n index x timeout) S (Acted NotEqual) T =
     (verdict can_block v.view (C.Wait n index x timeout) ≡ None)
-    × ((p : Place) × (place_of v index ≡ Some p) × (raw (kind_of v.view) (whole_of x) ≢ element_at v S.mem p) × (T ≡ S))
+    × ((p : Place) × (place_of v index ≡ Some p) × (raw_of v.view x ≢ element_at v S.mem p) × (T ≡ S))
 -- Atomics.wait, where it is
 DoesCall can_block a v (C.Wait n index x timeout) S Enlisted T =
     (verdict can_block v.view (C.Wait n index x timeout) ≡ None)
-    × ((p : Place) × (place_of v index ≡ Some p) × (raw (kind_of v.view) (whole_of x) ≡ element_at v S.mem p) × (T ≡ joined p a S))
+    × ((p : Place) × (place_of v index ≡ Some p) × (raw_of v.view x ≡ element_at v S.mem p) × (T ≡ joined p a S))
 -- a wait whose agent was called
 DoesCall can_block a v (C.Wait n index x timeout) S (Left Woken) T = (S.called a ≡ true) × (T ≡ left a S)
 -- a wait with a timeout, whose agent stands in the line
