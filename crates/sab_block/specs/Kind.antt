@@ -16,23 +16,23 @@ pub record Properties : Type 0 where
   -- ValidateIntegerTypedArray takes it, where waitable is true
   pub waitable : Bool
 
-abbrev pub row : ℕ → Bool → Bool → Bool → Bool → Properties
-row size signed big atomic waitable =
+abbrev pub columns : ℕ → Bool → Bool → Bool → Bool → Properties
+columns size signed big atomic waitable =
     record { size = size; signed = signed; big = big; atomic = atomic; waitable = waitable }
 
 -- the table: size, signed, BigInt, atomic, waitable
 abbrev pub properties : Kind → Properties
-properties Int8 = row 1 true false true false
-properties Uint8 = row 1 false false true false
-properties Uint8Clamped = row 1 false false false false
-properties Int16 = row 2 true false true false
-properties Uint16 = row 2 false false true false
-properties Int32 = row 4 true false true true
-properties Uint32 = row 4 false false true false
-properties Float32 = row 4 false false false false
-properties Float64 = row 8 false false false false
-properties BigInt64 = row 8 true true true true
-properties BigUint64 = row 8 false true true false
+properties Int8 = columns 1 true false true false
+properties Uint8 = columns 1 false false true false
+properties Uint8Clamped = columns 1 false false false false
+properties Int16 = columns 2 true false true false
+properties Uint16 = columns 2 false false true false
+properties Int32 = columns 4 true false true true
+properties Uint32 = columns 4 false false true false
+properties Float32 = columns 4 false false false false
+properties Float64 = columns 8 false false false false
+properties BigInt64 = columns 8 true true true true
+properties BigUint64 = columns 8 false true true false
 
 abbrev pub element_size : Kind → ℕ
 element_size kind = (properties kind).size
