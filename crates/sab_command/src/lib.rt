@@ -1,0 +1,10 @@
+//! The command line of `sabsim`: what it can be asked for, and the help.
+#![tactic(auto)]
+
+mod command_line;
+mod help;
+
+pub use command_line::{Job, command, job_of};
+
+#[cfg(test)]
+mod tests;

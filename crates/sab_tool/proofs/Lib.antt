@@ -1,0 +1,17 @@
+pub mod Appending
+pub mod BigText
+pub mod CallParts
+pub mod Consuming
+pub mod Described
+pub mod Each
+pub mod Lengths
+pub mod ViewNames
+pub mod Parts
+pub mod Places
+pub mod Refusing
+pub mod ReplaySteps
+pub mod WholeCall
+pub mod WholeScript
+pub mod SameSpec
+pub mod WholePlan
+pub mod OnlySetup

@@ -1,0 +1,11 @@
+pub mod Reading
+pub mod Numbers
+pub mod Views
+pub mod Calls
+pub mod Agents
+pub mod Schedule
+pub mod Setup
+pub mod ToolFault
+pub mod Text
+pub mod Input
+pub mod Replay

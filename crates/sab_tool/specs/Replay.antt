@@ -1,0 +1,72 @@
+-- What replaying a script answers.
+use Rattle.std.specs.Prelude.{◌≡◌, ◌⊎◌, ℕ, List, Option, Some, IsUtf8}
+use Rattle.std.specs.Io.KnownBytes.{Appends, Keeps}
+use Rattle.serde_json.specs.Data.{Data}
+use Rattle.serde_json.specs.Read.{read}
+use Rattle.sab_sim.specs.Report.{ReportParts, Fits, IsOnly}
+use Rattle.sab_tool.specs.declared.read_fault.ReadFault.{ReadFault}
+use Rattle.sab_tool.specs.declared.read_fault.ReadFault.TheVariants as R
+use Rattle.sab_tool.specs.declared.tool_fault.ToolFault.{ToolFault}
+use Rattle.sab_tool.specs.declared.tool_fault.ToolFault.TheVariants.{TooMany, OutOfMemory, BadShape, BadName, BadNumber, BadCall, BadView, BadAgent, NotJson, WriteFailed}
+use Rattle.sab_tool.specs.Setup.{SetupParts, Spells, IsOnlySetup}
+use Rattle.sab_tool.specs.Text.{text}
+
+-- the fault of a tree as a tool's
+abbrev pub as_tool_fault : ReadFault → ToolFault
+as_tool_fault R.TooMany = TooMany
+as_tool_fault R.BadShape = BadShape
+as_tool_fault R.BadName = BadName
+as_tool_fault R.BadNumber = BadNumber
+as_tool_fault R.BadCall = BadCall
+as_tool_fault R.BadView = BadView
+as_tool_fault R.BadAgent = BadAgent
+as_tool_fault R.OutOfMemory = OutOfMemory
+
+-- the bytes are a JSON text in UTF-8, which reads as the tree
+abbrev pub ReadsAs : List ℕ → Data → Type 0
+ReadsAs script tree = IsUtf8 script × (read script ≡ Some tree)
+
+-- the script reads as a tree that spells the setup, and no other
+pub record IsScriptOf (script : List ℕ) (setup : SetupParts) : Type 0 where
+  pub tree : Data
+  pub reading : ReadsAs script tree
+  pub spelled : Spells tree setup
+  pub only : IsOnlySetup tree setup
+
+-- the script reads as a tree, and that one spells no setup
+pub record SpellsNone (script : List ℕ) : Type 0 where
+  pub tree : Data
+  pub reading : ReadsAs script tree
+  pub unspelled : (setup : SetupParts) → Spells tree setup → ⊥
+
+-- what a script is refused for before anything is written
+abbrev pub IsRefused : List ℕ → ToolFault → Type 0
+IsRefused script OutOfMemory = Unit {0}
+IsRefused script NotJson = (tree : Data) → ReadsAs script tree → ⊥
+IsRefused script TooMany = SpellsNone script
+IsRefused script BadShape = SpellsNone script
+IsRefused script BadName = SpellsNone script
+IsRefused script BadNumber = SpellsNone script
+IsRefused script BadCall = SpellsNone script
+IsRefused script BadView = SpellsNone script
+IsRefused script BadAgent = SpellsNone script
+IsRefused script _ = ⊥
+
+-- the one report that fits the setup's plan and has its schedule
+pub record IsReportOf (setup : SetupParts) (report : ReportParts) : Type 0 where
+  pub fits : Fits setup.plan report
+  pub schedule : report.schedule ≡ setup.schedule
+  pub one : IsOnly setup.plan report
+
+-- the script spells a setup, and just the text of its report came behind what the writer held
+pub record Replays (old new : Option (List ℕ)) (script : List ℕ) : Type 0 where
+  pub setup : SetupParts
+  pub spelled : IsScriptOf script setup
+  pub report : ReportParts
+  pub is_its : IsReportOf setup report
+  pub written : Appends old new (text report)
+
+-- the script is refused and nothing was written, or it spells a setup and a write failed
+abbrev pub IsReplayFault : Option (List ℕ) → Option (List ℕ) → List ℕ → ToolFault → Type 0
+IsReplayFault old new script fault =
+    (Keeps old new × IsRefused script fault) ⊎ ((fault ≡ WriteFailed) × ((setup : SetupParts) × IsScriptOf script setup))

@@ -1,0 +1,40 @@
+//! Input of a bounded length.
+
+ghost use Rattle.std.specs.Prelude.{◌≡◌, ◌≤◌, ◌^◌, IfSome, IfOk, OnOk, IfErr, vec_len};
+ghost use Rattle.std.specs.Io.KnownBytes.{IsAtEnd};
+ghost use Rattle.sab_tool.specs.Input.{IsInputFault};
+
+use crate::tool_fault::ToolFault;
+use std::alloc::Global;
+use std::io::Read;
+
+/// How many bytes an input can have.
+pub const MAX_INPUT: usize = 0x10_0000;
+
+/// Reads to the end.
+///
+/// TooLong once more than 1,048,576 bytes came, and ReadFailed at the first read that answers a fault. Each read but
+/// the last gives a byte at least, so that the reads are 1,048,577 at most.
+#[tactic(auto, using(crate::proofs::Consuming::consumes_both, crate::proofs::Consuming::consumed_all, crate::proofs::Consuming::consumed_long, crate::proofs::Consuming::consumes_none))]
+pub fn read_input<R: Read>(alloc: Global, r: &mut R) -> Result<Vec<u8>, ToolFault>
+    ensures all { IfOk result (λ input. IfSome (R.remaining r.old) (λ bytes. input.items ≡ bytes)) }
+    ensures short { IfOk result (λ input. vec_len input ≤ 2 ^ 20) }
+    ensures end { OnOk result (IsAtEnd (R.remaining r.new)) }
+    ensures err { IfErr result (IsInputFault (R.remaining r.old)) }
+{
+    let mut input = Vec::new(alloc);
+    // It is zeroed at each call, so it isn't larger: the longest input takes some 65 reads.
+    let mut buffer = [0; 16_384];
+    loop {
+        let n = r.read(&mut buffer).map_err(|_| ToolFault::ReadFailed)?;
+        if n == 0 {
+            return Ok(input);
+        }
+        if MAX_INPUT - input.len() < n {
+            return Err(ToolFault::TooLong);
+        }
+        input
+            .extend_from_slice(&buffer[..n])
+            .map_err(|_| ToolFault::OutOfMemory)?;
+    }
+}

@@ -1,0 +1,31 @@
+//! From a script to a report: reads a JSON text that says what agents do to a block and in which order, runs it, and
+//! writes what each move did.
+#![tactic(auto)]
+
+mod agents;
+mod calls;
+mod chunk;
+mod entry_line;
+mod input;
+mod names;
+mod operands;
+mod read_fault;
+mod replaying;
+mod report;
+mod schedule;
+mod setup;
+mod tool_fault;
+mod tree;
+mod view_spec;
+mod views;
+
+pub use input::{MAX_INPUT, read_input};
+pub use read_fault::ReadFault;
+pub use replaying::replay_bytes;
+pub use report::write_report;
+pub use setup::{Setup, read_setup};
+pub use tool_fault::ToolFault;
+pub use view_spec::ViewSpec;
+
+#[cfg(test)]
+mod tests;

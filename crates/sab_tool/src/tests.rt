@@ -1,0 +1,5 @@
+//! Scripts that are read, replayed or refused, reports that are written, and faults.
+
+mod reading;
+mod replaying;
+mod writing;

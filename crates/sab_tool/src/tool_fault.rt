@@ -1,0 +1,123 @@
+//! Refusals of tools.
+
+ghost use Rattle.std.specs.Prelude.{◌≡◌};
+
+use crate::read_fault::ReadFault;
+use thiserror::Error;
+
+/// Why a tool doesn't do what it was asked for.
+///
+/// Its text is its name.
+#[derive(Clone, Copy, Debug, PartialEq, Eq, Hash, Error)]
+pub enum ToolFault {
+    /// A script has more bytes in its block, or more views, agents, calls or moves than it can have.
+    #[error("TooMany")]
+    TooMany,
+    /// A growth was refused.
+    #[error("OutOfMemory")]
+    OutOfMemory,
+    /// The moves of all agents are more than 2^20.
+    #[error("TooManyMoves")]
+    TooManyMoves,
+    /// The start of a thread was refused.
+    #[error("NoThread")]
+    NoThread,
+    /// A value is of another type than its place asks for, an object has a member too many or lacks one, or a call is
+    /// an empty array.
+    #[error("BadShape")]
+    BadShape,
+    /// A view's name has a wrong form or is given twice, or a call is on a name that no view has.
+    #[error("BadName")]
+    BadName,
+    /// A number isn't a safe integer, a block has fewer than 0 bytes, or a string isn't the one spelling of a BigInt.
+    #[error("BadNumber")]
+    BadNumber,
+    /// There is no call of that name, or it has another number of elements.
+    #[error("BadCall")]
+    BadCall,
+    /// There is no kind of that name, or the view doesn't fit its block.
+    #[error("BadView")]
+    BadView,
+    /// A move of the schedule names an agent that isn't there.
+    #[error("BadAgent")]
+    BadAgent,
+    /// The input isn't a JSON text in UTF-8.
+    #[error("NotJson")]
+    NotJson,
+    /// A write or a flush failed.
+    #[error("WriteFailed")]
+    WriteFailed,
+    /// The input has more than 1,048,576 bytes.
+    #[error("TooLong")]
+    TooLong,
+    /// A read failed.
+    #[error("ReadFailed")]
+    ReadFailed,
+}
+
+impl ToolFault {
+    ghost use Rattle.sab_tool.specs.ToolFault.{number_of, name_of};
+
+    /// The number that it is told by.
+    pub fn number(self) -> u32
+        ensures { result ≡ number_of self }
+    {
+        match self {
+            ToolFault::TooMany => 3,
+            ToolFault::OutOfMemory => 5,
+            ToolFault::TooManyMoves => 8,
+            ToolFault::NoThread => 9,
+            ToolFault::BadShape => 10,
+            ToolFault::BadName => 11,
+            ToolFault::BadNumber => 12,
+            ToolFault::BadCall => 13,
+            ToolFault::BadView => 14,
+            ToolFault::BadAgent => 15,
+            ToolFault::NotJson => 16,
+            ToolFault::WriteFailed => 17,
+            ToolFault::TooLong => 18,
+            ToolFault::ReadFailed => 19,
+        }
+    }
+
+    /// Its name, as it is spelled here.
+    pub fn name(self) -> &'static str
+        ensures { result.now ≡ name_of self }
+    {
+        match self {
+            ToolFault::TooMany => "TooMany",
+            ToolFault::OutOfMemory => "OutOfMemory",
+            ToolFault::TooManyMoves => "TooManyMoves",
+            ToolFault::NoThread => "NoThread",
+            ToolFault::BadShape => "BadShape",
+            ToolFault::BadName => "BadName",
+            ToolFault::BadNumber => "BadNumber",
+            ToolFault::BadCall => "BadCall",
+            ToolFault::BadView => "BadView",
+            ToolFault::BadAgent => "BadAgent",
+            ToolFault::NotJson => "NotJson",
+            ToolFault::WriteFailed => "WriteFailed",
+            ToolFault::TooLong => "TooLong",
+            ToolFault::ReadFailed => "ReadFailed",
+        }
+    }
+}
+
+impl From<ReadFault> for ToolFault {
+    ghost use Rattle.sab_tool.specs.Replay.{as_tool_fault};
+
+    ghost from_gives = { λ e f. f ≡ as_tool_fault e };
+
+    fn from(fault: ReadFault) -> ToolFault {
+        match fault {
+            ReadFault::TooMany => ToolFault::TooMany,
+            ReadFault::BadShape => ToolFault::BadShape,
+            ReadFault::BadName => ToolFault::BadName,
+            ReadFault::BadNumber => ToolFault::BadNumber,
+            ReadFault::BadCall => ToolFault::BadCall,
+            ReadFault::BadView => ToolFault::BadView,
+            ReadFault::BadAgent => ToolFault::BadAgent,
+            ReadFault::OutOfMemory => ToolFault::OutOfMemory,
+        }
+    }
+}
