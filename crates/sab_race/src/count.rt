@@ -1,0 +1,47 @@
+//! How many moves agents make, told before any is made.
+
+ghost use Rattle.std.specs.Prelude.{◌≡◌, ◌≤◌, length, All};
+ghost use Rattle.sab_sim.specs.Script.{ScriptParts};
+ghost use Rattle.sab_race.specs.Moves.{call_moves, moves_of, count_of};
+
+use sab_sim::{Call, Script};
+
+/// How many moves an agent makes for a call.
+fn call_count(call: Call, spins: u32) -> usize
+    requires { spins ≤ 1000 }
+    ensures count { result ≡ length (call_moves call 0 spins) }
+    ensures most { result ≤ 1005 }
+{
+    match call {
+        Call::Access { .. } | Call::Notify { .. } => 3,
+        Call::Wait { .. } => 5 + spins as usize,
+    }
+}
+
+/// How many moves an agent makes for its script.
+pub fn script_count(script: &Script, spins: u32) -> usize
+    requires calls { length script.now.calls ≤ 1000 }
+    requires spins { spins ≤ 1000 }
+    ensures count { result ≡ length (moves_of script.now.calls 0 spins) }
+    ensures most { result ≤ 1005000 }
+{
+    let mut total = 0;
+    for call in &script.calls {
+        total += call_count(*call, spins);
+    }
+    total
+}
+
+/// How many moves all agents make.
+pub fn count_moves(scripts: &[Script], spins: u32) -> usize
+    requires agents { length scripts.now ≤ 16 }
+    requires calls { All (λ (s : ScriptParts). length s.calls ≤ 1000) scripts.now }
+    requires spins { spins ≤ 1000 }
+    ensures { result ≡ count_of scripts.now spins }
+{
+    let mut total = 0;
+    for script in scripts {
+        total += script_count(script, spins);
+    }
+    total
+}

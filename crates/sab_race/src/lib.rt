@@ -1,0 +1,23 @@
+//! Agents in real threads, which share one simulator by a lock or send it their moves by rings.
+//!
+//! What happened is told as a report, whose schedule is the order in which the moves took effect: it can be replayed.
+#![tactic(auto)]
+
+mod agenda;
+mod count;
+mod feeding;
+mod gate;
+mod lane;
+mod locked;
+mod owner;
+mod race;
+mod race_fault;
+mod rings;
+mod script_moves;
+
+pub use feeding::feed;
+pub use gate::{Gate, NoGate};
+pub use locked::run_locked;
+pub use race_fault::RaceFault;
+pub use rings::run_rings;
+pub use script_moves::moves;
