@@ -1,15 +1,27 @@
 //! What the program can be asked for.
 
+ghost use Rattle.std.specs.Prelude.{◌≤◌, IfOk};
+ghost use Rattle.sab_command.specs.Job.{IsWithinLimits};
+
 use crate::help;
-use clap::{Command, Error};
+use clap::{Arg, ArgMatches, Command, Error, value_parser};
+use sab_tool::Share;
 use std::alloc::{AllocError, Global};
 use std::convert::AsStr;
+
+/// How often an agent can step at a wait before its time is up.
+const MAX_SPINS: u32 = 1_000;
+
+/// What `--share` takes.
+static SHARES: [&str; 2] = ["lock", "ring"];
 
 /// What the program is asked for.
 #[derive(Clone, Copy, Debug, PartialEq, Eq)]
 pub enum Job {
     /// To replay the script on standard input.
     Replay,
+    /// To run the agents of the script on standard input in threads.
+    Race { share: Share, spins: u32 },
 }
 
 /// The command line, with its help.
@@ -17,18 +29,60 @@ pub fn command<'a>(alloc: Global) -> Result<Command<'a>, AllocError> {
     let replay = Command::new(alloc, "replay")
         .about(help::REPLAY)
         .after_help(help::REPLAY_FORMS);
+    let share = Arg::new(alloc, "share")
+        .long("share")
+        .value_name("WAY")
+        .help(help::SHARE)
+        .required(true)
+        .value_parser(SHARES.as_slice());
+    let spins = Arg::new(alloc, "spins")
+        .long("spins")
+        .value_name("N")
+        .help(help::SPINS)
+        .default_value("0")
+        .value_parser(value_parser!(u32).range(0..=MAX_SPINS as i64));
+    let race = Command::new(alloc, "race")
+        .about(help::RACE)
+        .after_help(help::RACE_FORMS)
+        .arg(share)?
+        .arg(spins)?;
     Command::new(alloc, "sabsim")
         .about(help::ABOUT)
         .after_help(help::STATUSES)
         .subcommand_required(true)
-        .subcommand(replay)
+        .subcommand(replay)?
+        .subcommand(race)
+}
+
+/// How the agents are to share the simulator.
+fn share_of(matches: &ArgMatches<'_>) -> Share {
+    match matches.get_str("share") {
+        Some("ring") => Share::Ring,
+        _ => Share::Lock,
+    }
+}
+
+/// How often an agent is to step at a wait.
+fn spins_of(matches: &ArgMatches<'_>) -> u32
+    ensures { result ≤ 1000 }
+{
+    let spins = matches.get_one::<u32>("spins").unwrap_or(0);
+    spins.min(MAX_SPINS)
 }
 
 /// What the words ask for, of which the first is the program's name.
 ///
 /// An error is a request for help too, and OutOfMemory where memory ran out while the command line was built or read.
-pub fn job_of<'a, S: AsStr>(alloc: Global, words: &'a [S]) -> Result<Job, Error> {
+pub fn job_of<'a, S: AsStr>(alloc: Global, words: &'a [S]) -> Result<Job, Error>
+    ensures { IfOk result IsWithinLimits }
+{
     let command: Command<'a> = command(alloc)?;
-    let _matches = command.try_get_matches_from(words)?;
-    Ok(Job::Replay)
+    let matches = command.try_get_matches_from(words)?;
+    match matches.subcommand() {
+        Some(("race", matches)) => Ok(Job::Race {
+            share: share_of(matches),
+            spins: spins_of(matches),
+        }),
+        _ => Ok(Job::Replay),
+    }
 }

@@ -72,3 +72,35 @@ What the script is refused for:
   15 BadAgent   a move of an agent that isn't there
   16 NotJson    the input isn't JSON in UTF-8
   18 TooLong    the input has more than 1,048,576 bytes"#;
+
+/// What `race` does.
+pub(crate) const RACE: &str =
+    "Reads a script from standard input, runs each of its agents in a thread of its own, and writes what each move did to standard output";
+
+/// What `--share` chooses.
+pub(crate) const SHARE: &str =
+    "How the threads share the block: each takes a lock for each move, or sends its moves through a ring";
+
+/// What `--spins` chooses.
+pub(crate) const SPINS: &str =
+    "How many steps an agent makes at each wait before its time is up, 0 to 1000";
+
+/// What the threads do with a script, what the report says, and an example.
+pub(crate) const RACE_FORMS: &str =
+    r#"The script and the report are those of `sabsim replay --help`. The script's schedule is checked
+and then not used: each agent makes its moves in a thread of its own, three steps for each
+call, and for a wait two steps, N steps, {"timeout":AGENT}, and two steps. They come in the
+order in which the threads take their turns, so that two runs may differ.
+
+The lines of the report, from the first on, tell that order: `leave timed-out`, `stuck
+not-waiting` and `stuck endless` are of a move {"timeout":AGENT}, and every other line is of
+a step of its agent. With these moves as the script's schedule, `sabsim replay` writes the
+same report.
+
+Example:
+  echo '{"bytes":4,"views":[{"name":"a","kind":"Int32","offset":0,"length":null}],
+  "agents":[{"block":true,"calls":[["add","a",0,1]]},{"block":true,"calls":[["add","a",0,1]]}],
+  "schedule":[]}' | sabsim race --share lock
+
+Exit status: as for replay; 4 also where a thread couldn't be started (9 NoThread), and 1
+where the agents have more than 1,048,576 moves in all (8 TooManyMoves)."#;

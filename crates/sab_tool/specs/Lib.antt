@@ -8,4 +8,5 @@ pub mod Setup
 pub mod ToolFault
 pub mod Text
 pub mod Input
+pub mod Racing
 pub mod Replay

@@ -9,21 +9,26 @@ mod entry_line;
 mod input;
 mod names;
 mod operands;
+mod racing;
 mod read_fault;
 mod replaying;
 mod report;
 mod schedule;
+mod script;
 mod setup;
+mod share;
 mod tool_fault;
 mod tree;
 mod view_spec;
 mod views;
 
 pub use input::{MAX_INPUT, read_input};
+pub use racing::race_bytes;
 pub use read_fault::ReadFault;
 pub use replaying::replay_bytes;
 pub use report::write_report;
 pub use setup::{Setup, read_setup};
+pub use share::Share;
 pub use tool_fault::ToolFault;
 pub use view_spec::ViewSpec;
 

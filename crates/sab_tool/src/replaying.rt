@@ -2,13 +2,13 @@
 
 ghost use Rattle.std.specs.Prelude.{◌≡◌, ◌<◌, ◌≤◌, length, All, IfOk, OnOk, IfErr};
 ghost use Rattle.sab_sim.specs.Schedule.{agent_of};
-ghost use Rattle.sab_tool.specs.Replay.{IsScriptOf, IsRefused, IsReportOf, Replays, IsReplayFault};
+ghost use Rattle.sab_tool.specs.Replay.{IsReportOf, Replays, IsReplayFault};
 
 use crate::report::write_report;
-use crate::setup::{Setup, read_setup};
+use crate::script::setup_of;
+use crate::setup::Setup;
 use crate::tool_fault::ToolFault;
 use sab_sim::{Report, SimFault, replay};
-use serde_json::Value;
 use std::alloc::Global;
 use std::io::Write;
 
@@ -24,25 +24,6 @@ pub fn replay_bytes<W: Write>(alloc: Global, script: &[u8], w: &mut W) -> Result
     let setup = setup_of(alloc, script)?;
     let report = report_of(alloc, setup)?;
     write_report(&report, w)
-}
-
-/// The setup that a script spells.
-#[tactic(auto, using(crate::proofs::ReplaySteps::no_reading, crate::proofs::ReplaySteps::refused_tree))]
-fn setup_of(alloc: Global, script: &[u8]) -> Result<Setup, ToolFault>
-    ensures ok { IfOk result (IsScriptOf script.now) }
-    ensures err { IfErr result (IsRefused script.now) }
-{
-    let tree = match Value::from_slice(alloc, script) {
-        Ok(tree) => tree,
-        Err(error) => {
-            if error.is_memory() {
-                return Err(ToolFault::OutOfMemory);
-            }
-            return Err(ToolFault::NotJson);
-        }
-    };
-    let setup = read_setup(alloc, &tree)?;
-    Ok(setup)
 }
 
 /// The report of a setup.

@@ -3,6 +3,7 @@
 ghost use Rattle.std.specs.Prelude.{◌≡◌};
 
 use crate::read_fault::ReadFault;
+use sab_race::RaceFault;
 use thiserror::Error;
 
 /// Why a tool doesn't do what it was asked for.
@@ -118,6 +119,20 @@ impl From<ReadFault> for ToolFault {
             ReadFault::BadView => ToolFault::BadView,
             ReadFault::BadAgent => ToolFault::BadAgent,
             ReadFault::OutOfMemory => ToolFault::OutOfMemory,
+        }
+    }
+}
+
+impl From<RaceFault> for ToolFault {
+    ghost use Rattle.sab_tool.specs.Racing.{race_as_tool_fault};
+
+    ghost from_gives = { λ e f. f ≡ race_as_tool_fault e };
+
+    fn from(fault: RaceFault) -> ToolFault {
+        match fault {
+            RaceFault::TooManyMoves => ToolFault::TooManyMoves,
+            RaceFault::OutOfMemory => ToolFault::OutOfMemory,
+            RaceFault::NoThread => ToolFault::NoThread,
         }
     }
 }

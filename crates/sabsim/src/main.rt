@@ -1,16 +1,20 @@
-//! Replays scripts of agents that share a block of bytes.
+//! Runs scripts of agents that share a block of bytes, by their schedule or in threads.
 #![tactic(auto)]
 
-ghost use Rattle.std.specs.Prelude.{OnOk, IfSome};
+ghost use Rattle.std.specs.Prelude.{◌≤◌, OnOk, IfSome};
+ghost use Rattle.sab_command.specs.Job.{IsWithinLimits};
 ghost use Rattle.sab_tool.specs.Replay.{Replays};
+ghost use Rattle.sab_tool.specs.Racing.{Races};
 
 use clap::error::ErrorKind;
 use sab_command::{Job, job_of};
-use sab_tool::{ToolFault, read_input, replay_bytes};
+use sab_tool::{Share, ToolFault, race_bytes, read_input, replay_bytes};
 use std::alloc::Global;
 use std::io;
 use std::io::{Read, Write};
 use std::process::ExitCode;
+use std::sync::Wait;
+use std::thread::Threads;
 
 /// The words of the command line, of which the first is the program's name.
 fn words(rt: &(impl std::rt::Env + AllocGlobal)) -> io::Result<Vec<String>> {
@@ -28,10 +32,36 @@ fn replay<R: Read, W: Write>(alloc: Global, input: &mut R, output: &mut W) -> Re
     output.flush().map_err(|_| ToolFault::WriteFailed)
 }
 
+/// Runs the agents of the script that a reader gives in threads, and writes the report.
+#[tactic(auto, using(crate::proofs::Flushed::flushed_race))]
+fn race<T: Threads + Wait + Sync + AllocGlobal, R: Read, W: Write>(
+    rt: &T,
+    share: Share,
+    spins: u32,
+    input: &mut R,
+    output: &mut W,
+) -> Result<(), ToolFault>
+    requires { spins ≤ 1000 }
+    ensures { OnOk result (IfSome (R.remaining input.old) (λ script. Races (W.contents output.old) (W.contents output.new) script spins)) }
+{
+    let alloc = rt.alloc();
+    let script = read_input(alloc, input)?;
+    race_bytes(rt, alloc, script.as_slice(), share, spins, output)?;
+    output.flush().map_err(|_| ToolFault::WriteFailed)
+}
+
 /// Does what the program is asked for.
-fn run(rt: &(impl Print + Input + AllocGlobal), job: Job) -> Result<(), ToolFault> {
+fn run(
+    rt: &(impl Print + Input + AllocGlobal + Threads + Wait + Sync),
+    job: Job,
+) -> Result<(), ToolFault>
+    requires { IsWithinLimits job }
+{
+    let mut input = rt.reader();
+    let mut output = io::writer(rt);
     match job {
-        Job::Replay => replay(rt.alloc(), &mut rt.reader(), &mut io::writer(rt)),
+        Job::Replay => replay(rt.alloc(), &mut input, &mut output),
+        Job::Race { share, spins } => race(rt, share, spins, &mut input, &mut output),
     }
 }
 

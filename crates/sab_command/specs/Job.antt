@@ -1,0 +1,9 @@
+-- What the program is asked for.
+use Rattle.std.specs.Prelude.{◌≤◌, ⊤}
+use Rattle.sab_command.specs.declared.command_line.Job.{Job}
+use Rattle.sab_command.specs.declared.command_line.Job.TheVariants.{Replay, Race}
+
+-- a race is asked for with at most 1,000 steps at a wait
+abbrev pub IsWithinLimits : Job → Type 0
+IsWithinLimits Replay = ⊤
+IsWithinLimits (Race share spins) = spins ≤ 1000

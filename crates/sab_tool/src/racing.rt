@@ -1,0 +1,65 @@
+//! From a script to the text of the report of a race.
+
+ghost use Rattle.std.specs.Prelude.{◌≤◌, IfOk, OnOk, IfErr};
+ghost use Rattle.sab_tool.specs.Racing.{IsRaceOf, IsUnraced, Races, IsRaceFault};
+
+use crate::report::write_report;
+use crate::script::setup_of;
+use crate::share::Share;
+use crate::tool_fault::ToolFault;
+use sab_race::{NoGate, run_locked, run_rings};
+use sab_sim::{Plan, Report};
+use std::alloc::Global;
+use std::io::Write;
+use std::sync::{Arc, Wait};
+use std::thread::Threads;
+
+/// How many rounds in a row the owner of the rings goes without a move before it waits for the threads to end.
+const PATIENCE: u32 = 1_000_000;
+
+/// Runs the agents of a script in threads, and writes the text of the report; it doesn't flush.
+///
+/// The script's schedule is read and checked and then not used: the report's is the order in which the moves took effect.
+/// An agent steps `spins` times, at most 1,000, at each wait before the wait's time is up. WriteFailed where a write
+/// failed; nothing is said then of how much was written. Every other fault is a refusal of the script, agents with more
+/// than 2^20 moves in all (TooManyMoves), want of memory, or a thread that couldn't be started (NoThread), and nothing was
+/// written.
+pub fn race_bytes<R: Threads + Wait + Sync, W: Write>(
+    rt: &R,
+    alloc: Global,
+    script: &[u8],
+    share: Share,
+    spins: u32,
+    w: &mut W,
+) -> Result<(), ToolFault>
+    requires { spins ≤ 1000 }
+    ensures ok { OnOk result (Races (W.contents w.old) (W.contents w.new) script.now spins) }
+    ensures err { IfErr result (IsRaceFault (W.contents w.old) (W.contents w.new) script.now spins) }
+{
+    let setup = setup_of(alloc, script)?;
+    let (plan, _) = setup.into_parts();
+    let report = run(rt, alloc, plan, share, spins)?;
+    write_report(&report, w)
+}
+
+/// Runs the agents of a plan in threads.
+fn run<R: Threads + Wait + Sync>(
+    rt: &R,
+    alloc: Global,
+    plan: Plan,
+    share: Share,
+    spins: u32,
+) -> Result<Report, ToolFault>
+    requires { spins ≤ 1000 }
+    ensures race { IfOk result (IsRaceOf plan spins) }
+    ensures err { IfErr result (IsUnraced plan spins) }
+{
+    let Ok(gate) = Arc::new(alloc, NoGate) else {
+        return Err(ToolFault::OutOfMemory);
+    };
+    let report = match share {
+        Share::Lock => run_locked(rt, alloc, plan, spins, gate)?,
+        Share::Ring => run_rings(rt, alloc, plan, spins, PATIENCE, gate)?,
+    };
+    Ok(report)
+}
