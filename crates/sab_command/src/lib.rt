@@ -5,6 +5,3 @@ mod command_line;
 mod help;
 
 pub use command_line::{Job, command, job_of};
-
-#[cfg(test)]
-mod tests;

@@ -7,17 +7,50 @@ use crate::race::Race;
 use rtrb::Consumer;
 use sab_sim::Move;
 
+/// How many moves are taken out of a ring at once, where it holds so many.
+const MOST_AT_ONCE: usize = 64;
+
 /// Where the owner of a race receives an agent's moves. It isn't read again once it gave another move than the agent's
 /// next.
 #[derive(Drop)]
 pub struct Lane {
-    pub agent: u32,
-    pub ring: Consumer<Move>,
-    pub is_open: bool,
+    agent: u32,
+    ring: Consumer<Move>,
+    is_open: bool,
+    /// What was taken out last: the moves from `first` on, up to `end`, aren't made yet.
+    taken: [Move; MOST_AT_ONCE],
+    first: usize,
+    end: usize,
 }
 
 impl Lane {
-    /// Takes a move out and makes it, and tells whether one was made.
+    /// The lane of an agent, of which nothing was taken out yet.
+    pub fn new(agent: u32, ring: Consumer<Move>) -> Lane {
+        Lane {
+            agent,
+            ring,
+            is_open: true,
+            taken: [Move::Step(agent); MOST_AT_ONCE],
+            first: 0,
+            end: 0,
+        }
+    }
+
+    /// The next move that the agent sent, if one came.
+    fn next_given(&mut self) -> Option<Move> {
+        if self.first >= self.end {
+            self.end = self.ring.pop_partial_slice(&mut self.taken);
+            self.first = 0;
+        }
+        if self.first >= self.end {
+            return None;
+        }
+        let given = self.taken.get(self.first).copied();
+        self.first += 1;
+        given
+    }
+
+    /// Makes the next move that came, and tells whether one was made.
     pub fn take_one<G: Gate>(&mut self, race: &mut Race, gate: &G) -> bool
         ensures plan { race.new.plan ≡ race.old.plan }
         ensures spins { race.new.spins ≡ race.old.spins }
@@ -25,7 +58,7 @@ impl Lane {
         if !self.is_open || !race.has_next(self.agent) {
             return false;
         }
-        let Ok(given) = self.ring.pop() else {
+        let Some(given) = self.next_given() else {
             return false;
         };
         let made = race.make_given(self.agent, given);

@@ -96,11 +96,7 @@ fn start<R: Threads, G: Gate + 'static>(
     let feeding = move ||
         requires { (length moves.items ≤ 2 ^ 20) × (length moves.items ≤ known_free producer) }
     { feed_own(producer, agent, moves, gate) };
-    let lane = Lane {
-        agent,
-        ring,
-        is_open: true,
-    };
+    let lane = Lane::new(agent, ring);
     match thread::spawn(rt, feeding) {
         Ok(thread) => Ok((lane, thread)),
         Err(_) => Err(RaceFault::NoThread),

@@ -31,6 +31,3 @@ pub use setup::{Setup, read_setup};
 pub use share::Share;
 pub use tool_fault::ToolFault;
 pub use view_spec::ViewSpec;
-
-#[cfg(test)]
-mod tests;

@@ -1,10 +1,12 @@
-//! Worked examples that go through several crates, as tests.
+//! Worked examples of plans, replays and races, as tests.
 #![tactic(auto)]
 
 #[cfg(test)]
 mod limits;
 #[cfg(test)]
 mod plans;
+#[cfg(test)]
+mod racing;
 #[cfg(test)]
 mod run;
 #[cfg(test)]

@@ -1,0 +1,71 @@
+//! What faults of tools and scripts print.
+
+use sab_tool::{ReadFault, ToolFault};
+use std::test::Fail;
+
+#[test]
+fn a_tool_fault_prints_its_name(rt: HostRuntime) -> Result<(), Fail> {
+    let alloc = rt.alloc();
+    let table = [
+        (ToolFault::TooMany, 3, "TooMany"),
+        (ToolFault::OutOfMemory, 5, "OutOfMemory"),
+        (ToolFault::TooManyMoves, 8, "TooManyMoves"),
+        (ToolFault::NoThread, 9, "NoThread"),
+        (ToolFault::BadShape, 10, "BadShape"),
+        (ToolFault::BadName, 11, "BadName"),
+        (ToolFault::BadNumber, 12, "BadNumber"),
+        (ToolFault::BadCall, 13, "BadCall"),
+        (ToolFault::BadView, 14, "BadView"),
+        (ToolFault::BadAgent, 15, "BadAgent"),
+        (ToolFault::NotJson, 16, "NotJson"),
+        (ToolFault::WriteFailed, 17, "WriteFailed"),
+        (ToolFault::TooLong, 18, "TooLong"),
+        (ToolFault::ReadFailed, 19, "ReadFailed"),
+    ];
+    for (fault, number, name) in table {
+        assert_eq!(rt; fault.number(), number);
+        assert_eq!(rt; fault.name(), name);
+        assert_eq!(rt; fault.to_string(alloc)?.as_str(), name);
+    }
+    Ok(())
+}
+
+#[test]
+fn a_read_fault_prints_what_is_wrong(rt: HostRuntime) -> Result<(), Fail> {
+    let alloc = rt.alloc();
+    let table = [
+        (
+            ReadFault::TooMany,
+            "the script has more of something than it can have",
+        ),
+        (
+            ReadFault::BadShape,
+            "a value of the script has another shape than its place asks for",
+        ),
+        (
+            ReadFault::BadName,
+            "a view's name has a wrong form or is given twice, or a call is on a name that no view has",
+        ),
+        (
+            ReadFault::BadNumber,
+            "a number of the script isn't whole, or out of range",
+        ),
+        (
+            ReadFault::BadCall,
+            "a call's name isn't there, or it has a wrong number of elements",
+        ),
+        (
+            ReadFault::BadView,
+            "a view has a kind that isn't there, or doesn't fit the block",
+        ),
+        (
+            ReadFault::BadAgent,
+            "a move names an agent that isn't there",
+        ),
+        (ReadFault::OutOfMemory, "there is no memory for the script"),
+    ];
+    for (fault, text) in table {
+        assert_eq!(rt; fault.to_string(alloc)?.as_str(), text);
+    }
+    Ok(())
+}
