@@ -1,3 +1,4 @@
 pub mod RawElements
 pub mod ElementBytes
 pub mod Combining
+pub mod Equality

@@ -2,6 +2,7 @@ pub mod Call
 pub mod Schedule
 pub mod Script
 pub mod Plan
+pub mod PlanFault
 pub mod Place
 pub mod Check
 pub mod Object
@@ -9,4 +10,5 @@ pub mod Entry
 pub mod Journal
 pub mod Report
 pub mod Agent
+pub mod SimFault
 pub mod Sim

@@ -15,6 +15,11 @@ pub enum SimFault {
 }
 
 impl fmt::Display for SimFault {
+    ghost use Rattle.std.specs.Prelude.{Some};
+    ghost use Rattle.sab_sim.specs.SimFault.{text_of};
+
+    ghost output = { λ fault. Some (text_of fault) };
+
     fn fmt<W: fmt::Write>(&self, f: &mut fmt::Formatter<W>) -> fmt::Result {
         f.write_str(match self {
             SimFault::NoAgent => "the move names no agent",

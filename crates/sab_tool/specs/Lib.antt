@@ -1,3 +1,4 @@
+pub mod ReadFault
 pub mod Reading
 pub mod Numbers
 pub mod Views

@@ -1,5 +1,7 @@
 //! Scripts whose agents run in threads.
 
+ghost use Rattle.std.specs.Prelude.{◌≤◌};
+
 use crate::scripts::{STORE_AND_LOAD, lines};
 use sab_tool::{Share, ToolFault, race_bytes};
 use std::alloc::Global;
@@ -9,7 +11,7 @@ use std::thread::Threads;
 
 const SHARES: [Share; 2] = [Share::Lock, Share::Ring];
 
-/// An agent that steps and looks at a word of 4 bytes, and has no schedule.
+/// A script of one agent that waits on one word, without a schedule.
 fn waiter(alloc: Global, wait: &str) -> Result<String, Fail> {
     let script = format!(in alloc;
         r#"{{"bytes":4,"views":[{{"name":"a","kind":"Int32","offset":0,"length":null}}],"agents":[{{"block":true,"calls":[{wait}]}}],"schedule":[]}}"#
