@@ -2,3 +2,4 @@ pub mod RawElements
 pub mod ElementBytes
 pub mod Combining
 pub mod Equality
+pub mod Halves

@@ -5,3 +5,4 @@ pub mod View
 pub mod Block
 pub mod RmwOp
 pub mod Access
+pub mod Wide

@@ -11,6 +11,7 @@ mod operand;
 mod rmw_op;
 mod thrown;
 mod view;
+mod wide;
 
 pub use access::Access;
 pub use block::Block;

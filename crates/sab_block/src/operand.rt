@@ -7,12 +7,13 @@ ghost use Rattle.sab_block.specs.Operand.{IsSafeInteger, whole_of, agrees, raw, 
 
 use crate::kind::Kind;
 use crate::thrown::Thrown;
+use crate::wide::Wide;
 
 /// A Number or a BigInt that is whole: what a call is handed, and the value that it answers.
 #[derive(Clone, Copy, Debug, PartialEq, Eq, Hash)]
 pub struct Operand {
     big: bool,
-    whole: i128,
+    whole: Wide,
 }
 
 impl Operand {
@@ -30,7 +31,7 @@ impl Operand {
         }
         Some(Operand {
             big: false,
-            whole: i128::from(v),
+            whole: Wide::new(i128::from(v)),
         })
     }
 
@@ -40,7 +41,7 @@ impl Operand {
     {
         Operand {
             big: true,
-            whole: v,
+            whole: Wide::new(v),
         }
     }
 
@@ -55,7 +56,7 @@ impl Operand {
     pub fn whole(self) -> i128
         ensures { result ≡ whole_of self }
     {
-        self.whole
+        self.whole.get()
     }
 }
 
@@ -70,7 +71,7 @@ pub fn to_raw(kind: Kind, v: Operand) -> Result<u64, Thrown>
     if v.big != kind.is_big() {
         return Err(Thrown::TypeError);
     }
-    Ok(wrapped(kind, v.whole))
+    Ok(wrapped(kind, v.whole.get()))
 }
 
 /// The operand that a raw element of the kind, below 2^(8 × size), is read as (RawBytesToNumeric).
@@ -81,7 +82,7 @@ pub fn from_raw(kind: Kind, raw: u64) -> Operand
 {
     Operand {
         big: kind.is_big(),
-        whole: unwrapped(kind, raw),
+        whole: Wide::new(unwrapped(kind, raw)),
     }
 }
 

@@ -21,11 +21,16 @@ pub enum Job {
     /// To replay the script on standard input.
     Replay,
     /// To run the agents of the script on standard input in threads.
-    Race { share: Share, spins: u32 },
+    Race {
+        /// How they share the simulator.
+        share: Share,
+        /// How often an agent steps at a wait before its time is up, at most 1,000.
+        spins: u32,
+    },
 }
 
 /// The command line, with its help.
-pub fn command<'a>(alloc: Global) -> Result<Command<'a>, AllocError> {
+fn command<'a>(alloc: Global) -> Result<Command<'a>, AllocError> {
     let replay = Command::new(alloc, "replay")
         .about(help::REPLAY)
         .after_help(help::REPLAY_FORMS);

@@ -4,4 +4,4 @@
 mod command_line;
 mod help;
 
-pub use command_line::{Job, command, job_of};
+pub use command_line::{Job, job_of};

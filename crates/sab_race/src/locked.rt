@@ -50,7 +50,7 @@ impl<N: RaceName> Locked<N> {
         }
     }
 
-    /// How many moves of an agent are left.
+    /// How many moves of an agent are left; none, where there is no such agent.
     fn left(&self, agent: u32) -> u32 {
         if agent < self.race.agents() {
             self.race.left(agent)
@@ -59,10 +59,12 @@ impl<N: RaceName> Locked<N> {
         }
     }
 
+    /// Makes the next move of an agent, if one is left.
     fn make_next(&mut self, agent: u32) {
         self.race.make_next(agent);
     }
 
+    /// Makes all that is left, and gives the report.
     fn complete(self) -> Report
         ensures race { IsRace N.plan N.spins result }
         ensures only { IsOnly N.plan result }
@@ -92,6 +94,7 @@ pub fn run_locked<R: Threads + Wait + Sync, G: Gate + 'static>(
     run_named::<Brand, R, G>(rt, alloc, plan, spins, &*gate)
 }
 
+/// The same for the race of a name.
 fn run_named<N: RaceName + Send + Sync, R: Threads + Wait + Sync, G: Gate>(
     rt: &R,
     alloc: Global,

@@ -3,6 +3,7 @@ pub mod BigText
 pub mod CallParts
 pub mod Consuming
 pub mod Described
+pub mod Digits
 pub mod Each
 pub mod Lengths
 pub mod ViewNames

@@ -120,11 +120,12 @@ pub(crate) fn read_calls(
     if trees.len() > Plan::MAX_CALLS {
         return Err(ReadFault::TooMany);
     }
+    // Without a value of this type here, the check can't tell what the calls of the list below hold.
+    let _access = Access::Load { index: 0 };
     let mut calls = Vec::with_capacity(alloc, trees.len()).map_err(|_| ReadFault::OutOfMemory)?;
     for tree in trees {
-        calls
-            .push(read_call(views, tree)?)
-            .map_err(|_| ReadFault::OutOfMemory)?;
+        let call = read_call(views, tree)?;
+        calls.push_reserved(call);
     }
     Ok(calls)
 }

@@ -4,6 +4,7 @@ ghost use Rattle.std.specs.Prelude.{◌≡◌, ◌+◌, ◌≤◌, ◌++◌, len
 ghost use Rattle.sab_tool.specs.Text.{operand_text, answer_text, why_text, what_text, entry_line};
 
 use crate::chunk::Chunk;
+use crate::line::Line;
 use sab_block::{Operand, Thrown};
 use sab_sim::{Answer, Entry, What, Why};
 
@@ -18,79 +19,84 @@ pub fn push_entry(k: usize, entry: &Entry, chunk: &mut Chunk)
     requires { length chunk.old + Chunk.LINE_ROOM ≤ Chunk.ROOM }
     ensures { chunk.new ≡ chunk.old ++ entry_line k entry.now }
 {
-    chunk.push_field(k);
-    chunk.push_field(entry.agent);
-    chunk.push_field(entry.call);
-    push_what(entry.what, chunk);
-    chunk.push(b"\n");
+    let mut line = Line::new();
+    line.put(b"\n");
+    put_what(entry.what, &mut line);
+    line.put_field(u64::from(entry.call));
+    line.put_field(u64::from(entry.agent));
+    line.put_field(k as u64);
+    chunk.push(line.bytes());
 }
 
-/// Puts last what a move did.
-fn push_what(what: What, chunk: &mut Chunk)
-    requires { length chunk.old + WHAT_LEN ≤ Chunk.ROOM }
-    ensures bytes { chunk.new ≡ chunk.old ++ what_text what }
-    ensures len { length chunk.new ≤ length chunk.old + WHAT_LEN }
+/// Puts first what a move did.
+fn put_what(what: What, line: &mut Line)
+    requires { length line.old + WHAT_LEN ≤ Line.ROOM }
+    ensures bytes { line.new ≡ what_text what ++ line.old }
+    ensures len { length line.new ≤ length line.old + WHAT_LEN }
 {
     match what {
-        What::Began => chunk.push(b"begin"),
+        What::Began => line.put(b"begin"),
         What::Acted(answer) => {
-            chunk.push(b"act ");
-            push_answer(answer, chunk);
+            put_answer(answer, line);
+            line.put(b"act ");
         }
-        What::Enlisted => chunk.push(b"wait"),
+        What::Enlisted => line.put(b"wait"),
         What::Left(answer) => {
-            chunk.push(b"leave ");
-            push_answer(answer, chunk);
+            put_answer(answer, line);
+            line.put(b"leave ");
         }
         What::Returned(answer) => {
-            chunk.push(b"return ");
-            push_answer(answer, chunk);
+            put_answer(answer, line);
+            line.put(b"return ");
         }
         What::Stuck(why) => {
-            chunk.push(b"stuck ");
-            chunk.push(why_word(why).as_bytes());
+            put_why(why, line);
+            line.put(b"stuck ");
         }
     }
 }
 
-/// Puts an answer last.
-fn push_answer(answer: Answer, chunk: &mut Chunk)
-    requires { length chunk.old + ANSWER_LEN ≤ Chunk.ROOM }
-    ensures bytes { chunk.new ≡ chunk.old ++ answer_text answer }
-    ensures len { length chunk.new ≤ length chunk.old + ANSWER_LEN }
+/// Puts an answer first.
+fn put_answer(answer: Answer, line: &mut Line)
+    requires { length line.old + ANSWER_LEN ≤ Line.ROOM }
+    ensures bytes { line.new ≡ answer_text answer ++ line.old }
+    ensures len { length line.new ≤ length line.old + ANSWER_LEN }
 {
     match answer {
-        Answer::Value(operand) => push_operand(operand, chunk),
-        Answer::Woken => chunk.push(b"ok"),
-        Answer::NotEqual => chunk.push(b"not-equal"),
-        Answer::TimedOut => chunk.push(b"timed-out"),
-        Answer::Count(n) => chunk.push_number(n),
-        Answer::Threw(Thrown::TypeError) => chunk.push(b"TypeError"),
-        Answer::Threw(Thrown::RangeError) => chunk.push(b"RangeError"),
+        Answer::Value(operand) => put_operand(operand, line),
+        Answer::Woken => line.put(b"ok"),
+        Answer::NotEqual => line.put(b"not-equal"),
+        Answer::TimedOut => line.put(b"timed-out"),
+        Answer::Count(n) => line.put_number(u64::from(n)),
+        Answer::Threw(Thrown::TypeError) => line.put(b"TypeError"),
+        Answer::Threw(Thrown::RangeError) => line.put(b"RangeError"),
     }
 }
 
-/// Puts an operand last.
-fn push_operand(operand: Operand, chunk: &mut Chunk)
-    requires { length chunk.old + ANSWER_LEN ≤ Chunk.ROOM }
-    ensures bytes { chunk.new ≡ chunk.old ++ operand_text operand }
-    ensures len { length chunk.new ≤ length chunk.old + ANSWER_LEN }
+/// Puts an operand first.
+fn put_operand(operand: Operand, line: &mut Line)
+    requires { length line.old + ANSWER_LEN ≤ Line.ROOM }
+    ensures bytes { line.new ≡ operand_text operand ++ line.old }
+    ensures len { length line.new ≤ length line.old + ANSWER_LEN }
 {
-    chunk.push_number(operand.whole());
-    if operand.is_big() {
-        chunk.push(b"n");
+    // A copy, since the borrow checker takes a parameter that holds a whole number to be used up where it is used.
+    let given = operand;
+    if given.is_big() {
+        line.put(b"n");
     }
+    line.put_whole(operand.whole());
 }
 
-/// The word for why a move had no effect.
-fn why_word(why: Why) -> &'static str
-    ensures word { result.now ≡ why_text why }
-    ensures short { length result.now ≤ 11 }
+/// Puts first why a move had no effect.
+fn put_why(why: Why, line: &mut Line)
+    requires { length line.old + 11 ≤ Line.ROOM }
+    ensures bytes { line.new ≡ why_text why ++ line.old }
+    ensures len { length line.new ≤ length line.old + 11 }
 {
     match why {
-        Why::Done => "done",
-        Why::Waiting => "waiting",
-        Why::NotWaiting => "not-waiting",
-        Why::Endless => "endless",
+        Why::Done => line.put(b"done"),
+        Why::Waiting => line.put(b"waiting"),
+        Why::NotWaiting => line.put(b"not-waiting"),
+        Why::Endless => line.put(b"endless"),
     }
 }

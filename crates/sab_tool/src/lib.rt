@@ -7,6 +7,7 @@ mod calls;
 mod chunk;
 mod entry_line;
 mod input;
+mod line;
 mod names;
 mod operands;
 mod racing;

@@ -27,13 +27,16 @@ pub(crate) fn kind(name: &str) -> Result<Kind, ReadFault>
     }
 }
 
+/// How many letters a view's name can have.
+const MAX_NAME: usize = 32;
+
 /// Whether a view can have the name.
 pub(crate) fn is_name(name: &str) -> bool
     ensures { IsTrue result ↔ IsName name.now }
 {
     let bytes = name.as_bytes();
     !bytes.is_empty()
-        && bytes.len() <= 32
+        && bytes.len() <= MAX_NAME
         && bytes
             .iter()
             .all(|b| b.is_ascii_alphanumeric() || *b == b'_')

@@ -11,7 +11,7 @@ pub enum ReadFault {
     TooMany,
     /// A value is of another type than its place asks for, a member is missing or too many, or a call is an empty array.
     BadShape,
-    /// A view's name isn't 1 to 32 ASCII letters, digits and `_`, is given twice, or is a call's and no view's.
+    /// A view's name isn't 1 to 32 ASCII letters, digits and `_`, or is given twice; or a call names no view.
     BadName,
     /// A number isn't whole and within ±(2^53 - 1), the block's length is negative, or a string is no BigInt.
     BadNumber,

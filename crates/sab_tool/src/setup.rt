@@ -52,7 +52,7 @@ impl Setup {
         &self.plan
     }
 
-    /// The views by name: the plan's, in order.
+    /// The views by name, in the order of the plan's.
     pub fn views(&self) -> &IndexMap<String, ViewSpec>
         ensures views { named_views result.now ≡ self.now.views }
         ensures valid { IsSetup self.now }
