@@ -2,4 +2,3 @@ pub mod RawElements
 pub mod ElementBytes
 pub mod Combining
 pub mod Equality
-pub mod Halves

@@ -5,4 +5,3 @@ pub mod View
 pub mod Block
 pub mod RmwOp
 pub mod Access
-pub mod Wide

@@ -11,7 +11,6 @@ mod operand;
 mod rmw_op;
 mod thrown;
 mod view;
-mod wide;
 
 pub use access::Access;
 pub use block::Block;

@@ -7,13 +7,12 @@ ghost use Rattle.sab_block.specs.Operand.{IsSafeInteger, whole_of, agrees, raw, 
 
 use crate::kind::Kind;
 use crate::thrown::Thrown;
-use crate::wide::Wide;
 
 /// A Number or a BigInt that is whole: what a call is handed, and the value that it answers.
 #[derive(Clone, Copy, Debug, PartialEq, Eq, Hash)]
 pub struct Operand {
     big: bool,
-    whole: Wide,
+    whole: i128,
 }
 
 impl Operand {
@@ -31,7 +30,7 @@ impl Operand {
         }
         Some(Operand {
             big: false,
-            whole: Wide::new(i128::from(v)),
+            whole: i128::from(v),
         })
     }
 
@@ -41,7 +40,7 @@ impl Operand {
     {
         Operand {
             big: true,
-            whole: Wide::new(v),
+            whole: v,
         }
     }
 
@@ -56,7 +55,7 @@ impl Operand {
     pub fn whole(self) -> i128
         ensures { result ≡ whole_of self }
     {
-        self.whole.get()
+        self.whole
     }
 }
 
@@ -71,7 +70,7 @@ pub fn to_raw(kind: Kind, v: Operand) -> Result<u64, Thrown>
     if v.big != kind.is_big() {
         return Err(Thrown::TypeError);
     }
-    Ok(wrapped(kind, v.whole.get()))
+    Ok(wrapped(kind, v.whole))
 }
 
 /// The operand that a raw element of the kind, below 2^(8 × size), is read as (RawBytesToNumeric).
@@ -82,7 +81,7 @@ pub fn from_raw(kind: Kind, raw: u64) -> Operand
 {
     Operand {
         big: kind.is_big(),
-        whole: Wide::new(unwrapped(kind, raw)),
+        whole: unwrapped(kind, raw),
     }
 }
 

@@ -1,3 +1,4 @@
 pub mod Moves
 pub mod Agenda
 pub mod Race
+pub mod RaceFault

@@ -1,6 +1,7 @@
 //! The receiving end of a ring.
 
-ghost use Rattle.std.specs.Prelude.{◌≡◌};
+ghost use Rattle.std.specs.Prelude.{◌≡◌, slice_set, IsTrue, IsFalse};
+ghost use Rattle.sab_race.specs.Agenda.{agenda_at, after_next, HasNext};
 
 use crate::gate::Gate;
 use crate::race::Race;
@@ -25,7 +26,9 @@ pub struct Lane {
 
 impl Lane {
     /// The lane of an agent, of which nothing was taken out yet.
-    pub fn new(agent: u32, ring: Consumer<Move>) -> Lane {
+    pub fn new(agent: u32, ring: Consumer<Move>) -> Lane
+        ensures { result.agent ≡ agent }
+    {
         Lane {
             agent,
             ring,
@@ -54,18 +57,26 @@ impl Lane {
     pub fn take_one<G: Gate>(&mut self, race: &mut Race, gate: &G) -> bool
         ensures plan { race.new.plan ≡ race.old.plan }
         ensures spins { race.new.spins ≡ race.old.spins }
+        ensures made { IsTrue result → HasNext race.old.agendas self.old.agent
+            × (race.new.agendas ≡ slice_set race.old.agendas self.old.agent (after_next (agenda_at race.old.agendas self.old.agent))) }
+        ensures none { IsFalse result → race.new ≡ race.old }
     {
-        if !self.is_open || !race.has_next(self.agent) {
+        let agent = self.agent;
+        if !self.is_open || !race.has_next(agent) {
             return false;
         }
         let Some(given) = self.next_given() else {
             return false;
         };
-        let made = race.make_given(self.agent, given);
-        match made {
-            Some(k) => gate.applied(self.agent, k),
-            None => self.is_open = false,
+        match race.make_given(agent, given) {
+            Some(k) => {
+                gate.applied(agent, k);
+                true
+            }
+            None => {
+                self.is_open = false;
+                false
+            }
         }
-        made.is_some()
     }
 }

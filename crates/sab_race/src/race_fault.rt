@@ -16,6 +16,11 @@ pub enum RaceFault {
 }
 
 impl fmt::Display for RaceFault {
+    ghost use Rattle.std.specs.Prelude.{Some};
+    ghost use Rattle.sab_race.specs.RaceFault.{text_of};
+
+    ghost output = { λ fault. Some (text_of fault) };
+
     fn fmt<W: fmt::Write>(&self, f: &mut fmt::Formatter<W>) -> fmt::Result {
         f.write_str(match self {
             RaceFault::TooManyMoves => "the agents have more moves than a journal can have entries",

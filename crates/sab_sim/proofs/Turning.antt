@@ -1,9 +1,8 @@
 -- What a move does to an agent that isn't in the line.
-use Rattle.std.proofs.Common.{◌≡◌, ◌≢◌, inl, inr, ℕ, suc, ◌<◌, ◌≤◌, true, false, List, [], ◌∷◌, length, set, get_or, slice_get, Option, Some, None, refl, ap, sym, ◌∙◌, subst, arith}
+use Rattle.std.proofs.Common.{◌≡◌, ◌≢◌, inl, inr, ℕ, suc, ◌<◌, ◌≤◌, true, false, List, [], ◌∷◌, length, set, slice_get, Option, Some, None, refl, ap, sym, ◌∙◌, subst, arith}
 use Rattle.std.specs.Prelude.{is_some}
 use Rattle.std.proofs.lemmas.Option.{slice_get_within, slice_get-get_or, slice_get_cases}
 use Rattle.std.proofs.lemmas.Bool.{cases_eq}
-use Rattle.std.proofs.lemmas.List.{get_or_default}
 use Rattle.sab_sim.specs.declared.plan_view.PlanView.{PlanView}
 use Rattle.sab_sim.specs.declared.call.Call.{Call}
 use Rattle.sab_sim.specs.declared.answer.Answer.{Answer}
@@ -43,10 +42,6 @@ has_turn plan agents a named size at_calls =
       | inl h ↦ (h.0, h.2)
       | inr h ↦ absurd (omega (arith, named, size, h.0))
     ]
-
--- what an agent's place in the list has, whatever would be there for none
-pub agent_any : (agents : List Agent) (a : ℕ) (g : Agent) → a < length agents → get_or agents a g ≡ agent_at agents a
-agent_any agents a g named = get_or_default agents a g newcomer named
 
 -- the act of an agent's call on its view is one of the object
 pub does_call : {plan : PlanParts} {agents : List Agent} {a : ℕ} {g : Agent} (turn : HasTurn plan agents a g) (call : Call) (v : PlanView) (what : What) (S T : State)

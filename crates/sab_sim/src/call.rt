@@ -10,7 +10,9 @@ use sab_block::{Access, Operand};
 pub enum Call {
     /// One of the functions that read or write an element.
     Access {
+        /// The position of its view.
         view: u32,
+        /// What it does there.
         access: Access,
     },
     /// `Atomics.wait`. A timeout that is absent never ends the wait; of one that is there the number has no effect.

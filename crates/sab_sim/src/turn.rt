@@ -157,8 +157,6 @@ fn answer_call(agents: &mut [Agent], a: u32, answer: Answer) -> What
     ensures what { result ≡ Acted answer }
     ensures agents { agents.new ≡ slice_set agents.old a (record { returned = (agent_at agents.old a).returned; phase = Answered answer }) }
 {
-    // A copy, since the borrow checker takes a parameter that holds a whole number to be used up where it is used.
-    let given = answer;
-    agents[a as usize].phase = Phase::Answered(given);
+    agents[a as usize].phase = Phase::Answered(answer);
     What::Acted(answer)
 }

@@ -120,12 +120,11 @@ pub(crate) fn read_calls(
     if trees.len() > Plan::MAX_CALLS {
         return Err(ReadFault::TooMany);
     }
-    // Without a value of this type here, the check can't tell what the calls of the list below hold.
-    let _access = Access::Load { index: 0 };
     let mut calls = Vec::with_capacity(alloc, trees.len()).map_err(|_| ReadFault::OutOfMemory)?;
     for tree in trees {
-        let call = read_call(views, tree)?;
-        calls.push_reserved(call);
+        calls
+            .push(read_call(views, tree)?)
+            .map_err(|_| ReadFault::OutOfMemory)?;
     }
     Ok(calls)
 }

@@ -79,9 +79,7 @@ fn put_operand(operand: Operand, line: &mut Line)
     ensures bytes { line.new ≡ operand_text operand ++ line.old }
     ensures len { length line.new ≤ length line.old + ANSWER_LEN }
 {
-    // A copy, since the borrow checker takes a parameter that holds a whole number to be used up where it is used.
-    let given = operand;
-    if given.is_big() {
+    if operand.is_big() {
         line.put(b"n");
     }
     line.put_whole(operand.whole());

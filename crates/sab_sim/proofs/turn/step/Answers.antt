@@ -2,33 +2,26 @@
 use Rattle.std.proofs.Common.{ap, sym, ◌∙◌, add-one}
 use Rattle.std.specs.Prelude.{is_some}
 use Rattle.sab_sim.specs.Agent.{waiting_phase}
-use Rattle.sab_sim.proofs.Turning.{has_turn, agent_any, began_turn, returned_turn, waiting_turn}
+use Rattle.sab_sim.proofs.Turning.{has_turn, began_turn, returned_turn, waiting_turn}
 use Rattle.sab_sim.proofs.Queueing.{woken_turn}
 use Rattle.sab_sim.proofs.turn.step.Goals as goal
 
 pub returns-else-is_none-clause-turns : goal.returns-else-is_none-clause-turns
 returns-else-is_none-clause-turns c =
     let turn = has_turn c.args.plan.now c.args.agents.now c.args.a c.requires.named c.requires.size c.requires.at_calls in
-    let phase = agent_any c.args.agents.now c.args.a c.index-agents-a-2.result c.requires.named in
-    let returned = agent_any c.args.agents.now c.args.a c.index-agents-a.result c.requires.named in
-    rw returned (began_turn turn (rw phase at c.in-Ready.is) (ap is_some (sym (rw returned at c.call.ensures.call)) ∙ c.if-is_none.ensures))
+    began_turn turn c.in-Ready.is (ap is_some (sym c.call.ensures.call) ∙ c.if-is_none.ensures)
 
 pub returns-in-Waiting-clause-turns : goal.returns-in-Waiting-clause-turns
 returns-in-Waiting-clause-turns c =
     let turn = has_turn c.args.plan.now c.args.agents.now c.args.a c.requires.named c.requires.size c.requires.at_calls in
-    let phase = agent_any c.args.agents.now c.args.a c.index-agents-a-2.result c.requires.named in
-    waiting_turn turn (ap waiting_phase (rw phase at c.in-Waiting.is))
+    waiting_turn turn (ap waiting_phase c.in-Waiting.is)
 
 pub returns-in-Woken-clause-turns : goal.returns-in-Woken-clause-turns
 returns-in-Woken-clause-turns c =
     let turn = has_turn c.args.plan.now c.args.agents.now c.args.a c.requires.named c.requires.size c.requires.at_calls in
-    let phase = agent_any c.args.agents.now c.args.a c.index-agents-a-2.result c.requires.named in
-    let returned = agent_any c.args.agents.now c.args.a c.index-agents-a.result c.requires.named in
-    rw returned (woken_turn turn (rw phase at c.in-Woken.is))
+    woken_turn turn c.in-Woken.is
 
 pub returns-in-Answered-clause-turns : goal.returns-in-Answered-clause-turns
 returns-in-Answered-clause-turns c =
     let turn = has_turn c.args.plan.now c.args.agents.now c.args.a c.requires.named c.requires.size c.requires.at_calls in
-    let phase = agent_any c.args.agents.now c.args.a c.index-agents-a-2.result c.requires.named in
-    let returned = agent_any c.args.agents.now c.args.a c.index-agents-a.result c.requires.named in
-    rw (returned, add-one) (returned_turn turn c.in-Answered.answer (rw phase at c.in-Answered.is))
+    rw add-one (returned_turn turn c.in-Answered.answer c.in-Answered.is)
