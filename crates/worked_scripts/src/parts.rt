@@ -5,7 +5,7 @@ use sab_sim::{Call, Plan, PlanView, Script};
 use std::alloc::Global;
 use std::test::Fail;
 
-/// A plan of one block that is expected to be one.
+/// A plan that is expected to be one.
 pub fn plan(
     alloc: Global,
     lens: &[u32],
