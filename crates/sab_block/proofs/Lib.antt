@@ -1,4 +1,5 @@
 pub mod RawElements
+pub mod WholeNumbers
 pub mod ElementBytes
 pub mod Combining
 pub mod Equality

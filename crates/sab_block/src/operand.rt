@@ -1,47 +1,48 @@
 //! Operands, and the raw elements that they are written as and read from.
 
-ghost use Rattle.std.specs.Prelude.{◌≡◌, ◌+◌, ◌*◌, ◌^◌, ◌<◌, ◌≤◌, Ok, Err, true, false, IsTrue, IfOk, MatchBool, SomeIff};
+ghost use Rattle.std.specs.Prelude.{◌≡◌, ◌+◌, ◌*◌, ◌^◌, ◌<◌, ◌≤◌, Ok, Err, true, false, IsTrue, IfOk, IfSome, MatchBool, SomeIff};
 ghost use Rattle.sab_block.specs.Kind.{is_atomic, raw_count};
 ghost use Rattle.sab_block.specs.declared.thrown.Thrown.TheVariants.{TypeError};
 ghost use Rattle.sab_block.specs.Operand.{IsSafeInteger, whole_of, agrees, raw, value, operand};
 
 use crate::kind::Kind;
 use crate::thrown::Thrown;
+use std::fmt;
 
 /// A Number or a BigInt that is whole: what a call is handed, and the value that it answers.
-#[derive(Clone, Copy, Debug, PartialEq, Eq, Hash)]
+#[derive(Clone, Copy, PartialEq, Eq, Hash)]
 pub struct Operand {
     big: bool,
-    whole: i128,
+    // The whole number as the bytes of an i128, lowest first. An i128 lies at a multiple of 16 bytes, and an entry of a
+    // journal with one in it would be two and a half times as long.
+    bytes: [u8; 16],
 }
 
 impl Operand {
-    ghost use Rattle.sab_block.specs.Operand.{number_operand, bigint_operand, is_bigint};
+    ghost use Rattle.sab_block.specs.Operand.{operand_of, number_operand, bigint_operand, is_bigint};
 
     /// The greatest safe integer, 2^53 - 1 (Number.MAX_SAFE_INTEGER); its negative is the least.
     pub const MAX_SAFE_INTEGER: i64 = 9_007_199_254_740_991;
 
     /// The Number `v`, or `None` exactly where `v` is no safe integer.
+    #[tactic(auto, using(crate::proofs::WholeNumbers::kept))]
     pub fn number(v: i64) -> Option<Operand>
-        ensures { SomeIff result (IsSafeInteger v) (number_operand v) }
+        ensures value { SomeIff result (IsSafeInteger v) (number_operand v) }
+        ensures whole { IfSome result (λ x. whole_of x ≡ v) }
     {
         if v < -Self::MAX_SAFE_INTEGER || Self::MAX_SAFE_INTEGER < v {
             return None;
         }
-        Some(Operand {
-            big: false,
-            whole: i128::from(v),
-        })
+        Some(Operand::of(false, i128::from(v)))
     }
 
     /// The BigInt `v`.
+    #[tactic(auto, using(crate::proofs::WholeNumbers::kept))]
     pub fn big(v: i128) -> Operand
-        ensures { result ≡ bigint_operand v }
+        ensures value { result ≡ bigint_operand v }
+        ensures whole { whole_of result ≡ v }
     {
-        Operand {
-            big: true,
-            whole: v,
-        }
+        Operand::of(true, v)
     }
 
     /// Whether it is a BigInt, and not a Number.
@@ -52,10 +53,32 @@ impl Operand {
     }
 
     /// The whole number that it is.
+    #[tactic(auto, unfolding(crate::specs::Operand::whole_of))]
     pub fn whole(self) -> i128
         ensures { result ≡ whole_of self }
     {
-        self.whole
+        i128::from_le_bytes(self.bytes)
+    }
+
+    /// The BigInt or the Number `whole`.
+    #[tactic(auto, unfolding(crate::specs::Operand::bytes_of))]
+    fn of(big: bool, whole: i128) -> Operand
+        ensures { result ≡ operand_of big whole }
+    {
+        Operand {
+            big,
+            bytes: whole.to_le_bytes(),
+        }
+    }
+}
+
+/// It shows the whole number, and not the bytes.
+impl fmt::Debug for Operand {
+    fn fmt<W: fmt::Write>(&self, f: &mut fmt::Formatter<W>) -> fmt::Result {
+        f.debug_struct("Operand")
+            .field("big", &self.big)
+            .field("whole", &self.whole())
+            .finish()
     }
 }
 
@@ -70,19 +93,18 @@ pub fn to_raw(kind: Kind, v: Operand) -> Result<u64, Thrown>
     if v.big != kind.is_big() {
         return Err(Thrown::TypeError);
     }
-    Ok(wrapped(kind, v.whole))
+    Ok(wrapped(kind, v.whole()))
 }
 
 /// The operand that a raw element of the kind, below 2^(8 × size), is read as (RawBytesToNumeric).
+#[tactic(auto, using(crate::proofs::WholeNumbers::kept))]
 pub fn from_raw(kind: Kind, raw: u64) -> Operand
     requires atomic { IsTrue (is_atomic kind) }
     requires fits { raw < raw_count kind }
-    ensures { result ≡ operand kind raw }
+    ensures value { result ≡ operand kind raw }
+    ensures whole { whole_of result ≡ value kind raw }
 {
-    Operand {
-        big: kind.is_big(),
-        whole: unwrapped(kind, raw),
-    }
+    Operand::of(kind.is_big(), unwrapped(kind, raw))
 }
 
 /// The low bits of a whole number, as many as an element has.

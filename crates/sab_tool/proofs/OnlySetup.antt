@@ -12,6 +12,7 @@ use Rattle.std.proofs.lemmas.Str.Parse.{digit_from_value}
 use mathlib.Core.HLevel.{is_prop→PathP}
 use Rattle.serde_json.specs.Data.{Data, boolean, string, array, Items, no_items, item}
 use Rattle.sab_block.specs.Kind.{element_size}
+use Rattle.sab_block.specs.Operand.{operand_of, is_bigint, whole_of}
 use Rattle.sab_block.specs.declared.operand.Operand.{Operand}
 use Rattle.sab_block.specs.declared.rmw_op.RmwOp.{RmwOp}
 use Rattle.sab_block.specs.declared.rmw_op.RmwOp.TheVariants.{Exchange, Add, Sub, And, Or, Xor}
@@ -76,7 +77,8 @@ same_data true true y z p q e = let text : signed_decimal y ≡ signed_decimal z
 
 same_operand : (x y : Operand) → IsOperand x → IsOperand y → operand_tree x ≡ operand_tree y → x ≡ y
 same_operand x y p q e =
-    let h = same_data x.big y.big x.whole y.whole p q e in λ i. record { big = h.0 i; whole = h.1 i }
+    let h = same_data (is_bigint x) (is_bigint y) (whole_of x) (whole_of y) p.1 q.1 e in
+    p.0 ∙ (λ i. operand_of (h.0 i) (h.1 i)) ∙ sym q.0
 
 same_last : (t u : Option ℤ) → last_item t ≡ last_item u → t ≡ u
 same_last None None e = refl

@@ -5,7 +5,7 @@ use Rattle.std.specs.Fmt.{signed_decimal}
 use Rattle.serde_json.specs.Data.{Data, null, number, string}
 use Rattle.serde_json.specs.Find.{of_integer}
 use Rattle.sab_block.specs.declared.operand.Operand.{Operand}
-use Rattle.sab_block.specs.Operand.{IsSafeInteger, is_bigint, whole_of}
+use Rattle.sab_block.specs.Operand.{IsSafeInteger, operand_of, is_bigint, whole_of}
 
 -- a JSON number that is whole
 abbrev pub whole : ℤ → Data
@@ -43,8 +43,9 @@ abbrev pub IsInRange : Bool → ℤ → Type 0
 IsInRange false z = IsSafeInteger z
 IsInRange true z = FitsSigned w128 z
 
+-- the operand of its type and its whole number, which lies within the type's range
 abbrev pub IsOperand : Operand → Type 0
-IsOperand x = IsInRange (is_bigint x) (whole_of x)
+IsOperand x = (x ≡ operand_of (is_bigint x) (whole_of x)) × IsInRange (is_bigint x) (whole_of x)
 
 abbrev pub SpellsOperand : Data → Operand → Type 0
 SpellsOperand d x = (d ≡ operand_tree x) × IsOperand x

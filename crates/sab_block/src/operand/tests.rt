@@ -25,10 +25,24 @@ fn a_number_is_a_safe_integer(rt: HostRuntime) {
 
 #[test]
 fn a_big_is_told_from_a_number(rt: HostRuntime) -> Result<(), Fail> {
-    for (operand, big, whole) in [(number(-1)?, false, -1), (Operand::big(-1), true, -1)] {
+    let table = [
+        (number(-1)?, false, -1),
+        (Operand::big(-1), true, -1),
+        (Operand::big(i128::MAX), true, i128::MAX),
+        (Operand::big(i128::MIN), true, i128::MIN),
+    ];
+    for (operand, big, whole) in table {
         assert_eq!(rt; operand.is_big(), big, "whether {operand:?} is a BigInt");
         assert_eq!(rt; operand.whole(), whole, "the value of {operand:?}");
     }
+    Ok(())
+}
+
+#[test]
+fn an_operand_shows_its_whole_number(rt: HostRuntime) -> Result<(), Fail> {
+    let alloc = rt.alloc();
+    let shown = format!(in alloc; "{:?}", Operand::big(-1))?;
+    assert_eq!(rt; shown.as_str(), "Operand { big: true, whole: -1 }");
     Ok(())
 }
 
