@@ -2,8 +2,9 @@
 use Rattle.std.specs.Prelude.{◌≤◌, ⊤}
 use Rattle.sab_command.specs.declared.command_line.Job.{Job}
 use Rattle.sab_command.specs.declared.command_line.Job.TheVariants.{Replay, Race}
+use Rattle.sab_tool.specs.Racing.{MAX_SPINS}
 
--- a race is asked for with at most 1,000 steps at a wait
+-- a race is asked for with at most so many steps at a wait
 abbrev pub IsWithinLimits : Job → Type 0
 IsWithinLimits Replay = ⊤
-IsWithinLimits (Race share spins) = spins ≤ 1000
+IsWithinLimits (Race share spins) = spins ≤ MAX_SPINS

@@ -5,12 +5,9 @@ ghost use Rattle.sab_command.specs.Job.{IsWithinLimits};
 
 use crate::help;
 use clap::{Arg, ArgMatches, Command, Error, value_parser};
-use sab_tool::Share;
+use sab_tool::{MAX_SPINS, Share};
 use std::alloc::{AllocError, Global};
 use std::convert::AsStr;
-
-/// How often an agent can step at a wait before its time is up.
-const MAX_SPINS: u32 = 1_000;
 
 /// What `--share` takes.
 static SHARES: [&str; 2] = ["lock", "ring"];
@@ -24,7 +21,7 @@ pub enum Job {
     Race {
         /// How they share the simulator.
         share: Share,
-        /// How often an agent steps at a wait before its time is up, at most 1,000.
+        /// How often an agent steps at a wait before its time is up, at most [`MAX_SPINS`].
         spins: u32,
     },
 }
@@ -69,7 +66,7 @@ fn share_of(matches: &ArgMatches<'_>) -> Share {
 
 /// How often an agent is to step at a wait.
 fn spins_of(matches: &ArgMatches<'_>) -> u32
-    ensures { result ≤ 1000 }
+    ensures { result ≤ MAX_SPINS }
 {
     let spins = matches.get_one::<u32>("spins").unwrap_or(0);
     spins.min(MAX_SPINS)

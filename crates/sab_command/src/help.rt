@@ -2,7 +2,7 @@
 
 /// What the program is.
 pub(crate) const ABOUT: &str =
-    "Runs agents that share a block of bytes by the rules of JavaScript's Atomics, one move at a time";
+    "Runs agents that share blocks of bytes by the rules of JavaScript's Atomics, one move at a time";
 
 /// What it answers, and where to go on.
 pub(crate) const STATUSES: &str = "\
@@ -20,18 +20,22 @@ Begin with `sabsim replay --help`, which has a script to try.";
 
 /// What `replay` does.
 pub(crate) const REPLAY: &str =
-    "Reads a script from standard input, makes its moves in order, and writes what each one did to standard output";
+    "Reads a script from standard input, makes its moves in order, and writes what each one did";
 
 /// What a script says, what a report says, and an example.
 pub(crate) const REPLAY_FORMS: &str = r#"The script is one JSON object, of at most 1,048,576 bytes:
-  bytes     how many bytes the block has, at most 65,536; all are 0 at first
+  blocks    the lengths of 1 to 4 blocks in bytes, each at most 65,536; all bytes are 0 at first
   views     at most 64 objects, each with a name, a kind (Int8, Uint8, Uint8Clamped,
-            Int16, Uint16, Int32, Uint32, Float32, Float64, BigInt64, BigUint64), an
-            offset in bytes, and a length in elements or null for all that fit
+            Int16, Uint16, Int32, Uint32, Float32, Float64, BigInt64, BigUint64), a
+            block by its position from 0, an offset in bytes, and a length in elements or
+            null for all that fit
   agents    at most 16 objects: block says whether the agent can wait, and calls has
             its calls, at most 1,000
   schedule  at most 100,000 moves: a number is a step of that agent, counted from 0,
             and {"timeout":0} ends the wait of agent 0 by its timeout
+
+The older form has bytes, the length of its one block, in place of blocks, and its views have
+no block: all are on that one.
 
 A call is an array of its name, a view's name, an index and what else it takes:
   ["load","a",0]                   ["compareExchange","a",0,1,2]
@@ -40,22 +44,22 @@ A call is an array of its name, a view's name, an index and what else it takes:
   with sub, and, or, xor and exchange
 A number is a Number, and a string of digits is a BigInt.
 
-The report has one line for each move: its place in the schedule, the agent, which of its
-calls it is at, and what happened:
+The report on standard output has one line for each move: its place in the schedule, the
+agent, which of its calls it is at, and what happened:
   begin       the call begins        leave X     the wait ended with X
   act X       it acted, with X       return X    it returned X
   wait        it waits               stuck WHY   the move had no effect
-X is a value, ok, not-equal, timed-out, a count, TypeError or RangeError. Then come a line
-with the bytes in hexadecimal, and for each agent how many of its calls returned.
+X is a value, ok, not-equal, timed-out, a count, TypeError or RangeError. Then come for each
+block its bytes in hexadecimal, and for each agent how many of its calls returned.
 
 Example:
-  echo '{"bytes":1,"views":[{"name":"a","kind":"Uint8","offset":0,"length":null}],
+  echo '{"blocks":[1],"views":[{"name":"a","kind":"Uint8","block":0,"offset":0,"length":null}],
   "agents":[{"block":true,"calls":[["store","a",0,300]]}],"schedule":[0,0,0]}' | sabsim replay
 writes
   0 0 0 begin
   1 0 0 act 300
   2 0 0 return 300
-  block 2c
+  block 0 2c
   agent 0 1 of 1
 
 Exit status: 0 done, 1 the script was refused, 2 the command line was refused, 3 standard
@@ -63,23 +67,24 @@ input or standard output failed, 4 there is no memory. Where it is 1, 3 or 4, st
 has one line with the fault's number and name, as `sabsim: 14 BadView`.
 
 What the script is refused for:
-   3 TooMany    more bytes, views, agents, calls or moves than above
+   3 TooMany    more blocks, bytes, views, agents, calls or moves than above
   10 BadShape   a value of another type, or a member that is missing or too many
-  11 BadName    a view's name isn't 1 to 32 ASCII letters, digits or _, is given twice, or isn't there
+  11 BadName    a view's name isn't 1 to 32 ASCII letters, digits, _, is given twice, or isn't there
   12 BadNumber  a number isn't whole or is beyond 2^53 - 1, or a string isn't a BigInt
   13 BadCall    no call of that name, or a wrong number of elements
-  14 BadView    no kind of that name, or the view doesn't fit the block
+  14 BadView    no kind of that name, or the view doesn't fit its block
   15 BadAgent   a move of an agent that isn't there
   16 NotJson    the input isn't JSON in UTF-8
-  18 TooLong    the input has more than 1,048,576 bytes"#;
+  18 TooLong    the input has more than 1,048,576 bytes
+  20 NoBlock    no block at all, or a view on a block that isn't there"#;
 
 /// What `race` does.
 pub(crate) const RACE: &str =
-    "Reads a script from standard input, runs each of its agents in a thread of its own, and writes what each move did to standard output";
+    "Reads a script from standard input, runs its agents in threads, and writes what each move did";
 
 /// What `--share` chooses.
 pub(crate) const SHARE: &str =
-    "How the threads share the block: each takes a lock for each move, or sends its moves through a ring";
+    "How the threads share the blocks: by a lock that each takes for each move, or by rings of moves";
 
 /// What `--spins` chooses.
 pub(crate) const SPINS: &str =
@@ -98,7 +103,7 @@ a step of its agent. With these moves as the script's schedule, `sabsim replay` 
 same report.
 
 Example:
-  echo '{"bytes":4,"views":[{"name":"a","kind":"Int32","offset":0,"length":null}],
+  echo '{"blocks":[4],"views":[{"name":"a","kind":"Int32","block":0,"offset":0,"length":null}],
   "agents":[{"block":true,"calls":[["add","a",0,1]]},{"block":true,"calls":[["add","a",0,1]]}],
   "schedule":[]}' | sabsim race --share lock
 

@@ -4,8 +4,8 @@ ghost use Rattle.std.specs.Prelude.{◌≡◌, ◌≤◌, ◌<◌, ◌^◌, leng
 ghost use Rattle.sab_race.specs.Moves.{moves_of};
 ghost use Rattle.sab_race.specs.Agenda.{unmade, after_next, left_in};
 
-use crate::script_moves::moves;
-use sab_sim::{Move, Script};
+use crate::script_moves::{MAX_SPINS, moves};
+use sab_sim::{Move, Plan, Script};
 use std::alloc::{AllocError, Global};
 use std::marker::Model;
 
@@ -30,8 +30,8 @@ impl Model for Agenda {
 impl Agenda {
     /// What an agent has to do for its script.
     pub fn new(alloc: Global, script: &Script, agent: u32, spins: u32) -> Result<Agenda, AllocError>
-        requires calls { length script.now.calls ≤ 1000 }
-        requires spins { spins ≤ 1000 }
+        requires calls { length script.now.calls ≤ Plan.MAX_CALLS }
+        requires spins { spins ≤ MAX_SPINS }
         ensures { IfOk result (λ agenda. agenda ≡ unmade (moves_of script.now.calls agent spins)) }
     {
         let moves = moves(alloc, script, agent, spins)?;

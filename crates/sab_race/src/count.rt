@@ -4,11 +4,12 @@ ghost use Rattle.std.specs.Prelude.{◌≡◌, ◌≤◌, length, All};
 ghost use Rattle.sab_sim.specs.Script.{ScriptParts};
 ghost use Rattle.sab_race.specs.Moves.{call_moves, moves_of, count_of};
 
-use sab_sim::{Call, Script};
+use crate::script_moves::MAX_SPINS;
+use sab_sim::{Call, Plan, Script};
 
 /// How many moves an agent makes for a call.
 fn call_count(call: Call, spins: u32) -> usize
-    requires { spins ≤ 1000 }
+    requires { spins ≤ MAX_SPINS }
     ensures count { result ≡ length (call_moves call 0 spins) }
     ensures most { result ≤ 1005 }
 {
@@ -20,8 +21,8 @@ fn call_count(call: Call, spins: u32) -> usize
 
 /// How many moves an agent makes for its script.
 pub fn script_count(script: &Script, spins: u32) -> usize
-    requires calls { length script.now.calls ≤ 1000 }
-    requires spins { spins ≤ 1000 }
+    requires calls { length script.now.calls ≤ Plan.MAX_CALLS }
+    requires spins { spins ≤ MAX_SPINS }
     ensures count { result ≡ length (moves_of script.now.calls 0 spins) }
     ensures most { result ≤ 1005000 }
 {
@@ -35,8 +36,8 @@ pub fn script_count(script: &Script, spins: u32) -> usize
 /// How many moves all agents make.
 pub fn count_moves(scripts: &[Script], spins: u32) -> usize
     requires agents { length scripts.now ≤ 16 }
-    requires calls { All (λ (s : ScriptParts). length s.calls ≤ 1000) scripts.now }
-    requires spins { spins ≤ 1000 }
+    requires calls { All (λ (s : ScriptParts). length s.calls ≤ Plan.MAX_CALLS) scripts.now }
+    requires spins { spins ≤ MAX_SPINS }
     ensures { result ≡ count_of scripts.now spins }
 {
     let mut total = 0;

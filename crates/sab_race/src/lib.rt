@@ -20,4 +20,4 @@ pub use gate::{Gate, NoGate};
 pub use locked::run_locked;
 pub use race_fault::RaceFault;
 pub use rings::run_rings;
-pub use script_moves::moves;
+pub use script_moves::{MAX_SPINS, moves};

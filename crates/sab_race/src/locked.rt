@@ -9,6 +9,7 @@ ghost use Rattle.sab_race.specs.Race.{IsRace, no_plan};
 use crate::gate::Gate;
 use crate::race::Race;
 use crate::race_fault::RaceFault;
+use crate::script_moves::MAX_SPINS;
 use sab_sim::{Plan, Report};
 use std::alloc::Global;
 use std::marker::{Brand, PhantomData};
@@ -78,7 +79,7 @@ impl<N: RaceName> Locked<N> {
 /// Each agent makes its `moves`. What is left over once the threads have ended is made without calls of the gate. Refused
 /// are, in this order, agents with more than 2^20 moves in all (TooManyMoves), and a race for which there is no memory
 /// (OutOfMemory) or no thread (NoThread). In every case each thread that was started has ended; after a refusal the plan is
-/// dropped. `spins` is at most 1,000.
+/// dropped. `spins` is at most [`MAX_SPINS`].
 pub fn run_locked<R: Threads + Wait + Sync, G: Gate + 'static>(
     rt: &R,
     alloc: Global,
@@ -86,7 +87,7 @@ pub fn run_locked<R: Threads + Wait + Sync, G: Gate + 'static>(
     spins: u32,
     gate: Arc<G>,
 ) -> Result<Report, RaceFault>
-    requires { spins ≤ 1000 }
+    requires { spins ≤ MAX_SPINS }
     ensures race { IfOk result (λ report. IsRace plan spins report) }
     ensures only { IfOk result (λ report. IsOnly plan report) }
     ensures too_many { IsErrOf result RaceFault.TooManyMoves ↔ (2 ^ 20 < count_of plan.scripts spins) }
@@ -102,7 +103,7 @@ fn run_named<N: RaceName + Send + Sync, R: Threads + Wait + Sync, G: Gate>(
     spins: u32,
     gate: &G,
 ) -> Result<Report, RaceFault>
-    requires spins { spins ≤ 1000 }
+    requires spins { spins ≤ MAX_SPINS }
     requires is_plan { plan ≡ N.plan }
     requires is_spins { spins ≡ N.spins }
     ensures race { IfOk result (λ report. IsRace plan spins report) }

@@ -11,6 +11,7 @@ ghost use Rattle.sab_race.specs.Race.{IsRace, IsDone, AreFresh};
 use crate::agenda::Agenda;
 use crate::count::count_moves;
 use crate::race_fault::RaceFault;
+use crate::script_moves::MAX_SPINS;
 use sab_sim::{Move, Plan, Report, Script, Sim};
 use std::alloc::{AllocError, Global};
 use std::marker::Model;
@@ -39,8 +40,8 @@ impl Model for Race {
 /// What each agent has to do at the start.
 fn make_agendas(alloc: Global, scripts: &[Script], spins: u32) -> Result<Vec<Agenda>, AllocError>
     requires agents { length scripts.now ≤ 16 }
-    requires calls { All (λ (s : ScriptParts). length s.calls ≤ 1000) scripts.now }
-    requires spins { spins ≤ 1000 }
+    requires calls { All (λ (s : ScriptParts). length s.calls ≤ Plan.MAX_CALLS) scripts.now }
+    requires spins { spins ≤ MAX_SPINS }
     ensures { IfOk result (λ agendas. AreFresh scripts.now spins agendas.items) }
 {
     let mut agendas = Vec::with_capacity(alloc, scripts.len())?;
@@ -53,7 +54,7 @@ fn make_agendas(alloc: Global, scripts: &[Script], spins: u32) -> Result<Vec<Age
 impl Race {
     /// A race in which no move was made, with room for all of them.
     pub fn new(alloc: Global, plan: Plan, spins: u32) -> Result<Race, RaceFault>
-        requires { spins ≤ 1000 }
+        requires { spins ≤ MAX_SPINS }
         ensures plan { IfOk result (λ race. race.plan ≡ plan) }
         ensures spins { IfOk result (λ race. race.spins ≡ spins) }
         ensures too_many { IsErrOf result RaceFault.TooManyMoves ↔ (2 ^ 20 < count_of plan.scripts spins) }

@@ -12,6 +12,7 @@ use crate::lane::Lane;
 use crate::owner::{drain, poll};
 use crate::race::Race;
 use crate::race_fault::RaceFault;
+use crate::script_moves::MAX_SPINS;
 use rtrb::{Producer, RingBuffer};
 use sab_sim::{Move, Plan, Report};
 use std::alloc::Global;
@@ -26,7 +27,7 @@ use std::thread::{JoinHandle, Threads};
 /// or none came in `patience` rounds in a row; then it waits for the threads to end, makes what the rings still hold, and
 /// makes what is left over without calls of the gate. Refused are, in this order, agents with more than 2^20 moves in all
 /// (TooManyMoves), and a race for which there is no memory (OutOfMemory) or no thread (NoThread). In every case each thread
-/// that was started has ended; after a refusal the plan is dropped. `spins` is at most 1,000.
+/// that was started has ended; after a refusal the plan is dropped. `spins` is at most [`MAX_SPINS`].
 pub fn run_rings<R: Threads, G: Gate + 'static>(
     rt: &R,
     alloc: Global,
@@ -35,7 +36,7 @@ pub fn run_rings<R: Threads, G: Gate + 'static>(
     patience: u32,
     gate: Arc<G>,
 ) -> Result<Report, RaceFault>
-    requires { spins ≤ 1000 }
+    requires { spins ≤ MAX_SPINS }
     ensures race { IfOk result (λ report. IsRace plan spins report) }
     ensures only { IfOk result (λ report. IsOnly plan report) }
     ensures too_many { IsErrOf result RaceFault.TooManyMoves ↔ (2 ^ 20 < count_of plan.scripts spins) }

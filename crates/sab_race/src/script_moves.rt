@@ -4,22 +4,25 @@ ghost use Rattle.std.specs.Prelude.{◌≡◌, ◌≤◌, ◌++◌, length, repl
 ghost use Rattle.sab_race.specs.Moves.{call_moves, moves_of};
 
 use crate::count::script_count;
-use sab_sim::{Call, Move, Script};
+use sab_sim::{Call, Move, Plan, Script};
 use std::alloc::{AllocError, Global};
+
+/// How many times an agent can step at a wait before the wait's time is up.
+pub const MAX_SPINS: u32 = 1_000;
 
 /// The moves that an agent makes for its script, in order.
 ///
 /// For an access or a notify they are three steps. For a wait they are two steps, then `spins` steps, then the end of its
-/// time, then two steps, so that it ends whether it was woken or not. A script has at most 1,000 calls, and `spins` is at
-/// most 1,000.
+/// time, then two steps, so that it ends whether it was woken or not. A script has at most [`Plan::MAX_CALLS`] calls, and
+/// `spins` is at most [`MAX_SPINS`].
 pub fn moves(
     alloc: Global,
     script: &Script,
     agent: u32,
     spins: u32,
 ) -> Result<Vec<Move>, AllocError>
-    requires calls { length script.now.calls ≤ 1000 }
-    requires spins { spins ≤ 1000 }
+    requires calls { length script.now.calls ≤ Plan.MAX_CALLS }
+    requires spins { spins ≤ MAX_SPINS }
     ensures moves { IfOk result (λ moves. moves.items ≡ moves_of script.now.calls agent spins) }
     ensures most { IfOk result (λ moves. length moves.items ≤ 1005000) }
 {

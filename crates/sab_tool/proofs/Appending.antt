@@ -1,11 +1,12 @@
 -- Pieces that go through a chunk to a writer.
-use Rattle.std.proofs.Common.{◌≡◌, ℕ, ◌+◌, ◌<◌, List, [], ◌++◌, length, get_or, drop, Option, Some, None, Result, OnOk, append_assoc, append-nil, refl, add-one, drop-cons}
-use Rattle.std.specs.Prelude.{flat_map}
+use Rattle.std.proofs.Common.{◌≡◌, ℕ, ◌+◌, ◌<◌, List, [], ◌++◌, length, get_or, drop, Option, Some, None, Result, OnOk, Global, append_assoc, append-nil, refl, add-one, drop-cons}
+use Rattle.std.specs.Prelude.{Vec}
 use Rattle.std.specs.Io.KnownBytes.{Appends, Keeps, append_known}
 use Rattle.std.proofs.lemmas.Result.{on_ok_weaker}
 use Rattle.sab_sim.specs.declared.entry.Entry.{Entry}
 use Rattle.sab_sim.specs.declared.progress.Progress.{Progress}
-use Rattle.sab_tool.specs.Text.{entry_line, journal_lines, hex_byte, agent_line, agent_lines}
+use Rattle.sab_sim.specs.Report.{items_of_each}
+use Rattle.sab_tool.specs.Text.{entry_line, journal_lines, block_line, block_lines, agent_line, agent_lines}
 
 pub appends_both : (a b c : Option (List ℕ)) (xs ys : List ℕ) → Appends a b xs → Appends b c ys → Appends a c (xs ++ ys)
 appends_both None b c xs ys p q = tt
@@ -32,9 +33,9 @@ kept_appended None b chunk text p = tt
 kept_appended (Some x) None chunk text p = p
 kept_appended (Some x) (Some y) chunk text p = rw append_assoc p
 
--- a text is put into the chunk, and then the chunk may be written
-pub put_kept : {T E : Type 0} (r : Result T E) (a b : Option (List ℕ)) (chunk text : List ℕ) → OnOk r (Keeps (append_known a (chunk ++ text)) b) → OnOk r (Appends (append_known a chunk) b text)
-put_kept r a b chunk text p = on_ok_weaker r (kept_appended a b chunk text) p
+-- a text goes into the chunk, and then the chunk may be written
+pub append_kept : {T E : Type 0} (r : Result T E) (a b : Option (List ℕ)) (chunk text : List ℕ) → OnOk r (Keeps (append_known a (chunk ++ text)) b) → OnOk r (Appends (append_known a chunk) b text)
+append_kept r a b chunk text p = on_ok_weaker r (kept_appended a b chunk text) p
 
 out_appended : (a b c : Option (List ℕ)) (chunk text : List ℕ) → Appends (append_known a []) (append_known b chunk) text → Appends b c chunk → Appends a c text
 out_appended None b c chunk text p q = tt
@@ -56,12 +57,16 @@ none_left None b all p = tt
 none_left (Some x) None all p = p
 none_left (Some x) (Some y) all p = rw (← append-nil y) p
 
+-- a piece is told, and the rest is left
+left_told : (a b y : Option (List ℕ)) (piece rest all : List ℕ) → Appends a (append_known b (piece ++ rest)) all → Appends b y piece → Appends a (append_known y rest) all
+left_told None b y piece rest all p q = tt
+left_told (Some x) None y piece rest all p q = absurd p
+left_told (Some x) (Some z) None piece rest all p q = absurd q
+left_told (Some x) (Some z) (Some y) piece rest all p q = rw (q, append_assoc) p
+
 -- a piece goes into the chunk, and then bytes of the chunk may go out
 left_after : (a b y : Option (List ℕ)) (chunk piece rest all : List ℕ) → Appends a (append_known (append_known b chunk) (piece ++ rest)) all → Keeps (append_known b (chunk ++ piece)) y → Appends a (append_known y rest) all
-left_after None b y chunk piece rest all p q = tt
-left_after (Some x) None y chunk piece rest all p q = absurd p
-left_after (Some x) (Some z) None chunk piece rest all p q = absurd q
-left_after (Some x) (Some z) (Some y) chunk piece rest all p q = rw (q, append_assoc, append_assoc) (rw append_assoc at p)
+left_after a b y chunk piece rest all p q = left_told a (append_known b chunk) y piece rest all p (kept_appended b y chunk piece q)
 
 journal_left : (es : List Entry) (k : ℕ) (d : Entry) → k < length es → journal_lines k (drop k es) ≡ entry_line k (get_or es k d) ++ journal_lines (k + 1) (drop (k + 1) es)
 journal_left es k d h = rw (drop-cons es k d, add-one) refl
@@ -69,11 +74,11 @@ journal_left es k d h = rw (drop-cons es k d, add-one) refl
 pub journal_after : (a b y : Option (List ℕ)) (chunk : List ℕ) (es : List Entry) (k : ℕ) (d : Entry) (all : List ℕ) → k < length es → Appends a (append_known (append_known b chunk) (journal_lines k (drop k es))) all → Keeps (append_known b (chunk ++ entry_line k (get_or es k d))) y → Appends a (append_known y (journal_lines (k + 1) (drop (k + 1) es))) all
 journal_after a b y chunk es k d all h p q = left_after a b y chunk (entry_line k (get_or es k d)) (journal_lines (k + 1) (drop (k + 1) es)) all (rw (journal_left es k d h) at p) q
 
-hex_left : (bs : List ℕ) (k : ℕ) → k < length bs → flat_map hex_byte (drop k bs) ≡ hex_byte (get_or bs k 0) ++ flat_map hex_byte (drop (k + 1) bs)
-hex_left bs k h = rw (drop-cons bs k 0, add-one) refl
+blocks_left : (bs : List (Vec ℕ Global)) (k : ℕ) (d : Vec ℕ Global) → k < length bs → block_lines k (items_of_each (drop k bs)) ≡ block_line k (get_or bs k d).items ++ block_lines (k + 1) (items_of_each (drop (k + 1) bs))
+blocks_left bs k d h = rw (drop-cons bs k d, add-one) refl
 
-pub hex_after : (a b y : Option (List ℕ)) (chunk : List ℕ) (bs : List ℕ) (k : ℕ) (all : List ℕ) → k < length bs → Appends a (append_known (append_known b chunk) (flat_map hex_byte (drop k bs))) all → Keeps (append_known b (chunk ++ hex_byte (get_or bs k 0))) y → Appends a (append_known y (flat_map hex_byte (drop (k + 1) bs))) all
-hex_after a b y chunk bs k all h p q = left_after a b y chunk (hex_byte (get_or bs k 0)) (flat_map hex_byte (drop (k + 1) bs)) all (rw (hex_left bs k h) at p) q
+pub blocks_after : (a b y : Option (List ℕ)) (bs : List (Vec ℕ Global)) (k : ℕ) (d : Vec ℕ Global) (all : List ℕ) → k < length bs → Appends a (append_known b (block_lines k (items_of_each (drop k bs)))) all → Appends b y (block_line k (get_or bs k d).items) → Appends a (append_known y (block_lines (k + 1) (items_of_each (drop (k + 1) bs)))) all
+blocks_after a b y bs k d all h p q = left_told a b y (block_line k (get_or bs k d).items) (block_lines (k + 1) (items_of_each (drop (k + 1) bs))) all (rw (blocks_left bs k d h) at p) q
 
 agents_left : (ps : List Progress) (k : ℕ) (d : Progress) → k < length ps → agent_lines k (drop k ps) ≡ agent_line k (get_or ps k d) ++ agent_lines (k + 1) (drop (k + 1) ps)
 agents_left ps k d h = rw (drop-cons ps k d, add-one) refl

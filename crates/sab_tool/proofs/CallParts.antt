@@ -1,166 +1,84 @@
--- What the items behind the index of a call with a given name spell.
-use Rattle.std.proofs.Common.{◌≡◌, ℕ, ℤ, List, codes, Option, sym, ◌∙◌, refl, false, true≢false}
+-- What stands behind the index of a call with a given name.
+use Rattle.std.proofs.Common.{◌≡◌, ℕ, ℤ, List, [], ◌∷◌, codes, Option, refl}
+use Rattle.std.specs.Prelude.{if◌then◌else◌}
 use Rattle.std.specs.Str.{bytes_eq}
-use Rattle.std.proofs.lemmas.Slice.Eq.{bytes_eq-Decides}
-use Rattle.serde_json.specs.Data.{Items, no_items}
+use Rattle.serde_json.specs.Data.{Items}
 use Rattle.sab_block.specs.declared.operand.Operand.{Operand}
 use Rattle.sab_block.specs.declared.rmw_op.RmwOp.{RmwOp}
 use Rattle.sab_block.specs.declared.rmw_op.RmwOp.TheVariants.{Exchange, Add, Sub, And, Or, Xor}
 use Rattle.sab_block.specs.declared.access.Access.TheVariants.{Load, Store, Rmw, CompareExchange}
 use Rattle.sab_sim.specs.declared.call.Call.{Call}
 use Rattle.sab_sim.specs.declared.call.Call.TheVariants.{Access as ToAccess, Wait, Notify}
-use Rattle.std.proofs.Common.{Result, Ok, Err}
-use Rattle.sab_tool.specs.declared.read_fault.ReadFault.{ReadFault}
-use Rattle.sab_tool.proofs.Refusing.{refuses_more}
-use Rattle.sab_tool.specs.Reading.{Reads}
-use Rattle.sab_tool.specs.Calls.{IsRmw, SpellsRmw, SpellsParts, SpellsOne, SpellsTwo, SpellsTimed, SpellsLast, op_name}
+use Rattle.sab_sim.specs.Call.{view_of}
+use Rattle.sab_tool.specs.Calls.{value, optional, op_name, spelling_of, SpellsArguments, SpellsParts}
 
--- two texts that differ aren't equal
-differ : {P : Type 0} (a b : List ℕ) → bytes_eq a b ≡ false → a ≡ b → P
-differ a b test e = absurd (true≢false (sym ((bytes_eq-Decides a b).1 e) ∙ test))
+-- what a call does, as its name says
+pub data Verb : Type 0 where
+  load : Verb
+  store : Verb
+  rmw : RmwOp → Verb
+  compare_exchange : Verb
+  wait : Verb
+  notify : Verb
 
-pub load_part : (v : ℕ) (i : ℤ) (rest : Items) (c : Call) → SpellsParts (codes "load") v i rest c → rest ≡ no_items
-load_part w j rest (ToAccess v (Load i)) h = h.operands
-load_part w j rest (ToAccess v (Store i x)) h = differ (codes "load") (codes "store") refl h.name
-load_part w j rest (ToAccess v (Rmw Exchange i x)) h = differ (codes "load") (codes "exchange") refl h.name
-load_part w j rest (ToAccess v (Rmw Add i x)) h = differ (codes "load") (codes "add") refl h.name
-load_part w j rest (ToAccess v (Rmw Sub i x)) h = differ (codes "load") (codes "sub") refl h.name
-load_part w j rest (ToAccess v (Rmw And i x)) h = differ (codes "load") (codes "and") refl h.name
-load_part w j rest (ToAccess v (Rmw Or i x)) h = differ (codes "load") (codes "or") refl h.name
-load_part w j rest (ToAccess v (Rmw Xor i x)) h = differ (codes "load") (codes "xor") refl h.name
-load_part w j rest (ToAccess v (CompareExchange i x y)) h = differ (codes "load") (codes "compareExchange") refl h.name
-load_part w j rest (Wait v i x t) h = differ (codes "load") (codes "wait") refl h.name
-load_part w j rest (Notify v i n) h = differ (codes "load") (codes "notify") refl h.name
+abbrev op_of : List ℕ → RmwOp
+op_of word =
+    if bytes_eq (codes "exchange") word then Exchange
+    else if bytes_eq (codes "add") word then Add
+    else if bytes_eq (codes "sub") word then Sub
+    else if bytes_eq (codes "and") word then And
+    else if bytes_eq (codes "or") word then Or
+    else Xor
 
-pub store_part : (v : ℕ) (i : ℤ) (rest : Items) (c : Call) → SpellsParts (codes "store") v i rest c → (x : Operand) × SpellsOne rest x
-store_part w j rest (ToAccess v (Load i)) h = differ (codes "store") (codes "load") refl h.name
-store_part w j rest (ToAccess v (Store i x)) h = (x, (h.operands, h.numbers))
-store_part w j rest (ToAccess v (Rmw Exchange i x)) h = differ (codes "store") (codes "exchange") refl h.name
-store_part w j rest (ToAccess v (Rmw Add i x)) h = differ (codes "store") (codes "add") refl h.name
-store_part w j rest (ToAccess v (Rmw Sub i x)) h = differ (codes "store") (codes "sub") refl h.name
-store_part w j rest (ToAccess v (Rmw And i x)) h = differ (codes "store") (codes "and") refl h.name
-store_part w j rest (ToAccess v (Rmw Or i x)) h = differ (codes "store") (codes "or") refl h.name
-store_part w j rest (ToAccess v (Rmw Xor i x)) h = differ (codes "store") (codes "xor") refl h.name
-store_part w j rest (ToAccess v (CompareExchange i x y)) h = differ (codes "store") (codes "compareExchange") refl h.name
-store_part w j rest (Wait v i x t) h = differ (codes "store") (codes "wait") refl h.name
-store_part w j rest (Notify v i n) h = differ (codes "store") (codes "notify") refl h.name
+abbrev pub verb_of : List ℕ → Verb
+verb_of word =
+    if bytes_eq (codes "load") word then load
+    else if bytes_eq (codes "store") word then store
+    else if bytes_eq (codes "compareExchange") word then compare_exchange
+    else if bytes_eq (codes "wait") word then wait
+    else if bytes_eq (codes "notify") word then notify
+    else rmw (op_of word)
 
-pub compare_part : (v : ℕ) (i : ℤ) (rest : Items) (c : Call) → SpellsParts (codes "compareExchange") v i rest c → (p : Operand × Operand) × SpellsTwo rest p
-compare_part w j rest (ToAccess v (Load i)) h = differ (codes "compareExchange") (codes "load") refl h.name
-compare_part w j rest (ToAccess v (Store i x)) h = differ (codes "compareExchange") (codes "store") refl h.name
-compare_part w j rest (ToAccess v (Rmw Exchange i x)) h = differ (codes "compareExchange") (codes "exchange") refl h.name
-compare_part w j rest (ToAccess v (Rmw Add i x)) h = differ (codes "compareExchange") (codes "add") refl h.name
-compare_part w j rest (ToAccess v (Rmw Sub i x)) h = differ (codes "compareExchange") (codes "sub") refl h.name
-compare_part w j rest (ToAccess v (Rmw And i x)) h = differ (codes "compareExchange") (codes "and") refl h.name
-compare_part w j rest (ToAccess v (Rmw Or i x)) h = differ (codes "compareExchange") (codes "or") refl h.name
-compare_part w j rest (ToAccess v (Rmw Xor i x)) h = differ (codes "compareExchange") (codes "xor") refl h.name
-compare_part w j rest (ToAccess v (CompareExchange i x y)) h = ((x, y), (h.operands, h.numbers.0, h.numbers.1))
-compare_part w j rest (Wait v i x t) h = differ (codes "compareExchange") (codes "wait") refl h.name
-compare_part w j rest (Notify v i n) h = differ (codes "compareExchange") (codes "notify") refl h.name
+pub op_verb : (op : RmwOp) → verb_of (op_name op) ≡ rmw op
+op_verb Exchange = refl
+op_verb Add = refl
+op_verb Sub = refl
+op_verb And = refl
+op_verb Or = refl
+op_verb Xor = refl
 
-pub wait_part : (v : ℕ) (i : ℤ) (rest : Items) (c : Call) → SpellsParts (codes "wait") v i rest c → (p : Operand × Option ℤ) × SpellsTimed rest p
-wait_part w j rest (ToAccess v (Load i)) h = differ (codes "wait") (codes "load") refl h.name
-wait_part w j rest (ToAccess v (Store i x)) h = differ (codes "wait") (codes "store") refl h.name
-wait_part w j rest (ToAccess v (Rmw Exchange i x)) h = differ (codes "wait") (codes "exchange") refl h.name
-wait_part w j rest (ToAccess v (Rmw Add i x)) h = differ (codes "wait") (codes "add") refl h.name
-wait_part w j rest (ToAccess v (Rmw Sub i x)) h = differ (codes "wait") (codes "sub") refl h.name
-wait_part w j rest (ToAccess v (Rmw And i x)) h = differ (codes "wait") (codes "and") refl h.name
-wait_part w j rest (ToAccess v (Rmw Or i x)) h = differ (codes "wait") (codes "or") refl h.name
-wait_part w j rest (ToAccess v (Rmw Xor i x)) h = differ (codes "wait") (codes "xor") refl h.name
-wait_part w j rest (ToAccess v (CompareExchange i x y)) h = differ (codes "wait") (codes "compareExchange") refl h.name
-wait_part w j rest (Wait v i x t) h = ((x, t), (h.operands, h.numbers.0, h.numbers.1))
-wait_part w j rest (Notify v i n) h = differ (codes "wait") (codes "notify") refl h.name
+-- a call of this verb, view and index, whose arguments are spelled by the items
+abbrev pub IsCallOf : Verb → ℕ → ℤ → Items → Call → Type 0
+IsCallOf load v i ds c = SpellsArguments ds [] × (c ≡ ToAccess v (Load i))
+IsCallOf store v i ds c = (x : Operand) × SpellsArguments ds (value x ∷ []) × (c ≡ ToAccess v (Store i x))
+IsCallOf (rmw op) v i ds c = (x : Operand) × SpellsArguments ds (value x ∷ []) × (c ≡ ToAccess v (Rmw op i x))
+IsCallOf compare_exchange v i ds c =
+    (p : Operand × Operand) × SpellsArguments ds (value p.0 ∷ value p.1 ∷ [])
+    × (c ≡ ToAccess v (CompareExchange i p.0 p.1))
+IsCallOf wait v i ds c =
+    (p : Operand × Option ℤ) × SpellsArguments ds (value p.0 ∷ optional p.1) × (c ≡ Wait v i p.0 p.1)
+IsCallOf notify v i ds c = (n : Option ℤ) × SpellsArguments ds (optional n) × (c ≡ Notify v i n)
 
-pub notify_part : (v : ℕ) (i : ℤ) (rest : Items) (c : Call) → SpellsParts (codes "notify") v i rest c → (o : Option ℤ) × SpellsLast rest o
-notify_part w j rest (ToAccess v (Load i)) h = differ (codes "notify") (codes "load") refl h.name
-notify_part w j rest (ToAccess v (Store i x)) h = differ (codes "notify") (codes "store") refl h.name
-notify_part w j rest (ToAccess v (Rmw Exchange i x)) h = differ (codes "notify") (codes "exchange") refl h.name
-notify_part w j rest (ToAccess v (Rmw Add i x)) h = differ (codes "notify") (codes "add") refl h.name
-notify_part w j rest (ToAccess v (Rmw Sub i x)) h = differ (codes "notify") (codes "sub") refl h.name
-notify_part w j rest (ToAccess v (Rmw And i x)) h = differ (codes "notify") (codes "and") refl h.name
-notify_part w j rest (ToAccess v (Rmw Or i x)) h = differ (codes "notify") (codes "or") refl h.name
-notify_part w j rest (ToAccess v (Rmw Xor i x)) h = differ (codes "notify") (codes "xor") refl h.name
-notify_part w j rest (ToAccess v (CompareExchange i x y)) h = differ (codes "notify") (codes "compareExchange") refl h.name
-notify_part w j rest (Wait v i x t) h = differ (codes "notify") (codes "wait") refl h.name
-notify_part w j rest (Notify v i n) h = (n, (h.operands, h.numbers))
+-- a call is one of its name's verb
+is_call : (ds : Items) (c : Call) → SpellsArguments ds (spelling_of c).arguments
+    → IsCallOf (verb_of (spelling_of c).name) (spelling_of c).view (spelling_of c).index ds c
+is_call ds (ToAccess v (Load i)) h = (h, refl)
+is_call ds (ToAccess v (Store i x)) h = (x, h, refl)
+is_call ds (ToAccess v (Rmw op i x)) h = rw (op_verb op) (x, h, refl)
+is_call ds (ToAccess v (CompareExchange i x y)) h = ((x, y), h, refl)
+is_call ds (Wait v i x t) h = ((x, t), h, refl)
+is_call ds (Notify v i n) h = (n, h, refl)
 
-pub rmw_part : (op : RmwOp) (v : ℕ) (i : ℤ) (rest : Items) (c : Call) → SpellsParts (op_name op) v i rest c → (x : Operand) × SpellsOne rest x
-rmw_part Exchange w j rest (ToAccess v (Load i)) h = differ (codes "exchange") (codes "load") refl h.name
-rmw_part Exchange w j rest (ToAccess v (Store i x)) h = (x, (h.operands, h.numbers))
-rmw_part Exchange w j rest (ToAccess v (Rmw Exchange i x)) h = (x, (h.operands, h.numbers))
-rmw_part Exchange w j rest (ToAccess v (Rmw Add i x)) h = (x, (h.operands, h.numbers))
-rmw_part Exchange w j rest (ToAccess v (Rmw Sub i x)) h = (x, (h.operands, h.numbers))
-rmw_part Exchange w j rest (ToAccess v (Rmw And i x)) h = (x, (h.operands, h.numbers))
-rmw_part Exchange w j rest (ToAccess v (Rmw Or i x)) h = (x, (h.operands, h.numbers))
-rmw_part Exchange w j rest (ToAccess v (Rmw Xor i x)) h = (x, (h.operands, h.numbers))
-rmw_part Exchange w j rest (ToAccess v (CompareExchange i x y)) h = differ (codes "exchange") (codes "compareExchange") refl h.name
-rmw_part Exchange w j rest (Wait v i x t) h = differ (codes "exchange") (codes "wait") refl h.name
-rmw_part Exchange w j rest (Notify v i n) h = differ (codes "exchange") (codes "notify") refl h.name
-rmw_part Add w j rest (ToAccess v (Load i)) h = differ (codes "add") (codes "load") refl h.name
-rmw_part Add w j rest (ToAccess v (Store i x)) h = (x, (h.operands, h.numbers))
-rmw_part Add w j rest (ToAccess v (Rmw Exchange i x)) h = (x, (h.operands, h.numbers))
-rmw_part Add w j rest (ToAccess v (Rmw Add i x)) h = (x, (h.operands, h.numbers))
-rmw_part Add w j rest (ToAccess v (Rmw Sub i x)) h = (x, (h.operands, h.numbers))
-rmw_part Add w j rest (ToAccess v (Rmw And i x)) h = (x, (h.operands, h.numbers))
-rmw_part Add w j rest (ToAccess v (Rmw Or i x)) h = (x, (h.operands, h.numbers))
-rmw_part Add w j rest (ToAccess v (Rmw Xor i x)) h = (x, (h.operands, h.numbers))
-rmw_part Add w j rest (ToAccess v (CompareExchange i x y)) h = differ (codes "add") (codes "compareExchange") refl h.name
-rmw_part Add w j rest (Wait v i x t) h = differ (codes "add") (codes "wait") refl h.name
-rmw_part Add w j rest (Notify v i n) h = differ (codes "add") (codes "notify") refl h.name
-rmw_part Sub w j rest (ToAccess v (Load i)) h = differ (codes "sub") (codes "load") refl h.name
-rmw_part Sub w j rest (ToAccess v (Store i x)) h = (x, (h.operands, h.numbers))
-rmw_part Sub w j rest (ToAccess v (Rmw Exchange i x)) h = (x, (h.operands, h.numbers))
-rmw_part Sub w j rest (ToAccess v (Rmw Add i x)) h = (x, (h.operands, h.numbers))
-rmw_part Sub w j rest (ToAccess v (Rmw Sub i x)) h = (x, (h.operands, h.numbers))
-rmw_part Sub w j rest (ToAccess v (Rmw And i x)) h = (x, (h.operands, h.numbers))
-rmw_part Sub w j rest (ToAccess v (Rmw Or i x)) h = (x, (h.operands, h.numbers))
-rmw_part Sub w j rest (ToAccess v (Rmw Xor i x)) h = (x, (h.operands, h.numbers))
-rmw_part Sub w j rest (ToAccess v (CompareExchange i x y)) h = differ (codes "sub") (codes "compareExchange") refl h.name
-rmw_part Sub w j rest (Wait v i x t) h = differ (codes "sub") (codes "wait") refl h.name
-rmw_part Sub w j rest (Notify v i n) h = differ (codes "sub") (codes "notify") refl h.name
-rmw_part And w j rest (ToAccess v (Load i)) h = differ (codes "and") (codes "load") refl h.name
-rmw_part And w j rest (ToAccess v (Store i x)) h = (x, (h.operands, h.numbers))
-rmw_part And w j rest (ToAccess v (Rmw Exchange i x)) h = (x, (h.operands, h.numbers))
-rmw_part And w j rest (ToAccess v (Rmw Add i x)) h = (x, (h.operands, h.numbers))
-rmw_part And w j rest (ToAccess v (Rmw Sub i x)) h = (x, (h.operands, h.numbers))
-rmw_part And w j rest (ToAccess v (Rmw And i x)) h = (x, (h.operands, h.numbers))
-rmw_part And w j rest (ToAccess v (Rmw Or i x)) h = (x, (h.operands, h.numbers))
-rmw_part And w j rest (ToAccess v (Rmw Xor i x)) h = (x, (h.operands, h.numbers))
-rmw_part And w j rest (ToAccess v (CompareExchange i x y)) h = differ (codes "and") (codes "compareExchange") refl h.name
-rmw_part And w j rest (Wait v i x t) h = differ (codes "and") (codes "wait") refl h.name
-rmw_part And w j rest (Notify v i n) h = differ (codes "and") (codes "notify") refl h.name
-rmw_part Or w j rest (ToAccess v (Load i)) h = differ (codes "or") (codes "load") refl h.name
-rmw_part Or w j rest (ToAccess v (Store i x)) h = (x, (h.operands, h.numbers))
-rmw_part Or w j rest (ToAccess v (Rmw Exchange i x)) h = (x, (h.operands, h.numbers))
-rmw_part Or w j rest (ToAccess v (Rmw Add i x)) h = (x, (h.operands, h.numbers))
-rmw_part Or w j rest (ToAccess v (Rmw Sub i x)) h = (x, (h.operands, h.numbers))
-rmw_part Or w j rest (ToAccess v (Rmw And i x)) h = (x, (h.operands, h.numbers))
-rmw_part Or w j rest (ToAccess v (Rmw Or i x)) h = (x, (h.operands, h.numbers))
-rmw_part Or w j rest (ToAccess v (Rmw Xor i x)) h = (x, (h.operands, h.numbers))
-rmw_part Or w j rest (ToAccess v (CompareExchange i x y)) h = differ (codes "or") (codes "compareExchange") refl h.name
-rmw_part Or w j rest (Wait v i x t) h = differ (codes "or") (codes "wait") refl h.name
-rmw_part Or w j rest (Notify v i n) h = differ (codes "or") (codes "notify") refl h.name
-rmw_part Xor w j rest (ToAccess v (Load i)) h = differ (codes "xor") (codes "load") refl h.name
-rmw_part Xor w j rest (ToAccess v (Store i x)) h = (x, (h.operands, h.numbers))
-rmw_part Xor w j rest (ToAccess v (Rmw Exchange i x)) h = (x, (h.operands, h.numbers))
-rmw_part Xor w j rest (ToAccess v (Rmw Add i x)) h = (x, (h.operands, h.numbers))
-rmw_part Xor w j rest (ToAccess v (Rmw Sub i x)) h = (x, (h.operands, h.numbers))
-rmw_part Xor w j rest (ToAccess v (Rmw And i x)) h = (x, (h.operands, h.numbers))
-rmw_part Xor w j rest (ToAccess v (Rmw Or i x)) h = (x, (h.operands, h.numbers))
-rmw_part Xor w j rest (ToAccess v (Rmw Xor i x)) h = (x, (h.operands, h.numbers))
-rmw_part Xor w j rest (ToAccess v (CompareExchange i x y)) h = differ (codes "xor") (codes "compareExchange") refl h.name
-rmw_part Xor w j rest (Wait v i x t) h = differ (codes "xor") (codes "wait") refl h.name
-rmw_part Xor w j rest (Notify v i n) h = differ (codes "xor") (codes "notify") refl h.name
+-- its name tells what its arguments are
+pub named_call : (word : List ℕ) (v : ℕ) (i : ℤ) (ds : Items) (c : Call) → SpellsParts word v i ds (spelling_of c)
+    → IsCallOf (verb_of word) v i ds c
+named_call word v i ds c h = rw (h.name, h.view, h.index) (is_call ds c h.arguments)
 
--- a call with none of the other names changes an element by an operation
-is_rmw : (word : List ℕ) (v : ℕ) (i : ℤ) (rest : Items) (c : Call) → (word ≡ codes "load" → ⊥) → (word ≡ codes "store" → ⊥) → (word ≡ codes "compareExchange" → ⊥) → (word ≡ codes "wait" → ⊥) → (word ≡ codes "notify" → ⊥) → SpellsParts word v i rest c → IsRmw c
-is_rmw word w j rest (ToAccess v (Load i)) l s x t n h = absurd (l h.name)
-is_rmw word w j rest (ToAccess v (Store i y)) l s x t n h = absurd (s h.name)
-is_rmw word w j rest (ToAccess v (Rmw op i y)) l s x t n h = tt
-is_rmw word w j rest (ToAccess v (CompareExchange i y z)) l s x t n h = absurd (x h.name)
-is_rmw word w j rest (Wait v i y z) l s x t n h = absurd (t h.name)
-is_rmw word w j rest (Notify v i y) l s x t n h = absurd (n h.name)
-
-pub reads_rmw : (word : List ℕ) (v : ℕ) (i : ℤ) (rest : Items) (r : Result Call ReadFault) → (word ≡ codes "load" → ⊥) → (word ≡ codes "store" → ⊥) → (word ≡ codes "compareExchange" → ⊥) → (word ≡ codes "wait" → ⊥) → (word ≡ codes "notify" → ⊥) → Reads (λ (c : Call). c) (SpellsRmw word v i rest) r → Reads (λ (c : Call). c) (SpellsParts word v i rest) r
-reads_rmw word v i rest (Ok c) l s x t n h = h.0
-reads_rmw word v i rest (Err e) l s x t n h = refuses_more (SpellsRmw word v i rest) (SpellsParts word v i rest) e (λ c p. (c, (p, is_rmw word v i rest c l s x t n p))) h
+-- the view of the spelling is the one that the call names
+pub spelled_view : (c : Call) → (spelling_of c).view ≡ view_of c
+spelled_view (ToAccess v (Load i)) = refl
+spelled_view (ToAccess v (Store i x)) = refl
+spelled_view (ToAccess v (Rmw op i x)) = refl
+spelled_view (ToAccess v (CompareExchange i x y)) = refl
+spelled_view (Wait v i x t) = refl
+spelled_view (Notify v i n) = refl

@@ -1,7 +1,7 @@
 -- Items that spell the elements of a list.
 use Rattle.std.proofs.Common.{◌≡◌, ℕ, zero, suc, ◌+◌, ◌<◌, List, [], ◌∷◌, ◌++◌, length, get_or, drop, refl, ap, arith, append_assoc, append-nil, add-one, drop-cons}
 use Rattle.std.proofs.Math.Seq.{drop-length}
-use Rattle.serde_json.specs.Data.{Data}
+use Rattle.serde_json.specs.Data.{Data, Items, no_items, item}
 use Rattle.serde_json.specs.View.{view, items_view}
 use Rattle.serde_json.specs.declared.value.Value.{Value}
 use Rattle.sab_tool.specs.Reading.{SpellsEach}
@@ -35,3 +35,15 @@ pub each_all : {X : Type 0} (S : Data → X → Type 0) (ts : List Value) (i : �
 each_all S ts i xs e h =
     let end : SpellsEach S (items_view (drop i ts)) [] = rw (e, drop-length ts) tt in
     rw append-nil at (h [] end)
+
+-- one element for each item, so one list for all
+pub each_same : {X : Type 0} (S T : Data → X → Type 0) → ((d : Data) (x y : X) → S d x → T d y → x ≡ y) → (ds : Items) (xs ys : List X) → SpellsEach S ds xs → SpellsEach T ds ys → xs ≡ ys
+each_same S T same no_items [] [] p q = refl
+each_same S T same no_items (x ∷ xs) ys p q = absurd p
+each_same S T same no_items [] (y ∷ ys) p q = absurd q
+each_same S T same (item d ds) [] ys p q = absurd p
+each_same S T same (item d ds) (x ∷ xs) [] p q = absurd q
+each_same S T same (item d ds) (x ∷ xs) (y ∷ ys) p q =
+    let one = same d x y p.0 q.0 in
+    let rest = each_same S T same ds xs ys p.1 q.1 in
+    λ i. one i ∷ rest i

@@ -6,6 +6,8 @@ pub mod Described
 pub mod Digits
 pub mod Each
 pub mod Lengths
+pub mod ManyLens
+pub mod OneView
 pub mod ViewNames
 pub mod Parts
 pub mod Places
@@ -15,4 +17,6 @@ pub mod WholeCall
 pub mod WholeScript
 pub mod SameSpec
 pub mod WholePlan
+pub mod OneOperand
+pub mod OneCall
 pub mod OnlySetup

@@ -13,7 +13,7 @@ use Rattle.sab_sim.specs.Schedule.{agent_of}
 use Rattle.sab_sim.specs.Plan.{PlanParts}
 use Rattle.sab_sim.specs.Report.{IsRefusal, first_refusal}
 use Rattle.sab_tool.specs.declared.read_fault.ReadFault.{ReadFault}
-use Rattle.sab_tool.specs.declared.read_fault.ReadFault.TheVariants.{TooMany, OutOfMemory, BadShape, BadName, BadNumber, BadCall, BadView, BadAgent}
+use Rattle.sab_tool.specs.declared.read_fault.ReadFault.TheVariants.{TooMany, OutOfMemory, BadShape, BadName, BadNumber, BadCall, BadView, BadAgent, NoBlock}
 use Rattle.sab_tool.specs.Reading.{Refuses, SpellsEach}
 use Rattle.sab_tool.specs.Schedule.{SpellsMove}
 use Rattle.sab_tool.specs.Setup.{Spells}
@@ -37,6 +37,7 @@ refused_tree script d BadNumber r h = record { tree = d; reading = r; unspelled 
 refused_tree script d BadCall r h = record { tree = d; reading = r; unspelled = h }
 refused_tree script d BadView r h = record { tree = d; reading = r; unspelled = h }
 refused_tree script d BadAgent r h = record { tree = d; reading = r; unspelled = h }
+refused_tree script d NoBlock r h = record { tree = d; reading = r; unspelled = h }
 
 -- the moves that are spelled are the agents'
 pub spelled_moves : (agents : ℕ) (ds : Items) (ms : List Move) → SpellsEach (SpellsMove agents) ds ms → All (λ m. agent_of m < agents) ms

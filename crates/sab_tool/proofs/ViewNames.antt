@@ -1,6 +1,6 @@
 -- Names of views.
-use Rattle.std.proofs.Common.{◌≡◌, ℕ, zero, suc, ◌+◌, ◌<◌, List, [], ◌∷◌, ◌++◌, length, get_or, drop, map, Bool, true, false, Option, Some, None, refl, ap, sym, ◌∙◌, arith, drop-cons, subst, true≢false, length-append}
-use Rattle.std.specs.Prelude.{String, string_bytes}
+use Rattle.std.proofs.Common.{◌≡◌, ℕ, zero, suc, ◌<◌, List, [], ◌∷◌, ◌++◌, length, get_or, drop, map, Bool, true, false, Option, Some, None, refl, ap, sym, ◌∙◌, arith, drop-cons, subst, true≢false, length-append}
+use Rattle.std.specs.Prelude.{String, string_bytes, slice_get, IfSome}
 use Rattle.std.specs.declared.alloc.Global.{Global}
 use Rattle.std.specs.List.{IsDistinct, AllByRecursion}
 use Rattle.std.specs.Map.{keys_of, lookup}
@@ -13,11 +13,12 @@ use Rattle.serde_json.specs.View.{view, items_view}
 use Rattle.serde_json.specs.declared.value.Value.{Value}
 use Rattle.sab_tool.specs.declared.view_spec.ViewSpec.{ViewSpec}
 use Rattle.sab_tool.specs.Reading.{SpellsEach}
-use Rattle.sab_tool.specs.Views.{SpellsView, SpellsViews, view_tree}
-use Rattle.sab_tool.proofs.Each.{EachSoFar}
+use Rattle.sab_tool.specs.declared.form.Form.{Form}
+use Rattle.sab_tool.specs.Views.{SpellsView, SpellsViews, AreViews}
+use Rattle.sab_tool.proofs.Each.{EachSoFar, each_same}
+use Rattle.sab_tool.proofs.OneView.{same_view}
 use Rattle.std.specs.HashMap.{get_by}
-use Rattle.std.specs.Option.{option_copied}
-use Rattle.std.proofs.Common.{Bor, is_some}
+use Rattle.std.proofs.Common.{is_some}
 use Rattle.indexmap.specs.IndexMap.{IndexMap, insert_entry}
 use Rattle.indexmap.proofs.CallerLemmas.{insert_entry-new}
 
@@ -42,33 +43,19 @@ middle : (P : List ℕ → Type 0) (xs : List (List ℕ)) (n : List ℕ) (more :
 middle P [] n more h = h.0
 middle P (x ∷ xs) n more h = middle P xs n more h.1
 
--- a name that the map has isn't among the next names
-not_twice : (n : List ℕ) (es : List (String Global × ViewSpec)) (w : ViewSpec) (more : List (List ℕ)) → lookup (λ k. bytes_eq n (string_bytes k)) es ≡ Some w → IsDistinct bytes_eq (names_of (named es) ++ n ∷ more) → ⊥
+-- a name that is there isn't among the next names
+not_twice : (n : List ℕ) (ns more : List (List ℕ)) (v : ℕ) → slice_get ns v ≡ Some n → IsDistinct bytes_eq (ns ++ n ∷ more) → ⊥
 unfolding IsDistinct
-not_twice n [] w more l d = cc
-not_twice n (e ∷ es) w more l d = by (bytes_eq n (string_bytes e.0)) refl (λ rest. not_twice n es w more rest d.1)
-  where
-    by : (b : Bool) → bytes_eq n (string_bytes e.0) ≡ b → (lookup (λ k. bytes_eq n (string_bytes k)) es ≡ Some w → ⊥) → ⊥
-    by true t later =
-        let same : n ≡ string_bytes e.0 = (bytes_eq-Decides n (string_bytes e.0)).0 t in
-        let differs : bytes_eq (string_bytes e.0) n ≡ false = middle (λ y. bytes_eq (string_bytes e.0) y ≡ false) (names_of (named es)) n more d.0 in
-        let alike : bytes_eq (string_bytes e.0) n ≡ true = (bytes_eq-Decides (string_bytes e.0) n).1 (sym same) in
-        true≢false (sym alike ∙ differs)
-    by false t later = later (rw t at l)
+not_twice n [] more v g d = cc
+not_twice n (x ∷ ns) more zero g d =
+    let same : x ≡ n = cc in
+    let alike : bytes_eq x n ≡ true = (bytes_eq-Decides x n).1 same in
+    true≢false (sym alike ∙ middle (λ y. bytes_eq x y ≡ false) ns n more d.0)
+not_twice n (x ∷ ns) more (suc v) g d = not_twice n ns more v g d.1
 
-pub name_same : (len : ℕ) (d : Data) (a b : List ℕ × ViewSpec) → SpellsView len d a → SpellsView len d b → a.0 ≡ b.0
-name_same len d a b p q = let same : view_tree a.0 a.1 ≡ view_tree b.0 b.1 = sym p.tree ∙ q.tree in cc
-
-pub names_same : (len : ℕ) (ts : List Value) (xs ys : List (List ℕ × ViewSpec)) → SpellsEach (SpellsView len) (items_view ts) xs → SpellsEach (SpellsView len) (items_view ts) ys → names_of xs ≡ names_of ys
-names_same len [] [] [] p q = refl
-names_same len [] (x ∷ xs) ys p q = absurd p
-names_same len [] [] (y ∷ ys) p q = absurd q
-names_same len (t ∷ ts) [] ys p q = absurd p
-names_same len (t ∷ ts) (x ∷ xs) [] p q = absurd q
-names_same len (t ∷ ts) (x ∷ xs) (y ∷ ys) p q =
-    let one = name_same len (view t) x y p.0 q.0 in
-    let rest = names_same len ts xs ys p.1 q.1 in
-    λ i. one i ∷ rest i
+pub names_same : (form : Form) (lens : List ℕ) (ts : List Value) (xs ys : List (List ℕ × ViewSpec)) → SpellsEach (SpellsView form lens) (items_view ts) xs → SpellsEach (SpellsView form lens) (items_view ts) ys → names_of xs ≡ names_of ys
+names_same form lens ts xs ys p q =
+    ap names_of (each_same (SpellsView form lens) (SpellsView form lens) (same_view form lens) (items_view ts) xs ys p q)
 
 pub each_drop : {X : Type 0} (S : Data → X → Type 0) (ts : List Value) (xs : List X) (i : ℕ) → SpellsEach S (items_view ts) xs → SpellsEach S (items_view (drop i ts)) (drop i xs)
 each_drop S ts xs zero h = h
@@ -77,39 +64,55 @@ each_drop S [] (x ∷ xs) (suc i) h = absurd h
 each_drop S (t ∷ ts) [] (suc i) h = absurd h
 each_drop S (t ∷ ts) (x ∷ xs) (suc i) h = each_drop S ts xs i h.1
 
-next_is : (len : ℕ) (ts : List Value) (i : ℕ) (t : Value) (n : List ℕ) (spec w : ViewSpec) (es : List (String Global × ViewSpec)) (rest : List (List ℕ × ViewSpec)) → i < length ts → t ≡ get_or ts i t → SpellsView len (view t) (n, spec) → lookup (λ k. bytes_eq n (string_bytes k)) es ≡ Some w → SpellsEach (SpellsView len) (items_view (drop i ts)) rest → IsDistinct bytes_eq (names_of (named es) ++ names_of rest) → ⊥
-next_is len ts i t n spec w es [] lt e s l h d = let bad = rw (drop-cons ts i t) at h in absurd bad
-next_is len ts i t n spec w es (y ∷ more) lt e s l h d =
+next_is : (form : Form) (lens : List ℕ) (ts : List Value) (i : ℕ) (t : Value) (n : List ℕ) (spec : ViewSpec) (ns : List (List ℕ)) (v : ℕ) (rest : List (List ℕ × ViewSpec)) → i < length ts → t ≡ get_or ts i t → SpellsView form lens (view t) (n, spec) → slice_get ns v ≡ Some n → SpellsEach (SpellsView form lens) (items_view (drop i ts)) rest → IsDistinct bytes_eq (ns ++ names_of rest) → ⊥
+next_is form lens ts i t n spec ns v [] lt e s g h d = let bad = rw (drop-cons ts i t) at h in absurd bad
+next_is form lens ts i t n spec ns v (y ∷ more) lt e s g h d =
     let front = rw (drop-cons ts i t, ← e) at h in
-    let same : y.0 ≡ n = name_same len (view t) y (n, spec) front.0 s in
-    not_twice n es w (names_of more) l (rw same at d)
+    let same : y.0 ≡ n = ap (λ (w : List ℕ × ViewSpec). w.0) (same_view form lens (view t) y (n, spec) front.0 s) in
+    not_twice n ns (names_of more) v g (rw same at d)
 
 -- where a name comes again, no views are spelled
-pub view_twice : (len : ℕ) (ts : List Value) (i : ℕ) (t : Value) (n : List ℕ) (spec w : ViewSpec) (es : List (String Global × ViewSpec)) → i < length ts → t ≡ get_or ts i t → EachSoFar (SpellsView len) ts i (named es) → SpellsView len (view t) (n, spec) → lookup (λ k. bytes_eq n (string_bytes k)) es ≡ Some w → (ys : List (List ℕ × ViewSpec)) → SpellsViews len (items_view ts) ys → ⊥
-view_twice len ts i t n spec w es lt e so_far s l ys h =
-    let rest = each_drop (SpellsView len) ts ys i h.each in
-    let same : names_of (named es ++ drop i ys) ≡ names_of ys = names_same len ts (named es ++ drop i ys) ys (so_far (drop i ys) rest) h.each in
-    let parts : names_of ys ≡ names_of (named es) ++ names_of (drop i ys) = sym same ∙ map-append (λ (v : List ℕ × ViewSpec). v.0) (named es) (drop i ys) in
-    next_is len ts i t n spec w es (drop i ys) lt e s l rest (rw parts at h.distinct)
+pub view_twice : (form : Form) (lens : List ℕ) (ts : List Value) (i : ℕ) (t : Value) (n : List ℕ) (spec : ViewSpec) (vs : List (List ℕ × ViewSpec)) (v : ℕ) → i < length ts → t ≡ get_or ts i t → EachSoFar (SpellsView form lens) ts i vs → SpellsView form lens (view t) (n, spec) → slice_get (names_of vs) v ≡ Some n → (ys : List (List ℕ × ViewSpec)) → SpellsViews form lens (items_view ts) ys → ⊥
+view_twice form lens ts i t n spec vs v lt e so_far s g ys h =
+    let rest = each_drop (SpellsView form lens) ts ys i h.each in
+    let same : names_of (vs ++ drop i ys) ≡ names_of ys = names_same form lens ts (vs ++ drop i ys) ys (so_far (drop i ys) rest) h.each in
+    let parts : names_of ys ≡ names_of vs ++ names_of (drop i ys) = sym same ∙ map-append (λ (w : List ℕ × ViewSpec). w.0) vs (drop i ys) in
+    next_is form lens ts i t n spec (names_of vs) v (drop i ys) lt e s g rest (rw parts at h.views.distinct)
+
+-- `view_twice`, where a look-up found the name
+pub twice_by : (form : Form) (lens : List ℕ) (ts : List Value) (i : ℕ) (t : Value) (n : List ℕ) (spec : ViewSpec) (vs : List (List ℕ × ViewSpec)) (found : Option ℕ) → i < length ts → t ≡ get_or ts i t → EachSoFar (SpellsView form lens) ts i vs → SpellsView form lens (view t) (n, spec) → IfSome found (λ v. slice_get (names_of vs) v ≡ Some n) → is_some found ≡ true → (ys : List (List ℕ × ViewSpec)) → SpellsViews form lens (items_view ts) ys → ⊥
+twice_by form lens ts i t n spec vs None lt e so_far s there some ys h = absurd (true≢false (sym some))
+twice_by form lens ts i t n spec vs (Some v) lt e so_far s there some ys h = view_twice form lens ts i t n spec vs v lt e so_far s there ys h
+
+-- a name that no view has isn't found in the map
+not_found : (es : List (String Global × ViewSpec)) (n : List ℕ) → ((v : ℕ) → slice_get (names_of (named es)) v ≡ Some n → ⊥) → lookup (λ k. bytes_eq n (string_bytes k)) es ≡ None
+not_found [] n none = refl
+not_found (e ∷ es) n none = by (bytes_eq n (string_bytes e.0)) refl (not_found es n (λ v g. none (suc v) g))
+  where
+    by : (b : Bool) → bytes_eq n (string_bytes e.0) ≡ b → lookup (λ k. bytes_eq n (string_bytes k)) es ≡ None → lookup (λ k. bytes_eq n (string_bytes k)) (e ∷ es) ≡ None
+    by true t rest =
+        let same : n ≡ string_bytes e.0 = (bytes_eq-Decides n (string_bytes e.0)).0 t in
+        absurd (none 0 (ap (λ (b : List ℕ). Some b) (sym same)))
+    by false t rest = rw t rest
 
 -- a view with a new name goes last
-pub added : {S : Type 0} (m : IndexMap (String Global) ViewSpec S) (es : List (String Global × ViewSpec)) (k : String Global) (n : List ℕ) (spec : ViewSpec) → string_bytes k ≡ n → get_by (λ q. bytes_eq n (string_bytes q)) m ≡ None → es ≡ insert_entry string_eq m.entries k spec → named es ≡ named m.entries ++ (n, spec) ∷ []
+pub added : {S : Type 0} (m : IndexMap (String Global) ViewSpec S) (es : List (String Global × ViewSpec)) (k : String Global) (n : List ℕ) (spec : ViewSpec) → string_bytes k ≡ n → ((v : ℕ) → slice_get (names_of (named m.entries)) v ≡ Some n → ⊥) → es ≡ insert_entry string_eq m.entries k spec → named es ≡ named m.entries ++ (n, spec) ∷ []
 added m es k n spec e none h =
-    let absent = subst (λ (b : List ℕ). get_by (λ q. bytes_eq b (string_bytes q)) m ≡ None) (sym e) none in
+    let absent = subst (λ (b : List ℕ). get_by (λ q. bytes_eq b (string_bytes q)) m ≡ None) (sym e) (not_found m.entries n none) in
     ap named (h ∙ insert_entry-new string_eq m k spec absent)
     ∙ map-append (λ (p : String Global × ViewSpec). (string_bytes p.0, p.1)) m.entries ((k, spec) ∷ [])
     ∙ ap (λ (b : List ℕ). named m.entries ++ (b, spec) ∷ []) e
 
--- `view_twice`, where a look-up found the name
-pub twice_by : {S : Type 0} (len : ℕ) (ts : List Value) (i : ℕ) (t : Value) (n : List ℕ) (spec : ViewSpec) (m : IndexMap (String Global) ViewSpec S) (found : Option (Bor ViewSpec)) → i < length ts → t ≡ get_or ts i t → EachSoFar (SpellsView len) ts i (named m.entries) → SpellsView len (view t) (n, spec) → option_copied found ≡ get_by (λ q. bytes_eq n (string_bytes q)) m → is_some found ≡ true → (ys : List (List ℕ × ViewSpec)) → SpellsViews len (items_view ts) ys → ⊥
-twice_by len ts i t n spec m None lt e so_far s value some ys h = absurd (true≢false (sym some))
-twice_by len ts i t n spec m (Some w) lt e so_far s value some ys h = view_twice len ts i t n spec w.now m.entries lt e so_far s (sym value) ys h
+-- the invariant of views, from the map's own
 
-as_long : (es : List (String Global × ViewSpec)) → length (named es) ≡ length es
-as_long [] = refl
-as_long (e ∷ es) = ap (λ n. suc n) (as_long es)
+pub none_are_views : AreViews []
+unfolding IsDistinct
+none_are_views = record { few = omega arith; distinct = tt }
 
-pub count_more : (ms ns : List (String Global × ViewSpec)) (x : List ℕ × ViewSpec) → named ns ≡ named ms ++ x ∷ [] → length ns ≡ length ms + 1
-count_more ms ns x e =
-    let whole : length (named ns) ≡ length (named ms ++ x ∷ []) = ap (λ (l : List (List ℕ × ViewSpec)). length l) e in
-    omega (arith, whole, length-append (named ms) (x ∷ []), as_long ns, as_long ms)
+pub no_views : (es : List (String Global × ViewSpec)) → es ≡ [] → AreViews (named es)
+no_views es e = rw e none_are_views
+
+pub more_views : (es fs : List (String Global × ViewSpec)) (v : List ℕ × ViewSpec) → named fs ≡ named es ++ v ∷ [] → length (named es) < 64 → IsDistinct string_eq (keys_of fs) → AreViews (named fs)
+more_views es fs v e room distinct =
+    let whole : length (named fs) ≡ length (named es ++ v ∷ []) = ap (λ (l : List (List ℕ × ViewSpec)). length l) e in
+    record { few = omega (arith, whole, length-append (named es) (v ∷ []), room); distinct = distinct_names fs distinct }

@@ -8,11 +8,10 @@ use Rattle.serde_json.specs.Data.{Data, string, array, Items, item}
 use Rattle.sab_sim.specs.declared.call.Call.{Call}
 use Rattle.sab_tool.specs.declared.read_fault.ReadFault.{ReadFault}
 use Rattle.sab_tool.specs.Reading.{Reads}
-use Rattle.sab_tool.specs.Calls.{SpellsCall, SpellsParts, call_name, call_index, call_operands}
+use Rattle.sab_tool.specs.Calls.{Spelling, spelling_of, call_tree, SpellsParts, HasSpelling, SpellsCall}
 use Rattle.sab_tool.specs.Views.{SpellsName}
 use Rattle.sab_tool.specs.Numbers.{whole}
 use Rattle.sab_block.specs.Operand.{IsSafeInteger}
-use Rattle.sab_sim.specs.Call.{view_of}
 use Rattle.sab_tool.proofs.Refusing.{refuses_more}
 
 -- a whole number has one tree
@@ -23,13 +22,15 @@ same_whole (negsuc m) (pos n) e = cc
 same_whole (negsuc m) (negsuc n) e = cc
 
 -- names that differ have one place each
-absent : (n : List ℕ) (ns : List (List ℕ)) (v : ℕ) → AllByRecursion (λ y. bytes_eq n y ≡ false) ns → slice_get ns v ≡ Some n → ⊥
+absent : (n : List ℕ) (ns : List (List ℕ)) (v : ℕ) → AllByRecursion (λ y. bytes_eq n y ≡ false) ns
+    → slice_get ns v ≡ Some n → ⊥
 absent n [] v h g = cc
 absent n (x ∷ ns) zero h g =
     let same : n ≡ x = cc in true≢false (sym ((bytes_eq-Decides n x).1 same) ∙ h.0)
 absent n (x ∷ ns) (suc v) h g = absent n ns v h.1 g
 
-pub one_place : (ns : List (List ℕ)) (n : List ℕ) (v w : ℕ) → IsDistinct bytes_eq ns → slice_get ns v ≡ Some n → slice_get ns w ≡ Some n → v ≡ w
+pub one_place : (ns : List (List ℕ)) (n : List ℕ) (v w : ℕ) → IsDistinct bytes_eq ns → slice_get ns v ≡ Some n
+    → slice_get ns w ≡ Some n → v ≡ w
 unfolding IsDistinct
 one_place [] n v w d g h = cc
 one_place (x ∷ ns) n zero zero d g h = refl
@@ -37,26 +38,47 @@ one_place (x ∷ ns) n zero (suc w) d g h = let same : x ≡ n = cc in absurd (a
 one_place (x ∷ ns) n (suc v) zero d g h = let same : x ≡ n = cc in absurd (absent x ns v d.0 (rw same g))
 one_place (x ∷ ns) n (suc v) (suc w) d g h = ap (λ k. suc k) (one_place ns n v w d.1 g h)
 
-pub name_part : (names : List (List ℕ)) (d a b i : Data) (rest : Items) → d ≡ array (item a (item b (item i rest))) → (c : Call) → SpellsCall names d c → (v : ℕ) × SpellsName names b v
+-- the second item of a call's array is the name of a view
+pub name_part : (names : List (List ℕ)) (d a b i : Data) (rest : Items) → d ≡ array (item a (item b (item i rest)))
+    → (c : Call) → SpellsCall names d c → (v : ℕ) × SpellsName names b v
 name_part names d a b i rest e c h =
-    let same : array (item a (item b (item i rest))) ≡ array (item (string (call_name c)) (item h.name_tree (item (whole (call_index c)) (call_operands c)))) = sym e ∙ h.tree in
-    let part : b ≡ h.name_tree = cc in
-    (view_of c, record { text = h.view.text; tree = part ∙ h.view.tree; there = h.view.there })
+    let s = spelling_of c in
+    let same : array (item a (item b (item i rest)))
+    ≡ call_tree s.name h.view_tree s.index h.argument_trees = sym e ∙ h.tree in
+    let part : b ≡ h.view_tree = cc in
+    (s.view, record { text = h.view.text; tree = part ∙ h.view.tree; there = h.view.there })
 
-pub reads_call : (names : List (List ℕ)) (d b : Data) (word : List ℕ) (v : ℕ) (i : ℤ) (rest : Items) (r : Result Call ReadFault) → IsDistinct bytes_eq names → d ≡ array (item (string word) (item b (item (whole i) rest))) → SpellsName names b v → IsSafeInteger i → Reads (λ (c : Call). c) (SpellsParts word v i rest) r → Reads (λ (c : Call). c) (SpellsCall names d) r
+-- a spelling is that of an array's parts
+pub parts_of_whole : (names : List (List ℕ)) (d b : Data) (word : List ℕ) (v : ℕ) (i : ℤ) (rest : Items)
+    (s : Spelling) → IsDistinct bytes_eq names → d ≡ call_tree word b i rest → SpellsName names b v
+    → HasSpelling names d s → SpellsParts word v i rest s
+parts_of_whole names d b word v i rest s distinct e n h =
+    let same : call_tree word b i rest ≡ call_tree s.name h.view_tree s.index h.argument_trees = sym e ∙ h.tree in
+    let view_is : b ≡ h.view_tree = cc in
+    let index_is : whole i ≡ whole s.index = cc in
+    let rest_is : rest ≡ h.argument_trees = cc in
+    let text_tree : string n.text ≡ string h.view.text = sym n.tree ∙ view_is ∙ h.view.tree in
+    let text_is : n.text ≡ h.view.text = cc in
+    let there = h.view.there ∙ ap (λ (t : List ℕ). Some t) (sym text_is) in
+    record {
+      name = cc;
+      view = one_place names n.text v s.view distinct n.there there;
+      index = same_whole i s.index index_is;
+      arguments = rw rest_is h.arguments;
+    }
+
+pub reads_call : (names : List (List ℕ)) (d b : Data) (word : List ℕ) (v : ℕ) (i : ℤ) (rest : Items)
+    (r : Result Call ReadFault) → IsDistinct bytes_eq names → d ≡ call_tree word b i rest → SpellsName names b v
+    → IsSafeInteger i → Reads (λ (c : Call). c) (λ c. SpellsParts word v i rest (spelling_of c)) r
+    → Reads (λ (c : Call). c) (SpellsCall names d) r
 reads_call names d b word v i rest (Ok c) distinct e n w h = record {
-  name_tree = b;
-  tree = e ∙ (λ k. array (item (string (h.name k)) (item b (item (whole (h.index k)) (h.operands k)))));
+  view_tree = b;
+  argument_trees = rest;
+  tree = e ∙ (λ k. call_tree (h.name k) b (h.index k) rest);
   view = subst (λ (p : ℕ). SpellsName names b p) h.view n;
   index = subst IsSafeInteger h.index w;
-  numbers = h.numbers;
+  arguments = h.arguments;
 }
-reads_call names d b word v i rest (Err f) distinct e n w h = refuses_more (SpellsParts word v i rest) (SpellsCall names d) f (λ c p.
-    let same : array (item (string word) (item b (item (whole i) rest))) ≡ array (item (string (call_name c)) (item p.name_tree (item (whole (call_index c)) (call_operands c)))) = sym e ∙ p.tree in
-    let word_is : word ≡ call_name c = cc in
-    let tree_is : b ≡ p.name_tree = cc in
-    let whole_is : whole i ≡ whole (call_index c) = cc in
-    let rest_is : rest ≡ call_operands c = cc in
-    let text_tree : string n.text ≡ string p.view.text = sym n.tree ∙ tree_is ∙ p.view.tree in
-    let text_is : n.text ≡ p.view.text = cc in
-    (c, record { name = word_is; view = one_place names n.text v (view_of c) distinct n.there (p.view.there ∙ ap (λ (t : List ℕ). Some t) (sym text_is)); index = same_whole i (call_index c) whole_is; operands = rest_is; numbers = p.numbers })) h
+reads_call names d b word v i rest (Err f) distinct e n w h =
+    refuses_more (λ (c : Call). SpellsParts word v i rest (spelling_of c)) (SpellsCall names d) f
+    (λ c p. (c, parts_of_whole names d b word v i rest (spelling_of c) distinct e n p)) h

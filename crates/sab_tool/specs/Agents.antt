@@ -1,9 +1,10 @@
 -- How agents are spelled.
-use Rattle.std.specs.Prelude.{◌≡◌, ℕ, ◌≤◌, List, length, codes}
+use Rattle.std.specs.Prelude.{◌≡◌, ℕ, List, codes}
 use Rattle.serde_json.specs.Data.{Data, boolean, array, object, Items, no_members, member}
+use Rattle.sab_sim.specs.declared.plan.TheConstants.Plan.{MAX_AGENTS}
 use Rattle.sab_sim.specs.Script.{ScriptParts}
 use Rattle.sab_tool.specs.Calls.{SpellsCalls}
-use Rattle.sab_tool.specs.Reading.{SpellsEach}
+use Rattle.sab_tool.specs.Reading.{SpellsUpTo}
 
 -- the object of an agent, by its members
 abbrev pub agent_object : Data → Data → Data
@@ -16,4 +17,4 @@ pub record SpellsScript (names : List (List ℕ)) (d : Data) (s : ScriptParts) :
   pub calls : SpellsCalls names call_trees s.calls
 
 abbrev pub SpellsScripts : List (List ℕ) → Items → List ScriptParts → Type 0
-SpellsScripts names ds ss = SpellsEach (SpellsScript names) ds ss × (length ss ≤ 16)
+SpellsScripts names = SpellsUpTo MAX_AGENTS (SpellsScript names)

@@ -1,5 +1,6 @@
 -- When an input is refused.
-use Rattle.std.specs.Prelude.{ℕ, ◌<◌, ◌^◌, List, length, Option, IfSome, ⊤}
+use Rattle.std.specs.Prelude.{ℕ, ◌<◌, List, length, Option, IfSome, ⊤}
+use Rattle.sab_tool.specs.declared.input.TheConstants.{MAX_INPUT}
 use Rattle.sab_tool.specs.declared.tool_fault.ToolFault.{ToolFault}
 use Rattle.sab_tool.specs.declared.tool_fault.ToolFault.TheVariants.{OutOfMemory, TooLong, ReadFailed}
 
@@ -7,5 +8,5 @@ use Rattle.sab_tool.specs.declared.tool_fault.ToolFault.TheVariants.{OutOfMemory
 abbrev pub IsInputFault : Option (List ℕ) → ToolFault → Type 0
 IsInputFault known OutOfMemory = ⊤
 IsInputFault known ReadFailed = ⊤
-IsInputFault known TooLong = IfSome known (λ bytes. 2 ^ 20 < length bytes)
+IsInputFault known TooLong = IfSome known (λ bytes. MAX_INPUT < length bytes)
 IsInputFault known _ = ⊥

@@ -1,6 +1,7 @@
 pub mod ReadFault
 pub mod Reading
 pub mod Numbers
+pub mod Blocks
 pub mod Views
 pub mod Calls
 pub mod Agents

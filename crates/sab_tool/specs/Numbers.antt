@@ -1,5 +1,5 @@
 -- How whole numbers and operands are spelled.
-use Rattle.std.specs.Prelude.{◌≡◌, ℕ, ◌≤◌, ℤ, pos, List, Bool, true, false, Option, Some, None, FitsSigned}
+use Rattle.std.specs.Prelude.{◌≡◌, ℕ, ◌<◌, ℤ, pos, List, Bool, true, false, Option, Some, None, FitsSigned}
 use Rattle.std.specs.Int.{w128}
 use Rattle.std.specs.Fmt.{signed_decimal}
 use Rattle.serde_json.specs.Data.{Data, null, number, string}
@@ -50,6 +50,6 @@ IsOperand x = (x ≡ operand_of (is_bigint x) (whole_of x)) × IsInRange (is_big
 abbrev pub SpellsOperand : Data → Operand → Type 0
 SpellsOperand d x = (d ≡ operand_tree x) × IsOperand x
 
--- the length of a block
-abbrev pub SpellsLength : Data → ℕ → Type 0
-SpellsLength d n = (d ≡ whole (pos n)) × (n ≤ 65536)
+-- a position, of which there are so many
+abbrev pub SpellsPosition : ℕ → Data → ℕ → Type 0
+SpellsPosition count d n = (d ≡ whole (pos n)) × (n < count)

@@ -12,6 +12,8 @@ use Rattle.sab_tool.specs.declared.tool_fault.ToolFault.TheVariants.{OutOfMemory
 use Rattle.sab_tool.specs.Setup.{SetupParts}
 use Rattle.sab_tool.specs.Replay.{IsScriptOf, IsRefused}
 use Rattle.sab_tool.specs.Text.{text}
+-- how many steps an agent can make at a wait, for the crates above
+pub use Rattle.sab_race.specs.declared.script_moves.TheConstants.{MAX_SPINS}
 
 -- the fault of a race as a tool's
 abbrev pub race_as_tool_fault : RaceFault → ToolFault

@@ -1,5 +1,5 @@
 -- What a reader of a part of a script answers.
-use Rattle.std.specs.Prelude.{List, [], ◌∷◌, Result, Ok, Err}
+use Rattle.std.specs.Prelude.{ℕ, ◌≤◌, List, [], ◌∷◌, length, Result, Ok, Err}
 use Rattle.serde_json.specs.Data.{Data, Items, no_items, item}
 use Rattle.sab_tool.specs.declared.read_fault.ReadFault.{ReadFault}
 use Rattle.sab_tool.specs.declared.read_fault.ReadFault.TheVariants.{OutOfMemory}
@@ -20,3 +20,7 @@ SpellsEach Spells no_items [] = Unit {0}
 SpellsEach Spells no_items (x ∷ xs) = ⊥
 SpellsEach Spells (item d ds) [] = ⊥
 SpellsEach Spells (item d ds) (x ∷ xs) = Spells d x × SpellsEach Spells ds xs
+
+-- and these are so many at most
+abbrev pub SpellsUpTo : {X : Type 0} → ℕ → (Data → X → Type 0) → Items → List X → Type 0
+SpellsUpTo most Spells ds xs = SpellsEach Spells ds xs × (length xs ≤ most)

@@ -7,7 +7,7 @@ use Rattle.sab_sim.specs.Report.{ReportParts, Fits, IsOnly}
 use Rattle.sab_tool.specs.declared.read_fault.ReadFault.{ReadFault}
 use Rattle.sab_tool.specs.declared.read_fault.ReadFault.TheVariants as R
 use Rattle.sab_tool.specs.declared.tool_fault.ToolFault.{ToolFault}
-use Rattle.sab_tool.specs.declared.tool_fault.ToolFault.TheVariants.{TooMany, OutOfMemory, BadShape, BadName, BadNumber, BadCall, BadView, BadAgent, NotJson, WriteFailed}
+use Rattle.sab_tool.specs.declared.tool_fault.ToolFault.TheVariants.{TooMany, OutOfMemory, BadShape, BadName, BadNumber, BadCall, BadView, BadAgent, NoBlock, NotJson, WriteFailed}
 use Rattle.sab_tool.specs.Setup.{SetupParts, Spells, IsOnlySetup}
 use Rattle.sab_tool.specs.Text.{text}
 
@@ -20,6 +20,7 @@ as_tool_fault R.BadNumber = BadNumber
 as_tool_fault R.BadCall = BadCall
 as_tool_fault R.BadView = BadView
 as_tool_fault R.BadAgent = BadAgent
+as_tool_fault R.NoBlock = NoBlock
 as_tool_fault R.OutOfMemory = OutOfMemory
 
 -- the bytes are a JSON text in UTF-8, which reads as the tree
@@ -50,6 +51,7 @@ IsRefused script BadNumber = SpellsNone script
 IsRefused script BadCall = SpellsNone script
 IsRefused script BadView = SpellsNone script
 IsRefused script BadAgent = SpellsNone script
+IsRefused script NoBlock = SpellsNone script
 IsRefused script _ = ⊥
 
 -- the one report that fits the setup's plan and has its schedule

@@ -62,13 +62,14 @@ abbrev pub bytes_text : List ℕ → List ℕ
 bytes_text [] = codes "-"
 bytes_text (b ∷ bytes) = flat_map hex_byte (b ∷ bytes)
 
--- the bytes of block 0, or none where there is no block
-abbrev pub block_bytes : List (List ℕ) → List ℕ
-block_bytes [] = []
-block_bytes (bytes ∷ blocks) = bytes
+-- the line of block b
+abbrev pub block_line : ℕ → List ℕ → List ℕ
+block_line b bytes = codes "block " ++ field b ++ bytes_text bytes ++ codes "\n"
 
-abbrev pub block_line : List ℕ → List ℕ
-block_line bytes = codes "block " ++ bytes_text bytes ++ codes "\n"
+-- a line for each block, of which the first is block b
+abbrev pub block_lines : ℕ → List (List ℕ) → List ℕ
+block_lines b [] = []
+block_lines b (bytes ∷ blocks) = block_line b bytes ++ block_lines (b + 1) blocks
 
 -- the line of agent a
 abbrev pub agent_line : ℕ → Progress → List ℕ
@@ -81,4 +82,4 @@ agent_lines a (p ∷ agents) = agent_line a p ++ agent_lines (a + 1) agents
 
 -- the text of a report
 abbrev pub text : ReportParts → List ℕ
-text report = journal_lines 0 report.journal ++ block_line (block_bytes report.blocks) ++ agent_lines 0 report.agents
+text report = journal_lines 0 report.journal ++ block_lines 0 report.blocks ++ agent_lines 0 report.agents

@@ -1,7 +1,7 @@
 -- The numbers and names of faults.
 use Rattle.std.specs.Prelude.{ℕ, List, codes}
 use Rattle.sab_tool.specs.declared.tool_fault.ToolFault.{ToolFault}
-use Rattle.sab_tool.specs.declared.tool_fault.ToolFault.TheVariants.{TooMany, OutOfMemory, TooManyMoves, NoThread, BadShape, BadName, BadNumber, BadCall, BadView, BadAgent, NotJson, WriteFailed, TooLong, ReadFailed}
+use Rattle.sab_tool.specs.declared.tool_fault.ToolFault.TheVariants.{TooMany, OutOfMemory, TooManyMoves, NoThread, BadShape, BadName, BadNumber, BadCall, BadView, BadAgent, NotJson, WriteFailed, TooLong, ReadFailed, NoBlock}
 
 -- what a fault is called
 pub record Label : Type 0 where
@@ -27,6 +27,7 @@ label_of NotJson = label 16 (codes "NotJson")
 label_of WriteFailed = label 17 (codes "WriteFailed")
 label_of TooLong = label 18 (codes "TooLong")
 label_of ReadFailed = label 19 (codes "ReadFailed")
+label_of NoBlock = label 20 (codes "NoBlock")
 
 abbrev pub number_of : ToolFault → ℕ
 number_of fault = (label_of fault).number

@@ -1,15 +1,13 @@
 //! Calls.
 
-ghost use Rattle.std.specs.Prelude.{◌≡◌, ◌≤◌, IfSome, IfNone};
-ghost use Rattle.std.specs.List.{IsDistinct};
-ghost use Rattle.std.specs.Str.{bytes_eq};
-ghost use Rattle.indexmap.specs.IndexMap.{index_map_len};
+ghost use Rattle.std.specs.Prelude.{◌≡◌};
 ghost use Rattle.serde_json.specs.View.{view, items_view};
 ghost use Rattle.sab_tool.specs.Reading.{Reads};
-ghost use Rattle.sab_tool.specs.Views.{named_views, view_names};
-ghost use Rattle.sab_tool.specs.Calls.{op_name, SpellsParts, SpellsRmw, SpellsCall, SpellsCalls};
+ghost use Rattle.sab_tool.specs.Views.{view_names};
+ghost use Rattle.sab_tool.specs.Calls.{op_name, spelling_of, SpellsParts, SpellsCall, SpellsCalls};
 
-use crate::operands::{last_whole, no_operand, one_operand, timed_operand, two_operands};
+use crate::elements::{Reader, read_each};
+use crate::operands::{no_operand, one_operand, optional_limit, timed_operand, two_operands};
 use crate::read_fault::ReadFault;
 use crate::tree::{items, text, whole};
 use crate::views::{Views, view_of};
@@ -19,28 +17,25 @@ use serde_json::Value;
 use std::alloc::Global;
 
 /// The read-modify-write operation of a name.
-fn rmw_op(name: &str) -> Option<RmwOp>
-    ensures some { IfSome result (λ op. name.now ≡ op_name op) }
-    ensures none { IfNone result ((op : RmwOp) → name.now ≡ op_name op → ⊥) }
+fn rmw_op(name: &str) -> Result<RmwOp, ReadFault>
+    ensures { Reads (λ op. op) (λ op. name.now ≡ op_name op) result }
 {
     match name {
-        "exchange" => Some(RmwOp::Exchange),
-        "add" => Some(RmwOp::Add),
-        "sub" => Some(RmwOp::Sub),
-        "and" => Some(RmwOp::And),
-        "or" => Some(RmwOp::Or),
-        "xor" => Some(RmwOp::Xor),
-        _ => None,
+        "exchange" => Ok(RmwOp::Exchange),
+        "add" => Ok(RmwOp::Add),
+        "sub" => Ok(RmwOp::Sub),
+        "and" => Ok(RmwOp::And),
+        "or" => Ok(RmwOp::Or),
+        "xor" => Ok(RmwOp::Xor),
+        _ => Err(ReadFault::BadCall),
     }
 }
 
-/// A read-modify-write call, by its parts.
-fn rmw_of(name: &str, view: u32, index: i64, operands: &[Value]) -> Result<Call, ReadFault>
-    ensures { Reads (λ c. c) (SpellsRmw name.now view index (items_view operands.now)) result }
+/// A read-modify-write call, by its operation and its parts.
+fn rmw_of(op: RmwOp, view: u32, index: i64, operands: &[Value]) -> Result<Call, ReadFault>
+    ensures { Reads (λ c. c)
+        (λ c. SpellsParts (op_name op) view index (items_view operands.now) (spelling_of c)) result }
 {
-    let Some(op) = rmw_op(name) else {
-        return Err(ReadFault::BadCall);
-    };
     let value = one_operand(operands)?;
     let access = Access::Rmw { op, index, value };
     Ok(Call::Access { view, access })
@@ -48,7 +43,8 @@ fn rmw_of(name: &str, view: u32, index: i64, operands: &[Value]) -> Result<Call,
 
 /// A call, by its parts.
 fn call_of(name: &str, view: u32, index: i64, operands: &[Value]) -> Result<Call, ReadFault>
-    ensures { Reads (λ c. c) (SpellsParts name.now view index (items_view operands.now)) result }
+    ensures { Reads (λ c. c)
+        (λ c. SpellsParts name.now view index (items_view operands.now) (spelling_of c)) result }
 {
     match name {
         "load" => {
@@ -80,18 +76,16 @@ fn call_of(name: &str, view: u32, index: i64, operands: &[Value]) -> Result<Call
             })
         }
         "notify" => {
-            let count = last_whole(operands)?;
+            let count = optional_limit(operands)?;
             Ok(Call::Notify { view, index, count })
         }
-        _ => rmw_of(name, view, index, operands),
+        _ => rmw_of(rmw_op(name)?, view, index, operands),
     }
 }
 
 /// A call.
 fn read_call(views: &Views, tree: &Value) -> Result<Call, ReadFault>
-    requires count { index_map_len views.now ≤ 64 }
-    requires distinct { IsDistinct bytes_eq (view_names (named_views views.now)) }
-    ensures { Reads (λ c. c) (SpellsCall (view_names (named_views views.now)) (view tree.now)) result }
+    ensures { Reads (λ c. c) (SpellsCall (view_names views.now) (view tree.now)) result }
 {
     let trees = items(tree)?;
     if trees.is_empty() {
@@ -106,25 +100,29 @@ fn read_call(views: &Views, tree: &Value) -> Result<Call, ReadFault>
     call_of(name, view, index, operands)
 }
 
+/// Reads a call on one of the views.
+#[derive(Clone, Copy)]
+struct CallReader<'a> {
+    views: &'a Views,
+}
+
+impl Reader for CallReader<'_> {
+    type Element = Call;
+
+    ghost Spells = { λ reader. SpellsCall (view_names reader.views.now) };
+
+    fn read(&self, tree: &Value) -> Result<Call, ReadFault> {
+        read_call(self.views, tree)
+    }
+}
+
 /// The calls of an agent, in order.
-#[tactic(auto, using(crate::proofs::Each::each_none, crate::proofs::Each::each_more, crate::proofs::Each::each_all))]
 pub(crate) fn read_calls(
     alloc: Global,
     views: &Views,
     trees: &[Value],
 ) -> Result<Vec<Call>, ReadFault>
-    requires count { index_map_len views.now ≤ 64 }
-    requires distinct { IsDistinct bytes_eq (view_names (named_views views.now)) }
-    ensures { Reads (λ calls. calls.items) (SpellsCalls (view_names (named_views views.now)) (items_view trees.now)) result }
+    ensures { Reads (λ calls. calls.items) (SpellsCalls (view_names views.now) (items_view trees.now)) result }
 {
-    if trees.len() > Plan::MAX_CALLS {
-        return Err(ReadFault::TooMany);
-    }
-    let mut calls = Vec::with_capacity(alloc, trees.len()).map_err(|_| ReadFault::OutOfMemory)?;
-    for tree in trees {
-        calls
-            .push(read_call(views, tree)?)
-            .map_err(|_| ReadFault::OutOfMemory)?;
-    }
-    Ok(calls)
+    read_each(alloc, &CallReader { views }, Plan::MAX_CALLS, trees)
 }

@@ -1,6 +1,6 @@
 //! Input of a bounded length.
 
-ghost use Rattle.std.specs.Prelude.{◌≡◌, ◌≤◌, ◌^◌, IfSome, IfOk, OnOk, IfErr, vec_len};
+ghost use Rattle.std.specs.Prelude.{◌≡◌, ◌≤◌, IfSome, IfOk, OnOk, IfErr, vec_len};
 ghost use Rattle.std.specs.Io.KnownBytes.{IsAtEnd};
 ghost use Rattle.sab_tool.specs.Input.{IsInputFault};
 
@@ -18,7 +18,7 @@ pub const MAX_INPUT: usize = 0x10_0000;
 #[tactic(auto, using(crate::proofs::Consuming::consumes_both, crate::proofs::Consuming::consumed_all, crate::proofs::Consuming::consumed_long, crate::proofs::Consuming::consumes_none))]
 pub fn read_input<R: Read>(alloc: Global, r: &mut R) -> Result<Vec<u8>, ToolFault>
     ensures all { IfOk result (λ input. IfSome (R.remaining r.old) (λ bytes. input.items ≡ bytes)) }
-    ensures short { IfOk result (λ input. vec_len input ≤ 2 ^ 20) }
+    ensures short { IfOk result (λ input. vec_len input ≤ MAX_INPUT) }
     ensures end { OnOk result (IsAtEnd (R.remaining r.new)) }
     ensures err { IfErr result (IsInputFault (R.remaining r.old)) }
 {
@@ -33,8 +33,6 @@ pub fn read_input<R: Read>(alloc: Global, r: &mut R) -> Result<Vec<u8>, ToolFaul
         if MAX_INPUT - input.len() < n {
             return Err(ToolFault::TooLong);
         }
-        input
-            .extend_from_slice(&buffer[..n])
-            .map_err(|_| ToolFault::OutOfMemory)?;
+        input.extend_from_slice(&buffer[..n])?;
     }
 }

@@ -1,11 +1,14 @@
-//! From a script to a report: reads a JSON text that says what agents do to a block and in which order, runs it, and
-//! writes what each move did.
+//! From a script to a report: reads a JSON text that says what agents do to blocks of bytes and in which order, runs
+//! it, and writes what each move did.
 #![tactic(auto)]
 
 mod agents;
+mod blocks;
 mod calls;
 mod chunk;
+mod elements;
 mod entry_line;
+mod form;
 mod input;
 mod line;
 mod names;
@@ -20,6 +23,7 @@ mod setup;
 mod share;
 mod tool_fault;
 mod tree;
+mod view_entry;
 mod view_spec;
 mod views;
 
@@ -28,6 +32,8 @@ pub use racing::race_bytes;
 pub use read_fault::ReadFault;
 pub use replaying::replay_bytes;
 pub use report::write_report;
+pub use sab_race::MAX_SPINS;
+pub use schedule::MAX_MOVES;
 pub use setup::{Setup, read_setup};
 pub use share::Share;
 pub use tool_fault::ToolFault;

@@ -49,7 +49,7 @@ impl Line {
     }
 
     /// Puts a text first.
-    pub fn put(&mut self, text: &[u8])
+    pub fn prepend(&mut self, text: &[u8])
         requires { length text.now + length self.old ≤ Line.ROOM }
         ensures { self.new ≡ text.now ++ self.old }
     {
@@ -60,7 +60,7 @@ impl Line {
     }
 
     /// Puts a number first, in decimal: at most 20 bytes.
-    pub fn put_number(&mut self, n: u64)
+    pub fn prepend_number(&mut self, n: u64)
         requires { 20 + length self.old ≤ Line.ROOM }
         ensures bytes { self.new ≡ decimal n ++ self.old }
         ensures len { length self.new ≤ 20 + length self.old }
@@ -69,28 +69,28 @@ impl Line {
     }
 
     /// Puts a number and a space first.
-    pub fn put_field(&mut self, n: u64)
+    pub fn prepend_field(&mut self, n: u64)
         requires { 21 + length self.old ≤ Line.ROOM }
         ensures bytes { self.new ≡ decimal n ++ (codes " " ++ self.old) }
         ensures len { length self.new ≤ 21 + length self.old }
     {
-        self.put(b" ");
-        self.put_number(n);
+        self.prepend(b" ");
+        self.prepend_number(n);
     }
 
     /// Puts a whole number first, in decimal: at most 40 bytes.
-    pub fn put_whole(&mut self, n: i128)
+    pub fn prepend_whole(&mut self, n: i128)
         requires { 40 + length self.old ≤ Line.ROOM }
         ensures bytes { self.new ≡ signed_decimal n ++ self.old }
         ensures len { length self.new ≤ 40 + length self.old }
     {
         let Ok(magnitude) = u64::try_from(n.unsigned_abs()) else {
-            self.put(Buffer::new().format(n).as_bytes());
+            self.prepend(Buffer::new().format(n).as_bytes());
             return;
         };
-        self.put_number(magnitude);
+        self.prepend_number(magnitude);
         if n < 0 {
-            self.put(b"-");
+            self.prepend(b"-");
         }
     }
 }

@@ -28,7 +28,7 @@ pub(crate) fn kind(name: &str) -> Result<Kind, ReadFault>
 }
 
 /// How many letters a view's name can have.
-const MAX_NAME: usize = 32;
+pub(crate) const MAX_NAME: usize = 32;
 
 /// Whether a view can have the name.
 pub(crate) fn is_name(name: &str) -> bool

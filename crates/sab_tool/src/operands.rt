@@ -1,11 +1,10 @@
 //! Operands, and what else stands behind the index of a call.
 
-ghost use Rattle.std.specs.Prelude.{◌≡◌};
-ghost use Rattle.serde_json.specs.Data.{no_items};
+ghost use Rattle.std.specs.Prelude.{[], ◌∷◌};
 ghost use Rattle.serde_json.specs.View.{view, items_view};
 ghost use Rattle.sab_tool.specs.Reading.{Reads};
 ghost use Rattle.sab_tool.specs.Numbers.{SpellsBig, SpellsOperand};
-ghost use Rattle.sab_tool.specs.Calls.{SpellsOne, SpellsTwo, SpellsTimed, SpellsLast};
+ghost use Rattle.sab_tool.specs.Calls.{value, optional, SpellsArguments};
 
 use crate::read_fault::ReadFault;
 use crate::tree::whole;
@@ -38,9 +37,9 @@ pub(crate) fn operand(tree: &Value) -> Result<Operand, ReadFault>
 }
 
 /// Nothing, where a call has no operand.
-#[tactic(auto, using(crate::proofs::Lengths::none_long, crate::proofs::Lengths::some_long))]
+#[tactic(auto, using(crate::proofs::Lengths::as_many))]
 pub(crate) fn no_operand(trees: &[Value]) -> Result<(), ReadFault>
-    ensures { Reads (λ u. u) (λ _. items_view trees.now ≡ no_items) result }
+    ensures { Reads (λ u. u) (λ _. SpellsArguments (items_view trees.now) []) result }
 {
     let [] = trees else {
         return Err(ReadFault::BadCall);
@@ -49,9 +48,9 @@ pub(crate) fn no_operand(trees: &[Value]) -> Result<(), ReadFault>
 }
 
 /// The one operand of a call.
-#[tactic(auto, using(crate::proofs::Lengths::none_long, crate::proofs::Lengths::one_long, crate::proofs::Lengths::two_long, crate::proofs::Lengths::some_long))]
+#[tactic(auto, using(crate::proofs::Lengths::as_many))]
 pub(crate) fn one_operand(trees: &[Value]) -> Result<Operand, ReadFault>
-    ensures { Reads (λ x. x) (SpellsOne (items_view trees.now)) result }
+    ensures { Reads (λ x. x) (λ x. SpellsArguments (items_view trees.now) (value x ∷ [])) result }
 {
     let [value] = trees else {
         return Err(ReadFault::BadCall);
@@ -60,9 +59,9 @@ pub(crate) fn one_operand(trees: &[Value]) -> Result<Operand, ReadFault>
 }
 
 /// The two operands of a call.
-#[tactic(auto, using(crate::proofs::Lengths::none_long, crate::proofs::Lengths::one_long, crate::proofs::Lengths::two_long, crate::proofs::Lengths::some_long))]
+#[tactic(auto, using(crate::proofs::Lengths::as_many))]
 pub(crate) fn two_operands(trees: &[Value]) -> Result<(Operand, Operand), ReadFault>
-    ensures { Reads (λ p. p) (SpellsTwo (items_view trees.now)) result }
+    ensures { Reads (λ p. p) (λ p. SpellsArguments (items_view trees.now) (value p.0 ∷ value p.1 ∷ [])) result }
 {
     let [expected, replacement] = trees else {
         return Err(ReadFault::BadCall);
@@ -73,9 +72,9 @@ pub(crate) fn two_operands(trees: &[Value]) -> Result<(Operand, Operand), ReadFa
 }
 
 /// A timeout or a count, which may be absent.
-#[tactic(auto, using(crate::proofs::Lengths::none_long, crate::proofs::Lengths::one_long, crate::proofs::Lengths::two_long, crate::proofs::Lengths::some_long))]
-pub(crate) fn last_whole(trees: &[Value]) -> Result<Option<i64>, ReadFault>
-    ensures { Reads (λ o. o) (SpellsLast (items_view trees.now)) result }
+#[tactic(auto, using(crate::proofs::Lengths::as_many, crate::proofs::Lengths::one_at_most))]
+pub(crate) fn optional_limit(trees: &[Value]) -> Result<Option<i64>, ReadFault>
+    ensures { Reads (λ o. o) (λ o. SpellsArguments (items_view trees.now) (optional o)) result }
 {
     match trees {
         [] => Ok(None),
@@ -88,14 +87,14 @@ pub(crate) fn last_whole(trees: &[Value]) -> Result<Option<i64>, ReadFault>
 }
 
 /// An operand, and a timeout that may be absent.
-#[tactic(auto, using(crate::proofs::Lengths::none_long, crate::proofs::Lengths::one_long, crate::proofs::Lengths::two_long, crate::proofs::Lengths::some_long))]
+#[tactic(auto, using(crate::proofs::Lengths::as_many, crate::proofs::Lengths::one_at_most))]
 pub(crate) fn timed_operand(trees: &[Value]) -> Result<(Operand, Option<i64>), ReadFault>
-    ensures { Reads (λ p. p) (SpellsTimed (items_view trees.now)) result }
+    ensures { Reads (λ p. p) (λ p. SpellsArguments (items_view trees.now) (value p.0 ∷ optional p.1)) result }
 {
     let [value, rest @ ..] = trees else {
         return Err(ReadFault::BadCall);
     };
     let value = operand(value)?;
-    let timeout = last_whole(rest)?;
+    let timeout = optional_limit(rest)?;
     Ok((value, timeout))
 }

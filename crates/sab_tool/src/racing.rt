@@ -7,7 +7,7 @@ use crate::report::write_report;
 use crate::script::setup_of;
 use crate::share::Share;
 use crate::tool_fault::ToolFault;
-use sab_race::{NoGate, run_locked, run_rings};
+use sab_race::{MAX_SPINS, NoGate, run_locked, run_rings};
 use sab_sim::{Plan, Report};
 use std::alloc::Global;
 use std::io::Write;
@@ -20,10 +20,10 @@ const PATIENCE: u32 = 1_000_000;
 /// Runs the agents of a script in threads, and writes the text of the report; it doesn't flush.
 ///
 /// The script's schedule is read and checked and then not used: the report's is the order in which the moves took effect.
-/// An agent steps `spins` times, at most 1,000, at each wait before the wait's time is up. WriteFailed where a write
-/// failed; nothing is said then of how much was written. Every other fault is a refusal of the script, agents with more
-/// than 2^20 moves in all (TooManyMoves), want of memory, or a thread that couldn't be started (NoThread), and nothing was
-/// written.
+/// An agent steps `spins` times, at most [`MAX_SPINS`], at each wait before the wait's time is up. WriteFailed where a
+/// write failed; nothing is said then of how much was written. Every other fault is a refusal of the script, agents with
+/// more than 2^20 moves in all (TooManyMoves), want of memory, or a thread that couldn't be started (NoThread), and nothing
+/// was written.
 pub fn race_bytes<R: Threads + Wait + Sync, W: Write>(
     rt: &R,
     alloc: Global,
@@ -32,7 +32,7 @@ pub fn race_bytes<R: Threads + Wait + Sync, W: Write>(
     spins: u32,
     w: &mut W,
 ) -> Result<(), ToolFault>
-    requires { spins ≤ 1000 }
+    requires { spins ≤ MAX_SPINS }
     ensures ok { OnOk result (Races (W.contents w.old) (W.contents w.new) script.now spins) }
     ensures err { IfErr result (IsRaceFault (W.contents w.old) (W.contents w.new) script.now spins) }
 {
@@ -50,7 +50,7 @@ fn run<R: Threads + Wait + Sync>(
     share: Share,
     spins: u32,
 ) -> Result<Report, ToolFault>
-    requires { spins ≤ 1000 }
+    requires { spins ≤ MAX_SPINS }
     ensures race { IfOk result (IsRaceOf plan spins) }
     ensures err { IfErr result (IsUnraced plan spins) }
 {

@@ -5,6 +5,7 @@ ghost use Rattle.sab_sim.specs.Schedule.{agent_of};
 ghost use Rattle.sab_tool.specs.Replay.{IsReportOf, Replays, IsReplayFault};
 
 use crate::report::write_report;
+use crate::schedule::MAX_MOVES;
 use crate::script::setup_of;
 use crate::setup::Setup;
 use crate::tool_fault::ToolFault;
@@ -28,7 +29,7 @@ pub fn replay_bytes<W: Write>(alloc: Global, script: &[u8], w: &mut W) -> Result
 
 /// The report of a setup.
 fn report_of(alloc: Global, setup: Setup) -> Result<Report, ToolFault>
-    requires few { length setup.schedule ≤ 100000 }
+    requires few { length setup.schedule ≤ MAX_MOVES }
     requires named { All (λ m. agent_of m < length setup.plan.scripts) setup.schedule }
     ensures report { IfOk result (IsReportOf setup) }
     ensures err { IfErr result (λ fault. fault ≡ ToolFault.OutOfMemory) }

@@ -3,61 +3,54 @@
 ghost use Rattle.std.specs.Prelude.{◌≡◌, ◌≤◌};
 ghost use Rattle.serde_json.specs.View.{view, items_view};
 ghost use Rattle.sab_tool.specs.Reading.{Reads};
-ghost use Rattle.sab_tool.specs.Schedule.{SpellsAgent, SpellsMove, SpellsSchedule};
+ghost use Rattle.sab_tool.specs.Schedule.{SpellsMove, SpellsSchedule};
 
+use crate::elements::{Reader, read_each};
 use crate::read_fault::ReadFault;
-use crate::tree::{end, member, members, whole};
+use crate::tree::{end, member, members, position};
 use sab_sim::Move;
 use serde_json::Value;
 use std::alloc::Global;
 
-/// How many moves a schedule can have.
-const MAX_MOVES: usize = 100_000;
+/// How many moves the schedule of a script can have.
+pub const MAX_MOVES: usize = 100_000;
 
-/// The number of an agent, of which there are so many.
-fn agent(agents: usize, tree: &Value) -> Result<u32, ReadFault>
-    requires { agents ≤ 16 }
-    ensures { Reads (λ a. a) (SpellsAgent agents (view tree.now)) result }
-{
-    let n = whole(tree)?;
-    if n < 0 || n >= agents as i64 {
-        return Err(ReadFault::BadAgent);
-    }
-    Ok(n as u32)
-}
-
-/// A move.
-fn read_move(agents: usize, tree: &Value) -> Result<Move, ReadFault>
-    requires { agents ≤ 16 }
+/// A move of an agent, of which there are so many.
+fn read_move(agents: u32, tree: &Value) -> Result<Move, ReadFault>
     ensures { Reads (λ m. m) (SpellsMove agents (view tree.now)) result }
 {
     if let Value::Object(_) = tree {
         let mut rest = members(tree)?;
-        let a = agent(agents, member(&mut rest, "timeout")?)?;
+        let agent = position(member(&mut rest, "timeout")?, agents, ReadFault::BadAgent)?;
         end(&mut rest)?;
-        return Ok(Move::TimeUp(a));
+        return Ok(Move::TimeUp(agent));
     }
-    Ok(Move::Step(agent(agents, tree)?))
+    Ok(Move::Step(position(tree, agents, ReadFault::BadAgent)?))
 }
 
-/// The moves, in order.
-#[tactic(auto, using(crate::proofs::Each::each_none, crate::proofs::Each::each_more, crate::proofs::Each::each_all))]
+/// Reads a move of one of the agents.
+#[derive(Clone, Copy)]
+struct MoveReader {
+    agents: u32,
+}
+
+impl Reader for MoveReader {
+    type Element = Move;
+
+    ghost Spells = { λ reader. SpellsMove reader.agents };
+
+    fn read(&self, tree: &Value) -> Result<Move, ReadFault> {
+        read_move(self.agents, tree)
+    }
+}
+
+/// The moves of so many agents, in order.
 pub(crate) fn read_schedule(
     alloc: Global,
-    agents: usize,
+    agents: u32,
     trees: &[Value],
 ) -> Result<Vec<Move>, ReadFault>
-    requires { agents ≤ 16 }
     ensures { Reads (λ moves. moves.items) (SpellsSchedule agents (items_view trees.now)) result }
 {
-    if trees.len() > MAX_MOVES {
-        return Err(ReadFault::TooMany);
-    }
-    let mut moves = Vec::with_capacity(alloc, trees.len()).map_err(|_| ReadFault::OutOfMemory)?;
-    for tree in trees {
-        moves
-            .push(read_move(agents, tree)?)
-            .map_err(|_| ReadFault::OutOfMemory)?;
-    }
-    Ok(moves)
+    read_each(alloc, &MoveReader { agents }, MAX_MOVES, trees)
 }

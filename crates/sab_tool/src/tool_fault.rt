@@ -4,6 +4,7 @@ ghost use Rattle.std.specs.Prelude.{◌≡◌};
 
 use crate::read_fault::ReadFault;
 use sab_race::RaceFault;
+use std::alloc::AllocError;
 use thiserror::Error;
 
 /// Why a tool doesn't do what it was asked for.
@@ -11,7 +12,7 @@ use thiserror::Error;
 /// Its text is its name.
 #[derive(Clone, Copy, Debug, PartialEq, Eq, Hash, Error)]
 pub enum ToolFault {
-    /// A script has more bytes in its block, or more views, agents, calls or moves than it can have.
+    /// A script has more bytes in a block, or more blocks, views, agents, calls or moves than it can have.
     #[error("TooMany")]
     TooMany,
     /// A growth was refused.
@@ -54,6 +55,9 @@ pub enum ToolFault {
     /// A read failed.
     #[error("ReadFailed")]
     ReadFailed,
+    /// A script has no block, or a view's block is the position of none.
+    #[error("NoBlock")]
+    NoBlock,
 }
 
 impl ToolFault {
@@ -78,6 +82,7 @@ impl ToolFault {
             ToolFault::WriteFailed => 17,
             ToolFault::TooLong => 18,
             ToolFault::ReadFailed => 19,
+            ToolFault::NoBlock => 20,
         }
     }
 
@@ -100,6 +105,7 @@ impl ToolFault {
             ToolFault::WriteFailed => "WriteFailed",
             ToolFault::TooLong => "TooLong",
             ToolFault::ReadFailed => "ReadFailed",
+            ToolFault::NoBlock => "NoBlock",
         }
     }
 }
@@ -118,8 +124,19 @@ impl From<ReadFault> for ToolFault {
             ReadFault::BadCall => ToolFault::BadCall,
             ReadFault::BadView => ToolFault::BadView,
             ReadFault::BadAgent => ToolFault::BadAgent,
+            ReadFault::NoBlock => ToolFault::NoBlock,
             ReadFault::OutOfMemory => ToolFault::OutOfMemory,
         }
+    }
+}
+
+impl From<AllocError> for ToolFault {
+    ghost use Rattle.sab_tool.specs.declared.tool_fault.ToolFault.TheVariants.{OutOfMemory};
+
+    ghost from_gives = { λ _ fault. fault ≡ OutOfMemory };
+
+    fn from(_refused: AllocError) -> ToolFault {
+        ToolFault::OutOfMemory
     }
 }
 

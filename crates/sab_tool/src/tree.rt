@@ -4,7 +4,7 @@ ghost use Rattle.std.specs.Prelude.{◌≡◌, IfOk, OnOk, OnErr};
 ghost use Rattle.serde_json.specs.Data.{Data, Members as MemberList, string, boolean, array, object, no_members, member as member_then};
 ghost use Rattle.serde_json.specs.View.{view, items_view, members_view};
 ghost use Rattle.sab_tool.specs.Reading.{Reads};
-ghost use Rattle.sab_tool.specs.Numbers.{SpellsWhole, SpellsOptional};
+ghost use Rattle.sab_tool.specs.Numbers.{SpellsWhole, SpellsOptional, SpellsPosition};
 
 use crate::read_fault::ReadFault;
 use sab_block::Operand;
@@ -25,6 +25,17 @@ pub(crate) fn whole(tree: &Value) -> Result<i64, ReadFault>
         Some(n) if -Operand::MAX_SAFE_INTEGER <= n && n <= Operand::MAX_SAFE_INTEGER => Ok(n),
         _ => Err(ReadFault::BadNumber),
     }
+}
+
+/// A position, of which there are `count`; the fault, where the number is no position.
+pub(crate) fn position(tree: &Value, count: u32, fault: ReadFault) -> Result<u32, ReadFault>
+    ensures { Reads (λ n. n) (SpellsPosition count (view tree.now)) result }
+{
+    let n = whole(tree)?;
+    if n < 0 || n >= i64::from(count) {
+        return Err(fault);
+    }
+    Ok(n as u32)
 }
 
 /// A whole number, or null for none.

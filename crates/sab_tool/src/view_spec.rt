@@ -3,7 +3,7 @@
 use sab_block::Kind;
 
 /// What a script says of a view, but for its name.
-#[derive(Clone, Copy, Debug, PartialEq, Eq)]
+#[derive(Clone, Copy, Debug, PartialEq, Eq, Hash)]
 pub struct ViewSpec {
     /// The kind of its elements.
     pub kind: Kind,
@@ -11,4 +11,6 @@ pub struct ViewSpec {
     pub offset: i64,
     /// How many elements it has, or `None` for all that are left.
     pub length: Option<i64>,
+    /// The position of its block.
+    pub block: u32,
 }

@@ -1,4 +1,4 @@
-//! Runs scripts of agents that share a block of bytes, by their schedule or in threads.
+//! Runs scripts of agents that share blocks of bytes, by their schedule or in threads.
 #![tactic(auto)]
 
 ghost use Rattle.std.specs.Prelude.{◌≤◌, OnOk, IfSome};
@@ -8,7 +8,7 @@ ghost use Rattle.sab_tool.specs.Racing.{Races};
 
 use clap::error::ErrorKind;
 use sab_command::{Job, job_of};
-use sab_tool::{Share, ToolFault, race_bytes, read_input, replay_bytes};
+use sab_tool::{MAX_SPINS, Share, ToolFault, race_bytes, read_input, replay_bytes};
 use std::alloc::Global;
 use std::io;
 use std::io::{Read, Write};
@@ -41,7 +41,7 @@ fn race<T: Threads + Wait + Sync + AllocGlobal, R: Read, W: Write>(
     input: &mut R,
     output: &mut W,
 ) -> Result<(), ToolFault>
-    requires { spins ≤ 1000 }
+    requires { spins ≤ MAX_SPINS }
     ensures { OnOk result (IfSome (R.remaining input.old) (λ script. Races (W.contents output.old) (W.contents output.new) script spins)) }
 {
     let alloc = rt.alloc();
@@ -79,7 +79,8 @@ fn status_of(fault: ToolFault) -> u8 {
         | ToolFault::BadView
         | ToolFault::BadAgent
         | ToolFault::NotJson
-        | ToolFault::TooLong => 1,
+        | ToolFault::TooLong
+        | ToolFault::NoBlock => 1,
     }
 }
 

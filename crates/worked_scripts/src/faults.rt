@@ -21,6 +21,7 @@ fn a_tool_fault_prints_its_name(rt: HostRuntime) -> Result<(), Fail> {
         (ToolFault::WriteFailed, 17, "WriteFailed"),
         (ToolFault::TooLong, 18, "TooLong"),
         (ToolFault::ReadFailed, 19, "ReadFailed"),
+        (ToolFault::NoBlock, 20, "NoBlock"),
     ];
     for (fault, number, name) in table {
         assert_eq!(rt; fault.number(), number);
@@ -56,16 +57,21 @@ fn a_read_fault_prints_what_is_wrong(rt: HostRuntime) -> Result<(), Fail> {
         ),
         (
             ReadFault::BadView,
-            "a view has a kind that isn't there, or doesn't fit the block",
+            "a view has a kind that isn't there, or doesn't fit its block",
         ),
         (
             ReadFault::BadAgent,
             "a move names an agent that isn't there",
         ),
+        (
+            ReadFault::NoBlock,
+            "the script has no block, or a view names one that isn't there",
+        ),
         (ReadFault::OutOfMemory, "there is no memory for the script"),
     ];
     for (fault, text) in table {
-        assert_eq!(rt; fault.to_string(alloc)?.as_str(), text);
+        let found = fault.to_string(alloc)?;
+        assert!(rt; found.as_str() == text, "{text}");
     }
     Ok(())
 }

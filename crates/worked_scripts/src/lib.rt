@@ -1,8 +1,8 @@
-//! Worked examples of scripts and reports, as tests.
+//! Worked examples of scripts, setups and reports, as tests: those that aren't a case of the program `check_scripts`.
 #![tactic(auto)]
 
 #[cfg(test)]
-mod accesses;
+mod changed_bytes;
 #[cfg(test)]
 mod command_lines;
 #[cfg(test)]
@@ -16,11 +16,7 @@ mod racing;
 #[cfg(test)]
 mod reading;
 #[cfg(test)]
-mod refusals;
-#[cfg(test)]
 mod reports;
-#[cfg(test)]
-mod schedules;
 #[cfg(test)]
 mod script_limits;
 #[cfg(test)]

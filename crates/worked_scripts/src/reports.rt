@@ -6,6 +6,7 @@ use sab_block::{Operand, Thrown};
 use sab_sim::{Answer, Entry, Move, Progress, Report, What, Why};
 use sab_tool::write_report;
 use std::alloc::Global;
+use std::process::Abort;
 use std::test::Fail;
 
 /// A report of these blocks and of no moves, with two agents.
@@ -72,7 +73,7 @@ fn an_entry_is_one_line(rt: HostRuntime) -> Result<(), Fail> {
         report.journal.push(entry(what))?;
         lines.push_str(format!(in alloc; "{k} 15 999 {end}\n")?.as_str())?;
     }
-    lines.push_str("block -\nagent 0 2 of 3\nagent 1 0 of 1000\n")?;
+    lines.push_str("agent 0 2 of 3\nagent 1 0 of 1000\n")?;
     let mut text = Vec::new(alloc);
     assert_eq!(rt; write_report(&report, &mut text), Ok(()));
     assert_eq!(rt; text.as_slice(), lines.as_bytes());
@@ -101,7 +102,7 @@ fn an_answer_ends_its_line(rt: HostRuntime) -> Result<(), Fail> {
     for (answer, end) in table {
         let mut report = stuck(alloc, 0)?;
         report.journal.push(entry(What::Returned(answer)))?;
-        let lines = format!(in alloc; "0 15 999 return {end}\nblock -\n")?;
+        let lines = format!(in alloc; "0 15 999 return {end}\n")?;
         let mut text = Vec::new(alloc);
         assert_eq!(rt; write_report(&report, &mut text), Ok(()));
         assert_eq!(rt; text.as_slice(), lines.as_bytes());
@@ -109,25 +110,34 @@ fn an_answer_ends_its_line(rt: HostRuntime) -> Result<(), Fail> {
     Ok(())
 }
 
-#[test]
-fn the_first_block_is_one_line(rt: HostRuntime) -> Result<(), Fail> {
-    let alloc = rt.alloc();
-    let agents = "agent 0 2 of 3\nagent 1 0 of 1000\n";
-    let bytes = Vec::from_array(alloc, [0x00, 0x0f, 0xa9, 0xff])?;
-    let second = Vec::from_array(alloc, [0x11])?;
-    let two = Vec::from_array(alloc, [bytes, second])?;
-    let empty = Vec::from_array(alloc, [Vec::new(alloc)])?;
-    for (blocks, line) in [
-        (two, "block 000fa9ff"),
-        (empty, "block -"),
-        (Vec::new(alloc), "block -"),
-    ] {
-        let mut text = Vec::new(alloc);
-        assert_eq!(rt; write_report(&quiet(alloc, blocks)?, &mut text), Ok(()));
-        let lines = format!(in alloc; "{line}\n{agents}")?;
-        assert_eq!(rt; text.as_slice(), lines.as_bytes());
-    }
+/// Checks the lines of a report of these blocks, before the lines of its agents.
+fn check_blocks(
+    rt: &impl Abort,
+    alloc: Global,
+    blocks: Vec<Vec<u8>>,
+    lines: &str,
+) -> Result<(), Fail> {
+    let mut text = Vec::new(alloc);
+    assert_eq!(rt; write_report(&quiet(alloc, blocks)?, &mut text), Ok(()));
+    let expected = format!(in alloc; "{lines}agent 0 2 of 3\nagent 1 0 of 1000\n")?;
+    assert_eq!(rt; text.as_slice(), expected.as_bytes());
     Ok(())
+}
+
+#[test]
+fn a_report_of_no_block_has_no_line_for_one(rt: HostRuntime) -> Result<(), Fail> {
+    let alloc = rt.alloc();
+    check_blocks(&rt, alloc, Vec::new(alloc), "")
+}
+
+#[test]
+fn each_block_is_one_line(rt: HostRuntime) -> Result<(), Fail> {
+    let alloc = rt.alloc();
+    let first = Vec::from_array(alloc, [0x00, 0x0f, 0xa9, 0xff])?;
+    let last = Vec::from_array(alloc, [0x07, 0x00, 0x00, 0x00])?;
+    let blocks = Vec::from_array(alloc, [first, Vec::new(alloc), last])?;
+    let lines = "block 0 000fa9ff\nblock 1 -\nblock 2 07000000\n";
+    check_blocks(&rt, alloc, blocks, lines)
 }
 
 #[test]
@@ -139,7 +149,7 @@ fn a_long_report_is_written_whole(rt: HostRuntime) -> Result<(), Fail> {
     for k in 0..3_000 {
         lines.push_str(format!(in alloc; "{k} 0 0 stuck done\n")?.as_str())?;
     }
-    lines.push_str("block ")?;
+    lines.push_str("block 0 ")?;
     lines.push_str("c5".repeat(alloc, 20_000)?.as_str())?;
     lines.push_str("\n")?;
     let mut text = Vec::new(alloc);
@@ -156,7 +166,7 @@ fn a_replayed_report_has_the_text_that_its_script_gives(rt: HostRuntime) -> Resu
     assert_eq!(rt; write_report(&report, &mut text), Ok(()));
     let expected = lines(
         alloc,
-        "0 0 0 begin / 1 0 0 act 300 / 2 0 0 return 300 / 3 0 1 begin / 4 0 1 act 44 / 5 0 1 return 44 / block 2c / agent 0 2 of 2",
+        "0 0 0 begin / 1 0 0 act 300 / 2 0 0 return 300 / 3 0 1 begin / 4 0 1 act 44 / 5 0 1 return 44 / block 0 2c / agent 0 2 of 2",
     )?;
     assert_eq!(rt; text.as_slice(), expected.as_bytes());
     Ok(())

@@ -5,7 +5,7 @@ ghost use Rattle.std.specs.Prelude.{◌≤◌};
 use crate::racing::way::{Way, word};
 use crate::run::{Run, acted, began, enlisted, left, number, plan, returned, stuck, wait, whole};
 use sab_block::{Access, Kind};
-use sab_race::NoGate;
+use sab_race::{MAX_SPINS, NoGate};
 use sab_sim::Answer::{TimedOut, Value};
 use sab_sim::Move::{Step, TimeUp};
 use sab_sim::{Call, Why};
@@ -22,7 +22,7 @@ fn check<R: Threads + Wait + Sync + Abort>(
     run: &Run,
     spins: u32,
 ) -> Result<(), Fail>
-    requires { spins ≤ 1000 }
+    requires { spins ≤ MAX_SPINS }
 {
     for way in Way::BOTH {
         let plan = plan(alloc, run.lens, run.views, run.agents)?;

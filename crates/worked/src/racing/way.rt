@@ -4,7 +4,7 @@ ghost use Rattle.std.specs.Prelude.{◌≤◌};
 
 use crate::run::{number, plan, whole};
 use sab_block::{Access, Kind, RmwOp};
-use sab_race::{Gate, RaceFault, run_locked, run_rings};
+use sab_race::{Gate, MAX_SPINS, RaceFault, run_locked, run_rings};
 use sab_sim::{Call, Plan, PlanView, Report};
 use std::alloc::Global;
 use std::sync::{Arc, Wait};
@@ -32,7 +32,7 @@ impl Way {
         patience: 4_000_000_000,
     };
 
-    /// Runs the agents of a plan. `spins` is at most 1,000.
+    /// Runs the agents of a plan. `spins` is at most [`MAX_SPINS`].
     pub fn race<R: Threads + Wait + Sync, G: Gate + 'static>(
         self,
         rt: &R,
@@ -41,7 +41,7 @@ impl Way {
         spins: u32,
         gate: Arc<G>,
     ) -> Result<Report, RaceFault>
-        requires { spins ≤ 1000 }
+        requires { spins ≤ MAX_SPINS }
     {
         match self {
             Way::Lock => run_locked(rt, alloc, plan, spins, gate),

@@ -1,0 +1,101 @@
+//! The cases of a folder.
+
+use anyhow::{Result, bail};
+use std::collections::BTreeMap;
+use std::fs;
+use std::rt::Files;
+
+/// A file that may lie in a folder and is no part of a case.
+const README: &str = "README.md";
+
+/// What lies beside a script.
+#[derive(Clone, Copy)]
+pub enum Partner {
+    /// The text of its report.
+    Report,
+    /// A line with the number and the name of its fault.
+    Fault,
+}
+
+impl Partner {
+    /// How the name of its file ends.
+    pub fn ending(self) -> &'static str {
+        match self {
+            Partner::Report => "report",
+            Partner::Fault => "fault",
+        }
+    }
+}
+
+/// The files of a folder that have one name: which endings it has.
+#[derive(Clone, Copy, Default)]
+pub struct Case {
+    script: bool,
+    report: bool,
+    fault: bool,
+    other: bool,
+}
+
+impl Case {
+    /// Notes a file of this ending.
+    fn note(&mut self, ending: &str) {
+        match ending {
+            "json" => self.script = true,
+            "report" => self.report = true,
+            "fault" => self.fault = true,
+            _ => self.other = true,
+        }
+    }
+
+    /// The one partner of the script.
+    ///
+    /// An error where the files are no case: there is no script, no partner or a second one, or a file of another ending.
+    pub fn partner(self) -> Result<Partner> {
+        if self.other {
+            bail!("a file's name ends in none of .json, .report and .fault");
+        }
+        if !self.script {
+            bail!("there is no script");
+        }
+        match (self.report, self.fault) {
+            (true, false) => Ok(Partner::Report),
+            (false, true) => Ok(Partner::Fault),
+            (true, true) => bail!("there is a report and a fault"),
+            (false, false) => bail!("there is neither a report nor a fault"),
+        }
+    }
+}
+
+/// The names of what lies in a folder, in order, but for its README.md.
+pub fn names_of<R: Files + AllocGlobal + Clone + Drop>(
+    rt: &R,
+    folder: &str,
+) -> Result<Vec<String>> {
+    let mut names = Vec::new(rt.alloc());
+    for entry in fs::read_dir(rt, folder)? {
+        let entry = entry?;
+        if entry.file_name() != README {
+            names.push(String::from_str(rt.alloc(), entry.file_name())?)?;
+        }
+    }
+    names.sort()?;
+    Ok(names)
+}
+
+/// The cases of a folder by name, in order.
+pub fn cases_of<R: Files + AllocGlobal + Clone + Drop>(
+    rt: &R,
+    folder: &str,
+) -> Result<BTreeMap<String, Case>> {
+    let mut cases: BTreeMap<String, Case> = BTreeMap::new(rt.alloc());
+    for file in names_of(rt, folder)? {
+        let (name, ending) = file
+            .as_str()
+            .rsplit_once('.')
+            .unwrap_or((file.as_str(), ""));
+        let mut case = cases.get(name).copied().unwrap_or_default();
+        case.note(ending);
+        cases.insert(String::from_str(rt.alloc(), name)?, case)?;
+    }
+    Ok(cases)
+}

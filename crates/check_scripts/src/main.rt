@@ -1,0 +1,92 @@
+//! Goes over cases: each is a script that lies beside its report, or beside the fault that it is refused with.
+//!
+//! Its argument is a folder that has a folder of cases for each subject; without one it is the folder where it runs. It
+//! tells of each subject, and of each finding by the case's name. It ends with status 1 if there is a finding.
+#![tactic(auto)]
+
+mod cases;
+mod cuts;
+mod raced;
+mod refused;
+mod reported;
+mod tally;
+mod way;
+
+use anyhow::{Context, Result};
+use cases::{Case, Partner, cases_of, names_of};
+use refused::check_fault;
+use reported::check_report;
+use std::process::ExitCode;
+use std::rt::{Env, Files};
+use std::sync::Wait;
+use std::thread::Threads;
+use std::{env, fs};
+use tally::Tally;
+
+/// Checks a case of a folder, and answers what it adds to a tally.
+fn check<R: Files + AllocGlobal + Threads + Wait + Sync>(
+    rt: &R,
+    folder: &str,
+    name: &str,
+    case: Case,
+) -> Result<Tally> {
+    let alloc = rt.alloc();
+    let partner = case.partner()?;
+    let script = fs::read(rt, format!(in alloc; "{folder}/{name}.json")?.as_str())?;
+    let ending = partner.ending();
+    let expected = fs::read(rt, format!(in alloc; "{folder}/{name}.{ending}")?.as_str())?;
+    match partner {
+        Partner::Report => {
+            let cuts = check_report(rt, alloc, script.as_slice(), expected.as_slice())?;
+            Ok(Tally::of_report(cuts))
+        }
+        Partner::Fault => {
+            check_fault(rt, alloc, script.as_slice(), expected.as_slice())?;
+            Ok(Tally::of_fault())
+        }
+    }
+}
+
+/// Goes over the cases of a subject, and prints a line for each finding and one for all.
+fn go_over<R: Files + AllocGlobal + Print + Threads + Wait + Sync + Clone + Drop>(
+    rt: &R,
+    data: &str,
+    subject: &str,
+) -> Result<Tally> {
+    let folder = format!(in rt.alloc(); "{data}/{subject}")?;
+    let mut tally = Tally::default();
+    for (name, case) in cases_of(rt, folder.as_str())?.iter() {
+        match check(rt, folder.as_str(), name.as_str(), *case) {
+            Ok(checked) => tally.add(checked),
+            Err(finding) => {
+                println!(rt; "{subject}/{name}: {finding:#}")?;
+                tally.add(Tally::of_finding());
+            }
+        }
+    }
+    println!(rt; "{subject}: {tally}")?;
+    Ok(tally)
+}
+
+/// The folder that the command line names.
+fn data_folder(rt: &(impl Env + AllocGlobal)) -> Result<String> {
+    match env::args(rt)?.nth(1) {
+        Some(folder) => Ok(folder),
+        None => Ok(String::from_str(rt.alloc(), ".")?),
+    }
+}
+
+fn main(rt: HostRuntime) -> Result<ExitCode> {
+    let data = data_folder(&rt)?;
+    let mut total = Tally::default();
+    for subject in names_of(&rt, data.as_str())? {
+        total.add(go_over(&rt, data.as_str(), subject.as_str()).context(subject.as_str())?);
+    }
+    let (scripts, cuts) = (total.scripts(), total.cuts());
+    println!(rt; "{scripts} scripts: {total}, {cuts} cuts")?;
+    if total.is_right() {
+        Ok(ExitCode::SUCCESS)
+    } else {
+        Ok(ExitCode::FAILURE)
+    }
+}
