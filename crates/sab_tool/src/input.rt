@@ -11,6 +11,9 @@ use std::io::Read;
 /// How many bytes an input can have.
 pub const MAX_INPUT: usize = 0x10_0000;
 
+// The clauses cite the constant: so its number is held here.
+const _: () = prove!(MAX_INPUT == 1_048_576);
+
 /// Reads to the end.
 ///
 /// TooLong once more than 1,048,576 bytes came, ReadFailed at the first read that answers a fault, and OutOfMemory where

@@ -30,6 +30,9 @@ pub(crate) fn kind(name: &str) -> Result<Kind, ReadFault>
 /// How many letters a view's name can have.
 pub(crate) const MAX_NAME: usize = 32;
 
+// The clauses cite the constant: so its number is held here.
+const _: () = prove!(MAX_NAME == 32);
+
 /// Whether a view can have the name.
 pub(crate) fn is_name(name: &str) -> bool
     ensures { IsTrue result ↔ IsName name.now }

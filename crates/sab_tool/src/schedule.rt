@@ -15,6 +15,9 @@ use std::alloc::Global;
 /// How many moves the schedule of a script can have.
 pub const MAX_MOVES: usize = 100_000;
 
+// The clauses cite the constant: so its number is held here.
+const _: () = prove!(MAX_MOVES == 100_000);
+
 /// A move of an agent, of which there are so many.
 fn read_move(agents: u32, tree: &Value) -> Result<Move, ReadFault>
     ensures { Reads (λ m. m) (SpellsMove agents (view tree.now)) result }
