@@ -12,11 +12,11 @@ use Rattle.sab_sim.specs.declared.sim_fault.SimFault.TheVariants as F
 use Rattle.sab_sim.specs.Schedule.{agent_of}
 use Rattle.sab_sim.specs.Plan.{PlanParts}
 use Rattle.sab_sim.specs.Report.{IsRefusal, first_refusal}
-use Rattle.sab_tool.specs.declared.read_fault.ReadFault.{ReadFault}
-use Rattle.sab_tool.specs.declared.read_fault.ReadFault.TheVariants.{TooMany, OutOfMemory, BadShape, BadName, BadNumber, BadCall, BadView, BadAgent, NoBlock}
-use Rattle.sab_tool.specs.Reading.{Refuses, SpellsEach}
-use Rattle.sab_tool.specs.Schedule.{SpellsMove}
-use Rattle.sab_tool.specs.Setup.{Spells}
+use Rattle.sab_script.specs.declared.read_fault.ReadFault.{ReadFault}
+use Rattle.sab_script.specs.declared.read_fault.ReadFault.TheVariants.{TooMany, OutOfMemory, BadShape, BadName, BadNumber, BadCall, BadView, BadAgent, NoBlock}
+use Rattle.sab_script.specs.Reading.{Refuses, SpellsEach}
+use Rattle.sab_script.specs.Schedule.{SpellsMove}
+use Rattle.sab_script.specs.Setup.{Spells}
 use Rattle.sab_tool.specs.Replay.{ReadsAs, IsRefused, as_tool_fault}
 
 pub keeps_same : (o : Option (List ℕ)) → Keeps o o

@@ -1,12 +1,3 @@
-pub mod ReadFault
-pub mod Reading
-pub mod Numbers
-pub mod Blocks
-pub mod Views
-pub mod Calls
-pub mod Agents
-pub mod Schedule
-pub mod Setup
 pub mod ToolFault
 pub mod Text
 pub mod Input

@@ -4,11 +4,11 @@ use Rattle.std.specs.Io.KnownBytes.{Appends, Keeps}
 use Rattle.serde_json.specs.Data.{Data}
 use Rattle.serde_json.specs.Read.{read}
 use Rattle.sab_sim.specs.Report.{ReportParts, Fits, IsOnly}
-use Rattle.sab_tool.specs.declared.read_fault.ReadFault.{ReadFault}
-use Rattle.sab_tool.specs.declared.read_fault.ReadFault.TheVariants as R
+use Rattle.sab_script.specs.declared.read_fault.ReadFault.{ReadFault}
+use Rattle.sab_script.specs.declared.read_fault.ReadFault.TheVariants as R
 use Rattle.sab_tool.specs.declared.tool_fault.ToolFault.{ToolFault}
 use Rattle.sab_tool.specs.declared.tool_fault.ToolFault.TheVariants.{TooMany, OutOfMemory, BadShape, BadName, BadNumber, BadCall, BadView, BadAgent, NoBlock, NotJson, WriteFailed}
-use Rattle.sab_tool.specs.Setup.{SetupParts, Spells, IsOnlySetup}
+use Rattle.sab_script.specs.Setup.{SetupParts, Spells, IsOnlySetup}
 use Rattle.sab_tool.specs.Text.{text}
 
 -- the fault of a tree as a tool's

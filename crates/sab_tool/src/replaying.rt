@@ -5,10 +5,9 @@ ghost use Rattle.sab_sim.specs.Schedule.{agent_of};
 ghost use Rattle.sab_tool.specs.Replay.{IsReportOf, Replays, IsReplayFault};
 
 use crate::report::write_report;
-use crate::schedule::MAX_MOVES;
 use crate::script::setup_of;
-use crate::setup::Setup;
 use crate::tool_fault::ToolFault;
+use sab_script::{MAX_MOVES, Setup};
 use sab_sim::{Report, SimFault, replay};
 use std::alloc::Global;
 use std::io::Write;

@@ -3,8 +3,8 @@
 ghost use Rattle.std.specs.Prelude.{IfOk, IfErr};
 ghost use Rattle.sab_tool.specs.Replay.{IsScriptOf, IsRefused};
 
-use crate::setup::{Setup, read_setup};
 use crate::tool_fault::ToolFault;
+use sab_script::{Setup, read_setup};
 use serde_json::Value;
 use std::alloc::Global;
 

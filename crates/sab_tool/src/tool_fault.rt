@@ -2,8 +2,8 @@
 
 ghost use Rattle.std.specs.Prelude.{◌≡◌};
 
-use crate::read_fault::ReadFault;
 use sab_race::RaceFault;
+use sab_script::ReadFault;
 use std::alloc::AllocError;
 use thiserror::Error;
 

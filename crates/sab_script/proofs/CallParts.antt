@@ -1,0 +1,84 @@
+-- What stands behind the index of a call with a given name.
+use Rattle.std.proofs.Common.{◌≡◌, ℕ, ℤ, List, [], ◌∷◌, codes, Option, refl}
+use Rattle.std.specs.Prelude.{if◌then◌else◌}
+use Rattle.std.specs.Str.{bytes_eq}
+use Rattle.serde_json.specs.Data.{Items}
+use Rattle.sab_block.specs.declared.operand.Operand.{Operand}
+use Rattle.sab_block.specs.declared.rmw_op.RmwOp.{RmwOp}
+use Rattle.sab_block.specs.declared.rmw_op.RmwOp.TheVariants.{Exchange, Add, Sub, And, Or, Xor}
+use Rattle.sab_block.specs.declared.access.Access.TheVariants.{Load, Store, Rmw, CompareExchange}
+use Rattle.sab_sim.specs.declared.call.Call.{Call}
+use Rattle.sab_sim.specs.declared.call.Call.TheVariants.{Access as ToAccess, Wait, Notify}
+use Rattle.sab_sim.specs.Call.{view_of}
+use Rattle.sab_script.specs.Calls.{value, optional, op_name, spelling_of, SpellsArguments, SpellsParts}
+
+-- what a call does, as its name says
+pub data Verb : Type 0 where
+  load : Verb
+  store : Verb
+  rmw : RmwOp → Verb
+  compare_exchange : Verb
+  wait : Verb
+  notify : Verb
+
+abbrev op_of : List ℕ → RmwOp
+op_of word =
+    if bytes_eq (codes "exchange") word then Exchange
+    else if bytes_eq (codes "add") word then Add
+    else if bytes_eq (codes "sub") word then Sub
+    else if bytes_eq (codes "and") word then And
+    else if bytes_eq (codes "or") word then Or
+    else Xor
+
+abbrev pub verb_of : List ℕ → Verb
+verb_of word =
+    if bytes_eq (codes "load") word then load
+    else if bytes_eq (codes "store") word then store
+    else if bytes_eq (codes "compareExchange") word then compare_exchange
+    else if bytes_eq (codes "wait") word then wait
+    else if bytes_eq (codes "notify") word then notify
+    else rmw (op_of word)
+
+pub op_verb : (op : RmwOp) → verb_of (op_name op) ≡ rmw op
+op_verb Exchange = refl
+op_verb Add = refl
+op_verb Sub = refl
+op_verb And = refl
+op_verb Or = refl
+op_verb Xor = refl
+
+-- a call of this verb, view and index, whose arguments are spelled by the items
+abbrev pub IsCallOf : Verb → ℕ → ℤ → Items → Call → Type 0
+IsCallOf load v i ds c = SpellsArguments ds [] × (c ≡ ToAccess v (Load i))
+IsCallOf store v i ds c = (x : Operand) × SpellsArguments ds (value x ∷ []) × (c ≡ ToAccess v (Store i x))
+IsCallOf (rmw op) v i ds c = (x : Operand) × SpellsArguments ds (value x ∷ []) × (c ≡ ToAccess v (Rmw op i x))
+IsCallOf compare_exchange v i ds c =
+    (p : Operand × Operand) × SpellsArguments ds (value p.0 ∷ value p.1 ∷ [])
+    × (c ≡ ToAccess v (CompareExchange i p.0 p.1))
+IsCallOf wait v i ds c =
+    (p : Operand × Option ℤ) × SpellsArguments ds (value p.0 ∷ optional p.1) × (c ≡ Wait v i p.0 p.1)
+IsCallOf notify v i ds c = (n : Option ℤ) × SpellsArguments ds (optional n) × (c ≡ Notify v i n)
+
+-- a call is one of its name's verb
+is_call : (ds : Items) (c : Call) → SpellsArguments ds (spelling_of c).arguments
+    → IsCallOf (verb_of (spelling_of c).name) (spelling_of c).view (spelling_of c).index ds c
+is_call ds (ToAccess v (Load i)) h = (h, refl)
+is_call ds (ToAccess v (Store i x)) h = (x, h, refl)
+is_call ds (ToAccess v (Rmw op i x)) h = rw (op_verb op) (x, h, refl)
+is_call ds (ToAccess v (CompareExchange i x y)) h = ((x, y), h, refl)
+is_call ds (Wait v i x t) h = ((x, t), h, refl)
+is_call ds (Notify v i n) h = (n, h, refl)
+
+-- its name tells what its arguments are
+pub named_call : (word : List ℕ) (v : ℕ) (i : ℤ) (ds : Items) (c : Call) → SpellsParts word v i ds (spelling_of c)
+    → IsCallOf (verb_of word) v i ds c
+named_call word v i ds c h = rw (h.name, h.view, h.index) (is_call ds c h.arguments)
+
+-- the view of the spelling is the one that the call names
+pub spelled_view : (c : Call) → (spelling_of c).view ≡ view_of c
+spelled_view (ToAccess v (Load i)) = refl
+spelled_view (ToAccess v (Store i x)) = refl
+spelled_view (ToAccess v (Rmw op i x)) = refl
+spelled_view (ToAccess v (CompareExchange i x y)) = refl
+spelled_view (Wait v i x t) = refl
+spelled_view (Notify v i n) = refl

@@ -1,0 +1,42 @@
+-- How many items there are.
+use Rattle.std.proofs.Common.{◌≡◌, ℤ, List, [], ◌∷◌, length, Option, Some, None, ◌≤◌, arith, get_or, drop, take, ◌-◌, sym, length-drop}
+use Rattle.std.proofs.lemmas.List.{take_all}
+use Rattle.serde_json.specs.Data.{Data, Items, item}
+use Rattle.serde_json.specs.View.{view, items_view}
+use Rattle.serde_json.specs.declared.value.Value.{Value}
+use Rattle.sab_script.specs.Calls.{Argument, optional, SpellsArgument, SpellsArguments}
+use Rattle.sab_script.proofs.Each.{length-each}
+
+-- there are as many items as arguments
+pub as_many : (ts : List Value) (arguments : List Argument) → SpellsArguments (items_view ts) arguments
+    → length arguments ≡ length ts
+as_many ts arguments h = length-each SpellsArgument ts arguments h
+
+-- a timeout or a count is one argument at most
+pub one_at_most : (o : Option ℤ) → length (optional o) ≤ 1
+one_at_most None = omega arith
+one_at_most (Some z) = omega arith
+
+-- the first three items
+pub three_items : (ts : List Value) (a b d : Value) → 3 ≤ length ts → a ≡ get_or ts 0 a → b ≡ get_or ts 1 b
+    → d ≡ get_or ts 2 d
+    → items_view ts ≡ item (view a) (item (view b) (item (view d) (items_view (drop 3 ts))))
+three_items [] a b d h p q r = absurd (omega arith)
+three_items (t ∷ []) a b d h p q r = absurd (omega arith)
+three_items (t ∷ s ∷ []) a b d h p q r = absurd (omega arith)
+three_items (t ∷ s ∷ u ∷ ts) a b d h p q r =
+    let one : t ≡ a = sym p in
+    let two : s ≡ b = sym q in
+    let three : u ≡ d = sym r in
+    λ i. item (view (one i)) (item (view (two i)) (item (view (three i)) (items_view ts)))
+
+pub three_long : (ts : List Value) (a b d : Data) (rest : Items) → items_view ts ≡ item a (item b (item d rest))
+    → 3 ≤ length ts
+three_long [] a b d rest e = cc
+three_long (t ∷ []) a b d rest e = cc
+three_long (t ∷ s ∷ []) a b d rest e = cc
+three_long (t ∷ s ∷ u ∷ ts) a b d rest e = omega arith
+
+-- a slice's end
+pub end_whole : (ts : List Value) → take (length ts - 3) (drop 3 ts) ≡ drop 3 ts
+end_whole ts = take_all (length ts - 3) (drop 3 ts) (omega (arith, length-drop 3 ts))

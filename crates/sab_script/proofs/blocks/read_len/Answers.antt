@@ -1,0 +1,13 @@
+use Rattle.std.proofs.Common.{ℕ, pos, arith}
+use Rattle.std.proofs.lemmas.Int.{ints}
+use Rattle.serde_json.specs.View.{view}
+use Rattle.sab_script.specs.Numbers.{SpellsWhole}
+use Rattle.sab_script.specs.Blocks.{SpellsLen}
+use Rattle.sab_script.proofs.Refusing.{exit_refuses}
+use Rattle.sab_script.proofs.blocks.read_len.Goals as goal
+
+pub returns-in_err-len : goal.returns-in_err-len
+returns-in_err-len c =
+    let d = view c.args.tree.now in
+    exit_refuses (λ (n : ℕ). n) (SpellsWhole d) (SpellsLen d) c.from_residual.result c.in_err-len.field-0.0 c.from_residual.ensures.1 c.in_err-len.ensures
+    (λ n h. (pos n, (h.0, (omega (arith, ints), omega (arith, ints, h.1)))))

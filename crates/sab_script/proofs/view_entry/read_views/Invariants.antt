@@ -1,0 +1,14 @@
+use Rattle.std.proofs.Common.{◌≡◌, ◌≤◌, length, vec_len, vec_capacity}
+use Rattle.sab_script.specs.Views.{SpellsView, AreViews, AreDescribed}
+use Rattle.sab_script.proofs.Each.{EachSoFar}
+use Rattle.sab_script.proofs.view_entry.read_views.Given as goal
+
+abbrev pub invariant-loop-tree : goal.invariant-loop-tree
+invariant-loop-tree l = record {
+  read : EachSoFar (SpellsView l.form l.lens) l.trees l.tree-index l.views;
+  count : length l.views ≡ l.tree-index;
+  views : AreViews l.views;
+  made : AreDescribed l.lens l.views l.plan_views.items;
+  filled : vec_len l.plan_views ≡ l.tree-index;
+  room : length l.trees ≤ vec_capacity l.plan_views;
+}

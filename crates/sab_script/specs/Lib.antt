@@ -1,0 +1,9 @@
+pub mod ReadFault
+pub mod Reading
+pub mod Numbers
+pub mod Blocks
+pub mod Views
+pub mod Calls
+pub mod Agents
+pub mod Schedule
+pub mod Setup

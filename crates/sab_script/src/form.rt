@@ -1,0 +1,25 @@
+//! The two forms of a script.
+
+/// How a script tells of its blocks.
+#[derive(Clone, Copy, Debug, PartialEq, Eq)]
+pub(crate) enum Form {
+    /// `bytes` is the length of the one block, and all views are on it.
+    Bytes,
+    /// `blocks` has the length of each block, and each view tells its block by position.
+    Blocks,
+}
+
+impl Form {
+    ghost use Rattle.std.specs.Prelude.{◌≡◌};
+    ghost use Rattle.sab_script.specs.Blocks.{lens_name};
+
+    /// The member of a script that tells of its blocks.
+    pub(crate) fn lens_name(self) -> &'static str
+        ensures { result.now ≡ lens_name self }
+    {
+        match self {
+            Form::Bytes => "bytes",
+            Form::Blocks => "blocks",
+        }
+    }
+}

@@ -1,0 +1,142 @@
+//! Setups, and the scripts that spell them.
+
+ghost use Rattle.std.specs.Prelude.{◌≡◌, IfOk, IfErr, OnErr};
+ghost use Rattle.serde_json.specs.Data.{Data};
+ghost use Rattle.serde_json.specs.View.{view};
+ghost use Rattle.sab_sim.specs.Plan.{IsPlan, parts_of};
+ghost use Rattle.sab_script.specs.declared.read_fault.ReadFault.TheVariants.{OutOfMemory};
+ghost use Rattle.sab_script.specs.Reading.{Reads};
+ghost use Rattle.sab_script.specs.Views.{named_views};
+ghost use Rattle.sab_script.specs.Setup.{IsSetup, Spells, IsOnlySetup, script_object};
+
+use crate::agents::read_agents;
+use crate::blocks::read_lens;
+use crate::form::Form;
+use crate::read_fault::ReadFault;
+use crate::schedule::read_schedule;
+use crate::tree::{end, items, member, members};
+use crate::view_entry::read_views;
+use crate::view_spec::ViewSpec;
+use crate::views::Views;
+use indexmap::IndexMap;
+use sab_sim::{Move, Plan, PlanView, Script};
+use serde_json::Value;
+use std::alloc::Global;
+use std::marker::Model;
+
+/// What a script says: a plan, what its views are called, and a schedule.
+///
+/// View i of the plan is the one that entry i of the views describes.
+#[derive(Drop)]
+pub struct Setup {
+    plan: Plan,
+    views: Views,
+    schedule: Vec<Move>,
+}
+
+impl Model for Setup {
+    ghost use Rattle.sab_script.specs.Setup.{SetupParts, IsSetup};
+
+    ghost Value = { SetupParts };
+
+    ghost view = { λ s. record { plan = s.plan; views = s.views; schedule = s.schedule.items } };
+
+    ghost invariant = { λ s. IsSetup (record { plan = s.plan; views = s.views; schedule = s.schedule.items }) };
+}
+
+impl Setup {
+    /// The plan.
+    pub fn plan(&self) -> &Plan
+        ensures plan { result.now ≡ self.now.plan }
+        ensures valid { IsSetup self.now }
+    {
+        &self.plan
+    }
+
+    /// The views by name, in the order of the plan's.
+    pub fn views(&self) -> &IndexMap<String, ViewSpec>
+        ensures views { named_views result.now ≡ self.now.views }
+        ensures valid { IsSetup self.now }
+    {
+        self.views.by_name()
+    }
+
+    /// The moves, in order.
+    pub fn schedule(&self) -> &[Move]
+        ensures { result.now ≡ self.now.schedule }
+    {
+        self.schedule.as_slice()
+    }
+
+    /// The plan and the moves.
+    pub fn into_parts(self) -> (Plan, Vec<Move>)
+        ensures plan { result.0 ≡ self.plan }
+        ensures schedule { result.1.items ≡ self.schedule }
+    {
+        (self.plan, self.schedule)
+    }
+}
+
+/// The values of a script's members: its agents, its blocks, its schedule and its views; and its form.
+fn script_members(tree: &Value) -> Result<(Form, (&Value, &Value, &Value, &Value)), ReadFault>
+    ensures ok { IfOk result (λ p. view tree.now
+        ≡ script_object p.0 (view p.1.0.now) (view p.1.1.now) (view p.1.2.now) (view p.1.3.now)) }
+    ensures err { OnErr result ((form : Form) (a l s v : Data) → view tree.now ≡ script_object form a l s v → ⊥) }
+{
+    match members_in(tree, Form::Blocks) {
+        Ok(found) => Ok((Form::Blocks, found)),
+        Err(_) => {
+            let found = members_in(tree, Form::Bytes)?;
+            Ok((Form::Bytes, found))
+        }
+    }
+}
+
+/// The values of the members of a script of one form: its agents, its blocks, its schedule and its views.
+fn members_in(tree: &Value, form: Form) -> Result<(&Value, &Value, &Value, &Value), ReadFault>
+    ensures ok { IfOk result (λ p. view tree.now
+        ≡ script_object form (view p.0.now) (view p.1.now) (view p.2.now) (view p.3.now)) }
+    ensures err { OnErr result ((a l s v : Data) → view tree.now ≡ script_object form a l s v → ⊥) }
+{
+    let mut rest = members(tree)?;
+    let agents = member(&mut rest, "agents")?;
+    let lens = member(&mut rest, form.lens_name())?;
+    let schedule = member(&mut rest, "schedule")?;
+    let views = member(&mut rest, "views")?;
+    end(&mut rest)?;
+    Ok((agents, lens, schedule, views))
+}
+
+/// A plan of parts that make one.
+fn plan_of(lens: Vec<u32>, views: Vec<PlanView>, scripts: Vec<Script>) -> Plan
+    requires { IsPlan (parts_of lens.items views.items scripts.items) }
+    ensures { result ≡ parts_of lens.items views.items scripts.items }
+{
+    match Plan::new(lens, views, scripts) {
+        Ok(plan) => plan,
+        Err(_) => unreachable!(),
+    }
+}
+
+/// The one setup that a JSON value spells, in either form of a script.
+///
+/// A fault other than OutOfMemory is answered only where the value spells none.
+pub fn read_setup(alloc: Global, tree: &Value) -> Result<Setup, ReadFault>
+    ensures spelled { Reads (λ setup. setup) (Spells (view tree.now)) result }
+    ensures only { IfOk result (IsOnlySetup (view tree.now)) }
+{
+    let (form, (agents_tree, lens_tree, schedule_tree, views_tree)) = script_members(tree)?;
+    let agent_trees = items(agents_tree)?;
+    let move_trees = items(schedule_tree)?;
+    let view_trees = items(views_tree)?;
+    let lens = read_lens(alloc, form, lens_tree)?;
+    let (views, plan_views) = read_views(alloc, form, &lens, view_trees)?;
+    let scripts = read_agents(alloc, &views, agent_trees)?;
+    let schedule = read_schedule(alloc, scripts.len() as u32, move_trees)?;
+    let plan = plan_of(lens, plan_views, scripts);
+    Ok(Setup {
+        plan,
+        views,
+        schedule,
+    })
+}
