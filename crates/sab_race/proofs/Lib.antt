@@ -1,1 +1,2 @@
 mod UnderWay
+mod Equality

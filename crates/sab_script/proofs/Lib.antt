@@ -16,3 +16,4 @@ pub mod WholePlan
 pub mod OneOperand
 pub mod OneCall
 pub mod OnlySetup
+pub mod Equality

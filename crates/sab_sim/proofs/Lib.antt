@@ -5,6 +5,7 @@ pub mod Turning
 pub mod Queueing
 pub mod Placing
 pub mod Equality
+mod EntryEquality
 pub mod Keeping
 pub mod Simulating
 pub mod OneAct

@@ -132,7 +132,8 @@ impl Sim {
 
     /// Makes room for `n` more moves, or for as many as the journal can still have.
     ///
-    /// A refusal, as a success, leaves plan, moves, journal, blocks and lists as they were.
+    /// It isn't refused where there is that room already. A refusal, as a success, leaves plan, moves, journal, blocks
+    /// and lists as they were.
     pub fn reserve(&mut self, n: u32) -> Result<(), AllocError>
         ensures plan { self.new.plan ≡ self.old.plan }
         ensures moves { self.new.moves ≡ self.old.moves }
@@ -141,6 +142,7 @@ impl Sim {
 
         ensures room { OnOk result (min n (2 ^ 20 - length self.old.journal) ≤ self.new.reserved) }
         ensures kept { self.old.reserved ≤ self.new.reserved }
+        ensures spare { min n (2 ^ 20 - length self.old.journal) ≤ self.old.reserved → IsOk result }
     {
         let left = Self::MAX_ENTRIES - self.journal.len();
         let more = left.min(n as usize);

@@ -54,12 +54,42 @@ fn run<R: Threads + Wait + Sync>(
     ensures race { IfOk result (IsRaceOf plan spins) }
     ensures err { IfErr result (IsUnraced plan spins) }
 {
+    match share {
+        Share::Lock => run_by_lock(rt, alloc, plan, spins),
+        Share::Ring => run_by_rings(rt, alloc, plan, spins),
+    }
+}
+
+/// Runs them under one lock.
+fn run_by_lock<R: Threads + Wait + Sync>(
+    rt: &R,
+    alloc: Global,
+    plan: Plan,
+    spins: u32,
+) -> Result<Report, ToolFault>
+    requires { spins ≤ MAX_SPINS }
+    ensures race { IfOk result (IsRaceOf plan spins) }
+    ensures err { IfErr result (IsUnraced plan spins) }
+{
     let Ok(gate) = Arc::new(alloc, NoGate) else {
         return Err(ToolFault::OutOfMemory);
     };
-    let report = match share {
-        Share::Lock => run_locked(rt, alloc, plan, spins, gate)?,
-        Share::Ring => run_rings(rt, alloc, plan, spins, PATIENCE, gate)?,
+    Ok(run_locked(rt, alloc, plan, spins, gate)?)
+}
+
+/// Runs them by rings. No lock can be taken here, since that needs `Wait`.
+fn run_by_rings<R: Threads>(
+    rt: &R,
+    alloc: Global,
+    plan: Plan,
+    spins: u32,
+) -> Result<Report, ToolFault>
+    requires { spins ≤ MAX_SPINS }
+    ensures race { IfOk result (IsRaceOf plan spins) }
+    ensures err { IfErr result (IsUnraced plan spins) }
+{
+    let Ok(gate) = Arc::new(alloc, NoGate) else {
+        return Err(ToolFault::OutOfMemory);
     };
-    Ok(report)
+    Ok(run_rings(rt, alloc, plan, spins, PATIENCE, gate)?)
 }

@@ -2,6 +2,8 @@
 #![tactic(auto)]
 
 #[cfg(test)]
+mod expecting;
+#[cfg(test)]
 mod limits;
 #[cfg(test)]
 mod plans;
@@ -9,5 +11,3 @@ mod plans;
 mod racing;
 #[cfg(test)]
 mod run;
-#[cfg(test)]
-mod waiting;

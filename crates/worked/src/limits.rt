@@ -1,97 +1,213 @@
 //! Ends of limits, and refusals.
 
-use crate::run::{acted, began, enlisted, left, notify, plan, returned, stuck, wait, whole};
-use sab_block::Kind;
-use sab_sim::Answer::{Count, Woken};
-use sab_sim::Move::{self, Step};
-use sab_sim::{Sim, SimFault, Why, replay};
+use crate::expecting::expect;
+use crate::run::{
+    Run, acted, began, enlisted, left, notify, number, plan, returned, stuck, wait, whole,
+};
+use sab_block::{Access, Kind};
+use sab_sim::Answer::{Count, TimedOut, Woken};
+use sab_sim::Move::{self, Step, TimeUp};
+use sab_sim::{Call, Plan, Progress, Sim, SimFault, Why, replay};
 use std::alloc::Global;
 use std::test::Fail;
 
-/// A simulator of one agent that has no calls, on an empty block.
-fn idle(alloc: Global) -> Result<Sim, Fail> {
-    Ok(Sim::new(alloc, plan(alloc, &[0], &[], &[(true, &[])])?)?)
+/// How many entries a journal has at most.
+const MOST: usize = 1_048_576;
+
+/// One agent that has no calls, on an empty block.
+fn idle(alloc: Global) -> Result<Plan, Fail> {
+    plan(alloc, &[0], &[], &[(true, &[])])
+}
+
+/// Steps agent 0 so often, and tells whether each step was made.
+fn step_on(sim: &mut Sim, count: usize) -> bool {
+    for _ in 0..count {
+        if sim.step(Step(0)).is_err() {
+            return false;
+        }
+    }
+    true
+}
+
+/// Whether a journal is full, of an agent that has no calls.
+fn is_full(sim: &mut Sim) -> bool {
+    sim.step(Step(0)) == Err(SimFault::Full)
+        && sim.step(Step(1)) == Err(SimFault::NoAgent)
+        && sim.journal().len() == MOST
+        && sim
+            .journal()
+            .iter()
+            .all(|entry| *entry == stuck(0, 0, Why::Done))
+}
+
+/// Whether a journal gets full, and then stays as it is, with so many entries reserved.
+fn fills(mut sim: Sim, reserved: u32) -> bool {
+    sim.reserve(reserved).is_ok()
+        && step_on(&mut sim, MOST)
+        && sim.reserve(reserved).is_ok()
+        && is_full(&mut sim)
+}
+
+/// With nothing reserved, with all that there can be, and with more.
+#[test]
+fn a_journal_ends_at_its_limit(rt: HostRuntime) -> Result<(), Fail> {
+    for reserved in [0, 1_048_576, u32::MAX] {
+        let sim = Sim::new(rt.alloc(), idle(rt.alloc())?)?;
+        expect(fills(sim, reserved), "another end")?;
+    }
+    Ok(())
 }
 
 #[test]
-fn a_journal_ends_at_its_limit(rt: HostRuntime) -> Result<(), Fail> {
-    let mut sim = idle(rt.alloc())?;
-    for _ in 0..1_048_576 {
-        sim.step(Step(0)).ok().ok_or("refused")?;
-    }
-    let done = stuck(0, 0, Why::Done);
-    assert!(rt; sim.journal().iter().all(|entry| *entry == done));
-    assert_eq!(rt; sim.step(Step(0)), Err(SimFault::Full));
-    assert_eq!(rt; sim.step(Step(1)), Err(SimFault::NoAgent));
-    assert_eq!(rt; sim.journal().len(), 1_048_576);
-    Ok(())
+fn a_replay_makes_as_many_moves_as_a_journal_has_entries(rt: HostRuntime) -> Result<(), Fail> {
+    let mut schedule: Vec<Move> = vec![in rt.alloc(); Step(0); MOST]?;
+    let made = replay(rt.alloc(), idle(rt.alloc())?, &schedule).ok();
+    let made = made.is_some_and(|made| made.journal.len() == MOST && made.schedule == schedule);
+    expect(made, "a replay that isn't made")?;
+    schedule.push(Step(0))?;
+    let full = replay(rt.alloc(), idle(rt.alloc())?, &schedule).err();
+    expect(full == Some(SimFault::Full), "a replay that isn't refused")?;
+    schedule[MOST] = Step(1);
+    let named = replay(rt.alloc(), idle(rt.alloc())?, &schedule).err();
+    expect(
+        named == Some(SimFault::NoAgent),
+        "an agent that isn't there",
+    )?;
+    let early = replay(rt.alloc(), idle(rt.alloc())?, &[Step(0), Step(1), Step(0)]).err();
+    expect(
+        early == Some(SimFault::NoAgent),
+        "an early agent that isn't there",
+    )
+}
+
+/// Whether a simulator refuses a move of another agent than its one, and goes on as if that move hadn't been.
+fn goes_on(mut sim: Sim) -> bool {
+    let refuses = sim.step(Step(1)) == Err(SimFault::NoAgent) && sim.journal().is_empty();
+    let goes_on = step_on(&mut sim, 1);
+    let report = sim.finish();
+    let none = Progress {
+        returned: 0,
+        total: 0,
+    };
+    refuses
+        && goes_on
+        && report.journal.len() == 1
+        && report.agents.len() == 1
+        && report.agents.iter().all(|agent| *agent == none)
 }
 
 #[test]
 fn a_refused_move_leaves_the_simulator_as_it_was(rt: HostRuntime) -> Result<(), Fail> {
-    let mut sim = idle(rt.alloc())?;
-    sim.reserve(3)?;
-    assert_eq!(rt; sim.step(Step(1)), Err(SimFault::NoAgent));
-    assert_eq!(rt; sim.journal().len(), 0);
-    assert_eq!(rt; sim.step(Step(0)), Ok(()));
-    let report = sim.finish();
-    assert_eq!(rt; report.journal.len(), 1);
-    assert_eq!(rt; report.agents.len(), 1);
-    assert_eq!(rt; (report.agents[0].returned, report.agents[0].total), (0, 0));
-    Ok(())
+    let sim = Sim::new(rt.alloc(), idle(rt.alloc())?)?;
+    expect(goes_on(sim), "a refused move changed something")
 }
 
+/// Whether the moves of a run, one by one, with so many reserved, make its report.
+fn makes(mut sim: Sim, run: &Run, reserved: u32) -> bool {
+    sim.reserve(reserved).is_ok()
+        && run.schedule.iter().all(|m| sim.step(*m).is_ok())
+        && sim.journal() == run.journal
+        && run.is_of(&sim.finish())
+}
+
+/// Moves of each kind, with some reserved, none, and more than a journal can have.
 #[test]
-fn reserved_steps_are_made(rt: HostRuntime) -> Result<(), Fail> {
-    let alloc = rt.alloc();
+fn steps_are_made_reserved_or_not(rt: HostRuntime) -> Result<(), Fail> {
     let waits = [wait(0, 0, None)?];
-    let notifies = [notify(0, 0, Some(1))];
-    let agents = [
-        (true, waits.as_slice()),
-        (true, waits.as_slice()),
-        (true, notifies.as_slice()),
-    ];
-    let plan = plan(alloc, &[4], &[whole(Kind::Int32, 0, 4)?], &agents)?;
-    let mut sim = Sim::new(alloc, plan.copy(alloc)?)?;
-    assert!(rt; *sim.plan() == plan);
-    sim.reserve(10)?;
-    for agent in [0, 0, 1, 1, 2, 2, 0, 1, 2, 0] {
-        assert_eq!(rt; sim.step(Step(agent)), Ok(()));
+    let run = Run {
+        lens: &[4],
+        views: &[whole(Kind::Int32, 0, 4)?],
+        agents: &[
+            (true, &waits),
+            (true, &waits),
+            (true, &[notify(0, 0, Some(1))]),
+            (true, &[wait(0, 0, Some(5))?]),
+        ],
+        schedule: &[
+            Step(0),
+            Step(0),
+            Step(1),
+            Step(1),
+            Step(2),
+            Step(2),
+            Step(0),
+            Step(1),
+            Step(2),
+            Step(0),
+            Step(3),
+            Step(3),
+            TimeUp(3),
+            TimeUp(1),
+            TimeUp(2),
+            Step(2),
+        ],
+        journal: &[
+            began(0, 0),
+            enlisted(0, 0),
+            began(1, 0),
+            enlisted(1, 0),
+            began(2, 0),
+            acted(2, 0, Count(1)),
+            left(0, 0, Woken),
+            stuck(1, 0, Why::Waiting),
+            returned(2, 0, Count(1)),
+            returned(0, 0, Woken),
+            began(3, 0),
+            enlisted(3, 0),
+            left(3, 0, TimedOut),
+            stuck(1, 0, Why::Endless),
+            stuck(2, 1, Why::NotWaiting),
+            stuck(2, 1, Why::Done),
+        ],
+        blocks: &[&[0; 4]],
+        progress: &[(1, 1), (0, 1), (1, 1), (0, 1)],
+    };
+    for reserved in [0, 3, 16, u32::MAX] {
+        let plan = plan(rt.alloc(), run.lens, run.views, run.agents)?;
+        let sim = Sim::new(rt.alloc(), plan)?;
+        expect(makes(sim, &run, reserved), "another report")?;
     }
-    let journal = [
-        began(0, 0),
-        enlisted(0, 0),
-        began(1, 0),
-        enlisted(1, 0),
-        began(2, 0),
-        acted(2, 0, Count(1)),
-        left(0, 0, Woken),
-        stuck(1, 0, Why::Waiting),
-        returned(2, 0, Count(1)),
-        returned(0, 0, Woken),
-    ];
-    assert_eq!(rt; sim.journal(), journal.as_slice());
     Ok(())
 }
 
+/// Whether the last byte of a longest block is 7, and each other is 0.
+fn is_marked(block: &[u8]) -> bool {
+    let marked = block.split_last().is_some_and(|(last, others)| {
+        *last == 7 && others.iter().all(|byte| *byte == 0)
+    });
+    marked && block.len() == 65_536
+}
+
+/// An agent that stores 7 in the last byte of each of four blocks of the greatest length.
+fn longest(alloc: Global) -> Result<Plan, Fail> {
+    let store = Access::Store {
+        index: 65_535,
+        value: number(7)?,
+    };
+    let calls = [0, 1, 2, 3].map(|view| Call::Access {
+        view,
+        access: store,
+    });
+    let views = [
+        whole(Kind::Uint8, 0, 65_536)?,
+        whole(Kind::Uint8, 1, 65_536)?,
+        whole(Kind::Uint8, 2, 65_536)?,
+        whole(Kind::Uint8, 3, 65_536)?,
+    ];
+    plan(alloc, &[65_536; 4], &views, &[(true, &calls)])
+}
+
+/// Whether twelve steps mark four blocks.
+fn marks(mut sim: Sim) -> bool {
+    let is_stepped = step_on(&mut sim, 12);
+    let report = sim.finish();
+    is_stepped && report.blocks.len() == 4 && report.blocks.iter().all(|block| is_marked(block))
+}
+
 #[test]
-fn a_schedule_is_refused_by_its_first_refused_move(rt: HostRuntime) -> Result<(), Fail> {
-    let alloc = rt.alloc();
-    let endless = [wait(0, 0, None)?];
-    let timed = [wait(1, 0, Some(-5))?, notify(0, 1, None)];
-    let agents = [(true, endless.as_slice()), (true, timed.as_slice())];
-    let two = plan(alloc, &[8], &[whole(Kind::Int32, 0, 8)?], &agents)?;
-    let schedule = [Step(0), Step(2), Step(0)];
-    assert_eq!(rt;
-        replay(alloc, two, &schedule).err(),
-        Some(SimFault::NoAgent)
-    );
-    let mut long: Vec<Move> = vec![in alloc; Step(0); 1_048_577]?;
-    let one = plan(alloc, &[0], &[], &[(true, &[])])?;
-    assert_eq!(rt; replay(alloc, one, &long).err(), Some(SimFault::Full));
-    long.pop();
-    long.push(Step(1))?;
-    let one = plan(alloc, &[0], &[], &[(true, &[])])?;
-    assert_eq!(rt; replay(alloc, one, &long).err(), Some(SimFault::NoAgent));
-    Ok(())
+fn four_blocks_of_the_greatest_length_are_kept(rt: HostRuntime) -> Result<(), Fail> {
+    let made = longest(rt.alloc())?;
+    let sim = Sim::new(rt.alloc(), made.copy(rt.alloc())?)?;
+    expect(*sim.plan() == made, "another plan")?;
+    expect(marks(sim), "other bytes")
 }

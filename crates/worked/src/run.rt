@@ -1,11 +1,8 @@
-//! A replayed schedule, and what is expected of it.
+//! A run, and what is expected of it.
 
 use sab_block::{Kind, Operand, View};
-use sab_sim::{
-    Answer, Call, Entry, Move, Plan, PlanView, Progress, Report, Script, What, Why, replay,
-};
-use std::alloc::Global;
-use std::process::Abort;
+use sab_sim::{Answer, Call, Entry, Move, Plan, PlanFault, PlanView, Report, Script, What, Why};
+use std::alloc::{AllocError, Global};
 use std::test::Fail;
 
 /// A plan, the moves that its agents make, and what is expected of them.
@@ -25,27 +22,39 @@ pub struct Run<'a> {
 }
 
 impl Run<'_> {
-    /// Replays the schedule, and compares the report with what is expected.
-    pub fn check(&self, rt: &impl Abort, alloc: Global) -> Result<(), Fail> {
-        let plan = plan(alloc, self.lens, self.views, self.agents)?;
-        let report = replay(alloc, plan, self.schedule).ok().ok_or("refused")?;
-        self.compare(rt, &report);
-        Ok(())
+    /// Whether a report is what is expected.
+    pub fn is_of(&self, report: &Report) -> bool {
+        let blocks = report.blocks.iter().map(|bytes| bytes.as_slice());
+        let progress = report
+            .agents
+            .iter()
+            .map(|agent| (agent.returned, agent.total));
+        report.schedule.as_slice() == self.schedule
+            && report.journal.as_slice() == self.journal
+            && blocks.eq(self.blocks.iter().copied())
+            && progress.eq(self.progress.iter().copied())
     }
+}
 
-    /// Compares a report with what is expected.
-    pub fn compare(&self, rt: &impl Abort, report: &Report) {
-        assert_eq!(rt; report.schedule.as_slice(), self.schedule);
-        assert_eq!(rt; report.journal.as_slice(), self.journal);
-        assert_eq!(rt; report.blocks.len(), self.blocks.len());
-        for (bytes, expected) in report.blocks.iter().zip(self.blocks) {
-            assert_eq!(rt; bytes.as_slice(), *expected);
-        }
-        assert_eq!(rt; report.agents.len(), self.progress.len());
-        for (agent, &(returned, total)) in report.agents.iter().zip(self.progress) {
-            assert_eq!(rt; *agent, Progress { returned, total });
-        }
+/// The scripts of agents: for each whether it can block, and its calls.
+fn scripts(alloc: Global, agents: &[(bool, &[Call])]) -> Result<Vec<Script>, AllocError> {
+    let mut scripts = Vec::new(alloc);
+    for &(can_block, calls) in agents {
+        let calls = calls.to_vec(alloc)?;
+        scripts.push(Script { can_block, calls })?;
     }
+    Ok(scripts)
+}
+
+/// A plan, or why there can't be one of these parts.
+pub fn plan_or_fault(
+    alloc: Global,
+    lens: &[u32],
+    views: &[PlanView],
+    agents: &[(bool, &[Call])],
+) -> Result<Result<Plan, PlanFault>, AllocError> {
+    let scripts = scripts(alloc, agents)?;
+    Ok(Plan::new(lens.to_vec(alloc)?, views.to_vec(alloc)?, scripts))
 }
 
 /// A plan that is expected to be one.
@@ -55,15 +64,11 @@ pub fn plan(
     views: &[PlanView],
     agents: &[(bool, &[Call])],
 ) -> Result<Plan, Fail> {
-    let mut scripts = Vec::new(alloc);
-    for &(can_block, calls) in agents {
-        scripts.push(Script {
-            can_block,
-            calls: calls.to_vec(alloc)?,
-        })?;
-    }
-    let plan = Plan::new(lens.to_vec(alloc)?, views.to_vec(alloc)?, scripts);
-    Ok(plan.ok().ok_or("no plan")?)
+    Ok(
+        plan_or_fault(alloc, lens, views, agents)?
+            .ok()
+            .ok_or("no plan")?,
+    )
 }
 
 /// A view of a whole block.

@@ -64,6 +64,9 @@ fn a_fresh_block_is_zero(rt: HostRuntime) -> Result<(), Fail> {
     assert!(rt; !block.is_empty());
     assert_eq!(rt; block.into_bytes().as_slice(), [0, 0, 0, 0].as_slice());
     assert!(rt; Block::new(rt.alloc(), 0)?.is_empty());
+    let longer_than_in_a_plan = Block::new(rt.alloc(), 1_048_576)?;
+    assert!(rt; longer_than_in_a_plan.bytes().iter().all(|byte| *byte == 0));
+    assert_eq!(rt; longer_than_in_a_plan.len(), 1_048_576);
     Ok(())
 }
 

@@ -41,8 +41,22 @@ fn a_big_is_told_from_a_number(rt: HostRuntime) -> Result<(), Fail> {
 #[test]
 fn an_operand_shows_its_whole_number(rt: HostRuntime) -> Result<(), Fail> {
     let alloc = rt.alloc();
-    let shown = format!(in alloc; "{:?}", Operand::big(-1))?;
-    assert_eq!(rt; shown.as_str(), "Operand { big: true, whole: -1 }");
+    let table = [
+        (number(-5)?, "Operand { big: false, whole: -5 }"),
+        (Operand::big(-5), "Operand { big: true, whole: -5 }"),
+        (
+            Operand::big(i128::MIN),
+            "Operand { big: true, whole: -170141183460469231731687303715884105728 }",
+        ),
+        (
+            Operand::big(i128::MAX),
+            "Operand { big: true, whole: 170141183460469231731687303715884105727 }",
+        ),
+    ];
+    for (operand, text) in table {
+        let shown = format!(in alloc; "{operand:?}")?;
+        assert_eq!(rt; shown.as_str(), text);
+    }
     Ok(())
 }
 

@@ -1,88 +1,70 @@
 //! Agents that add to one element at the same time.
 
-use crate::racing::way::{Way, add_one, word, word_plan};
+use crate::expecting::expect;
+use crate::racing::adders::{adders, race_adders};
+use crate::racing::slow::Slow;
+use crate::racing::way::{Way, add_one, word};
 use crate::run::plan;
 use sab_race::NoGate;
-use sab_sim::{Plan, Progress, Report, replay};
-use std::alloc::Global;
-use std::process::Abort;
-use std::sync::{Arc, Wait};
+use sab_sim::{Call, Progress, Report, replay};
+use std::sync::Arc;
 use std::test::Fail;
-use std::thread::Threads;
 
-/// Four agents that each add 1 a hundred times.
-fn four_adders(alloc: Global) -> Result<Plan, Fail> {
-    let calls = [add_one(0)?; 100];
-    word_plan(alloc, &[(true, calls.as_slice()); 4])
+/// Whether two reports are the same.
+fn is_same(one: &Report, other: &Report) -> bool {
+    one.schedule == other.schedule
+        && one.journal == other.journal
+        && one.blocks == other.blocks
+        && one.agents == other.agents
 }
 
-/// Compares the report of four agents of a hundred calls each with what is expected.
-fn check_counts(rt: &impl Abort, report: &Report, blocks: &[[u8; 4]]) {
-    assert_eq!(rt; report.blocks.len(), blocks.len());
-    for (bytes, expected) in report.blocks.iter().zip(blocks) {
-        assert_eq!(rt; bytes.as_slice(), expected.as_slice());
+#[test]
+fn adders_lose_nothing_and_their_race_can_be_replayed(rt: HostRuntime) -> Result<(), Fail> {
+    for way in Way::ALL {
+        let (report, _) = race_adders(&rt, rt.alloc(), way, &[100; 4], Slow::NONE)?;
+        let plan = adders(rt.alloc(), &[100; 4])?;
+        let again = replay(rt.alloc(), plan, &report.schedule).ok();
+        expect(
+            again.is_some_and(|again| is_same(&again, &report)),
+            "another replay",
+        )?;
     }
-    assert_eq!(rt; report.journal.len(), 1_200);
+    Ok(())
+}
+
+/// Whether four agents added a hundred times each, two of them to each of two blocks.
+fn are_two_hundred_each(report: &Report) -> bool {
     let whole = Progress {
         returned: 100,
         total: 100,
     };
-    assert_eq!(rt; report.agents.as_slice(), [whole; 4].as_slice());
-}
-
-/// A replay of the report's schedule gives the report once more.
-fn check_replay(rt: &impl Abort, alloc: Global, plan: Plan, report: &Report) -> Result<(), Fail> {
-    let again = replay(alloc, plan, &report.schedule).ok().ok_or("refused")?;
-    assert_eq!(rt; again.schedule.as_slice(), report.schedule.as_slice());
-    assert_eq!(rt; again.journal.as_slice(), report.journal.as_slice());
-    assert_eq!(rt; again.blocks.len(), report.blocks.len());
-    for (bytes, raced) in again.blocks.iter().zip(&report.blocks) {
-        assert_eq!(rt; bytes.as_slice(), raced.as_slice());
-    }
-    assert_eq!(rt; again.agents.as_slice(), report.agents.as_slice());
-    Ok(())
-}
-
-fn check_adders<R: Threads + Wait + Sync + Abort>(
-    rt: &R,
-    alloc: Global,
-    way: Way,
-) -> Result<(), Fail> {
-    let plan = four_adders(alloc)?;
-    let copy = plan.copy(alloc)?;
-    let report = way.race(rt, alloc, plan, 0, Arc::new(alloc, NoGate)?)?;
-    check_counts(rt, &report, &[[0x90, 0x01, 0, 0]]);
-    check_replay(rt, alloc, copy, &report)
-}
-
-#[test]
-fn adders_by_lock_lose_nothing(rt: HostRuntime) -> Result<(), Fail> {
-    check_adders(&rt, rt.alloc(), Way::Lock)
-}
-
-#[test]
-fn adders_by_rings_lose_nothing_at_any_patience(rt: HostRuntime) -> Result<(), Fail> {
-    for patience in [1_000_000, 0, 1] {
-        check_adders(&rt, rt.alloc(), Way::Rings { patience })?;
-    }
-    Ok(())
+    let sum = [0xc8, 0, 0, 0];
+    report.blocks.len() == 2
+        && report
+            .blocks
+            .iter()
+            .all(|bytes| bytes.as_slice() == sum.as_slice())
+        && report.journal.len() == 1_200
+        && report.agents.len() == 4
+        && report.agents.iter().all(|agent| *agent == whole)
 }
 
 #[test]
 fn adders_on_two_blocks_count_apart(rt: HostRuntime) -> Result<(), Fail> {
-    let alloc = rt.alloc();
     let first = [add_one(0)?; 100];
     let second = [add_one(1)?; 100];
-    let agents = [
-        (true, first.as_slice()),
+    let agents: [(bool, &[Call]); 4] = [
+        (true, &first),
         (true, &first),
         (true, &second),
         (true, &second),
     ];
+    let views = [word(0)?, word(1)?];
     for way in Way::BOTH {
-        let plan = plan(alloc, &[4, 4], &[word(0)?, word(1)?], &agents)?;
-        let report = way.race(&rt, alloc, plan, 0, Arc::new(alloc, NoGate)?)?;
-        check_counts(&rt, &report, &[[0xc8, 0, 0, 0], [0xc8, 0, 0, 0]]);
+        let plan = plan(rt.alloc(), &[4, 4], &views, &agents)?;
+        let gate = Arc::new(rt.alloc(), NoGate)?;
+        let report = way.race(&rt, rt.alloc(), plan, 0, gate)?;
+        expect(are_two_hundred_each(&report), "another sum")?;
     }
     Ok(())
 }

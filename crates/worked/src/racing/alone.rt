@@ -2,6 +2,7 @@
 
 ghost use Rattle.std.specs.Prelude.{◌≤◌};
 
+use crate::expecting::expect;
 use crate::racing::way::{Way, word};
 use crate::run::{Run, acted, began, enlisted, left, number, plan, returned, stuck, wait, whole};
 use sab_block::{Access, Kind};
@@ -10,24 +11,18 @@ use sab_sim::Answer::{TimedOut, Value};
 use sab_sim::Move::{Step, TimeUp};
 use sab_sim::{Call, Why};
 use std::alloc::Global;
-use std::process::Abort;
 use std::sync::{Arc, Wait};
 use std::test::Fail;
 use std::thread::Threads;
 
 /// The one run that an agent alone has, in both ways.
-fn check<R: Threads + Wait + Sync + Abort>(
-    rt: &R,
-    alloc: Global,
-    run: &Run,
-    spins: u32,
-) -> Result<(), Fail>
+fn check<R: Threads + Wait + Sync>(rt: &R, alloc: Global, run: &Run, spins: u32) -> Result<(), Fail>
     requires { spins ≤ MAX_SPINS }
 {
     for way in Way::BOTH {
         let plan = plan(alloc, run.lens, run.views, run.agents)?;
         let report = way.race(rt, alloc, plan, spins, Arc::new(alloc, NoGate)?)?;
-        run.compare(rt, &report);
+        expect(run.is_of(&report), "another report")?;
     }
     Ok(())
 }

@@ -1,108 +1,88 @@
-//! Two agents that wait for each other, which one thread alone can't do.
+//! Agents that wait for each other, which fewer threads than agents can't do.
 
-use crate::racing::calls::Calls;
-use crate::racing::turning::{turn_until, unset_flags};
-use crate::racing::way::{Way, add_one, word_plan};
-use sab_race::Gate;
-use std::alloc::{AllocError, Global};
-use std::process::Abort;
-use std::sync::atomic::{AtomicBool, Ordering};
-use std::sync::{Arc, Wait};
+use crate::racing::adders::race_adders;
+use crate::racing::turning::turn_until;
+use crate::racing::watching::Hold;
+use crate::racing::way::Way;
+use std::sync::atomic::{AtomicU32, Ordering};
 use std::test::Fail;
-use std::thread::Threads;
 
-/// Where agents 0 and 1 meet.
+/// Where agents meet: before a move, or after it.
 #[derive(Clone, Copy, Debug, PartialEq, Eq)]
-enum Place {
-    BeforeTheFirstMove,
-    AfterTheFirstMove,
+enum Side {
+    Before,
+    After,
 }
 
-/// Holds each of two agents back at a place until the other has come there, and counts all calls.
+/// Holds agents back at two of their moves until each of them has come there.
 #[derive(Drop)]
 struct Meeting {
-    place: Place,
-    has_come: Vec<AtomicBool>,
-    was_missed: AtomicBool,
-    before: Calls,
-    applied: Calls,
+    side: Side,
+    agents: u32,
+    first: u32,
+    second: u32,
+    came_first: AtomicU32,
+    came_second: AtomicU32,
 }
 
 impl Meeting {
-    fn new(alloc: Global, place: Place) -> Result<Meeting, AllocError> {
-        Ok(Meeting {
-            place,
-            has_come: unset_flags(alloc, 2)?,
-            was_missed: AtomicBool::new(false),
-            before: Calls::new(alloc, 2, 3)?,
-            applied: Calls::new(alloc, 2, 3)?,
-        })
+    /// So many agents meet, at these of their moves. None has come yet.
+    fn new(side: Side, agents: u32, [first, second]: [u32; 2]) -> Meeting {
+        Meeting {
+            side,
+            agents,
+            first,
+            second,
+            came_first: AtomicU32::new(0),
+            came_second: AtomicU32::new(0),
+        }
     }
 
-    /// Comes to the place, and turns until the other agent is there.
-    fn meet(&self, agent: u32) {
-        let [first, second] = self.has_come.as_slice() else {
-            return;
-        };
-        let (own, other) = if agent == 0 {
-            (first, second)
+    /// Comes to a move, and where agents meet there turns until each has come.
+    fn meet(&self, k: u32) -> bool {
+        let came = if k == self.first {
+            &self.came_first
+        } else if k == self.second {
+            &self.came_second
         } else {
-            (second, first)
+            return true;
         };
-        own.store(true, Ordering::SeqCst);
-        if !turn_until(other) {
-            self.was_missed.store(true, Ordering::SeqCst);
-        }
+        came.fetch_add(1, Ordering::SeqCst);
+        turn_until(came, self.agents)
     }
 }
 
-impl Gate for Meeting {
-    fn before(&self, agent: u32, k: u32) {
-        self.before.add(agent, k);
-        if k == 0 && self.place == Place::BeforeTheFirstMove {
-            self.meet(agent);
-        }
+impl Hold for Meeting {
+    fn before(&self, _agent: u32, k: u32) -> bool {
+        self.side == Side::After || self.meet(k)
     }
 
-    fn applied(&self, agent: u32, k: u32) {
-        self.applied.add(agent, k);
-        if k == 0 && self.place == Place::AfterTheFirstMove {
-            self.meet(agent);
-        }
+    fn applied(&self, _agent: u32, k: u32) -> bool {
+        self.side == Side::Before || self.meet(k)
     }
 }
 
-/// Two agents of one call each have to meet, and the gate is told of each of their moves.
-fn check<R: Threads + Wait + Sync + Abort>(
-    rt: &R,
-    alloc: Global,
-    way: Way,
-    place: Place,
-) -> Result<(), Fail> {
-    let calls = [add_one(0)?];
-    let plan = word_plan(alloc, &[(true, &calls), (true, &calls)])?;
-    let gate = Arc::new(alloc, Meeting::new(alloc, place)?)?;
-    let report = way.race(rt, alloc, plan, 0, Arc::try_clone(&gate)?)?;
-    assert!(rt; !gate.was_missed.load(Ordering::SeqCst));
-    assert!(rt; gate.before.is_one_each());
-    assert!(rt; gate.applied.is_one_each());
-    assert_eq!(rt; report.journal.len(), 6);
-    let bytes = report.blocks.first().map(|bytes| bytes.as_slice());
-    assert_eq!(rt; bytes, Some([2, 0, 0, 0].as_slice()));
+/// Before they ask for the lock, after they gave it back, and before they push.
+const PLACES: [(Way, Side); 3] = [
+    (Way::Lock, Side::Before),
+    (Way::Lock, Side::After),
+    (Way::PATIENT, Side::Before),
+];
+
+#[test]
+fn two_agents_meet(rt: HostRuntime) -> Result<(), Fail> {
+    for (way, side) in PLACES {
+        let meeting = Meeting::new(side, 2, [0, 2]);
+        race_adders(&rt, rt.alloc(), way, &[1, 1], meeting)?;
+    }
     Ok(())
 }
 
 #[test]
-fn agents_meet_before_they_ask_for_the_lock(rt: HostRuntime) -> Result<(), Fail> {
-    check(&rt, rt.alloc(), Way::Lock, Place::BeforeTheFirstMove)
-}
-
-#[test]
-fn agents_meet_after_they_gave_the_lock_back(rt: HostRuntime) -> Result<(), Fail> {
-    check(&rt, rt.alloc(), Way::Lock, Place::AfterTheFirstMove)
-}
-
-#[test]
-fn agents_meet_before_they_push(rt: HostRuntime) -> Result<(), Fail> {
-    check(&rt, rt.alloc(), Way::PATIENT, Place::BeforeTheFirstMove)
+fn sixteen_agents_meet_at_an_early_move_and_at_a_late_one(rt: HostRuntime) -> Result<(), Fail> {
+    for (way, side) in PLACES {
+        let meeting = Meeting::new(side, 16, [0, 90]);
+        race_adders(&rt, rt.alloc(), way, &[34; 16], meeting)?;
+    }
+    Ok(())
 }

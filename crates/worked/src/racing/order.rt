@@ -1,69 +1,79 @@
-//! Orders that a gate forces on a race.
+//! Orders that are forced on a race.
 
-use crate::racing::turning::{turn_until, unset_flags};
+use crate::expecting::expect;
+use crate::racing::adders::race_adders;
+use crate::racing::turning::turn_until;
+use crate::racing::watching::{Hold, Watch};
 use crate::racing::way::Way;
 use crate::run::{Run, acted, began, number, plan, returned};
 use sab_block::{Access, Kind, View};
-use sab_race::Gate;
 use sab_sim::Answer::Value;
 use sab_sim::Move::{self, Step};
 use sab_sim::{Call, Entry, PlanView};
 use std::alloc::{AllocError, Global};
-use std::process::Abort;
-use std::sync::atomic::{AtomicBool, Ordering};
+use std::sync::atomic::{AtomicU32, Ordering};
 use std::sync::{Arc, Wait};
 use std::test::Fail;
 use std::thread::Threads;
 
-/// Holds each move back until the one before it in an order was made.
+/// Holds each move back until those before it in an order were made.
 #[derive(Drop)]
-struct Order {
+pub struct Order {
     /// Whose moves they are, from the first to the last.
-    agents: [u32; 9],
-    is_made: Vec<AtomicBool>,
-    was_late: AtomicBool,
+    agents: Vec<u32>,
+    /// How many were made.
+    made: AtomicU32,
 }
 
 impl Order {
-    fn new(alloc: Global, agents: [u32; 9]) -> Result<Order, AllocError> {
-        Ok(Order {
+    /// No move of the order was made yet.
+    pub fn new(agents: Vec<u32>) -> Order {
+        Order {
             agents,
-            is_made: unset_flags(alloc, agents.len())?,
-            was_late: AtomicBool::new(false),
-        })
+            made: AtomicU32::new(0),
+        }
     }
 
     /// Where an agent's move stands in the order.
-    fn place(&self, agent: u32, k: u32) -> Option<usize> {
-        let own = self.agents.iter().enumerate().filter(|(_, a)| **a == agent);
+    pub fn place(&self, agent: u32, k: u32) -> Option<u32> {
+        let own = (0..u32::MAX)
+            .zip(&self.agents)
+            .filter(|(_, a)| **a == agent);
         own.map(|(place, _)| place).nth(k as usize)
+    }
+
+    /// Turns until so many moves were made.
+    pub fn wait(&self, moves: u32) -> bool {
+        turn_until(&self.made, moves)
+    }
+
+    /// One more move was made. How many were before?
+    pub fn add(&self) -> u32 {
+        self.made.fetch_add(1, Ordering::SeqCst)
+    }
+
+    /// Whether a schedule is the steps of the order.
+    pub fn is_of(&self, schedule: &[Move]) -> bool {
+        let steps = schedule.iter().zip(&self.agents);
+        schedule.len() == self.agents.len() && steps.into_iter().all(|(m, a)| *m == Step(*a))
     }
 }
 
-impl Gate for Order {
-    fn before(&self, agent: u32, k: u32) {
-        let earlier = self.place(agent, k).and_then(|place| place.checked_sub(1));
-        let Some(earlier) = earlier.and_then(|place| self.is_made.get(place)) else {
-            return;
-        };
-        if !self.was_late.load(Ordering::SeqCst) && !turn_until(earlier) {
-            self.was_late.store(true, Ordering::SeqCst);
-        }
+impl Hold for Order {
+    fn before(&self, agent: u32, k: u32) -> bool {
+        self.place(agent, k).is_some_and(|place| self.wait(place))
     }
 
-    fn applied(&self, agent: u32, k: u32) {
-        let place = self.place(agent, k);
-        if let Some(made) = place.and_then(|place| self.is_made.get(place)) {
-            made.store(true, Ordering::SeqCst);
-        }
+    fn applied(&self, _agent: u32, _k: u32) -> bool {
+        self.add();
+        true
     }
 }
 
 /// Agent 0 stores 5 and loads and agent 1 loads, in the order of this schedule, and this is what they do.
-fn check<R: Threads + Wait + Sync + Abort>(
+fn check<R: Threads + Wait + Sync>(
     rt: &R,
     alloc: Global,
-    way: Way,
     schedule: &[Move; 9],
     journal: &[Entry; 9],
 ) -> Result<(), Fail> {
@@ -82,23 +92,33 @@ fn check<R: Threads + Wait + Sync + Abort>(
         blocks: &[&[5, 0, 0, 0]],
         progress: &[(2, 2), (1, 1)],
     };
-    let plan = plan(alloc, run.lens, run.views, run.agents)?;
-    let gate = Arc::new(alloc, Order::new(alloc, schedule.map(Move::agent))?)?;
-    let report = way.race(rt, alloc, plan, 0, Arc::try_clone(&gate)?)?;
-    assert!(rt; !gate.was_late.load(Ordering::SeqCst));
-    run.compare(rt, &report);
+    for way in [Way::Lock, Way::PATIENT] {
+        let order = schedule.map(Move::agent).to_vec(alloc)?;
+        expect(is_raced(rt, alloc, way, &run, order)?, "another report")?;
+    }
     Ok(())
+}
+
+/// Whether the race of a run with six and three moves is the run, where this order is forced on it.
+fn is_raced<R: Threads + Wait + Sync>(
+    rt: &R,
+    alloc: Global,
+    way: Way,
+    run: &Run,
+    order: Vec<u32>,
+) -> Result<bool, Fail> {
+    let watch = Arc::new(alloc, Watch::new(Order::new(order)))?;
+    let plan = plan(alloc, run.lens, run.views, run.agents)?;
+    let report = way.race(rt, alloc, plan, 0, Arc::try_clone(&watch)?)?;
+    Ok(watch.saw(&[6, 3]) && run.is_of(&report))
 }
 
 fn access(access: Access) -> Call {
     Call::Access { view: 0, access }
 }
 
-fn check_in_turns<R: Threads + Wait + Sync + Abort>(
-    rt: &R,
-    alloc: Global,
-    way: Way,
-) -> Result<(), Fail> {
+#[test]
+fn two_agents_take_turns_as_their_threads_do(rt: HostRuntime) -> Result<(), Fail> {
     let five = Value(number(5)?);
     let schedule = [0, 1, 0, 1, 0, 1, 0, 0, 0].map(Step);
     let journal = [
@@ -112,14 +132,11 @@ fn check_in_turns<R: Threads + Wait + Sync + Abort>(
         acted(0, 1, five),
         returned(0, 1, five),
     ];
-    check(rt, alloc, way, &schedule, &journal)
+    check(&rt, rt.alloc(), &schedule, &journal)
 }
 
-fn check_last_first<R: Threads + Wait + Sync + Abort>(
-    rt: &R,
-    alloc: Global,
-    way: Way,
-) -> Result<(), Fail> {
+#[test]
+fn two_agents_come_last_agent_first(rt: HostRuntime) -> Result<(), Fail> {
     let five = Value(number(5)?);
     let zero = Value(number(0)?);
     let schedule = [1, 1, 1, 0, 0, 0, 0, 0, 0].map(Step);
@@ -134,25 +151,50 @@ fn check_last_first<R: Threads + Wait + Sync + Abort>(
         acted(0, 1, five),
         returned(0, 1, five),
     ];
-    check(rt, alloc, way, &schedule, &journal)
+    check(&rt, rt.alloc(), &schedule, &journal)
 }
 
-#[test]
-fn moves_under_the_lock_take_turns_as_their_threads_do(rt: HostRuntime) -> Result<(), Fail> {
-    check_in_turns(&rt, rt.alloc(), Way::Lock)
+/// In which direction sixteen agents come, and how many moves in a row each makes then.
+#[derive(Clone, Copy, Debug)]
+enum Pass {
+    Up(usize),
+    Down(usize),
 }
 
-#[test]
-fn moves_under_the_lock_come_last_agent_first(rt: HostRuntime) -> Result<(), Fail> {
-    check_last_first(&rt, rt.alloc(), Way::Lock)
+/// The order of these passes.
+fn order_of(alloc: Global, passes: &[Pass]) -> Result<Order, AllocError> {
+    let mut agents = Vec::new(alloc);
+    for pass in passes {
+        for place in 0..16 {
+            let (agent, times) = match *pass {
+                Pass::Up(times) => (place, times),
+                Pass::Down(times) => (15 - place, times),
+            };
+            for _ in 0..times {
+                agents.push(agent)?;
+            }
+        }
+    }
+    Ok(Order::new(agents))
 }
 
+/// While an agent makes the first moves of its call, each other is held back before its own first or last one. So in the
+/// first two orders no thread but the agent's own is free to make them.
 #[test]
-fn moves_by_rings_take_turns_as_their_threads_do(rt: HostRuntime) -> Result<(), Fail> {
-    check_in_turns(&rt, rt.alloc(), Way::PATIENT)
-}
-
-#[test]
-fn moves_by_rings_come_last_agent_first(rt: HostRuntime) -> Result<(), Fail> {
-    check_last_first(&rt, rt.alloc(), Way::PATIENT)
+fn sixteen_agents_come_as_their_threads_do(rt: HostRuntime) -> Result<(), Fail> {
+    let orders: [&[Pass]; 5] = [
+        &[Pass::Up(2), Pass::Up(1)],
+        &[Pass::Down(2), Pass::Down(1)],
+        &[Pass::Down(3)],
+        &[Pass::Down(1); 3],
+        &[Pass::Up(1), Pass::Down(1), Pass::Up(1)],
+    ];
+    for passes in orders {
+        for way in [Way::Lock, Way::PATIENT] {
+            let order = order_of(rt.alloc(), passes)?;
+            let (report, order) = race_adders(&rt, rt.alloc(), way, &[1; 16], order)?;
+            expect(order.is_of(&report.schedule), "another order")?;
+        }
+    }
+    Ok(())
 }

@@ -1,25 +1,27 @@
-//! Turning until another thread came along.
+//! Turning until other threads came along.
 
-use std::alloc::{AllocError, Global};
-use std::sync::atomic::{AtomicBool, Ordering};
+use std::sync::atomic::{AtomicU32, Ordering};
 use std::thread;
 
 /// After so many turns nobody is expected any more.
 const MOST_TURNS: u64 = 100_000_000;
 
-/// So many flags, none of which is set.
-pub fn unset_flags(alloc: Global, count: usize) -> Result<Vec<AtomicBool>, AllocError> {
-    let mut flags = Vec::with_capacity(alloc, count)?;
-    for _ in 0..count {
-        flags.push(AtomicBool::new(false))?;
+/// Turns so often.
+pub fn turn(times: u64) {
+    for _ in 0..times {
+        thread::yield_now();
     }
-    Ok(flags)
 }
 
-/// Turns until a flag is set, and tells whether it was before the last turn.
-pub fn turn_until(flag: &AtomicBool) -> bool {
-    for _ in 0..MOST_TURNS {
-        if flag.load(Ordering::SeqCst) {
+/// Turns until a count is so high, and tells whether it was before the last turn.
+pub fn turn_until(count: &AtomicU32, least: u32) -> bool {
+    turn_at_most(MOST_TURNS, count, least)
+}
+
+/// Turns until a count is so high or so many turns are over, and tells whether the count was so high.
+pub fn turn_at_most(times: u64, count: &AtomicU32, least: u32) -> bool {
+    for _ in 0..times {
+        if count.load(Ordering::SeqCst) >= least {
             return true;
         }
         thread::yield_now();

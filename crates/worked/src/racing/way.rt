@@ -32,6 +32,18 @@ impl Way {
         patience: 4_000_000_000,
     };
 
+    /// By the lock, and by rings with no patience, little, that of a program, and one that lasts until all moves came.
+    pub const ALL: [Way; 6] = [
+        Way::Lock,
+        Way::Rings { patience: 0 },
+        Way::Rings { patience: 1 },
+        Way::Rings { patience: 2 },
+        Way::Rings {
+            patience: 1_000_000,
+        },
+        Way::PATIENT,
+    ];
+
     /// Runs the agents of a plan. `spins` is at most [`MAX_SPINS`].
     pub fn race<R: Threads + Wait + Sync, G: Gate + 'static>(
         self,

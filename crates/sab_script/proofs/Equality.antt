@@ -1,0 +1,33 @@
+-- Equality of descriptions of views and of refusals: values that a derived `==` finds equal are the same.
+use Rattle.std.proofs.Common.{◌≡◌, ℤ, Option, Some, None, true, refl, ap, rules}
+use Rattle.std.specs.Ordering.{int_eq}
+use Rattle.std.specs.Option.{option_eq}
+use Rattle.std.proofs.lemmas.Bool.{and_parts}
+use borrow.Author.Tests.{eqb-true}
+use denote.Enum.Bare.{same_true}
+use Rattle.sab_block.proofs.Equality.{same_int, same_kind}
+use Rattle.sab_script.specs.declared.read_fault.ReadFault.{ReadFault}
+use Rattle.sab_script.specs.declared.view_spec.ViewSpec.{ViewSpec}
+use Rattle.sab_script.specs.contracts.read_fault.ReadFault.{the_type as read_fault_type}
+use Rattle.sab_script.specs.contracts.read_fault.ReadFaultPartialEq.TheImpl as read_fault
+use Rattle.sab_script.specs.contracts.view_spec.ViewSpecPartialEq.TheImpl as view_spec
+
+same_length : (t u : Option ℤ) → option_eq int_eq t u ≡ true → t ≡ u
+same_length None None e = refl
+same_length None (Some y) e = absurd (cc)
+same_length (Some x) None e = absurd (cc)
+same_length (Some x) (Some y) e = ap Some (same_int x y e)
+
+same_view_spec : (x y : ViewSpec) → (view_spec.ghosts).eq x y ≡ true → x ≡ y
+same_view_spec x y e =
+    let kinds = and_parts _ _ e in
+    let offsets = and_parts _ _ kinds.1 in
+    let lengths = and_parts _ _ offsets.1 in
+    let kind = same_kind x.kind y.kind kinds.0 in
+    let offset = same_int x.offset y.offset offsets.0 in
+    let length = same_length x.length y.length lengths.0 in
+    let block = eqb-true x.block y.block lengths.1 in
+    λ i. record { kind = kind i; offset = offset i; length = length i; block = block i }
+
+same_read_fault : (x y : ReadFault) → (read_fault.ghosts).eq x y ≡ true → x ≡ y
+same_read_fault = same_true read_fault_type (search rules)

@@ -1,0 +1,8 @@
+//! What a test expects.
+
+use std::test::Fail;
+
+/// Fails, and says what is wrong, where something doesn't hold.
+pub fn expect(holds: bool, wrong: &'static str) -> Result<(), Fail> {
+    Ok(holds.then_some(()).ok_or(wrong)?)
+}
