@@ -1,1 +1,5 @@
 pub mod Job
+pub mod Status
+pub mod FaultLine
+pub mod Ending
+pub mod Running

@@ -1,6 +1,7 @@
 //! What the program can be asked for.
 
-ghost use Rattle.std.specs.Prelude.{◌≤◌, IfOk};
+ghost use Rattle.std.specs.Prelude.{◌≡◌, ◌≤◌, ℕ, IfOk, Some, codes, decimal};
+ghost use Rattle.clap.specs.Words.{first_value, found_of, one_text};
 ghost use Rattle.sab_command.specs.Job.{IsWithinLimits};
 
 use crate::help;
@@ -57,7 +58,10 @@ fn command<'a>(alloc: Global) -> Result<Command<'a>, AllocError> {
 }
 
 /// How the agents are to share the simulator.
-fn share_of(matches: &ArgMatches<'_>) -> Share {
+fn share_of(matches: &ArgMatches<'_>) -> Share
+    ensures lock { first_value (found_of matches.now) (codes "share") ≡ Some (codes "lock") → result ≡ Share.Lock }
+    ensures ring { first_value (found_of matches.now) (codes "share") ≡ Some (codes "ring") → result ≡ Share.Ring }
+{
     match matches.get_str("share") {
         Some("ring") => Share::Ring,
         _ => Share::Lock,
@@ -66,7 +70,8 @@ fn share_of(matches: &ArgMatches<'_>) -> Share {
 
 /// How often an agent is to step at a wait.
 fn spins_of(matches: &ArgMatches<'_>) -> u32
-    ensures { result ≤ MAX_SPINS }
+    ensures limit { result ≤ MAX_SPINS }
+    ensures number { (n : ℕ) → n ≤ MAX_SPINS → one_text (found_of matches.now) (codes "spins") ≡ Some (decimal n) → result ≡ n }
 {
     let spins = matches.get_one::<u32>("spins").unwrap_or(0);
     spins.min(MAX_SPINS)

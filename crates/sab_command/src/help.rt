@@ -100,7 +100,7 @@ order in which the threads take their turns, so that two runs may differ.
 The lines of the report, from the first on, tell that order: `leave timed-out`, `stuck
 not-waiting` and `stuck endless` are of a move {"timeout":AGENT}, and every other line is of
 a step of its agent. With these moves as the script's schedule, `sabsim replay` writes the
-same report.
+same report, as long as they are no more than a schedule can have.
 
 Example:
   echo '{"blocks":[4],"views":[{"name":"a","kind":"Int32","block":0,"offset":0,"length":null}],

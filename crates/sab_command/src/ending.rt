@@ -1,0 +1,41 @@
+//! How the program ends.
+
+ghost use Rattle.std.specs.Prelude.{◌≡◌};
+ghost use Rattle.sab_command.specs.Ending.{status_at, after_job};
+
+use crate::status::status_of;
+use sab_tool::ToolFault;
+
+/// How the program ends.
+#[derive(Clone, Copy, Debug, PartialEq, Eq, Hash)]
+pub enum Ending {
+    /// What was asked for is done, which can be help.
+    Done,
+    /// The command line was refused.
+    Refused,
+    /// A fault, which the program tells of with a [`FaultLine`](crate::FaultLine).
+    Failed(ToolFault),
+}
+
+impl Ending {
+    /// How the program ends after a job with this answer.
+    pub fn of_job(answer: Result<(), ToolFault>) -> Ending
+        ensures { result ≡ after_job answer }
+    {
+        match answer {
+            Ok(()) => Ending::Done,
+            Err(fault) => Ending::Failed(fault),
+        }
+    }
+
+    /// The exit status: 0 where all is done, 2 where the command line was refused, and else that of the fault.
+    pub fn status(self) -> u8
+        ensures { result ≡ status_at self }
+    {
+        match self {
+            Ending::Done => 0,
+            Ending::Refused => 2,
+            Ending::Failed(fault) => status_of(fault),
+        }
+    }
+}
