@@ -33,6 +33,7 @@ pub struct Case {
     script: bool,
     report: bool,
     fault: bool,
+    changes: bool,
     other: bool,
 }
 
@@ -43,19 +44,24 @@ impl Case {
             "json" => self.script = true,
             "report" => self.report = true,
             "fault" => self.fault = true,
+            "changes" => self.changes = true,
             _ => self.other = true,
         }
     }
 
     /// The one partner of the script.
     ///
-    /// An error where the files are no case: there is no script, no partner or a second one, or a file of another ending.
+    /// An error where the files are no case: there is no script, no partner or a second one, changes of a script that has
+    /// no report, or a file of another ending.
     pub fn partner(self) -> Result<Partner> {
         if self.other {
-            bail!("a file's name ends in none of .json, .report and .fault");
+            bail!("a file's name ends in none of .json, .report, .fault and .changes");
         }
         if !self.script {
             bail!("there is no script");
+        }
+        if self.changes && !self.report {
+            bail!("there are changes without a report");
         }
         match (self.report, self.fault) {
             (true, false) => Ok(Partner::Report),
@@ -63,6 +69,11 @@ impl Case {
             (true, true) => bail!("there is a report and a fault"),
             (false, false) => bail!("there is neither a report nor a fault"),
         }
+    }
+
+    /// Whether a table of changes lies beside the script.
+    pub fn has_changes(self) -> bool {
+        self.changes
     }
 }
 

@@ -1,10 +1,12 @@
-//! Goes over cases: each is a script that lies beside its report, or beside the fault that it is refused with.
+//! Goes over cases: each is a script that lies beside its report, or beside the fault that it is refused with. Beside a
+//! report there may be a table of changes of the script, each with the fault that it leads to.
 //!
 //! Its argument is a folder that has a folder of cases for each subject; without one it is the folder where it runs. It
 //! tells of each subject, and of each finding by the case's name. It ends with status 1 if there is a finding.
 #![tactic(auto)]
 
 mod cases;
+mod changes;
 mod cuts;
 mod raced;
 mod refused;
@@ -14,6 +16,7 @@ mod way;
 
 use anyhow::{Context, Result};
 use cases::{Case, Partner, cases_of, names_of};
+use changes::check_changes;
 use refused::check_fault;
 use reported::check_report;
 use std::process::ExitCode;
@@ -22,6 +25,12 @@ use std::sync::Wait;
 use std::thread::Threads;
 use std::{env, fs};
 use tally::Tally;
+
+/// The file of a case that has this ending.
+fn part<R: Files + AllocGlobal>(rt: &R, folder: &str, name: &str, ending: &str) -> Result<Vec<u8>> {
+    let path = format!(in rt.alloc(); "{folder}/{name}.{ending}")?;
+    Ok(fs::read(rt, path.as_str())?)
+}
 
 /// Checks a case of a folder, and answers what it adds to a tally.
 fn check<R: Files + AllocGlobal + Threads + Wait + Sync>(
@@ -32,13 +41,18 @@ fn check<R: Files + AllocGlobal + Threads + Wait + Sync>(
 ) -> Result<Tally> {
     let alloc = rt.alloc();
     let partner = case.partner()?;
-    let script = fs::read(rt, format!(in alloc; "{folder}/{name}.json")?.as_str())?;
-    let ending = partner.ending();
-    let expected = fs::read(rt, format!(in alloc; "{folder}/{name}.{ending}")?.as_str())?;
+    let script = part(rt, folder, name, "json")?;
+    let expected = part(rt, folder, name, partner.ending())?;
     match partner {
         Partner::Report => {
             let cuts = check_report(rt, alloc, script.as_slice(), expected.as_slice())?;
-            Ok(Tally::of_report(cuts))
+            let changes = if case.has_changes() {
+                let table = part(rt, folder, name, "changes")?;
+                check_changes(rt, alloc, script.as_slice(), table.as_slice())?
+            } else {
+                0
+            };
+            Ok(Tally::of_report(cuts, changes))
         }
         Partner::Fault => {
             check_fault(rt, alloc, script.as_slice(), expected.as_slice())?;

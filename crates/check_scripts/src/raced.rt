@@ -44,6 +44,16 @@ fn schedule_of(alloc: Global, report: &str) -> Result<Vec<Move>> {
     Ok(schedule)
 }
 
+/// The text of the report of the moves of a schedule.
+fn replayed(alloc: Global, script: &[u8], schedule: &[Move]) -> Result<Vec<u8>> {
+    let tree = Value::from_slice(alloc, script)?;
+    let (plan, _) = read_setup(alloc, &tree)?.into_parts();
+    let report = replay(alloc, plan, schedule)?;
+    let mut text = Vec::new(alloc);
+    write_report(&report, &mut text)?;
+    Ok(text)
+}
+
 /// Whether the report of a race of a script is that of the replay of its own schedule.
 pub fn replays<R: Threads + Wait + Sync>(
     rt: &R,
@@ -54,10 +64,5 @@ pub fn replays<R: Threads + Wait + Sync>(
     let mut raced = Vec::new(alloc);
     race_bytes(rt, alloc, script, share, SPINS, &mut raced)?;
     let schedule = schedule_of(alloc, std::str::from_utf8(raced.as_slice())?)?;
-    let tree = Value::from_slice(alloc, script)?;
-    let (plan, _) = read_setup(alloc, &tree)?.into_parts();
-    let report = replay(alloc, plan, schedule.as_slice())?;
-    let mut replayed = Vec::new(alloc);
-    write_report(&report, &mut replayed)?;
-    Ok(replayed == raced)
+    Ok(replayed(alloc, script, schedule.as_slice())? == raced)
 }

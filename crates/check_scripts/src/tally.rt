@@ -2,20 +2,22 @@
 
 use std::fmt;
 
-/// How many cases are right, how many cuts their scripts have, and how many findings there are.
+/// How many cases are right, how many cuts and changes their scripts have, and how many findings there are.
 #[derive(Clone, Copy, Default)]
 pub struct Tally {
     reports: usize,
     faults: usize,
+    changes: usize,
     cuts: usize,
     findings: usize,
 }
 
 impl Tally {
-    /// Of a script with a report, which has so many cuts.
-    pub fn of_report(cuts: usize) -> Tally {
+    /// Of a script with a report, which has so many cuts and changes.
+    pub fn of_report(cuts: usize, changes: usize) -> Tally {
         Tally {
             reports: 1,
+            changes,
             cuts,
             ..Tally::default()
         }
@@ -41,6 +43,7 @@ impl Tally {
     pub fn add(&mut self, other: Tally) {
         self.reports = self.reports.saturating_add(other.reports);
         self.faults = self.faults.saturating_add(other.faults);
+        self.changes = self.changes.saturating_add(other.changes);
         self.cuts = self.cuts.saturating_add(other.cuts);
         self.findings = self.findings.saturating_add(other.findings);
     }
@@ -63,13 +66,19 @@ impl Tally {
 
 impl fmt::Display for Tally {
     fn fmt<W: fmt::Write>(&self, f: &mut fmt::Formatter<W>) -> fmt::Result {
-        let reports = Count(self.reports, "report");
-        let faults = Count(self.faults, "fault");
-        match (self.reports, self.faults) {
-            (_, 0) => write!(f, "{reports}"),
-            (0, _) => write!(f, "{faults}"),
-            _ => write!(f, "{reports}, {faults}"),
+        let mut before = "";
+        for (number, what) in [
+            (self.reports, "report"),
+            (self.faults, "fault"),
+            (self.changes, "change"),
+        ] {
+            if number > 0 {
+                let count = Count(number, what);
+                write!(f, "{before}{count}")?;
+                before = ", ";
+            }
         }
+        Ok(())
     }
 }
 

@@ -1,16 +1,14 @@
 //! Scripts of which one byte is changed.
 
-use crate::scripts::SHARED_WORD;
+use crate::scripts::{SHARED_WORD, TWO_BLOCKS};
 use sab_tool::{ToolFault, replay_bytes};
-use std::alloc::Global;
+use std::alloc::{AllocError, Global};
 use std::test::Fail;
 
-/// The faults of a text that is refused as a script.
+/// Whether a text that is refused as a script can have this fault.
 fn is_refusal(fault: ToolFault) -> bool {
-    match fault.number() {
-        3 | 10..=16 | 20 => true,
-        _ => false,
-    }
+    let number = fault.number();
+    number == 3 || number == 20 || (10 <= number && number <= 16)
 }
 
 /// Whether a text is replayed to some report, or refused with nothing written.
@@ -22,17 +20,25 @@ fn is_read_or_refused(alloc: Global, script: &[u8]) -> bool {
     }
 }
 
+/// Whether this holds of a script with any byte at a place.
+fn holds_at(alloc: Global, script: &str, i: usize) -> Result<bool, AllocError> {
+    let mut script = script.as_bytes().to_vec(alloc)?;
+    for byte in 0..=u8::MAX {
+        if let Some(place) = script.get_mut(i) {
+            *place = byte;
+        }
+        if !is_read_or_refused(alloc, script.as_slice()) {
+            return Ok(false);
+        }
+    }
+    Ok(true)
+}
+
 #[test]
 fn a_changed_byte_is_read_or_refused(rt: HostRuntime) -> Result<(), Fail> {
-    let alloc = rt.alloc();
-    for i in 0..SHARED_WORD.len() {
-        for byte in 0..=u8::MAX {
-            let mut script = SHARED_WORD.as_bytes().to_vec(alloc)?;
-            if let Some(place) = script.get_mut(i) {
-                *place = byte;
-            }
-            let is_right = is_read_or_refused(alloc, script.as_slice());
-            assert!(rt; is_right, "byte {byte} at {i}");
+    for script in [SHARED_WORD, TWO_BLOCKS] {
+        for i in 0..script.len() {
+            assert!(rt; holds_at(rt.alloc(), script, i)?, "byte {i}");
         }
     }
     Ok(())

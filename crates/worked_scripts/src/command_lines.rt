@@ -3,11 +3,18 @@
 use clap::error::ErrorKind;
 use sab_command::{Job, job_of};
 use sab_tool::Share;
-use std::test::Fail;
+use std::alloc::Global;
+
+/// Whether the words ask for just this job.
+fn asks(alloc: Global, words: &[&str], job: Job) -> bool {
+    match job_of(alloc, words) {
+        Ok(found) => found == job,
+        Err(_) => false,
+    }
+}
 
 #[test]
-fn a_command_line_is_read(rt: HostRuntime) -> Result<(), Fail> {
-    let alloc = rt.alloc();
+fn a_command_line_is_read(rt: HostRuntime) {
     let race = |share, spins| Job::Race { share, spins };
     let table: [(&[&str], Job); 5] = [
         (&["sabsim", "replay"], Job::Replay),
@@ -23,14 +30,20 @@ fn a_command_line_is_read(rt: HostRuntime) -> Result<(), Fail> {
         ),
     ];
     for (words, job) in table {
-        assert_eq!(rt; job_of(alloc, words).map_err(|error| error.kind()), Ok(job));
+        assert!(rt; asks(rt.alloc(), words, job), "{job:?}");
     }
-    Ok(())
+}
+
+/// Whether the words are refused for this reason, and are to be told so on this device.
+fn is_refused(alloc: Global, words: &[&str], kind: ErrorKind, to_stderr: bool) -> bool {
+    match job_of(alloc, words) {
+        Ok(_) => false,
+        Err(error) => error.kind() == kind && error.use_stderr() == to_stderr,
+    }
 }
 
 #[test]
-fn another_command_line_is_refused(rt: HostRuntime) -> Result<(), Fail> {
-    let alloc = rt.alloc();
+fn another_command_line_is_refused(rt: HostRuntime) {
     let table: [(&[&str], ErrorKind, bool); 12] = [
         (&["sabsim"], ErrorKind::MissingSubcommand, true),
         (&["sabsim", "play"], ErrorKind::InvalidSubcommand, true),
@@ -70,13 +83,6 @@ fn another_command_line_is_refused(rt: HostRuntime) -> Result<(), Fail> {
         (&["sabsim", "help", "replay"], ErrorKind::DisplayHelp, false),
     ];
     for (words, kind, to_stderr) in table {
-        match job_of(alloc, words) {
-            Ok(_) => assert!(rt; false),
-            Err(error) => {
-                assert_eq!(rt; error.kind(), kind);
-                assert_eq!(rt; error.use_stderr(), to_stderr);
-            }
-        }
+        assert!(rt; is_refused(rt.alloc(), words, kind, to_stderr), "{kind:?}");
     }
-    Ok(())
 }

@@ -1,18 +1,19 @@
 //! Readers and writers that fail, and slow ones.
 
-use crate::scripts::{SHARED_WORD, STORE_AND_LOAD, replayed, report_of};
-use sab_tool::{MAX_INPUT, ToolFault, read_input, replay_bytes, write_report};
+use crate::scripts::{SHARED_WORD, STORE_AND_LOAD, TWO_BLOCKS, replayed, report_of};
+use sab_tool::{MAX_INPUT, Share, ToolFault, race_bytes, read_input, replay_bytes, write_report};
 use std::alloc::Global;
 use std::io;
 use std::io::{Read, Write};
-use std::process::Abort;
+use std::sync::Wait;
 use std::test::Fail;
+use std::thread::Threads;
 
 /// Takes at most so many bytes at a write, and fails once it made so many writes.
 #[derive(Drop)]
 struct Taker {
     most: usize,
-    writes: u32,
+    writes: usize,
     taken: Vec<u8>,
 }
 
@@ -64,33 +65,79 @@ impl Read for Spaces {
     }
 }
 
-/// Replays into writers that fail at their first write, at their second and so on, until one takes the whole report.
+/// Replays a script, or races its agents, into a writer.
+fn run<R: Threads + Wait + Sync>(
+    rt: &R,
+    alloc: Global,
+    script: &str,
+    share: Option<Share>,
+    taker: &mut Taker,
+) -> Result<(), ToolFault> {
+    match share {
+        None => replay_bytes(alloc, script.as_bytes(), taker),
+        Some(share) => race_bytes(rt, alloc, script.as_bytes(), share, 0, taker),
+    }
+}
+
+/// Runs a script into writers that fail at their first write, at their second and so on, until one takes the whole report.
 ///
-/// Answers how many of them failed.
-fn failures_of(rt: &impl Abort, alloc: Global, script: &str, most: usize) -> Result<u32, Fail> {
+/// Answers how many of them failed, where each of these was told.
+fn failures_of<R: Threads + Wait + Sync>(
+    rt: &R,
+    alloc: Global,
+    script: &str,
+    share: Option<Share>,
+    most: usize,
+) -> Result<usize, Fail> {
     let report = report_of(alloc, script)?;
     for writes in 0..1_000 {
+        let taken = Vec::new(alloc);
         let mut taker = Taker {
             most,
             writes,
-            taken: Vec::new(alloc),
+            taken,
         };
-        let answer = replay_bytes(alloc, script.as_bytes(), &mut taker);
-        if answer.is_ok() {
-            assert!(rt; taker.taken == report);
+        let answer = run(rt, alloc, script, share, &mut taker);
+        if answer.is_ok() && taker.taken == report {
             return Ok(writes);
         }
-        assert_eq!(rt; answer, Err(ToolFault::WriteFailed), "{writes} writes");
+        if answer != Err(ToolFault::WriteFailed) {
+            return Err(Fail::new("another answer"));
+        }
     }
     Err(Fail::new("no writer took it"))
 }
 
+/// Whether a write that fails is told, whichever it is, and a slow writer gets the whole report.
+fn is_told<R: Threads + Wait + Sync>(
+    rt: &R,
+    alloc: Global,
+    script: &str,
+    share: Option<Share>,
+) -> Result<bool, Fail> {
+    let whole = failures_of(rt, alloc, script, share, usize::MAX)?;
+    let slow = failures_of(rt, alloc, script, share, 1)?;
+    Ok(whole >= 1 && slow == report_of(alloc, script)?.len())
+}
+
 #[test]
 fn a_write_that_fails_is_told(rt: HostRuntime) -> Result<(), Fail> {
-    let alloc = rt.alloc();
-    let long = r#"{"bytes":65536,"views":[],"agents":[],"schedule":[]}"#;
-    assert!(rt; failures_of(&rt, alloc, SHARED_WORD, usize::MAX)? >= 1);
-    assert!(rt; failures_of(&rt, alloc, long, usize::MAX)? >= 2);
+    let table = [
+        (SHARED_WORD, None),
+        (TWO_BLOCKS, None),
+        (STORE_AND_LOAD, Some(Share::Lock)),
+        (STORE_AND_LOAD, Some(Share::Ring)),
+    ];
+    for (script, share) in table {
+        assert!(rt; is_told(&rt, rt.alloc(), script, share)?, "{script}");
+    }
+    Ok(())
+}
+
+#[test]
+fn a_later_write_of_a_long_report_that_fails_is_told(rt: HostRuntime) -> Result<(), Fail> {
+    let long = r#"{"blocks":[65536,65536],"views":[],"agents":[],"schedule":[]}"#;
+    assert!(rt; failures_of(&rt, rt.alloc(), long, None, usize::MAX)? >= 2);
     Ok(())
 }
 
@@ -98,91 +145,114 @@ fn a_write_that_fails_is_told(rt: HostRuntime) -> Result<(), Fail> {
 fn a_report_that_no_write_takes_is_told(rt: HostRuntime) -> Result<(), Fail> {
     let alloc = rt.alloc();
     let report = replayed(alloc, STORE_AND_LOAD)?;
+    let taken = Vec::new(alloc);
     let mut taker = Taker {
         most: usize::MAX,
         writes: 0,
-        taken: Vec::new(alloc),
+        taken,
     };
-    assert_eq!(rt;
-        write_report(&report, &mut taker),
-        Err(ToolFault::WriteFailed)
-    );
+    let answer = write_report(&report, &mut taker);
+    assert!(rt; answer == Err(ToolFault::WriteFailed));
     Ok(())
 }
 
-#[test]
-fn a_writer_of_one_byte_a_write_gets_the_whole_report(rt: HostRuntime) -> Result<(), Fail> {
-    let alloc = rt.alloc();
-    let report = report_of(alloc, SHARED_WORD)?;
-    let failures = failures_of(&rt, alloc, SHARED_WORD, 1)?;
-    assert_eq!(rt; usize::try_from(failures)?, report.len());
-    Ok(())
-}
-
-#[test]
-fn a_writer_that_takes_no_byte_fails(rt: HostRuntime) -> Result<(), Fail> {
-    let alloc = rt.alloc();
+/// Whether a run into a writer that takes no byte is told to have failed.
+fn is_told_of_no_byte<R: Threads + Wait + Sync>(
+    rt: &R,
+    alloc: Global,
+    script: &str,
+    share: Option<Share>,
+) -> bool {
+    let taken = Vec::new(alloc);
     let mut taker = Taker {
         most: 0,
-        writes: u32::MAX,
-        taken: Vec::new(alloc),
+        writes: usize::MAX,
+        taken,
     };
-    let answer = replay_bytes(alloc, SHARED_WORD.as_bytes(), &mut taker);
-    assert_eq!(rt; answer, Err(ToolFault::WriteFailed));
-    Ok(())
+    run(rt, alloc, script, share, &mut taker) == Err(ToolFault::WriteFailed)
 }
 
 #[test]
-fn a_read_that_fails_is_told(rt: HostRuntime) -> Result<(), Fail> {
-    let bytes = SHARED_WORD.as_bytes();
-    for fault in [io::ErrorKind::BrokenPipe, io::ErrorKind::Interrupted] {
-        for reads in 0..=bytes.len() {
-            let mut giver = Giver {
-                bytes,
-                reads,
-                fault,
-            };
-            let input = read_input(rt.alloc(), &mut giver);
-            assert_eq!(rt; input.err(), Some(ToolFault::ReadFailed), "{reads} reads");
+fn a_writer_that_takes_no_byte_fails(rt: HostRuntime) {
+    for share in [None, Some(Share::Lock), Some(Share::Ring)] {
+        for script in [SHARED_WORD, TWO_BLOCKS] {
+            assert!(rt;
+                is_told_of_no_byte(&rt, rt.alloc(), script, share),
+                "{script}"
+            );
         }
     }
-    Ok(())
+}
+
+/// What an input of one byte a read is, which fails once it made so many reads.
+fn given(
+    alloc: Global,
+    script: &str,
+    reads: usize,
+    fault: io::ErrorKind,
+) -> Result<Vec<u8>, ToolFault> {
+    let bytes = script.as_bytes();
+    let mut giver = Giver {
+        bytes,
+        reads,
+        fault,
+    };
+    read_input(alloc, &mut giver)
+}
+
+/// Whether a read that fails is told, whichever it is.
+fn is_told_of_reads(alloc: Global, script: &str, fault: io::ErrorKind) -> bool {
+    for reads in 0..=script.len() {
+        if given(alloc, script, reads, fault).err() != Some(ToolFault::ReadFailed) {
+            return false;
+        }
+    }
+    true
+}
+
+#[test]
+fn a_read_that_fails_is_told(rt: HostRuntime) {
+    for fault in [io::ErrorKind::BrokenPipe, io::ErrorKind::Interrupted] {
+        for script in [SHARED_WORD, TWO_BLOCKS] {
+            assert!(rt; is_told_of_reads(rt.alloc(), script, fault), "{script}");
+        }
+    }
 }
 
 #[test]
 fn a_reader_of_one_byte_a_read_gives_the_whole_input(rt: HostRuntime) -> Result<(), Fail> {
-    let bytes = SHARED_WORD.as_bytes();
-    let mut giver = Giver {
-        bytes,
-        reads: usize::MAX,
-        fault: io::ErrorKind::BrokenPipe,
-    };
-    let input = read_input(rt.alloc(), &mut giver)?;
-    assert_eq!(rt; input.as_slice(), bytes);
+    for script in [SHARED_WORD, TWO_BLOCKS] {
+        let input = given(rt.alloc(), script, usize::MAX, io::ErrorKind::BrokenPipe)?;
+        assert!(rt; input.as_slice() == script.as_bytes(), "{script}");
+    }
     Ok(())
 }
 
+/// How many of so many spaces are read as an input.
+fn spaces_read(alloc: Global, spaces: usize) -> Result<usize, ToolFault> {
+    Ok(read_input(alloc, &mut Spaces(spaces))?.len())
+}
+
 #[test]
-fn an_input_is_read_up_to_its_limit(rt: HostRuntime) -> Result<(), Fail> {
-    let alloc = rt.alloc();
-    assert_eq!(rt; MAX_INPUT, 1_048_576);
-    for (spaces, want) in [
+fn an_input_is_read_up_to_its_limit(rt: HostRuntime) {
+    let table = [
         (0, Ok(0)),
         (1_048_576, Ok(1_048_576)),
         (1_048_577, Err(ToolFault::TooLong)),
         (2_000_000, Err(ToolFault::TooLong)),
-    ] {
-        let len = match read_input(alloc, &mut Spaces(spaces)) {
-            Ok(input) => Ok(input.len()),
-            Err(fault) => Err(fault),
-        };
-        assert_eq!(rt; len, want, "{spaces} spaces");
+    ];
+    for (spaces, want) in table {
+        assert!(rt; spaces_read(rt.alloc(), spaces) == want, "{spaces} spaces");
     }
-    let spaces = read_input(alloc, &mut Spaces(1_048_576))?;
+    assert!(rt; MAX_INPUT == 1_048_576);
+}
+
+#[test]
+fn an_input_of_spaces_is_no_script(rt: HostRuntime) -> Result<(), Fail> {
+    let alloc = rt.alloc();
+    let spaces = read_input(alloc, &mut Spaces(MAX_INPUT))?;
     let mut text = Vec::new(alloc);
-    assert_eq!(rt;
-        replay_bytes(alloc, spaces.as_slice(), &mut text),
-        Err(ToolFault::NotJson)
-    );
+    let answer = replay_bytes(alloc, spaces.as_slice(), &mut text);
+    assert!(rt; answer == Err(ToolFault::NotJson));
     Ok(())
 }

@@ -1,11 +1,17 @@
 //! What faults of tools and scripts print.
 
 use sab_tool::{ReadFault, ToolFault};
+use std::alloc::{AllocError, Global};
 use std::test::Fail;
+
+/// Whether a fault has this number and this name, and prints its name.
+fn is_named(alloc: Global, fault: ToolFault, number: u32, name: &str) -> Result<bool, AllocError> {
+    let text = fault.to_string(alloc)?;
+    Ok(fault.number() == number && fault.name() == name && text.as_str() == name)
+}
 
 #[test]
 fn a_tool_fault_prints_its_name(rt: HostRuntime) -> Result<(), Fail> {
-    let alloc = rt.alloc();
     let table = [
         (ToolFault::TooMany, 3, "TooMany"),
         (ToolFault::OutOfMemory, 5, "OutOfMemory"),
@@ -24,16 +30,18 @@ fn a_tool_fault_prints_its_name(rt: HostRuntime) -> Result<(), Fail> {
         (ToolFault::NoBlock, 20, "NoBlock"),
     ];
     for (fault, number, name) in table {
-        assert_eq!(rt; fault.number(), number);
-        assert_eq!(rt; fault.name(), name);
-        assert_eq!(rt; fault.to_string(alloc)?.as_str(), name);
+        assert!(rt; is_named(rt.alloc(), fault, number, name)?, "{name}");
     }
     Ok(())
 }
 
+/// Whether a fault prints this.
+fn prints(alloc: Global, fault: ReadFault, text: &str) -> Result<bool, AllocError> {
+    Ok(fault.to_string(alloc)?.as_str() == text)
+}
+
 #[test]
 fn a_read_fault_prints_what_is_wrong(rt: HostRuntime) -> Result<(), Fail> {
-    let alloc = rt.alloc();
     let table = [
         (
             ReadFault::TooMany,
@@ -70,8 +78,7 @@ fn a_read_fault_prints_what_is_wrong(rt: HostRuntime) -> Result<(), Fail> {
         (ReadFault::OutOfMemory, "there is no memory for the script"),
     ];
     for (fault, text) in table {
-        let found = fault.to_string(alloc)?;
-        assert!(rt; found.as_str() == text, "{text}");
+        assert!(rt; prints(rt.alloc(), fault, text)?, "{text}");
     }
     Ok(())
 }

@@ -10,6 +10,8 @@ mod devices;
 #[cfg(test)]
 mod faults;
 #[cfg(test)]
+mod jobs;
+#[cfg(test)]
 mod parts;
 #[cfg(test)]
 mod racing;

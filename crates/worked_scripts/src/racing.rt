@@ -4,8 +4,7 @@ ghost use Rattle.std.specs.Prelude.{◌≤◌};
 
 use crate::scripts::STORE_AND_LOAD;
 use sab_tool::{MAX_SPINS, Share, ToolFault, race_bytes};
-use std::alloc::Global;
-use std::process::Abort;
+use std::alloc::{AllocError, Global};
 use std::sync::Wait;
 use std::test::Fail;
 use std::thread::Threads;
@@ -18,22 +17,24 @@ const TIMED: &str =
 const ENDLESS: &str =
     r#"{"bytes":4,"views":[{"name":"a","kind":"Int32","offset":0,"length":null}],"agents":[{"block":true,"calls":[["wait","a",0,0]]}],"schedule":[]}"#;
 
-/// Races a script by a lock and by rings, and compares each report with what is expected.
-fn check<R: Abort + Threads + Wait + Sync>(
+/// Whether the race of a script gives just this report, by a lock and by rings.
+fn gives<R: Threads + Wait + Sync>(
     rt: &R,
     alloc: Global,
     script: &str,
     spins: u32,
     report: &str,
-) -> Result<(), Fail>
+) -> Result<bool, ToolFault>
     requires { spins ≤ MAX_SPINS }
 {
     for share in [Share::Lock, Share::Ring] {
         let mut text = Vec::new(alloc);
         race_bytes(rt, alloc, script.as_bytes(), share, spins, &mut text)?;
-        assert_eq!(rt; std::str::from_utf8(text.as_slice())?, report);
+        if text.as_slice() != report.as_bytes() {
+            return Ok(false);
+        }
     }
-    Ok(())
+    Ok(true)
 }
 
 #[test]
@@ -48,7 +49,8 @@ fn one_agent_alone_races_as_it_is_replayed(rt: HostRuntime) -> Result<(), Fail> 
 block 0 2c
 agent 0 2 of 2
 ";
-    check(&rt, rt.alloc(), STORE_AND_LOAD, 0, report)
+    assert!(rt; gives(&rt, rt.alloc(), STORE_AND_LOAD, 0, report)?);
+    Ok(())
 }
 
 #[test]
@@ -63,7 +65,8 @@ fn a_wait_with_a_timeout_ends_after_its_spins(rt: HostRuntime) -> Result<(), Fai
 block 0 00000000
 agent 0 1 of 1
 ";
-    check(&rt, rt.alloc(), TIMED, 1, report)
+    assert!(rt; gives(&rt, rt.alloc(), TIMED, 1, report)?);
+    Ok(())
 }
 
 #[test]
@@ -78,23 +81,37 @@ fn a_wait_without_a_timeout_stays(rt: HostRuntime) -> Result<(), Fail> {
 block 0 00000000
 agent 0 0 of 1
 ";
-    check(&rt, rt.alloc(), ENDLESS, 1, report)
+    assert!(rt; gives(&rt, rt.alloc(), ENDLESS, 1, report)?);
+    Ok(())
+}
+
+/// Whether the race of a script is refused for too many moves, with nothing written.
+fn has_too_many_moves<R: Threads + Wait + Sync>(
+    rt: &R,
+    alloc: Global,
+    script: &str,
+    share: Share,
+) -> bool {
+    let mut text = Vec::new(alloc);
+    let answer = race_bytes(rt, alloc, script.as_bytes(), share, 1_000, &mut text);
+    answer == Err(ToolFault::TooManyMoves) && text.is_empty()
+}
+
+/// A script of two agents that wait a thousand times each.
+fn many_waits(alloc: Global) -> Result<String, AllocError> {
+    let calls = [r#"["wait","a",0,0]"#]
+        .repeat(alloc, 1_000)?
+        .join(alloc, ",")?;
+    format!(in alloc;
+        r#"{{"bytes":4,"views":[{{"name":"a","kind":"Int32","offset":0,"length":null}}],"agents":[{{"block":true,"calls":[{calls}]}},{{"block":true,"calls":[{calls}]}}],"schedule":[]}}"#
+    )
 }
 
 #[test]
 fn too_many_moves_are_refused(rt: HostRuntime) -> Result<(), Fail> {
-    let alloc = rt.alloc();
-    let calls = [r#"["wait","a",0,0]"#]
-        .repeat(alloc, 1_000)?
-        .join(alloc, ",")?;
-    let script = format!(in alloc;
-        r#"{{"bytes":4,"views":[{{"name":"a","kind":"Int32","offset":0,"length":null}}],"agents":[{{"block":true,"calls":[{calls}]}},{{"block":true,"calls":[{calls}]}}],"schedule":[]}}"#
-    )?;
+    let script = many_waits(rt.alloc())?;
     for share in [Share::Lock, Share::Ring] {
-        let mut text = Vec::new(alloc);
-        let raced = race_bytes(&rt, alloc, script.as_bytes(), share, 1_000, &mut text);
-        assert_eq!(rt; raced, Err(ToolFault::TooManyMoves));
-        assert!(rt; text.is_empty());
+        assert!(rt; has_too_many_moves(&rt, rt.alloc(), script.as_str(), share));
     }
     Ok(())
 }

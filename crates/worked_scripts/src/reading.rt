@@ -4,11 +4,10 @@ use crate::parts::number;
 use crate::scripts::{STORE_AND_LOAD, setup_of};
 use sab_block::{Access, Kind, Operand, RmwOp, View};
 use sab_sim::Move::{Step, TimeUp};
-use sab_sim::{Call, Plan, PlanView, Script};
+use sab_sim::{Call, Move, Plan, PlanView, Script};
 use sab_tool::{ReadFault, Setup, ViewSpec, read_setup};
 use serde_json::Value;
 use std::alloc::Global;
-use std::process::Abort;
 use std::test::Fail;
 
 /// Two blocks with a view on each, and three agents of which one has no calls.
@@ -84,72 +83,73 @@ fn plan_of_two_views(alloc: Global) -> Result<Plan, Fail> {
     Ok(Plan::new(lens, views, scripts)?)
 }
 
+/// Whether a setup shows and hands over just this plan and these moves.
+fn has_parts(setup: Setup, plan: &Plan, moves: &[Move]) -> bool {
+    let is_shown = *setup.plan() == *plan && setup.schedule() == moves;
+    let (found, schedule) = setup.into_parts();
+    is_shown && found == *plan && schedule.as_slice() == moves
+}
+
 #[test]
 fn a_setup_has_the_parts_that_its_script_spells(rt: HostRuntime) -> Result<(), Fail> {
-    let alloc = rt.alloc();
-    let setup = setup_of(alloc, TWO_VIEWS)?;
-    let expected = plan_of_two_views(alloc)?;
-    assert_eq!(rt; *setup.plan(), expected);
-    let moves = [Step(1), TimeUp(0), Step(2)];
-    assert_eq!(rt; setup.schedule(), moves.as_slice());
-    let (plan, schedule) = setup.into_parts();
-    assert_eq!(rt; plan, expected);
-    assert_eq!(rt; schedule.as_slice(), moves.as_slice());
+    let setup = setup_of(rt.alloc(), TWO_VIEWS)?;
+    let plan = plan_of_two_views(rt.alloc())?;
+    assert!(rt; has_parts(setup, &plan, &[Step(1), TimeUp(0), Step(2)]));
     Ok(())
 }
 
-/// Compares view `i` of a setup with what is expected.
-fn check_view(
-    rt: &impl Abort,
-    setup: &Setup,
-    i: usize,
-    name: &str,
-    expected: ViewSpec,
-) -> Result<(), Fail> {
-    let (found, spec) = setup.views().get_index(i).ok_or("no view")?;
-    assert!(rt; found.as_str() == name, "{found}");
-    assert!(rt; *spec == expected, "{spec:?}");
-    Ok(())
+/// Whether view `i` of a setup has this name and is this.
+fn is_view(setup: &Setup, i: usize, name: &str, expected: ViewSpec) -> bool {
+    match setup.views().get_index(i) {
+        Some((found, spec)) => found.as_str() == name && *spec == expected,
+        None => false,
+    }
 }
 
 #[test]
 fn views_are_kept_by_name_in_order(rt: HostRuntime) -> Result<(), Fail> {
     let setup = setup_of(rt.alloc(), TWO_VIEWS)?;
-    assert_eq!(rt; setup.views().len(), 2);
     let word = ViewSpec {
         kind: Kind::Int32,
         offset: 4,
         length: Some(2),
         block: 0,
     };
-    check_view(&rt, &setup, 0, "word", word)?;
     let big = ViewSpec {
         kind: Kind::BigUint64,
         offset: 8,
         length: None,
         block: 1,
     };
-    check_view(&rt, &setup, 1, "Big_1", big)
+    assert!(rt; setup.views().len() == 2);
+    assert!(rt; is_view(&setup, 0, "word", word) && is_view(&setup, 1, "Big_1", big));
+    Ok(())
 }
 
-#[test]
-fn a_setup_of_the_old_form_has_one_block(rt: HostRuntime) -> Result<(), Fail> {
-    let setup = setup_of(rt.alloc(), STORE_AND_LOAD)?;
-    assert_eq!(rt; setup.plan().block_lens(), [1].as_slice());
-    assert_eq!(rt; setup.schedule(), [Step(0); 6].as_slice());
+/// Whether a setup has one block of one byte, a view `a` of all its bytes, and six steps of agent 0.
+fn is_store_and_load(setup: &Setup) -> bool {
     let spec = ViewSpec {
         kind: Kind::Uint8,
         offset: 0,
         length: None,
         block: 0,
     };
-    check_view(&rt, &setup, 0, "a", spec)
+    setup.plan().block_lens() == [1].as_slice()
+        && is_view(setup, 0, "a", spec)
+        && setup.schedule() == [Step(0); 6].as_slice()
+}
+
+#[test]
+fn a_setup_of_the_old_form_has_one_block(rt: HostRuntime) -> Result<(), Fail> {
+    let setup = setup_of(rt.alloc(), STORE_AND_LOAD)?;
+    assert!(rt; is_store_and_load(&setup));
+    Ok(())
 }
 
 #[test]
 fn a_tree_that_spells_no_setup_is_refused(rt: HostRuntime) -> Result<(), Fail> {
     let tree = Value::from_str(rt.alloc(), r#"{"blocks": [4], "views": [], "agents": []}"#)?;
     let fault = read_setup(rt.alloc(), &tree).err();
-    assert_eq!(rt; fault, Some(ReadFault::BadShape));
+    assert!(rt; fault == Some(ReadFault::BadShape));
     Ok(())
 }

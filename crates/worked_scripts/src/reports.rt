@@ -3,10 +3,9 @@
 use crate::parts::number;
 use crate::scripts::{STORE_AND_LOAD, lines, replayed};
 use sab_block::{Operand, Thrown};
-use sab_sim::{Answer, Entry, Move, Progress, Report, What, Why};
-use sab_tool::write_report;
+use sab_sim::{Answer, Entry, Progress, Report, What, Why};
+use sab_tool::{ToolFault, write_report};
 use std::alloc::Global;
-use std::process::Abort;
 use std::test::Fail;
 
 /// A report of these blocks and of no moves, with two agents.
@@ -29,19 +28,21 @@ fn quiet(alloc: Global, blocks: Vec<Vec<u8>>) -> Result<Report, Fail> {
     })
 }
 
-/// A report of no block and of so many moves of agent 0, each of which finds it done.
-fn stuck(alloc: Global, moves: usize) -> Result<Report, Fail> {
-    let entry = Entry {
-        agent: 0,
-        call: 0,
-        what: What::Stuck(Why::Done),
-    };
-    Ok(Report {
-        schedule: vec![in alloc; Move::Step(0); moves]?,
-        journal: vec![in alloc; entry; moves]?,
+/// A report of no block, of no agent and of no moves.
+fn empty(alloc: Global) -> Report {
+    Report {
+        schedule: Vec::new(alloc),
+        journal: Vec::new(alloc),
         blocks: Vec::new(alloc),
         agents: Vec::new(alloc),
-    })
+    }
+}
+
+/// The text of a report.
+fn text_of(alloc: Global, report: &Report) -> Result<Vec<u8>, ToolFault> {
+    let mut text = Vec::new(alloc);
+    write_report(report, &mut text)?;
+    Ok(text)
 }
 
 /// An entry of the last call of the last agent.
@@ -53,9 +54,16 @@ fn entry(what: What) -> Entry {
     }
 }
 
+/// Whether the report of this entry alone is one line, which ends in this.
+fn is_line(alloc: Global, what: What, end: &str) -> Result<bool, Fail> {
+    let mut report = empty(alloc);
+    report.journal.push(entry(what))?;
+    let line = format!(in alloc; "0 15 999 {end}\n")?;
+    Ok(text_of(alloc, &report)?.as_slice() == line.as_bytes())
+}
+
 #[test]
 fn an_entry_is_one_line(rt: HostRuntime) -> Result<(), Fail> {
-    let alloc = rt.alloc();
     let table = [
         (What::Began, "begin"),
         (What::Acted(Answer::NotEqual), "act not-equal"),
@@ -67,67 +75,50 @@ fn an_entry_is_one_line(rt: HostRuntime) -> Result<(), Fail> {
         (What::Stuck(Why::NotWaiting), "stuck not-waiting"),
         (What::Stuck(Why::Endless), "stuck endless"),
     ];
-    let mut report = quiet(alloc, Vec::new(alloc))?;
-    let mut lines = String::new(alloc);
-    for (k, (what, end)) in table.into_iter().enumerate() {
-        report.journal.push(entry(what))?;
-        lines.push_str(format!(in alloc; "{k} 15 999 {end}\n")?.as_str())?;
+    for (what, end) in table {
+        assert!(rt; is_line(rt.alloc(), what, end)?, "{end}");
     }
-    lines.push_str("agent 0 2 of 3\nagent 1 0 of 1000\n")?;
-    let mut text = Vec::new(alloc);
-    assert_eq!(rt; write_report(&report, &mut text), Ok(()));
-    assert_eq!(rt; text.as_slice(), lines.as_bytes());
     Ok(())
 }
 
 #[test]
 fn an_answer_ends_its_line(rt: HostRuntime) -> Result<(), Fail> {
-    let alloc = rt.alloc();
-    let least_big = "-170141183460469231731687303715884105728n";
     let table = [
-        (Answer::Value(number(0)?), "0"),
+        (Answer::Value(number(0)?), "return 0"),
         (
             Answer::Value(number(-9_007_199_254_740_991)?),
-            "-9007199254740991",
+            "return -9007199254740991",
         ),
-        (Answer::Value(Operand::big(7)), "7n"),
-        (Answer::Value(Operand::big(i128::MIN)), least_big),
-        (Answer::Woken, "ok"),
-        (Answer::NotEqual, "not-equal"),
-        (Answer::TimedOut, "timed-out"),
-        (Answer::Count(u32::MAX), "4294967295"),
-        (Answer::Threw(Thrown::TypeError), "TypeError"),
-        (Answer::Threw(Thrown::RangeError), "RangeError"),
+        (Answer::Value(Operand::big(7)), "return 7n"),
+        (
+            Answer::Value(Operand::big(i128::MIN)),
+            "return -170141183460469231731687303715884105728n",
+        ),
+        (Answer::Woken, "return ok"),
+        (Answer::NotEqual, "return not-equal"),
+        (Answer::TimedOut, "return timed-out"),
+        (Answer::Count(u32::MAX), "return 4294967295"),
+        (Answer::Threw(Thrown::TypeError), "return TypeError"),
+        (Answer::Threw(Thrown::RangeError), "return RangeError"),
     ];
     for (answer, end) in table {
-        let mut report = stuck(alloc, 0)?;
-        report.journal.push(entry(What::Returned(answer)))?;
-        let lines = format!(in alloc; "0 15 999 return {end}\n")?;
-        let mut text = Vec::new(alloc);
-        assert_eq!(rt; write_report(&report, &mut text), Ok(()));
-        assert_eq!(rt; text.as_slice(), lines.as_bytes());
+        assert!(rt; is_line(rt.alloc(), What::Returned(answer), end)?, "{end}");
     }
     Ok(())
 }
 
-/// Checks the lines of a report of these blocks, before the lines of its agents.
-fn check_blocks(
-    rt: &impl Abort,
-    alloc: Global,
-    blocks: Vec<Vec<u8>>,
-    lines: &str,
-) -> Result<(), Fail> {
-    let mut text = Vec::new(alloc);
-    assert_eq!(rt; write_report(&quiet(alloc, blocks)?, &mut text), Ok(()));
+/// Whether the report of these blocks has these lines, and then those of its agents.
+fn are_lines(alloc: Global, blocks: Vec<Vec<u8>>, lines: &str) -> Result<bool, Fail> {
+    let text = text_of(alloc, &quiet(alloc, blocks)?)?;
     let expected = format!(in alloc; "{lines}agent 0 2 of 3\nagent 1 0 of 1000\n")?;
-    assert_eq!(rt; text.as_slice(), expected.as_bytes());
-    Ok(())
+    Ok(text.as_slice() == expected.as_bytes())
 }
 
 #[test]
 fn a_report_of_no_block_has_no_line_for_one(rt: HostRuntime) -> Result<(), Fail> {
     let alloc = rt.alloc();
-    check_blocks(&rt, alloc, Vec::new(alloc), "")
+    assert!(rt; are_lines(alloc, Vec::new(alloc), "")?);
+    Ok(())
 }
 
 #[test]
@@ -137,37 +128,29 @@ fn each_block_is_one_line(rt: HostRuntime) -> Result<(), Fail> {
     let last = Vec::from_array(alloc, [0x07, 0x00, 0x00, 0x00])?;
     let blocks = Vec::from_array(alloc, [first, Vec::new(alloc), last])?;
     let lines = "block 0 000fa9ff\nblock 1 -\nblock 2 07000000\n";
-    check_blocks(&rt, alloc, blocks, lines)
+    assert!(rt; are_lines(alloc, blocks, lines)?);
+    Ok(())
 }
 
 #[test]
-fn a_long_report_is_written_whole(rt: HostRuntime) -> Result<(), Fail> {
+fn a_long_block_is_written_whole(rt: HostRuntime) -> Result<(), Fail> {
     let alloc = rt.alloc();
-    let mut report = stuck(alloc, 3_000)?;
-    report.blocks.push(vec![in alloc; 0xc5; 20_000]?)?;
-    let mut lines = String::new(alloc);
-    for k in 0..3_000 {
-        lines.push_str(format!(in alloc; "{k} 0 0 stuck done\n")?.as_str())?;
-    }
-    lines.push_str("block 0 ")?;
-    lines.push_str("c5".repeat(alloc, 20_000)?.as_str())?;
-    lines.push_str("\n")?;
-    let mut text = Vec::new(alloc);
-    assert_eq!(rt; write_report(&report, &mut text), Ok(()));
-    assert_eq!(rt; text.as_slice(), lines.as_bytes());
+    let block = vec![in alloc; 0xc5; 20_000]?;
+    let blocks = Vec::from_array(alloc, [block])?;
+    let digits = "c5".repeat(alloc, 20_000)?;
+    let line = format!(in alloc; "block 0 {digits}\n")?;
+    assert!(rt; are_lines(alloc, blocks, line.as_str())?);
     Ok(())
 }
 
 #[test]
 fn a_replayed_report_has_the_text_that_its_script_gives(rt: HostRuntime) -> Result<(), Fail> {
     let alloc = rt.alloc();
-    let mut text = Vec::new(alloc);
-    let report = replayed(alloc, STORE_AND_LOAD)?;
-    assert_eq!(rt; write_report(&report, &mut text), Ok(()));
+    let text = text_of(alloc, &replayed(alloc, STORE_AND_LOAD)?)?;
     let expected = lines(
         alloc,
         "0 0 0 begin / 1 0 0 act 300 / 2 0 0 return 300 / 3 0 1 begin / 4 0 1 act 44 / 5 0 1 return 44 / block 0 2c / agent 0 2 of 2",
     )?;
-    assert_eq!(rt; text.as_slice(), expected.as_bytes());
+    assert!(rt; text.as_slice() == expected.as_bytes());
     Ok(())
 }

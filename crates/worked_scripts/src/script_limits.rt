@@ -1,83 +1,101 @@
 //! Scripts at the ends of their limits.
 
-use crate::scripts::report_of;
-use sab_tool::{ToolFault, replay_bytes};
+use sab_tool::{MAX_INPUT, ToolFault, read_input, replay_bytes};
 use std::alloc::{AllocError, Global};
 use std::test::Fail;
 
-/// How many of each a script has.
-#[derive(Clone, Copy, Debug)]
-struct Sizes {
-    views: usize,
-    agents: usize,
-    /// The calls of each agent.
-    calls: usize,
-    moves: usize,
-}
+/// The blocks of a script in the old form, each of the greatest length, and a view on the last byte.
+const OLD: &str =
+    r#""bytes":65536,"views":[{"name":"a","kind":"Uint8","offset":65535,"length":1}]"#;
 
-impl Sizes {
-    /// A script of so many, which loads from its first view.
-    fn script(self, alloc: Global) -> Result<String, AllocError> {
-        let mut views = Vec::new(alloc);
-        for i in 0..self.views {
-            views.push(format!(in alloc;
-                r#"{{"name":"v{i}","kind":"Uint8","offset":0,"length":null}}"#
-            )?)?;
-        }
-        let views = views.join(alloc, ",")?;
-        let calls = repeated(alloc, r#"["load","v0",0]"#, self.calls)?;
-        let agent = format!(in alloc; r#"{{"block":true,"calls":[{calls}]}}"#)?;
-        let agents = repeated(alloc, agent.as_str(), self.agents)?;
-        let moves = repeated(alloc, "0", self.moves)?;
-        format!(in alloc;
-            r#"{{"bytes":1,"views":[{views}],"agents":[{agents}],"schedule":[{moves}]}}"#
-        )
-    }
-}
+/// The same in the new form, with as many blocks as there can be.
+const NEW: &str =
+    r#""blocks":[65536,65536,65536,65536],"views":[{"name":"a","kind":"Uint8","offset":65535,"length":1,"block":3}]"#;
 
 /// A text so many times, with commas between.
 fn repeated(alloc: Global, text: &str, times: usize) -> Result<String, AllocError> {
     [text].repeat(alloc, times)?.join(alloc, ",")
 }
 
+/// A script with as many agents and calls as there can be, and so many moves of the first agent.
+fn script(alloc: Global, head: &str, moves: usize) -> Result<String, AllocError> {
+    let calls = repeated(alloc, r#"["store","a",0,197]"#, 1_000)?;
+    let agent = format!(in alloc; r#"{{"block":true,"calls":[{calls}]}}"#)?;
+    let agents = repeated(alloc, agent.as_str(), 16)?;
+    let moves = repeated(alloc, "0", moves)?;
+    format!(in alloc; r#"{{{head},"agents":[{agents}],"schedule":[{moves}]}}"#)
+}
+
+/// The call of move k of an agent that stores 197 in its first 1,000 calls, and has no other; and what happens.
+fn entry_of(k: u32) -> (u32, &'static str) {
+    if k >= 3_000 {
+        return (1_000, "stuck done");
+    }
+    let what = match k % 3 {
+        0 => "begin",
+        1 => "act 197",
+        _ => "return 197",
+    };
+    (k / 3, what)
+}
+
+/// The lines of 100,000 moves of that agent.
+fn journal(alloc: Global) -> Result<String, AllocError> {
+    let mut lines = String::new(alloc);
+    for k in 0..100_000 {
+        let (call, what) = entry_of(k);
+        lines.push_str(format!(in alloc; "{k} 0 {call} {what}\n")?.as_str())?;
+    }
+    Ok(lines)
+}
+
+/// The lines of so many blocks, of which the last byte is 197 and each other byte 0, and those of the agents.
+fn ending(alloc: Global, blocks: usize) -> Result<String, AllocError> {
+    let zeros = "00".repeat(alloc, 65_535)?;
+    let mut lines = String::new(alloc);
+    for b in 0..blocks {
+        let last = if b + 1 == blocks { "c5" } else { "00" };
+        lines.push_str(format!(in alloc; "block {b} {zeros}{last}\n")?.as_str())?;
+    }
+    lines.push_str("agent 0 1000 of 1000\n")?;
+    for a in 1..16 {
+        lines.push_str(format!(in alloc; "agent {a} 0 of 1000\n")?.as_str())?;
+    }
+    Ok(lines)
+}
+
+/// Whether a script at its limits, with spaces up to the greatest length of an input, is read and has its whole report.
+fn is_replayed(alloc: Global, head: &str, blocks: usize) -> Result<bool, Fail> {
+    let mut script = script(alloc, head, 100_000)?.into_bytes();
+    script.resize(MAX_INPUT, b' ')?;
+    let input = read_input(alloc, &mut script.as_slice())?;
+    let mut text = Vec::new(alloc);
+    replay_bytes(alloc, input.as_slice(), &mut text)?;
+    let mut report = journal(alloc)?;
+    report.push_str(ending(alloc, blocks)?.as_str())?;
+    Ok(input.len() == 1_048_576 && text.as_slice() == report.as_bytes())
+}
+
 #[test]
-fn one_more_than_a_limit_is_too_many(rt: HostRuntime) -> Result<(), Fail> {
-    let alloc = rt.alloc();
-    let table = [
-        (64, 16, 1_000, 100_000, Ok(())),
-        (65, 1, 1, 1, Err(ToolFault::TooMany)),
-        (1, 17, 1, 1, Err(ToolFault::TooMany)),
-        (1, 1, 1_001, 1, Err(ToolFault::TooMany)),
-        (1, 1, 1, 100_001, Err(ToolFault::TooMany)),
-    ];
-    for (views, agents, calls, moves, answer) in table {
-        let sizes = Sizes {
-            views,
-            agents,
-            calls,
-            moves,
-        };
-        let script = sizes.script(alloc)?;
-        let mut text = Vec::new(alloc);
-        assert_eq!(rt;
-            replay_bytes(alloc, script.as_bytes(), &mut text),
-            answer,
-            "{sizes:?}"
-        );
-        assert_eq!(rt; text.is_empty(), answer.is_err(), "{sizes:?}");
+fn a_script_at_its_limits_has_its_whole_report(rt: HostRuntime) -> Result<(), Fail> {
+    for (head, blocks) in [(OLD, 1), (NEW, 4)] {
+        assert!(rt; is_replayed(rt.alloc(), head, blocks)?, "{blocks} blocks");
     }
     Ok(())
 }
 
+/// Whether a script is refused for too many of something, with nothing written.
+fn is_too_many(alloc: Global, script: &str) -> bool {
+    let mut text = Vec::new(alloc);
+    let answer = replay_bytes(alloc, script.as_bytes(), &mut text);
+    answer == Err(ToolFault::TooMany) && text.is_empty()
+}
+
 #[test]
-fn a_block_of_65_536_bytes_is_one_line(rt: HostRuntime) -> Result<(), Fail> {
-    let alloc = rt.alloc();
-    let text = report_of(
-        alloc,
-        r#"{"bytes":65536,"views":[],"agents":[],"schedule":[]}"#,
-    )?;
-    let digits = "0".repeat(alloc, 131_072)?;
-    let line = format!(in alloc; "block 0 {digits}\n")?;
-    assert!(rt; text.as_slice() == line.as_bytes());
+fn one_move_more_is_too_many(rt: HostRuntime) -> Result<(), Fail> {
+    for head in [OLD, NEW] {
+        let script = script(rt.alloc(), head, 100_001)?;
+        assert!(rt; is_too_many(rt.alloc(), script.as_str()), "{head}");
+    }
     Ok(())
 }

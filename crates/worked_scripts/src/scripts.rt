@@ -14,6 +14,10 @@ pub const STORE_AND_LOAD: &str =
 pub const SHARED_WORD: &str =
     r#"{"bytes":4,"views":[{"name":"a","kind":"Int32","offset":0,"length":1}],"agents":[{"block":false,"calls":[["store","a",0,5],["load","a",0]]},{"block":false,"calls":[["load","a",0]]}],"schedule":[0,1,0,1,0,1,0,0,0,0]}"#;
 
+/// Two agents on two blocks: a notify in one block doesn't wake who waits in the other.
+pub const TWO_BLOCKS: &str =
+    r#"{"blocks":[4,4],"views":[{"name":"a","kind":"Int32","offset":0,"length":null,"block":0},{"name":"b","kind":"Int32","offset":0,"length":null,"block":1}],"agents":[{"block":true,"calls":[["wait","a",0,0]]},{"block":true,"calls":[["notify","b",0],["store","b",0,7],["notify","a",0]]}],"schedule":[0,0,1,1,1,1,1,1,1,1,0]}"#;
+
 /// The setup that a script is expected to spell.
 pub fn setup_of(alloc: Global, script: &str) -> Result<Setup, Fail> {
     let tree: Value = serde_json::from_str(alloc, script)?;

@@ -1,0 +1,79 @@
+//! Jobs between a reader and a writer: what they write is flushed, and a flush that fails is told.
+
+ghost use Rattle.sab_command.specs.Job.{IsWithinLimits};
+
+use crate::scripts::{STORE_AND_LOAD, report_of};
+use sab_command::{Job, run};
+use sab_tool::{Share, ToolFault};
+use std::io;
+use std::io::Write;
+use std::sync::Wait;
+use std::test::Fail;
+use std::thread::Threads;
+
+/// Takes all that is written, and knows whether it was flushed since; a flush can be made to fail.
+#[derive(Drop)]
+struct Basin {
+    taken: Vec<u8>,
+    is_flushed: bool,
+    is_stuck: bool,
+}
+
+impl Write for Basin {
+    fn write(&mut self, buf: &[u8]) -> io::Result<usize> {
+        self.taken.extend_from_slice(buf)?;
+        self.is_flushed = false;
+        Ok(buf.len())
+    }
+
+    fn flush(&mut self) -> io::Result<()> {
+        if self.is_stuck {
+            return Err(io::ErrorKind::StorageFull.into());
+        }
+        self.is_flushed = true;
+        Ok(())
+    }
+}
+
+/// Whether the job of a script with one agent writes its whole report, and flushes it unless the flush fails, which it tells.
+fn reports_to<R: AllocGlobal + Threads + Wait + Sync>(
+    rt: &R,
+    job: Job,
+    is_stuck: bool,
+) -> Result<bool, Fail>
+    requires { IsWithinLimits job }
+{
+    let alloc = rt.alloc();
+    let report = report_of(alloc, STORE_AND_LOAD)?;
+    let mut input = STORE_AND_LOAD.as_bytes();
+    let mut output = Basin {
+        taken: Vec::new(alloc),
+        is_flushed: false,
+        is_stuck,
+    };
+    let is_right = match run(rt, job, &mut input, &mut output) {
+        Ok(()) => output.is_flushed,
+        Err(fault) => is_stuck && fault == ToolFault::WriteFailed,
+    };
+    Ok(is_right && output.taken == report)
+}
+
+#[test]
+fn a_job_flushes_its_report(rt: HostRuntime) -> Result<(), Fail> {
+    let jobs = [
+        Job::Replay,
+        Job::Race {
+            share: Share::Lock,
+            spins: 0,
+        },
+        Job::Race {
+            share: Share::Ring,
+            spins: 0,
+        },
+    ];
+    for job in jobs {
+        assert!(rt; reports_to(&rt, job, false)?);
+        assert!(rt; reports_to(&rt, job, true)?);
+    }
+    Ok(())
+}
