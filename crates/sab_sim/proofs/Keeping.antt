@@ -19,7 +19,9 @@ use Rattle.sab_sim.specs.Entry.{is_act, is_stuck, is_return}
 use Rattle.sab_sim.specs.Plan.{PlanParts, calls_of}
 use Rattle.sab_sim.specs.Object.{State, opening, Does}
 use Rattle.sab_sim.specs.Journal.{Course, AtOnce, InLine, course, acts, Run, track, returned_of, answers_move, EachAnswers, Answers, IsJustified, EachAfter, Reaches}
-use Rattle.sab_sim.specs.Agent.{IsPart, IsAtCall, IsWhere, Goes, Advances, IsLike, IsInLine, Turns, Kept, ticket_after}
+use Rattle.sab_sim.specs.Agent.{IsPart, IsAtCall, IsWhere, Advances, IsLike, IsInLine}
+use Rattle.sab_sim.specs.Turn.{Goes, Turns, ticket_after}
+use Rattle.sab_sim.specs.Kept.{Kept}
 use Rattle.sab_sim.proofs.Lists.{slice_get-push}
 
 -- a run goes on by one act

@@ -11,3 +11,4 @@ pub mod Simulating
 pub mod OneAct
 pub mod OneEntry
 pub mod OneReport
+pub mod Showing

@@ -24,7 +24,9 @@ use Rattle.sab_sim.specs.Entry.{is_act, is_stuck}
 use Rattle.sab_sim.specs.Plan.{PlanParts, calls_of, call_of, is_timed}
 use Rattle.sab_sim.specs.Object.{State, Waiter, stands, DoesCall, Does}
 use Rattle.sab_sim.specs.Journal.{Course, AtOnce, InLine, course, track, IsTrack, answers_move, WaitsForever}
-use Rattle.sab_sim.specs.Agent.{waiting_phase, Stands, IsPart, IsAtCall, IsWhere, Goes}
+use Rattle.sab_sim.specs.Agent.{waiting_phase, IsPart, IsAtCall, IsWhere}
+use Rattle.sab_sim.specs.Line.{Represents}
+use Rattle.sab_sim.specs.Turn.{Goes}
 use Rattle.sab_sim.proofs.Keeping.{track-push, entry_of}
 use Rattle.sab_sim.proofs.OneAct.{IsOutcome, Does-one_outcome}
 
@@ -113,8 +115,8 @@ pub record CanDo (plan : PlanParts) (m : Move) (a : ℕ) (g : Agent) (S : State)
   pub goes : Goes plan S (entry_of a g w) target
 
 -- one that doesn't wait stands nowhere
-Stands-not_waiting : (mem : List (List ℕ)) (agents : List Agent) (ticket a : ℕ) (g : Agent) (S : State) → Stands mem agents ticket S → slice_get agents a ≡ Some g → waiting_phase g.phase ≡ false → stands S a ≡ false
-Stands-not_waiting mem agents ticket a g S l g_is n = l.stands_is a ∙ (rw g_is n)
+Represents-not_waiting : (mem : List (List ℕ)) (agents : List Agent) (ticket a : ℕ) (g : Agent) (S : State) → Represents mem agents ticket S → slice_get agents a ≡ Some g → waiting_phase g.phase ≡ false → stands S a ≡ false
+Represents-not_waiting mem agents ticket a g S l g_is n = l.stands_is a ∙ (rw g_is n)
 
 -- the agent of a waiter of the line stands in it
 stands-contained : (line : List Waiter) (w : Waiter) → Contains line w → list_any (λ (q : Waiter). q.agent == w.agent) line ≡ true
@@ -143,13 +145,13 @@ time_not_waiting plan i a g S (Left A.TimedOut) n f = absurd (false≢true (sym 
 time_not_waiting plan i a g S w n f = absurd (false≢true f.kind)
 
 -- an act that leaves is by a notify or by a timeout
-left_answers : (cb : Bool) (a : ℕ) (v : PlanView) (call : Call) (S T : State) (x : Answer) → DoesCall cb a v call S (Left x) T → ((x ≡ A.Woken) × (S.called a ≡ true)) ⊎ (x ≡ A.TimedOut)
+left_answers : (cb : Bool) (a : ℕ) (v : PlanView) (call : Call) (S T : State) (x : Answer) → DoesCall cb a v call S (Left x) T → ((x ≡ A.Woken) × (S.notified a ≡ true)) ⊎ (x ≡ A.TimedOut)
 left_answers cb a v (C.Wait n index y t) S T A.Woken d = inl (refl, d.0)
 left_answers cb a v (C.Wait n index y t) S T A.TimedOut d = inr refl
 left_answers cb a v call S T x d = absurd (first_of (assumption, cc))
 
 -- by a step it is by a notify
-step_left : (plan : PlanParts) (i a : ℕ) (g : Agent) (S : State) (x : Answer) → CanDo plan (Step i) a g S (Left x) → (x ≡ A.Woken) × (S.called a ≡ true)
+step_left : (plan : PlanParts) (i a : ℕ) (g : Agent) (S : State) (x : Answer) → CanDo plan (Step i) a g S (Left x) → (x ≡ A.Woken) × (S.notified a ≡ true)
 step_left plan i a g S x f = elim (left_answers f.goes.acts.script.can_block a f.goes.acts.view f.goes.acts.call S f.target x f.goes.acts.does) [
   | inl h ↦ h
   | inr h ↦ absurd (false≢true (subst (λ (y : Answer). answers_move (Step i) (Left y) ≡ true) h f.kind))
@@ -189,7 +191,7 @@ step_woken plan i a g S w e n c f =
     l.1 ∙ ap (λ (x : Answer). Left x) one.0
 
 -- a step of one that waits is stuck
-step_waiting : (plan : PlanParts) (i a : ℕ) (p : Place) (t : ℕ) (g : Agent) (S : State) (w : What) → g.phase ≡ P.Waiting p t → S.called a ≡ false → g.returned < length (calls_of plan a) → CanDo plan (Step i) a g S w → w ≡ Stuck Y.Waiting
+step_waiting : (plan : PlanParts) (i a : ℕ) (p : Place) (t : ℕ) (g : Agent) (S : State) (w : What) → g.phase ≡ P.Waiting p t → S.notified a ≡ false → g.returned < length (calls_of plan a) → CanDo plan (Step i) a g S w → w ≡ Stuck Y.Waiting
 step_waiting plan i a p t g S w e n c f = elim (stuck_cases w) [
   | inl h ↦
       let l = subst (λ (ph : Phase). MayFollow ph w) e (f.next h).0 in
@@ -267,17 +269,17 @@ IsAtCall-within plan calls n P.Woken at busy = slice_get_within calls n at.0 at.
 IsAtCall-within plan calls n (P.Answered x) at busy = slice_get_within calls n at.0 at.1
 
 -- two that an agent can do by one move are one
-pub CanDo-one : (plan : PlanParts) (m : Move) (mem : List (List ℕ)) (agents : List Agent) (ticket a : ℕ) (g : Agent) (S : State) (w w' : What) (ph : Phase) → g.phase ≡ ph → slice_get agents a ≡ Some g → IsAtCall plan (calls_of plan a) g.returned ph → Stands mem agents ticket S
+pub CanDo-one : (plan : PlanParts) (m : Move) (mem : List (List ℕ)) (agents : List Agent) (ticket a : ℕ) (g : Agent) (S : State) (w w' : What) (ph : Phase) → g.phase ≡ ph → slice_get agents a ≡ Some g → IsAtCall plan (calls_of plan a) g.returned ph → Represents mem agents ticket S
     → CanDo plan m a g S w → CanDo plan m a g S w' → w ≡ w'
 CanDo-one plan (TimeUp i) mem agents ticket a g S w w' (P.Waiting p t) e g_is at l f f' =
     let st : stands S a ≡ true = l.stands_is a ∙ (rw (g_is, e) refl) in
     time_waiting plan i a g S w st f ∙ sym (time_waiting plan i a g S w' st f')
 CanDo-one plan (Step i) mem agents ticket a g S w w' (P.Waiting p t) e g_is at l f f' =
-    let ca : S.called a ≡ false = l.called_is a ∙ (rw (g_is, e) refl) in
+    let ca : S.notified a ≡ false = l.notified_is a ∙ (rw (g_is, e) refl) in
     let there = IsAtCall-within plan (calls_of plan a) g.returned (P.Waiting p t) at (λ q. cc) in
     step_waiting plan i a p t g S w e ca there f ∙ sym (step_waiting plan i a p t g S w' e ca there f')
 CanDo-one plan (Step i) mem agents ticket a g S w w' P.Ready e g_is at l f f' =
-    let st = Stands-not_waiting mem agents ticket a g S l g_is (rw e refl) in
+    let st = Represents-not_waiting mem agents ticket a g S l g_is (rw e refl) in
     elim (step_ready plan i a g S w e st f) [
       | inl d ↦ elim (step_ready plan i a g S w' e st f') [
         | inl d' ↦ d.0 ∙ sym d'.0
@@ -289,19 +291,19 @@ CanDo-one plan (Step i) mem agents ticket a g S w w' P.Ready e g_is at l f f' =
       ]
     ]
 CanDo-one plan (Step i) mem agents ticket a g S w w' P.Begun e g_is at l f f' =
-    let st = Stands-not_waiting mem agents ticket a g S l g_is (rw e refl) in
+    let st = Represents-not_waiting mem agents ticket a g S l g_is (rw e refl) in
     let there = IsAtCall-within plan (calls_of plan a) g.returned P.Begun at (λ q. cc) in
     let d = step_begun plan i a g S w e st there f in
     let d' = step_begun plan i a g S w' e st there f' in
     (Does-one_outcome plan a g.returned S d.0 d'.0 w w' d.1 d'.1 d.2 d'.2).0
 CanDo-one plan (Step i) mem agents ticket a g S w w' P.Woken e g_is at l f f' =
-    let st = Stands-not_waiting mem agents ticket a g S l g_is (rw e refl) in
+    let st = Represents-not_waiting mem agents ticket a g S l g_is (rw e refl) in
     let there = IsAtCall-within plan (calls_of plan a) g.returned P.Woken at (λ q. cc) in
     step_woken plan i a g S w e st there f ∙ sym (step_woken plan i a g S w' e st there f')
 CanDo-one plan (Step i) mem agents ticket a g S w w' (P.Answered x) e g_is at l f f' =
-    let st = Stands-not_waiting mem agents ticket a g S l g_is (rw e refl) in
+    let st = Represents-not_waiting mem agents ticket a g S l g_is (rw e refl) in
     let there = IsAtCall-within plan (calls_of plan a) g.returned (P.Answered x) at (λ q. cc) in
     step_answered plan i a x g S w e st there f ∙ sym (step_answered plan i a x g S w' e st there f')
 CanDo-one plan (TimeUp i) mem agents ticket a g S w w' ph e g_is at l f f' =
-    let st : stands S a ≡ false = Stands-not_waiting mem agents ticket a g S l g_is (rw e refl) in
+    let st : stands S a ≡ false = Represents-not_waiting mem agents ticket a g S l g_is (rw e refl) in
     time_not_waiting plan i a g S w st f ∙ sym (time_not_waiting plan i a g S w' st f')

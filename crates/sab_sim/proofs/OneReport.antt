@@ -13,7 +13,9 @@ use Rattle.sab_sim.specs.Entry.{is_act, is_stuck}
 use Rattle.sab_sim.specs.Plan.{PlanParts, calls_of}
 use Rattle.sab_sim.specs.Object.{State, opening}
 use Rattle.sab_sim.specs.Journal.{acts, Run, Reaches, track, IsTrack, returned_of, Answers, Justifies}
-use Rattle.sab_sim.specs.Agent.{agent_at, IsWhere, Goes, Kept}
+use Rattle.sab_sim.specs.Agent.{agent_at, IsWhere}
+use Rattle.sab_sim.specs.Turn.{Goes}
+use Rattle.sab_sim.specs.Kept.{Kept}
 use Rattle.sab_sim.specs.Report.{ReportParts, FitsMoves, Fits, IsOnly, progress_from}
 use Rattle.sab_sim.specs.Sim.{IsKept}
 use Rattle.sab_sim.proofs.Keeping.{entry_of}

@@ -19,7 +19,10 @@ use Rattle.sab_sim.specs.Call.{view_of}
 use Rattle.sab_sim.specs.Script.{ScriptParts}
 use Rattle.sab_sim.specs.Plan.{PlanParts, calls_of, call_of}
 use Rattle.sab_sim.specs.Object.{State, DoesCall, Does, bytes_of, joined, woken}
-use Rattle.sab_sim.specs.Agent.{newcomer, agent_at, Advances, IsLike, IsAtCall, IsBegun, Turns, AnswersAccess, FindsWait, FindsNotify, AllAlike, Wakes}
+use Rattle.sab_sim.specs.Agent.{newcomer, agent_at, Advances, IsLike, IsAtCall, IsBegun, AllAlike}
+use Rattle.sab_sim.specs.Line.{Wakes}
+use Rattle.sab_sim.specs.Finding.{AnswersAccess, FindsWait, FindsNotify}
+use Rattle.sab_sim.specs.Turn.{Turns}
 use Rattle.sab_sim.proofs.Lists.{slice_get-set, slice_get-set_other}
 use Rattle.sab_sim.proofs.Seating.{some_one}
 use Rattle.sab_sim.proofs.Turning.{HasTurn, does_call, IsFree, begun_free, answered_free, stands_still, acted_turn}

@@ -17,8 +17,10 @@ use Rattle.sab_sim.specs.declared.agent.Phase.TheVariants as P
 use Rattle.sab_sim.specs.Call.{view_of}
 use Rattle.sab_sim.specs.Place.{same_place}
 use Rattle.sab_sim.specs.Plan.{PlanParts, calls_of, call_of, is_timed}
-use Rattle.sab_sim.specs.Object.{State, Waiter, stands, is_at, joined, taken_off, left, Does, DoesCall}
-use Rattle.sab_sim.specs.Agent.{waiting_phase, woken_phase, WaitsAt, IsSeated, Stands, WaitsOn, HasCall, IsAtCall, IsInLine, Turns}
+use Rattle.sab_sim.specs.Object.{State, Waiter, stands, is_at, joined, taken_off, departed, Does, DoesCall}
+use Rattle.sab_sim.specs.Agent.{waiting_phase, woken_phase, WaitsOn, HasCall, IsAtCall, IsInLine}
+use Rattle.sab_sim.specs.Line.{WaitsAt, IsSeated, Represents}
+use Rattle.sab_sim.specs.Turn.{Turns}
 use Rattle.sab_sim.proofs.Lists.{slice_get-set, slice_get-set_other}
 use Rattle.sab_sim.proofs.Seating.{same_place-same, free_waits, one_ticket, stands_in, without, seated_without, stands_without_own, stands_without}
 use Rattle.sab_sim.proofs.Turning.{HasTurn, DiffersAt, stands_set, free_ticket, seated_set, own_turn, does_call}
@@ -60,7 +62,7 @@ enlisted_turn {plan} {a} {mem} {agents} {ticket} {g} turn call p begun call_is w
     here : slice_get (set agents a h) a ≡ Some h
     here = slice_get-set agents a h (slice_get_within agents a g turn.agent_is)
 
-    stands_after : (S : State) → Stands mem agents ticket S → Stands mem (set agents a h) (suc ticket) (joined p a S)
+    stands_after : (S : State) → Represents mem agents ticket S → Represents mem (set agents a h) (suc ticket) (joined p a S)
     stands_after S stood =
         stands_set stood turn.agent_is h (suc ticket) (joined p a S) stood.mem_is differs seated (omega arith)
         (λ q t waits. let same : t ≡ ticket = cc in omega (arith, same))
@@ -75,8 +77,8 @@ enlisted_turn {plan} {a} {mem} {agents} {ticket} {g} turn call p begun call_is w
 
         differs : DiffersAt a h.phase S (joined p a S)
         differs = record {
-          own_called = stood.called_is a ∙ (rw turn.agent_is (ap woken_phase begun));
-          other_called = λ b n. refl;
+          own_notified = stood.notified_is a ∙ (rw turn.agent_is (ap woken_phase begun));
+          other_notified = λ b n. refl;
           own_stands = list_any-append (λ (w : Waiter). w.agent == a) S.line (record { place = p; agent = a } ∷ []) ∙ (let own : (a == a) ≡ true = eq-eqb a a refl in rw (own, or-true (stands S a)) refl);
           other_stands = λ b n. list_any-append (λ (w : Waiter). w.agent == b) S.line (record { place = p; agent = a } ∷ []) ∙ (let other : (a == b) ≡ false = ne_eqb a b (λ r. n (sym r)) in rw (other, or-false (stands S b)) refl);
         }
@@ -148,7 +150,7 @@ timed_turn {plan} {a} {mem} {agents} {ticket} {g} turn p t waits timed =
     timed' : is_timed (Some has.0) ≡ true
     timed' = rw has.1 at timed
 
-    stands_after : (S : State) → Stands mem agents ticket S → Stands mem (set agents a h) ticket (taken_off p a S)
+    stands_after : (S : State) → Represents mem agents ticket S → Represents mem (set agents a h) ticket (taken_off p a S)
     stands_after S stood =
         stands_set stood turn.agent_is h ticket (taken_off p a S) stood.mem_is differs
         (subst (IsSeated (set agents a h) 0) (sym line_is) (seated_without agents a h 0 S.line stood.seated)) (omega arith)
@@ -159,8 +161,8 @@ timed_turn {plan} {a} {mem} {agents} {ticket} {g} turn p t waits timed =
 
         differs : DiffersAt a h.phase S (taken_off p a S)
         differs = record {
-          own_called = stood.called_is a ∙ (rw turn.agent_is (ap woken_phase waits));
-          other_called = λ b n. refl;
+          own_notified = stood.notified_is a ∙ (rw turn.agent_is (ap woken_phase waits));
+          other_notified = λ b n. refl;
           own_stands = rw line_is (stands_without_own a S.line);
           other_stands = λ b n. rw line_is (stands_without a b S.line n);
         }
@@ -168,39 +170,39 @@ timed_turn {plan} {a} {mem} {agents} {ticket} {g} turn p t waits timed =
 -- ---- those who were woken
 
 -- the leaving of a woken wait is one of the object's
-left_does : (plan : PlanParts) (can_block : Bool) (a : ℕ) (p : Place) (call : Call) (S : State) → WaitsOn plan p call → S.called a ≡ true
-    → (v : PlanView) × (slice_get plan.views (view_of call) ≡ Some v) × DoesCall can_block a v call S (Left A.Woken) (left a S)
-left_does plan can_block a p (C.Wait n index x timeout) S waits called = (waits.0, waits.1, (called, refl))
-left_does plan can_block a p (C.Access n access) S waits called = absurd waits
-left_does plan can_block a p (C.Notify n index count) S waits called = absurd waits
+departed_does : (plan : PlanParts) (can_block : Bool) (a : ℕ) (p : Place) (call : Call) (S : State) → WaitsOn plan p call → S.notified a ≡ true
+    → (v : PlanView) × (slice_get plan.views (view_of call) ≡ Some v) × DoesCall can_block a v call S (Left A.Woken) (departed a S)
+departed_does plan can_block a p (C.Wait n index x timeout) S waits notified = (waits.0, waits.1, (notified, refl))
+departed_does plan can_block a p (C.Access n access) S waits notified = absurd waits
+departed_does plan can_block a p (C.Notify n index count) S waits notified = absurd waits
 
 -- a woken agent leaves its wait
 pub woken_turn : {plan : PlanParts} {a : ℕ} {mem : List (List ℕ)} {agents : List Agent} {ticket : ℕ} {g : Agent} (turn : HasTurn plan agents a g)
     → g.phase ≡ P.Woken
     → Turns plan a mem agents ticket (Left A.Woken) mem (set agents a (record { returned = g.returned; phase = P.Answered A.Woken }))
-woken_turn {plan} {a} {mem} {agents} {ticket} {g} turn is_called =
-    own_turn turn (Left A.Woken) h (subst IsInLine (sym is_called) tt, refl) (has.0, has.1, tt)
+woken_turn {plan} {a} {mem} {agents} {ticket} {g} turn phase_is =
+    own_turn turn (Left A.Woken) h (subst IsInLine (sym phase_is) tt, refl) (has.0, has.1, tt)
     (λ S stood.
-    let called_now : S.called a ≡ true = stood.called_is a ∙ (rw turn.agent_is (ap woken_phase is_called)) in
-    let does = left_does plan turn.script.can_block a has.2.0 has.0 S has.2.1 called_now in
-    (left a S, record { acts = does_call turn has.0 does.0 (Left A.Woken) S (left a S) has.1 does.1 does.2; justified = tt }, stands_after S stood))
+    let notified_now : S.notified a ≡ true = stood.notified_is a ∙ (rw turn.agent_is (ap woken_phase phase_is)) in
+    let does = departed_does plan turn.script.can_block a has.2.0 has.0 S has.2.1 notified_now in
+    (departed a S, record { acts = does_call turn has.0 does.0 (Left A.Woken) S (departed a S) has.1 does.1 does.2; justified = tt }, stands_after S stood))
   where
     h : Agent
     h = record { returned = g.returned; phase = P.Answered A.Woken }
 
     has : HasCall plan (calls_of plan a) g.returned P.Woken
-    has = subst (IsAtCall plan (calls_of plan a) g.returned) is_called turn.at_call
+    has = subst (IsAtCall plan (calls_of plan a) g.returned) phase_is turn.at_call
 
-    stands_after : (S : State) → Stands mem agents ticket S → Stands mem (set agents a h) ticket (left a S)
+    stands_after : (S : State) → Represents mem agents ticket S → Represents mem (set agents a h) ticket (departed a S)
     stands_after S stood =
-        stands_set stood turn.agent_is h ticket (left a S) stood.mem_is differs
-        (seated_set agents a g h 0 S.line turn.agent_is (ap waiting_phase is_called) stood.seated) (omega arith)
+        stands_set stood turn.agent_is h ticket (departed a S) stood.mem_is differs
+        (seated_set agents a g h 0 S.line turn.agent_is (ap waiting_phase phase_is) stood.seated) (omega arith)
         (λ q u answered. free_ticket h.phase q u ticket refl answered)
       where
-        differs : DiffersAt a h.phase S (left a S)
+        differs : DiffersAt a h.phase S (departed a S)
         differs = record {
-          own_called = let own : (a == a) ≡ true = eq-eqb a a refl in rw (own, and-false (S.called a)) refl;
-          other_called = λ b n. let other : (b == a) ≡ false = ne_eqb b a n in rw (other, and-true (S.called b)) refl;
-          own_stands = stood.stands_is a ∙ (rw turn.agent_is (ap waiting_phase is_called));
+          own_notified = let own : (a == a) ≡ true = eq-eqb a a refl in rw (own, and-false (S.notified a)) refl;
+          other_notified = λ b n. let other : (b == a) ≡ false = ne_eqb b a n in rw (other, and-true (S.notified b)) refl;
+          own_stands = stood.stands_is a ∙ (rw turn.agent_is (ap waiting_phase phase_is));
           other_stands = λ b n. refl;
         }

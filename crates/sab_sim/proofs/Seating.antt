@@ -8,7 +8,8 @@ use Rattle.sab_sim.specs.declared.agent.Agent.{Agent}
 use Rattle.sab_sim.specs.declared.agent.Phase.TheVariants as P
 use Rattle.sab_sim.specs.Place.{same_place}
 use Rattle.sab_sim.specs.Object.{Waiter}
-use Rattle.sab_sim.specs.Agent.{waiting_phase, WaitsAt, IsSeated}
+use Rattle.sab_sim.specs.Agent.{waiting_phase}
+use Rattle.sab_sim.specs.Line.{WaitsAt, IsSeated}
 use Rattle.sab_sim.proofs.Lists.{slice_get-set_other}
 
 -- ---- places

@@ -18,7 +18,9 @@ use Rattle.sab_sim.specs.Script.{ScriptParts}
 use Rattle.sab_sim.specs.Plan.{PlanParts, IsPlan, calls_of}
 use Rattle.sab_sim.specs.Object.{opening}
 use Rattle.sab_sim.specs.Journal.{Course, AtOnce, InLine, course, IsTrack, returned_of, answers_move}
-use Rattle.sab_sim.specs.Agent.{newcomer, agent_at, is_woken, is_waiting, IsPart, IsAtCall, IsWhere, AllAtCalls, Turns, Kept, ticket_after}
+use Rattle.sab_sim.specs.Agent.{newcomer, agent_at, is_woken, is_waiting, IsPart, IsAtCall, IsWhere, AllAtCalls}
+use Rattle.sab_sim.specs.Turn.{Turns, ticket_after}
+use Rattle.sab_sim.specs.Kept.{Kept}
 use Rattle.sab_sim.specs.Report.{ReportParts, FitsMoves, Fits, progress_from}
 use Rattle.sab_sim.specs.Sim.{IsKept, standing_from}
 use Rattle.sab_sim.proofs.Keeping.{Kept-push}
@@ -104,7 +106,7 @@ Kept-opening plan = record {
     refl,
     record {
       mem_is = refl;
-      called_is = λ b. sym (newcomers_free (length plan.scripts) b).0;
+      notified_is = λ b. sym (newcomers_free (length plan.scripts) b).0;
       stands_is = λ b. sym (newcomers_free (length plan.scripts) b).1;
       seated = tt;
       tickets = λ b p t w. absurd (let e = all_newcomers (length plan.scripts) b w.0 w.1 in let f : P.Ready ≡ P.Waiting p t = ap (λ (g : Agent). g.phase) e ∙ w.2 in cc);

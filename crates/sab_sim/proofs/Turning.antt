@@ -17,7 +17,9 @@ use Rattle.sab_sim.specs.Call.{view_of}
 use Rattle.sab_sim.specs.Script.{ScriptParts}
 use Rattle.sab_sim.specs.Plan.{PlanParts, calls_in, calls_of, call_of}
 use Rattle.sab_sim.specs.Object.{State, Waiter, stands, Does, DoesCall}
-use Rattle.sab_sim.specs.Agent.{woken_phase, waiting_phase, is_woken, is_waiting, newcomer, agent_at, WaitsAt, IsSeated, Stands, HasCall, IsAtCall, AllAtCalls, Goes, Advances, Turns, ticket_after}
+use Rattle.sab_sim.specs.Agent.{woken_phase, waiting_phase, is_woken, is_waiting, newcomer, agent_at, HasCall, IsAtCall, AllAtCalls, Advances}
+use Rattle.sab_sim.specs.Line.{WaitsAt, IsSeated, Represents}
+use Rattle.sab_sim.specs.Turn.{Goes, Turns, ticket_after}
 use Rattle.sab_sim.proofs.Lists.{slice_get-set, slice_get-set_other}
 use Rattle.sab_sim.proofs.Seating.{some_one, free_waits}
 
@@ -59,7 +61,7 @@ does_call {plan} {agents} {a} {g} turn call v what S T call_is view_is does =
 -- a move that changes one agent
 pub own_turn : {plan : PlanParts} {a : ℕ} {mem : List (List ℕ)} {agents : List Agent} {ticket : ℕ} {mem' : List (List ℕ)} {g : Agent} (turn : HasTurn plan agents a g) (what : What) (h : Agent)
     → Advances g what h → IsAtCall plan (calls_of plan a) h.returned h.phase
-    → ((S : State) → Stands mem agents ticket S → (T : State) × Goes plan S (record { agent = a; call = g.returned; what = what }) T × Stands mem' (set agents a h) (ticket_after what ticket) T)
+    → ((S : State) → Represents mem agents ticket S → (T : State) × Goes plan S (record { agent = a; call = g.returned; what = what }) T × Represents mem' (set agents a h) (ticket_after what ticket) T)
     → Turns plan a mem agents ticket what mem' (set agents a h)
 own_turn {plan} {a} {mem} {agents} {ticket} {mem'} {g} turn what h advances at_call goes = record {
   own = λ g' h' g_is h_is.
@@ -69,7 +71,7 @@ own_turn {plan} {a} {mem} {agents} {ticket} {mem'} {g} turn what h advances at_c
   others = λ b h' other h_is. (h', sym (slice_get-set_other agents a b h other) ∙ h_is, inl refl);
   object = λ S g' stood g_is.
       let gs : g ≡ g' = some_one agents a g g' turn.agent_is g_is in
-      subst (λ (k : Agent). (T : State) × Goes plan S (record { agent = a; call = k.returned; what = what }) T × Stands mem' (set agents a h) (ticket_after what ticket) T) gs (goes S stood);
+      subst (λ (k : Agent). (T : State) × Goes plan S (record { agent = a; call = k.returned; what = what }) T × Represents mem' (set agents a h) (ticket_after what ticket) T) gs (goes S stood);
 }
   where
     here : slice_get (set agents a h) a ≡ Some h
@@ -77,21 +79,21 @@ own_turn {plan} {a} {mem} {agents} {ticket} {mem'} {g} turn what h advances at_c
 
 -- of two states the second differs at one agent only, which has this phase there
 pub record DiffersAt (a : ℕ) (phase : Phase) (S T : State) : Type 0 where
-  pub own_called : T.called a ≡ woken_phase phase
-  pub other_called : (b : ℕ) → b ≢ a → T.called b ≡ S.called b
+  pub own_notified : T.notified a ≡ woken_phase phase
+  pub other_notified : (b : ℕ) → b ≢ a → T.notified b ≡ S.notified b
   pub own_stands : stands T a ≡ waiting_phase phase
   pub other_stands : (b : ℕ) → b ≢ a → stands T b ≡ stands S b
 
 -- the object goes with the change of one agent
-pub stands_set : {mem : List (List ℕ)} {agents : List Agent} {ticket : ℕ} {S : State} {a : ℕ} {g : Agent} {mem' : List (List ℕ)} (stood : Stands mem agents ticket S) → slice_get agents a ≡ Some g
+pub stands_set : {mem : List (List ℕ)} {agents : List Agent} {ticket : ℕ} {S : State} {a : ℕ} {g : Agent} {mem' : List (List ℕ)} (stood : Represents mem agents ticket S) → slice_get agents a ≡ Some g
     → (h : Agent) (later : ℕ) (T : State) → T.mem ≡ mem' → DiffersAt a h.phase S T → IsSeated (set agents a h) 0 T.line
     → ticket ≤ later → ((p : Place) (t : ℕ) → h.phase ≡ P.Waiting p t → t < later)
-    → Stands mem' (set agents a h) later T
+    → Represents mem' (set agents a h) later T
 stands_set {mem} {agents} {ticket} {S} {a} {g} stood g_is h later T mem_is differs seated rises own_ticket = record {
   mem_is = mem_is;
-  called_is = λ b. elim (cases_eq b a) [
-    | inl e ↦ rw (e, here) differs.own_called
-    | inr n ↦ differs.other_called b n ∙ (stood.called_is b ∙ ap is_woken (sym (slice_get-set_other agents a b h n)))
+  notified_is = λ b. elim (cases_eq b a) [
+    | inl e ↦ rw (e, here) differs.own_notified
+    | inr n ↦ differs.other_notified b n ∙ (stood.notified_is b ∙ ap is_woken (sym (slice_get-set_other agents a b h n)))
   ];
   stands_is = λ b. elim (cases_eq b a) [
     | inl e ↦ rw (e, here) differs.own_stands
@@ -139,13 +141,13 @@ seated_set agents a g h low (w ∷ line) g_is free s =
     (s.0, s.1, (s.2.0, slice_get-set_other agents a w.agent h other ∙ s.2.1, s.2.2), seated_set agents a g h (suc s.0) line g_is free s.3)
 
 -- a free agent stays free, and the bytes may change
-pub stands_free : {mem : List (List ℕ)} {agents : List Agent} {ticket : ℕ} {S : State} {g : Agent} (a : ℕ) (stood : Stands mem agents ticket S) → slice_get agents a ≡ Some g → IsFree g.phase
-    → (h : Agent) → IsFree h.phase → (mem' : List (List ℕ)) → Stands mem' (set agents a h) ticket (record S { mem = mem' })
+pub stands_free : {mem : List (List ℕ)} {agents : List Agent} {ticket : ℕ} {S : State} {g : Agent} (a : ℕ) (stood : Represents mem agents ticket S) → slice_get agents a ≡ Some g → IsFree g.phase
+    → (h : Agent) → IsFree h.phase → (mem' : List (List ℕ)) → Represents mem' (set agents a h) ticket (record S { mem = mem' })
 stands_free {mem} {agents} {ticket} {S} {g} a stood g_is free h free' mem' =
     stands_set stood g_is h ticket (record S { mem = mem' }) refl
     (record {
-      own_called = stood.called_is a ∙ (rw g_is (free.woken ∙ sym free'.woken));
-      other_called = λ b n. refl;
+      own_notified = stood.notified_is a ∙ (rw g_is (free.woken ∙ sym free'.woken));
+      other_notified = λ b n. refl;
       own_stands = stood.stands_is a ∙ (rw g_is (free.waiting ∙ sym free'.waiting));
       other_stands = λ b n. refl;
     })
@@ -153,10 +155,10 @@ stands_free {mem} {agents} {ticket} {S} {g} a stood g_is free h free' mem' =
     (λ p t waits. free_ticket h.phase p t ticket free'.waiting waits)
 
 -- the object stays where it is
-pub stands_still : {mem : List (List ℕ)} {agents : List Agent} {ticket : ℕ} {S : State} {g : Agent} (a : ℕ) (stood : Stands mem agents ticket S) → slice_get agents a ≡ Some g → IsFree g.phase
-    → (h : Agent) → IsFree h.phase → Stands mem (set agents a h) ticket S
+pub stands_still : {mem : List (List ℕ)} {agents : List Agent} {ticket : ℕ} {S : State} {g : Agent} (a : ℕ) (stood : Represents mem agents ticket S) → slice_get agents a ≡ Some g → IsFree g.phase
+    → (h : Agent) → IsFree h.phase → Represents mem (set agents a h) ticket S
 stands_still {mem} {agents} {ticket} {S} a stood g_is free h free' =
-    subst (λ (m : List (List ℕ)). Stands m (set agents a h) ticket S) stood.mem_is (stands_free a stood g_is free h free' S.mem)
+    subst (λ (m : List (List ℕ)). Represents m (set agents a h) ticket S) stood.mem_is (stands_free a stood g_is free h free' S.mem)
 
 -- ---- the moves
 

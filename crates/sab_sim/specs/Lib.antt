@@ -10,5 +10,10 @@ pub mod Entry
 pub mod Journal
 pub mod Report
 pub mod Agent
+pub mod Line
+pub mod Finding
+pub mod Turn
+pub mod Kept
+pub mod Shown
 pub mod SimFault
 pub mod Sim

@@ -1,4 +1,4 @@
--- The sequential object: the bytes of all blocks, one line of waiters, and the agents called.
+-- The sequential object: the bytes of all blocks, one line of waiters, and the agents notified.
 use Rattle.std.specs.Prelude.{◌≡◌, ◌≢◌, ℕ, zero, suc, ◌==◌, ◌&&◌, ◌||◌, not, min, Bool, true, false, if◌then◌else◌, ℤ, pos, negsuc, List, [], ◌∷◌, ◌++◌, length, map, take, filter, replicate, slice_get, slice_set, slice_index_or, Contains, Option, Some, None}
 use Rattle.std.specs.List.{list_any}
 use Rattle.sab_block.specs.Access.{Acts, element, raw_of}
@@ -28,15 +28,15 @@ pub record State : Type 0 where
   -- the waiters of all places, in order of arrival (WaiterList)
   pub line : List Waiter
   -- the agents that were woken and haven't left
-  pub called : ℕ → Bool
+  pub notified : ℕ → Bool
 
 -- blocks of these lengths, all of whose bytes are zero (CreateSharedByteDataBlock)
 abbrev pub zero_blocks : List ℕ → List (List ℕ)
 zero_blocks lens = map (λ len. replicate len 0) lens
 
--- zero blocks, nobody waits, nobody was called
+-- zero blocks, nobody waits, nobody was notified
 abbrev pub opening : List ℕ → State
-opening lens = record { mem = zero_blocks lens; line = []; called = λ a. false }
+opening lens = record { mem = zero_blocks lens; line = []; notified = λ a. false }
 
 -- the bytes of a block
 abbrev pub bytes_of : List (List ℕ) → ℕ → List ℕ
@@ -76,7 +76,7 @@ abbrev pub woken : ℕ → Place → State → State
 woken n p S = record {
   mem = S.mem;
   line = without_first n p S.line;
-  called = λ b. S.called b || list_any (λ a. a == b) (take n (waiters p S.line));
+  notified = λ b. S.notified b || list_any (λ a. a == b) (take n (waiters p S.line));
 }
 
 -- a waiter joins the line at its end (AddWaiter)
@@ -87,9 +87,9 @@ joined p a S = record S { line = S.line ++ record { place = p; agent = a } ∷ [
 abbrev pub taken_off : Place → ℕ → State → State
 taken_off p a S = record S { line = filter (λ (w : Waiter). not (is_at p w && (w.agent == a))) S.line }
 
--- an agent that was called leaves
-abbrev pub left : ℕ → State → State
-left a S = record S { called = λ b. S.called b && not (b == a) }
+-- an agent that was notified leaves
+abbrev pub departed : ℕ → State → State
+departed a S = record S { notified = λ b. S.notified b && not (b == a) }
 
 -- from S, a call of agent a on its view does this, and leaves T
 abbrev pub DoesCall : Bool → ℕ → PlanView → Call → State → What → State → Type 0
@@ -111,8 +111,8 @@ DoesCall can_block a v (C.Wait n index x timeout) S (Acted NotEqual) T =
 DoesCall can_block a v (C.Wait n index x timeout) S Enlisted T =
     (verdict can_block v.view (C.Wait n index x timeout) ≡ None)
     × ((p : Place) × (place_of v index ≡ Some p) × (raw_of v.view x ≡ element_at v S.mem p) × (T ≡ joined p a S))
--- a wait whose agent was called
-DoesCall can_block a v (C.Wait n index x timeout) S (Left Woken) T = (S.called a ≡ true) × (T ≡ left a S)
+-- a wait whose agent was notified
+DoesCall can_block a v (C.Wait n index x timeout) S (Left Woken) T = (S.notified a ≡ true) × (T ≡ departed a S)
 -- a wait with a timeout, whose agent stands in the line
 DoesCall can_block a v (C.Wait n index x (Some timeout)) S (Left TimedOut) T =
     (p : Place) × (place_of v index ≡ Some p) × Contains S.line (record { place = p; agent = a }) × (T ≡ taken_off p a S)

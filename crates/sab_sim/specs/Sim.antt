@@ -7,7 +7,8 @@ use Rattle.sab_sim.specs.declared.agent.Agent.{Agent}
 use Rattle.sab_sim.specs.declared.progress.Progress.{Progress}
 use Rattle.sab_sim.specs.Plan.{PlanParts, IsPlan}
 use Rattle.sab_sim.specs.Script.{ScriptParts}
-use Rattle.sab_sim.specs.Agent.{Kept, agent_at}
+use Rattle.sab_sim.specs.Agent.{agent_at}
+use Rattle.sab_sim.specs.Kept.{Kept}
 
 -- a plan, the moves so far, what each did, the bytes of each block now, and how many steps have their room reserved
 pub record SimParts : Type 0 where

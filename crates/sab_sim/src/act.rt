@@ -2,7 +2,7 @@
 
 ghost use Rattle.std.specs.Prelude.{◌≡◌, length, map, slice_get, Some};
 ghost use Rattle.sab_block.specs.View.{block_len_of};
-ghost use Rattle.sab_sim.specs.Agent.{AnswersAccess, FindsWait, FindsNotify};
+ghost use Rattle.sab_sim.specs.Finding.{AnswersAccess, FindsWait, FindsNotify};
 
 use crate::answer::Answer;
 use crate::place::Place;

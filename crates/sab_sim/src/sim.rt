@@ -1,14 +1,17 @@
 //! The simulator.
 
-ghost use Rattle.std.specs.Prelude.{◌≡◌, ℕ, ◌<◌, ◌≤◌, ◌^◌, ◌+◌, ◌-◌, ◌++◌, ◌∷◌, [], length, map, min, replicate, Err, IsOk, IfOk, OnOk, OnErr, IsOkUnless};
+ghost use Rattle.std.specs.Prelude.{◌≡◌, ℕ, ◌<◌, ◌≤◌, ◌^◌, ◌+◌, ◌-◌, ◌++◌, ◌∷◌, [], length, map, min, replicate, All, Err, IsOk, IfOk, OnOk, OnErr, IsOkUnless};
 ghost use Rattle.sab_sim.specs.declared.entry.Entry.{Entry};
 ghost use Rattle.sab_sim.specs.declared.sim_fault.SimFault.TheVariants.{NoAgent, Full, OutOfMemory};
 ghost use Rattle.sab_sim.specs.Schedule.{agent_of};
-ghost use Rattle.sab_sim.specs.Object.{zero_blocks};
+ghost use Rattle.sab_sim.specs.Object.{zero_blocks, waiters};
+ghost use Rattle.sab_sim.specs.Shown.{AtEnd};
 ghost use Rattle.sab_sim.specs.Report.{FitsMoves, Fits, IsOnly};
 
 use crate::agent::{Agent, Phase};
 use crate::entry::{Entry, What};
+use crate::line_at::line_at;
+use crate::place::Place;
 use crate::plan::Plan;
 use crate::progress::Progress;
 use crate::report::Report;
@@ -16,6 +19,7 @@ use crate::room::{hand_over, tell_progress};
 use crate::schedule::Move;
 use crate::sim_fault::SimFault;
 use crate::turn::turn;
+use crate::waiters::Waiters;
 use sab_block::Block;
 use std::alloc::{AllocError, Global};
 use std::marker::Model;
@@ -156,6 +160,29 @@ impl Sim {
         ensures { result.now ≡ self.now.plan }
     {
         &self.plan
+    }
+
+    /// The moves so far.
+    pub fn moves(&self) -> &[Move]
+        ensures { result.now ≡ self.now.moves }
+    {
+        self.moves.as_slice()
+    }
+
+    /// The blocks as the moves so far left them, in the order of the plan.
+    pub fn blocks(&self) -> &[Block]
+        ensures { result.now ≡ self.now.blocks }
+    {
+        self.blocks.as_slice()
+    }
+
+    /// The agents that wait at a place now, oldest first; none, where the plan has no such place.
+    pub fn waiters_at(&self, place: Place) -> Waiters
+        ensures waiters { AtEnd self.now.plan self.now.journal (λ S. result ≡ waiters place S.line) }
+        ensures named { All (λ a. a < length self.now.plan.scripts) result }
+        ensures most { length result ≤ 16 }
+    {
+        line_at(&self.agents, place)
     }
 
     /// What each move so far did.

@@ -7,7 +7,8 @@ ghost use Rattle.sab_sim.specs.declared.agent.Phase.TheVariants.{Answered};
 ghost use Rattle.sab_sim.specs.Schedule.{agent_of};
 ghost use Rattle.sab_sim.specs.Journal.{answers_move};
 ghost use Rattle.sab_sim.specs.Plan.{IsPlan};
-ghost use Rattle.sab_sim.specs.Agent.{Turns, AllAtCalls, IsBegun, agent_at};
+ghost use Rattle.sab_sim.specs.Agent.{AllAtCalls, IsBegun, agent_at};
+ghost use Rattle.sab_sim.specs.Turn.{Turns};
 
 use crate::act::{act_access, find_notify, find_wait};
 use crate::agent::{Agent, Phase};

@@ -5,7 +5,7 @@ use Rattle.std.specs.Int.{w64}
 use Rattle.sab_sim.specs.declared.place.Place.{Place}
 use Rattle.sab_sim.specs.declared.call.Call.{Call}
 use Rattle.sab_sim.specs.declared.call.Call.TheVariants as C
-use Rattle.sab_sim.specs.Agent.{FindsWait, FindsNotify}
+use Rattle.sab_sim.specs.Finding.{FindsWait, FindsNotify}
 use Rattle.sab_sim.proofs.Turning.{has_turn}
 use Rattle.sab_sim.proofs.Placing.{is_acting, access_turn, wait_threw, wait_differs, wait_joins, notify_threw, notify_wakes}
 use Rattle.sab_sim.proofs.turn.perform.Goals as goal

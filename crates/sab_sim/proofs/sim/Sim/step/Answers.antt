@@ -3,7 +3,7 @@ use Rattle.std.proofs.Common.{List, ℕ, ◌≡◌, ◌∙◌, ◌++◌, ◌∷�
 use Rattle.sab_sim.specs.declared.entry.Entry.{Entry}
 use Rattle.sab_sim.specs.declared.entry.What.TheVariants.{Enlisted}
 use Rattle.sab_sim.specs.declared.sim.Sim.TheInside.{Inside}
-use Rattle.sab_sim.specs.Agent.{ticket_after}
+use Rattle.sab_sim.specs.Turn.{ticket_after}
 use Rattle.sab_sim.specs.Sim.{SimParts}
 use Rattle.sab_sim.proofs.Simulating.{Kept-at_calls, IsKept-step, ticket_after-other}
 use Rattle.sab_sim.proofs.sim.Sim.step.Goals.{then-eq, else-eq}

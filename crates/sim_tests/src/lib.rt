@@ -11,3 +11,5 @@ mod plans;
 mod racing;
 #[cfg(test)]
 mod run;
+#[cfg(test)]
+mod showing;

@@ -107,6 +107,12 @@ fn makes(mut sim: Sim, run: &Run, reserved: u32) -> bool {
     sim.reserve(reserved).is_ok()
         && run.schedule.iter().all(|m| sim.step(*m).is_ok())
         && sim.journal() == run.journal
+        && sim.moves() == run.schedule
+        && sim
+            .blocks()
+            .iter()
+            .map(|block| block.bytes())
+            .eq(run.blocks.iter().copied())
         && run.is_of(&sim.finish())
 }
 

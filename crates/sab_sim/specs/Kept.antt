@@ -1,0 +1,21 @@
+-- What a simulator keeps of its moves.
+use Rattle.std.specs.Prelude.{◌≡◌, ℕ, ◌<◌, List, length, slice_get, Some}
+use Rattle.sab_sim.specs.declared.entry.Entry.{Entry}
+use Rattle.sab_sim.specs.declared.schedule.Move.{Move}
+use Rattle.sab_sim.specs.declared.agent.Agent.{Agent}
+use Rattle.sab_sim.specs.Schedule.{agent_of}
+use Rattle.sab_sim.specs.Plan.{PlanParts}
+use Rattle.sab_sim.specs.Object.{State}
+use Rattle.sab_sim.specs.Journal.{EachAnswers, IsJustified, EachAfter, Reaches}
+use Rattle.sab_sim.specs.Agent.{IsWhere}
+use Rattle.sab_sim.specs.Line.{Represents}
+
+-- the agents, the bytes and the object are where the journal leaves them, and each entry was right
+pub record Kept (plan : PlanParts) (moves : List Move) (journal : List Entry) (mem : List (List ℕ)) (agents : List Agent) (next_ticket : ℕ) : Type 0 where
+  pub one_each : length journal ≡ length moves
+  pub named : (k : ℕ) (m : Move) → slice_get moves k ≡ Some m → agent_of m < length plan.scripts
+  pub answers : EachAnswers moves journal
+  pub justified : EachAfter (IsJustified plan) journal
+  pub object : (S : State) × Reaches plan journal S × Represents mem agents next_ticket S
+  pub size : length agents ≡ length plan.scripts
+  pub agents_are : (a : ℕ) (g : Agent) → slice_get agents a ≡ Some g → IsWhere plan journal a g

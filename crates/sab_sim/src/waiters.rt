@@ -1,0 +1,51 @@
+//! The agents that wait at a place.
+
+ghost use Rattle.std.specs.Prelude.{◌≡◌, ◌<◌, ◌≤◌, ◌++◌, ◌∷◌, [], length};
+
+use std::marker::Model;
+
+/// The agents that wait at a place, oldest first. They are at most 16, as many as a plan can have, and take no memory.
+#[derive(Drop)]
+pub struct Waiters {
+    agents: [u32; 16],
+    len: usize,
+}
+
+impl Model for Waiters {
+    ghost use Rattle.std.specs.Prelude.{ℕ, List, take, ◌≤◌};
+
+    ghost Value = { List ℕ };
+
+    ghost view = { λ w. take w.len w.agents };
+
+    ghost invariant = { λ w. w.len ≤ 16 };
+}
+
+impl Waiters {
+    /// No agents.
+    pub(crate) fn new() -> Waiters
+        ensures { result ≡ [] }
+    {
+        Waiters {
+            agents: [0; 16],
+            len: 0,
+        }
+    }
+
+    /// Puts an agent last.
+    pub(crate) fn push(&mut self, agent: u32)
+        requires { length self.old < 16 }
+        ensures { self.new ≡ self.old ++ agent ∷ [] }
+    {
+        self.agents[self.len] = agent;
+        self.len += 1;
+    }
+
+    /// The agents, oldest first.
+    pub fn agents(&self) -> &[u32]
+        ensures agents { result.now ≡ self.now }
+        ensures most { length self.now ≤ 16 }
+    {
+        &self.agents[..self.len]
+    }
+}

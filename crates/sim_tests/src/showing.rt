@@ -1,0 +1,36 @@
+//! What a simulator shows between its moves.
+
+use crate::expecting::expect;
+use crate::run::{notify, plan, wait, whole};
+use sab_block::Kind;
+use sab_sim::Move::Step;
+use sab_sim::{Place, Sim};
+use std::test::Fail;
+
+/// Makes a step of each of these agents, and tells whether just `waiting` wait at the first byte of block 1 then.
+fn shows(sim: &mut Sim, agents: &[u32], waiting: &[u32]) -> bool {
+    let place = Place { block: 1, byte: 0 };
+    let other_block = Place { block: 0, byte: 0 };
+    let other_byte = Place { block: 1, byte: 4 };
+    agents.iter().all(|agent| sim.step(Step(*agent)).is_ok())
+        && sim.waiters_at(place).agents() == waiting
+        && sim.waiters_at(other_block).agents().is_empty()
+        && sim.waiters_at(other_byte).agents().is_empty()
+}
+
+/// Agents 2, 0 and 1 come to wait in this order, and agent 3 wakes two of them.
+#[test]
+fn who_waits_is_shown_oldest_first(rt: HostRuntime) -> Result<(), Fail> {
+    let waits = [wait(0, 0, None)?];
+    let agents = [
+        (true, waits.as_slice()),
+        (true, waits.as_slice()),
+        (true, waits.as_slice()),
+        (true, &[notify(0, 0, Some(2))]),
+    ];
+    let plan = plan(rt.alloc(), &[8, 8], &[whole(Kind::Int32, 1, 8)?], &agents)?;
+    let mut sim = Sim::new(rt.alloc(), plan)?;
+    expect(shows(&mut sim, &[0, 1, 2], &[]), "before a call has acted")?;
+    expect(shows(&mut sim, &[2, 0, 1], &[2, 0, 1]), "three who wait")?;
+    expect(shows(&mut sim, &[3, 3], &[1]), "one who still waits")
+}
