@@ -1,6 +1,6 @@
 //! Agents.
 
-ghost use Rattle.std.specs.Prelude.{◌≡◌, IfOk, OnErr};
+ghost use Rattle.std.specs.Prelude.{◌≡◌, IfErr, IfOk, OnErr};
 ghost use Rattle.serde_json.specs.Data.{Data};
 ghost use Rattle.serde_json.specs.View.{view, items_view};
 ghost use Rattle.sab_script.specs.Reading.{Reads};
@@ -20,6 +20,7 @@ use std::alloc::Global;
 fn agent_members(tree: &Value) -> Result<(&Value, &Value), ReadFault>
     ensures ok { IfOk result (λ p. view tree.now ≡ agent_object (view p.0.now) (view p.1.now)) }
     ensures err { OnErr result ((block calls : Data) → view tree.now ≡ agent_object block calls → ⊥) }
+    ensures fault { IfErr result (λ given. given ≡ ReadFault.BadShape) }
 {
     let mut rest = members(tree)?;
     let block = member(&mut rest, "block")?;

@@ -1,6 +1,6 @@
 //! The names of views and of kinds.
 
-ghost use Rattle.std.specs.Prelude.{◌≡◌, ◌↔◌, ◌<◌, ◌≤◌, IsTrue};
+ghost use Rattle.std.specs.Prelude.{◌≡◌, IfErr, ◌↔◌, ◌<◌, ◌≤◌, IsTrue};
 ghost use Rattle.sab_script.specs.Reading.{Reads};
 ghost use Rattle.sab_script.specs.Views.{kind_name, IsName};
 
@@ -9,7 +9,8 @@ use sab_block::Kind;
 
 /// The kind of a name.
 pub(crate) fn kind(name: &str) -> Result<Kind, ReadFault>
-    ensures { Reads (λ k. k) (λ k. name.now ≡ kind_name k) result }
+    ensures reads { Reads (λ k. k) (λ k. name.now ≡ kind_name k) result }
+    ensures fault { IfErr result (λ given. given ≡ ReadFault.BadView) }
 {
     match name {
         "Int8" => Ok(Kind::Int8),

@@ -12,5 +12,5 @@ pub returns-in_err-agent : goal.returns-in_err-agent
 returns-in_err-agent c =
     let d = view c.args.tree.now in
     let x = view c.in_ok-member.field-0.now in
-    exit_refuses (λ (m : Move). m) (SpellsPosition c.args.agents x) (SpellsMove c.args.agents d) c.from_residual-in_err-agent.result c.in_err-agent.field-0.0 c.from_residual-in_err-agent.ensures.1 c.in_err-agent.ensures
+    exit_refuses (λ (m : Move). m) (SpellsPosition c.args.agents x) (SpellsMove c.args.agents d) c.from_residual-in_err-agent.result c.in_err-agent.field-0.0 c.from_residual-in_err-agent.ensures.1 c.in_err-agent.ensures.reads
     (timeout_part c.args.agents d x (members_view c.member.new.members) (c.in_ok-rest.ensures.ok ∙ ap object c.in_ok-member.ensures.ok))
