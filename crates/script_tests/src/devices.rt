@@ -52,15 +52,36 @@ impl Read for Giver<'_> {
     }
 }
 
-/// Gives so many spaces.
+/// Gives so many spaces, and knows whether it was read on: after its end, or after more than an input can have.
 #[derive(Drop)]
-struct Spaces(usize);
+struct Spaces {
+    left: usize,
+    given: usize,
+    is_over: bool,
+    was_read_on: bool,
+}
+
+impl Spaces {
+    fn new(count: usize) -> Spaces {
+        Spaces {
+            left: count,
+            given: 0,
+            is_over: false,
+            was_read_on: false,
+        }
+    }
+}
 
 impl Read for Spaces {
     fn read(&mut self, buf: &mut [u8]) -> io::Result<usize> {
-        let count = buf.len().min(self.0);
+        if self.is_over {
+            self.was_read_on = true;
+        }
+        let count = buf.len().min(self.left);
         buf[..count].fill(b' ');
-        self.0 -= count;
+        self.left -= count;
+        self.given = self.given.saturating_add(count);
+        self.is_over = count == 0 || self.given > MAX_INPUT;
         Ok(count)
     }
 }
@@ -108,7 +129,7 @@ fn failures_of<R: Threads + Wait + Sync>(
     Err(Fail::new("no writer took it"))
 }
 
-/// Whether a write that fails is told, whichever it is, and a slow writer gets the whole report.
+/// Whether a write that fails is told, whichever it is, a short report is one write, and a slow writer gets it all.
 fn is_told<R: Threads + Wait + Sync>(
     rt: &R,
     alloc: Global,
@@ -117,7 +138,7 @@ fn is_told<R: Threads + Wait + Sync>(
 ) -> Result<bool, Fail> {
     let whole = failures_of(rt, alloc, script, share, usize::MAX)?;
     let slow = failures_of(rt, alloc, script, share, 1)?;
-    Ok(whole >= 1 && slow == report_of(alloc, script)?.len())
+    Ok(whole == 1 && slow == report_of(alloc, script)?.len())
 }
 
 #[test]
@@ -228,9 +249,11 @@ fn a_reader_of_one_byte_a_read_gives_the_whole_input(rt: HostRuntime) -> Result<
     Ok(())
 }
 
-/// How many of so many spaces are read as an input.
-fn spaces_read(alloc: Global, spaces: usize) -> Result<usize, ToolFault> {
-    Ok(read_input(alloc, &mut Spaces(spaces))?.len())
+/// Whether the input of so many spaces has this length or this fault, and isn't read on then.
+fn is_read_as(alloc: Global, spaces: usize, want: Result<usize, ToolFault>) -> bool {
+    let mut reader = Spaces::new(spaces);
+    let read = read_input(alloc, &mut reader).map(|input| input.len());
+    read == want && !reader.was_read_on
 }
 
 #[test]
@@ -242,7 +265,7 @@ fn an_input_is_read_up_to_its_limit(rt: HostRuntime) {
         (2_000_000, Err(ToolFault::TooLong)),
     ];
     for (spaces, want) in table {
-        assert!(rt; spaces_read(rt.alloc(), spaces) == want, "{spaces} spaces");
+        assert!(rt; is_read_as(rt.alloc(), spaces, want), "{spaces} spaces");
     }
     assert!(rt; MAX_INPUT == 1_048_576);
 }
@@ -250,7 +273,7 @@ fn an_input_is_read_up_to_its_limit(rt: HostRuntime) {
 #[test]
 fn an_input_of_spaces_is_no_script(rt: HostRuntime) -> Result<(), Fail> {
     let alloc = rt.alloc();
-    let spaces = read_input(alloc, &mut Spaces(MAX_INPUT))?;
+    let spaces = read_input(alloc, &mut Spaces::new(MAX_INPUT))?;
     let mut text = Vec::new(alloc);
     let answer = replay_bytes(alloc, spaces.as_slice(), &mut text);
     assert!(rt; answer == Err(ToolFault::NotJson));
