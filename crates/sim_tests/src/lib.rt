@@ -13,3 +13,5 @@ mod racing;
 mod run;
 #[cfg(test)]
 mod showing;
+#[cfg(test)]
+mod values;
