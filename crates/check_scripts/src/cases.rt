@@ -34,6 +34,7 @@ pub struct Case {
     report: bool,
     fault: bool,
     changes: bool,
+    located: bool,
     other: bool,
 }
 
@@ -45,17 +46,18 @@ impl Case {
             "report" => self.report = true,
             "fault" => self.fault = true,
             "changes" => self.changes = true,
+            "located" => self.located = true,
             _ => self.other = true,
         }
     }
 
     /// The one partner of the script.
     ///
-    /// An error where the files are no case: there is no script, no partner or a second one, changes of a script that has
-    /// no report, or a file of another ending.
+    /// An error where the files are no case: there is no script, no partner or a second one, changes of a script that
+    /// has no report, a line of a check without a fault, or a file of another ending.
     pub fn partner(self) -> Result<Partner> {
         if self.other {
-            bail!("a file's name ends in none of .json, .report, .fault and .changes");
+            bail!("a file's name ends in none of .json, .report, .fault, .changes and .located");
         }
         if !self.script {
             bail!("there is no script");
@@ -63,12 +65,20 @@ impl Case {
         if self.changes && !self.report {
             bail!("there are changes without a report");
         }
+        if self.located && !self.fault {
+            bail!("there is a line of a check without a fault");
+        }
         match (self.report, self.fault) {
             (true, false) => Ok(Partner::Report),
             (false, true) => Ok(Partner::Fault),
             (true, true) => bail!("there is a report and a fault"),
             (false, false) => bail!("there is neither a report nor a fault"),
         }
+    }
+
+    /// Whether the line that a check says lies beside the script.
+    pub fn has_line(self) -> bool {
+        self.located
     }
 
     /// Whether a table of changes lies beside the script.

@@ -64,10 +64,11 @@ fn check_line<R: Threads + Wait + Sync>(
     Ok(count)
 }
 
-/// Checks that each change of a script is refused as its table says, with nothing written, and answers how many there are.
+/// Checks that each change of a script is refused as its table says, with nothing written, and answers how many there
+/// are.
 ///
-/// A line of the table has the number of a fault, the path of a part of the script (a JSON Pointer), and the values that
-/// are put there in turn, with one space between all of these; for `-` the part is taken out.
+/// A line of the table has the number of a fault, the path of a part of the script (a JSON Pointer), and the values
+/// that are put there in turn, with one space between all of these; for `-` the part is taken out.
 pub fn check_changes<R: Threads + Wait + Sync>(
     rt: &R,
     alloc: Global,

@@ -7,6 +7,7 @@
 
 mod cases;
 mod changes;
+mod checked;
 mod cuts;
 mod raced;
 mod refused;
@@ -17,6 +18,7 @@ mod way;
 use anyhow::{Context, Result};
 use cases::{Case, Partner, cases_of, names_of};
 use changes::check_changes;
+use checked::{check_accepted, check_located};
 use refused::check_fault;
 use reported::check_report;
 use std::process::ExitCode;
@@ -45,6 +47,7 @@ fn check<R: Files + AllocGlobal + Threads + Wait + Sync>(
     let expected = part(rt, folder, name, partner.ending())?;
     match partner {
         Partner::Report => {
+            check_accepted(alloc, script.as_slice())?;
             let cuts = check_report(rt, alloc, script.as_slice(), expected.as_slice())?;
             let changes = if case.has_changes() {
                 let table = part(rt, folder, name, "changes")?;
@@ -56,6 +59,12 @@ fn check<R: Files + AllocGlobal + Threads + Wait + Sync>(
         }
         Partner::Fault => {
             check_fault(rt, alloc, script.as_slice(), expected.as_slice())?;
+            let line = match case.has_line() {
+                true => Some(part(rt, folder, name, "located")?),
+                false => None,
+            };
+            let line = line.as_ref().map(|line| line.as_slice());
+            check_located(alloc, script.as_slice(), expected.as_slice(), line)?;
             Ok(Tally::of_fault())
         }
     }

@@ -16,6 +16,7 @@ pub enum Case {
     Moves,
     ReadInput,
     ReadSetup,
+    CheckScript,
     ReplayBytes,
     WriteReport,
     RunLocked,
@@ -26,7 +27,7 @@ pub enum Case {
 
 impl Case {
     /// All cases, in the order in which they are run.
-    pub const ALL: [Case; 17] = [
+    pub const ALL: [Case; 18] = [
         Case::Block,
         Case::PlanCopy,
         Case::SimNew,
@@ -38,6 +39,7 @@ impl Case {
         Case::Moves,
         Case::ReadInput,
         Case::ReadSetup,
+        Case::CheckScript,
         Case::ReplayBytes,
         Case::WriteReport,
         Case::RunLocked,
@@ -65,6 +67,7 @@ impl Case {
             Case::Moves => "moves",
             Case::ReadInput => "read-input",
             Case::ReadSetup => "read-setup",
+            Case::CheckScript => "check-script",
             Case::ReplayBytes => "replay-bytes",
             Case::WriteReport => "write-report",
             Case::RunLocked => "run-locked",
@@ -87,6 +90,7 @@ impl Case {
             Case::Moves => "10 moves",
             Case::ReadInput => "10000 spaces",
             Case::ReadSetup => "its plan, its view and its 16 moves",
+            Case::CheckScript => "what it has, and two warnings",
             Case::ReplayBytes => "the text of its report",
             Case::WriteReport => "the text of its report",
             Case::RunLocked | Case::RunRings =>

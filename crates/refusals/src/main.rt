@@ -1,8 +1,8 @@
 //! Makes calls while something outside refuses memory or threads, and tells what each came to.
 //!
-//! Its argument names a case; without one it runs all in turn. A line tells that the call gave its answer, or that it was
-//! refused as it may be, that all stood which has to stand, and that the same call once more gave its answer. It ends with
-//! status 1 if anything else is found.
+//! Its argument names a case; without one it runs all in turn. A line tells that the call gave its answer, or that it
+//! was refused as it may be, that all stood which has to stand, and that the same call once more gave its answer. It
+//! ends with status 1 if anything else is found.
 #![tactic(auto)]
 
 mod case;
@@ -45,6 +45,7 @@ fn find<R: Threads + Wait + Sync>(
         Case::Moves => replays::script_moves(alloc)?,
         Case::ReadInput => inputs::input(alloc),
         Case::ReadSetup => scripts::setup(alloc)?,
+        Case::CheckScript => scripts::checked(alloc),
         Case::ReplayBytes => scripts::replayed(alloc),
         Case::WriteReport => scripts::written(alloc)?,
         Case::RunLocked => races::run(rt, alloc, Share::Lock)?,

@@ -2,6 +2,7 @@
 
 use crate::found::{Found, Refusal, Unmade};
 use crate::plans::three_who_wait;
+use sab_check::{Checked, check_script};
 use sab_sim::Move::{self, Step};
 use sab_sim::{Plan, Report};
 use sab_tool::{
@@ -13,8 +14,14 @@ use std::sync::Wait;
 use std::thread::Threads;
 
 /// An agent that can't block, two that wait, and one that wakes them.
-const THREE_WHO_WAIT: &str =
-    r#"{"blocks":[4],"views":[{"name":"a","kind":"Int32","block":0,"offset":0,"length":null}],"agents":[{"block":false,"calls":[["wait","a",0,0],["wait","a",9,0]]},{"block":true,"calls":[["wait","a",0,0]]},{"block":true,"calls":[["wait","a",0,0]]},{"block":true,"calls":[["notify","a",0,-3],["notify","a",0]]}],"schedule":[0,0,0,0,0,0,1,1,2,2,3,3,3,3,3,3]}"#;
+const THREE_WHO_WAIT: &str = r#"{"blocks":[4],
+  "views":[{"name":"a","kind":"Int32","block":0,"offset":0,"length":null}],
+  "agents":[
+    {"block":false,"calls":[["wait","a",0,0],["wait","a",9,0]]},
+    {"block":true,"calls":[["wait","a",0,0]]},
+    {"block":true,"calls":[["wait","a",0,0]]},
+    {"block":true,"calls":[["notify","a",0,-3],["notify","a",0]]}],
+  "schedule":[0,0,0,0,0,0,1,1,2,2,3,3,3,3,3,3]}"#;
 
 /// The moves of its schedule.
 const ITS_MOVES: [Move; 16] = [
@@ -61,9 +68,18 @@ agent 2 0 of 1
 agent 3 2 of 2
 ";
 
+/// What a check says of it.
+const ITS_CHECK: &str = "\
+ok: 1 block, 1 view, 4 agents, 6 calls, 16 moves
+warning: agents[0].calls[0]: wait on a always throws TypeError: the agent can't block
+warning: agents[0].calls[1]: wait on a always throws RangeError: there is no index 9: the length is 1
+";
+
 /// An agent that stores a value in a byte and loads it.
-const STORE_AND_LOAD: &str =
-    r#"{"blocks":[1],"views":[{"name":"a","kind":"Uint8","block":0,"offset":0,"length":null}],"agents":[{"block":true,"calls":[["store","a",0,300],["load","a",0]]}],"schedule":[0,0,0,0,0,0]}"#;
+const STORE_AND_LOAD: &str = r#"{"blocks":[1],
+  "views":[{"name":"a","kind":"Uint8","block":0,"offset":0,"length":null}],
+  "agents":[{"block":true,"calls":[["store","a",0,300],["load","a",0]]}],
+  "schedule":[0,0,0,0,0,0]}"#;
 
 /// The text of its report, replayed or raced.
 const STORED_AND_LOADED: &str = "\
@@ -126,6 +142,23 @@ fn is_right(setup: &Setup, plan: &Plan) -> bool {
         && setup.views().len() == 1
         && setup.views().contains_key("a")
         && setup.schedule() == ITS_MOVES.as_slice()
+}
+
+/// A script is checked.
+pub fn checked(alloc: Global) -> Found {
+    let first = check(alloc);
+    if first.is_refused() {
+        return first.and_once_more(check(alloc));
+    }
+    first
+}
+
+fn check(alloc: Global) -> Found {
+    match check_script(alloc, THREE_WHO_WAIT.as_bytes()) {
+        Ok(Checked::Accepted(text)) => Found::answer(text.as_str() == ITS_CHECK),
+        Ok(Checked::Refused(_)) => Found::Wrong("it is refused"),
+        Err(_) => Found::Refused(Refusal::AllocError),
+    }
 }
 
 /// A script is replayed into an array.

@@ -22,13 +22,15 @@ masked_word kind a m e =
 difference : (a b p : ℕ) → b ≤ p → (pos a -ℤ pos b) +ℤ pos p ≡ pos (a + (p - b))
 difference a b p h = omega (arith, ints)
 
-pub masked_difference : (kind : Kind) (a b m : ℕ) → b < 2 ^ 64 → m + 1 ≡ raw_count kind → bit_and ((a + (2 ^ 64 - b)) % 2 ^ 64) m ≡ modulo (pos a -ℤ pos b) (raw_count kind)
+pub masked_difference : (kind : Kind) (a b m : ℕ) → b < 2 ^ 64 → m + 1 ≡ raw_count kind
+    → bit_and ((a + (2 ^ 64 - b)) % 2 ^ 64) m ≡ modulo (pos a -ℤ pos b) (raw_count kind)
 masked_difference kind a b m h e =
     let n = 8 * element_size kind in
     let bits : 64 - n + n ≡ 64 = omega (arith, element_bits kind) in
     let split : 2 ^ (64 - n + n) ≡ 2 ^ 64 = ap (λ k. 2 ^ k) bits in
     let sum = difference a b (2 ^ 64) (omega arith) in
-    masked_word kind (a + (2 ^ 64 - b)) m e ∙ sym (modulo-pow (pos a -ℤ pos b) (64 - n) n (a + (2 ^ 64 - b)) (rw split sum))
+    masked_word kind (a + (2 ^ 64 - b)) m e
+    ∙ sym (modulo-pow (pos a -ℤ pos b) (64 - n) n (a + (2 ^ 64 - b)) (rw split sum))
 
 pub masked-lt : (kind : Kind) (a m : ℕ) → m + 1 ≡ raw_count kind → bit_and (a % 2 ^ 64) m < raw_count kind
 masked-lt kind a m e =

@@ -12,13 +12,15 @@ use Rattle.byteorder.specs.Endian.{little_from, little_number, little_bytes}
 use Rattle.sab_block.specs.Block.{number, digits, put}
 
 -- Horner's sum with one digit more at its end
-pub little_from-more : (i n : ℕ) (xs : List ℕ) → little_from i (suc n) xs ≡ little_from i n xs + slice_index xs (i + n) * 256 ^ n
+pub little_from-more : (i n : ℕ) (xs : List ℕ)
+    → little_from i (suc n) xs ≡ little_from i n xs + slice_index xs (i + n) * 256 ^ n
 little_from-more i zero xs = rw (add-zero, add-zero) (omega arith)
 little_from-more i (suc n) xs =
     let rest = little_from-more (suc i) n xs in
     let at : suc i + n ≡ i + suc n = omega arith in
     let power : 256 ^ suc n ≡ 256 * 256 ^ n = pow-succ' 256 n in
-    let moved : 256 * (slice_index xs (i + suc n) * 256 ^ n) ≡ slice_index xs (i + suc n) * (256 * 256 ^ n) = mul_left_comm 256 (slice_index xs (i + suc n)) (256 ^ n) in
+    let moved : 256 * (slice_index xs (i + suc n) * 256 ^ n) ≡ slice_index xs (i + suc n) * (256 * 256 ^ n) =
+    mul_left_comm 256 (slice_index xs (i + suc n)) (256 ^ n) in
     let rest' = rw at at rest in
     rw power (omega (arith, rest', moved))
 
@@ -52,7 +54,8 @@ digits_are s r = bytes_from 0 s r
 
 -- what is read from a part of the bytes
 pub number_read : (mem : List ℕ) (p s : ℕ) → little_number s (drop p mem) ≡ number mem p s
-number_read mem p s = let d = little_from-drop 0 s p mem in let z : p + 0 ≡ p = add-zero p in (rw z at d) ∙ number_is mem p s
+number_read mem p s =
+    let d = little_from-drop 0 s p mem in let z : p + 0 ≡ p = add-zero p in (rw z at d) ∙ number_is mem p s
 
 -- 256 to the s is 2 to the 8 s
 pub power_256 : (s : ℕ) → 256 ^ s ≡ 2 ^ (8 * s)
@@ -70,16 +73,21 @@ number-lt mem p s h =
     omega (arith, b, e, f)
 
 -- what is read from the bytes from a place on
-pub number-read : (mem : List ℕ) (p size s x : ℕ) → size ≡ s → x ≡ little_number s (take (length mem - p) (drop p mem)) → x ≡ number mem p size
+pub number-read : (mem : List ℕ) (p size s x : ℕ) → size ≡ s → x ≡ little_number s (take (length mem - p) (drop p mem))
+    → x ≡ number mem p size
 number-read mem p size s x same e =
     let rest = between_to_end mem p (length mem) (omega arith) in
     rw same (e ∙ (ap (little_number s) rest ∙ number_read mem p s))
 
 -- what a write to the bytes from a place on leaves
-pub put-written : (mem : List ℕ) (p size s r : ℕ) (ys : List ℕ) → size ≡ s → p + size ≤ length mem → ys ≡ little_bytes s r ++ drop s (take (length mem - p) (drop p mem)) → put_mid p (length mem - p) mem ys ≡ put mem p size r
+pub put-written : (mem : List ℕ) (p size s r : ℕ) (ys : List ℕ) → size ≡ s → p + size ≤ length mem
+    → ys ≡ little_bytes s r ++ drop s (take (length mem - p) (drop p mem))
+    → put_mid p (length mem - p) mem ys ≡ put mem p size r
 unfolding put
 put-written mem p size s r ys same h e =
     let rest = between_to_end mem p (length mem) (omega arith) in
-    let none : drop (length mem - p) (drop p mem) ≡ [] = drop_all (length mem - p) (drop p mem) (omega (arith, length-drop p mem)) in
+    let none : drop (length mem - p) (drop p mem) ≡ [] =
+    drop_all (length mem - p) (drop p mem) (omega (arith, length-drop p mem)) in
     let after : drop s (drop p mem) ≡ drop (p + s) mem = drop-drop s p mem in
-    rw (e, rest, none, after, digits_are, append-nil, same) (sym (append_assoc (take p mem) (digits s r) (drop (p + s) mem)))
+    rw (e, rest, none, after, digits_are, append-nil, same)
+    (sym (append_assoc (take p mem) (digits s r) (drop (p + s) mem)))

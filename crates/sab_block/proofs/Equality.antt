@@ -28,7 +28,8 @@ pub same_int : (x y : ℤ) → int_eq x y ≡ true → x ≡ y
 same_int x y = (signed_Decides x y).0
 
 -- two tests at once
-pub same_pair : {A B : Type 0} {x y : A} {u v : B} {s t : Bool} → (s ≡ true → x ≡ y) → (t ≡ true → u ≡ v) → (s && t) ≡ true → ◌≡◌ {A = A × B} (x, u) (y, v)
+pub same_pair : {A B : Type 0} {x y : A} {u v : B} {s t : Bool} → (s ≡ true → x ≡ y) → (t ≡ true → u ≡ v)
+    → (s && t) ≡ true → ◌≡◌ {A = A × B} (x, u) (y, v)
 same_pair {s = s} {t = t} f g e = let h = and_parts s t e in λ i. (f h.0 i, g h.1 i)
 
 pub same_operand : (a b : Operand) → (operand.ghosts).eq a b ≡ true → a ≡ b
@@ -57,7 +58,9 @@ same_view a b e =
       block_len = block_len i;
       offset = offset i;
       len = len i;
-      inside = is_prop→PathP (λ j. offset j + len j * element_size (kind j) ≤ block_len j) (λ j. hlevel props) a.inside b.inside i;
+      inside =
+          is_prop→PathP (λ j. offset j + len j * element_size (kind j) ≤ block_len j) (λ j. hlevel props) a.inside
+          b.inside i;
     }
 
 pub same_access : (a b : Access) → (access.ghosts).eq a b ≡ true → a ≡ b
@@ -67,5 +70,6 @@ same_access (A.Store i x) (A.Store j y) e =
 same_access (A.Rmw op i x) (A.Rmw other j y) e =
     ap (λ p. A.Rmw p.0 p.1.0 p.1.1) (same_pair (same_rmw_op op other) (same_pair (same_int i j) (same_operand x y)) e)
 same_access (A.CompareExchange i x y) (A.CompareExchange j z w) e =
-    ap (λ p. A.CompareExchange p.0 p.1.0 p.1.1) (same_pair (same_int i j) (same_pair (same_operand x z) (same_operand y w)) e)
+    ap (λ p. A.CompareExchange p.0 p.1.0 p.1.1)
+    (same_pair (same_int i j) (same_pair (same_operand x z) (same_operand y w)) e)
 same_access _ _ e = absurd (cc)

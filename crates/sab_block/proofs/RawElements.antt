@@ -44,7 +44,8 @@ modulo-bits (negsuc a) n j e f =
     sym (modulo-pow (negsuc a) j n (2 ^ 128 - suc a) (negsuc-plus a (2 ^ (j + n)) (2 ^ 128 - suc a) (omega arith)))
 
 -- the last bits of a number, kept by the greatest raw element, are its raw element
-pub masked : (kind : Kind) (v : ℤ) (m : ℕ) → FitsSigned w128 v → m + 1 ≡ raw_count kind → bit_and (cast_unsigned w128 v) m ≡ raw kind v
+pub masked : (kind : Kind) (v : ℤ) (m : ℕ) → FitsSigned w128 v → m + 1 ≡ raw_count kind
+    → bit_and (cast_unsigned w128 v) m ≡ raw kind v
 unfolding raw
 masked kind v m f e =
     let n = 8 * element_size kind in
@@ -80,9 +81,11 @@ unfolding value
 value-low kind r m e h =
     let below : r < 2 ^ (8 * element_size kind - 1) = omega (arith, half kind m e) in
     let low : nat_le (2 ^ (8 * element_size kind - 1)) r ≡ false = grind (arith, nat_tests) in
-    rw (low, ◌&&◌) (elim (is_signed kind) as (λ b. cond (b && false) (pos r -ℤ pos (raw_count kind)) (pos r) ≡ pos r) [ true ↦ refl | false ↦ refl ])
+    rw (low, ◌&&◌) (elim (is_signed kind) as (λ b. cond (b && false) (pos r -ℤ pos (raw_count kind)) (pos r) ≡ pos r)
+    [ true ↦ refl | false ↦ refl ])
 
-pub value-high : (kind : Kind) (r m : ℕ) → m + 1 ≡ raw_count kind → m / 2 < r → is_signed kind ≡ true → value kind r ≡ pos r -ℤ pos m -ℤ pos 1
+pub value-high : (kind : Kind) (r m : ℕ) → m + 1 ≡ raw_count kind → m / 2 < r → is_signed kind ≡ true
+    → value kind r ≡ pos r -ℤ pos m -ℤ pos 1
 unfolding value
 value-high kind r m e h s =
     let above : 2 ^ (8 * element_size kind - 1) ≤ r = omega (arith, half kind m e) in

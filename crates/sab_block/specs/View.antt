@@ -28,7 +28,8 @@ given_count size block_len offset (negsuc n) = None
 -- the number of elements from the offset to the block's end, where the block has whole elements only
 abbrev pub rest_count : ℕ → ℕ → ℕ → Option ℕ
 rest_count size block_len offset =
-    if block_len % size == 0 then (if nat_le offset block_len then Some ((block_len - offset) / size) else None) else None
+    if block_len % size == 0 then (if nat_le offset block_len then Some ((block_len - offset) / size) else None) else
+    None
 
 abbrev pub count_from : ℕ → ℕ → ℕ → Option ℤ → Option ℕ
 count_from size block_len offset (Some length) = given_count size block_len offset length

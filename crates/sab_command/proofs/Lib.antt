@@ -1,3 +1,4 @@
 pub mod Flushed
 pub mod Spelled
+pub mod Checks
 mod Equality

@@ -1,10 +1,11 @@
 -- What the program is asked for.
 use Rattle.std.specs.Prelude.{◌≤◌, ⊤}
 use Rattle.sab_command.specs.declared.command_line.Job.{Job}
-use Rattle.sab_command.specs.declared.command_line.Job.TheVariants.{Replay, Race}
+use Rattle.sab_command.specs.declared.command_line.Job.TheVariants.{Replay, Check, Race}
 use Rattle.sab_tool.specs.Racing.{MAX_SPINS}
 
 -- a race is asked for with at most so many steps at a wait
 abbrev pub IsWithinLimits : Job → Type 0
 IsWithinLimits Replay = ⊤
-IsWithinLimits (Race share spins) = spins ≤ MAX_SPINS
+IsWithinLimits Check = ⊤
+IsWithinLimits (Race share spins mix) = spins ≤ MAX_SPINS

@@ -1,28 +1,44 @@
 -- What a job does with the script that a reader gives.
 use Rattle.std.specs.Prelude.{◌≡◌, ◌⊎◌, ℕ, ◌≤◌, List, length, Option, IfSome}
-use Rattle.std.specs.Io.KnownBytes.{Keeps}
+use Rattle.std.specs.Io.KnownBytes.{Appends, Keeps}
 use Rattle.sab_tool.specs.declared.input.TheConstants.{MAX_INPUT}
 use Rattle.sab_tool.specs.declared.tool_fault.ToolFault.{ToolFault}
-use Rattle.sab_tool.specs.declared.tool_fault.ToolFault.TheVariants.{WriteFailed}
+use Rattle.sab_tool.specs.declared.tool_fault.ToolFault.TheVariants.{OutOfMemory, WriteFailed}
 use Rattle.sab_tool.specs.Input.{IsInputFault}
 use Rattle.sab_tool.specs.Replay.{Replays, IsReplayFault}
 use Rattle.sab_tool.specs.Racing.{Races, IsRaceFault}
+use Rattle.sab_check.specs.Checked.{IsAccepted, IsRefused}
 use Rattle.sab_command.specs.declared.command_line.Job.{Job}
-use Rattle.sab_command.specs.declared.command_line.Job.TheVariants.{Replay, Race}
+use Rattle.sab_command.specs.declared.command_line.Job.TheVariants.{Replay, Check, Race}
+use Rattle.sab_command.specs.declared.outcome.Outcome.{Outcome}
+use Rattle.sab_command.specs.declared.outcome.Outcome.TheVariants.{Done, Refused}
 
--- just the text of the job's report came behind what the writer held: of a replay, or of a race with the job's steps
-abbrev pub Runs : Job → Option (List ℕ) → Option (List ℕ) → List ℕ → Type 0
-Runs Replay old new script = Replays old new script
-Runs (Race share spins) old new script = Races old new script spins
+-- just what a check says came behind what the writer held: of a script that isn't refused, or of one that is
+abbrev pub Checks : Outcome → Option (List ℕ) → Option (List ℕ) → List ℕ → Type 0
+Checks Done old new script = (text : List ℕ) × IsAccepted script text × Appends old new text
+Checks Refused old new script = (text : List ℕ) × IsRefused script text × Appends old new text
+
+-- just the text of the job's report came behind what the writer held: of a replay, or of a race with the job's steps; or
+-- what a check says
+abbrev pub Runs : Job → Outcome → Option (List ℕ) → Option (List ℕ) → List ℕ → Type 0
+Runs Check outcome old new script = Checks outcome old new script
+Runs Replay Done old new script = Replays old new script
+Runs (Race share spins mix) Done old new script = Races old new script spins
+Runs _ Refused old new script = ⊥
+
+-- want of memory, before anything was written, or a write that failed
+abbrev pub IsCheckFault : Option (List ℕ) → Option (List ℕ) → ToolFault → Type 0
+IsCheckFault old new fault = (Keeps old new × (fault ≡ OutOfMemory)) ⊎ (fault ≡ WriteFailed)
 
 -- what a job of a script is refused for
 abbrev pub IsFaultOf : Job → Option (List ℕ) → Option (List ℕ) → List ℕ → ToolFault → Type 0
 IsFaultOf Replay old new script fault = IsReplayFault old new script fault
-IsFaultOf (Race share spins) old new script fault = IsRaceFault old new script spins fault
+IsFaultOf Check old new script fault = IsCheckFault old new fault
+IsFaultOf (Race share spins mix) old new script fault = IsRaceFault old new script spins fault
 
--- the script isn't too long, and the job ran
-abbrev pub RunsGiven : Job → Option (List ℕ) → Option (List ℕ) → List ℕ → Type 0
-RunsGiven job old new script = (length script ≤ MAX_INPUT) × Runs job old new script
+-- the script isn't too long, and the job came to this
+abbrev pub RunsGiven : Job → Outcome → Option (List ℕ) → Option (List ℕ) → List ℕ → Type 0
+RunsGiven job outcome old new script = (length script ≤ MAX_INPUT) × Runs job outcome old new script
 
 -- the reader's bytes can't be had and nothing was written, or they are a script of which the job is refused
 abbrev pub IsRunFault : Option (List ℕ) → Job → Option (List ℕ) → Option (List ℕ) → ToolFault → Type 0

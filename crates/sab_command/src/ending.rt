@@ -3,6 +3,7 @@
 ghost use Rattle.std.specs.Prelude.{◌≡◌};
 ghost use Rattle.sab_command.specs.Ending.{status_at, after_job};
 
+use crate::outcome::Outcome;
 use crate::status::status_of;
 use sab_tool::ToolFault;
 
@@ -13,27 +14,32 @@ pub enum Ending {
     Done,
     /// The command line was refused.
     Refused,
+    /// The script was refused, as standard output tells.
+    ScriptRefused,
     /// A fault, which the program tells of with a [`FaultLine`](crate::FaultLine).
     Failed(ToolFault),
 }
 
 impl Ending {
     /// How the program ends after a job with this answer.
-    pub fn of_job(answer: Result<(), ToolFault>) -> Ending
+    pub fn of_job(answer: Result<Outcome, ToolFault>) -> Ending
         ensures { result ≡ after_job answer }
     {
         match answer {
-            Ok(()) => Ending::Done,
+            Ok(Outcome::Done) => Ending::Done,
+            Ok(Outcome::Refused) => Ending::ScriptRefused,
             Err(fault) => Ending::Failed(fault),
         }
     }
 
-    /// The exit status: 0 where all is done, 2 where the command line was refused, and else that of the fault.
+    /// The exit status: 0 where all is done, 1 where the script was refused, 2 where the command line was, and else
+    /// that of the fault.
     pub fn status(self) -> u8
         ensures { result ≡ status_at self }
     {
         match self {
             Ending::Done => 0,
+            Ending::ScriptRefused => 1,
             Ending::Refused => 2,
             Ending::Failed(fault) => status_of(fault),
         }

@@ -4,6 +4,9 @@
 pub(crate) const ABOUT: &str =
     "Runs agents that share blocks of bytes by the rules of JavaScript's Atomics, one move at a time";
 
+/// Its version, and the kit that it is proved with.
+pub(crate) const VERSION: &str = "0.1.0, proved with rattle-kit-13b logic dac8208d650f15bf";
+
 /// What it answers, and where to go on.
 pub(crate) const STATUSES: &str = "\
 Exit status:
@@ -14,9 +17,11 @@ Exit status:
   4  there is no memory, or no thread
 
 Where the status is 1, 3 or 4, standard error has one line with the fault's number
-and name, as `sabsim: 14 BadView`.
+and name, as `sabsim: 14 BadView`; but `sabsim check` tells of a script that is
+refused on standard output.
 
-Begin with `sabsim replay --help`, which has a script to try.";
+Begin with `sabsim replay --help`, which has a script to try; where a script is refused,
+`sabsim check` tells the place.";
 
 /// What `replay` does.
 pub(crate) const REPLAY: &str =
@@ -78,6 +83,33 @@ What the script is refused for:
   18 TooLong    the input has more than 1,048,576 bytes
   20 NoBlock    no block at all, or a view on a block that isn't there"#;
 
+/// What `check` does.
+pub(crate) const CHECK: &str =
+    "Reads a script from standard input, and says what it has, or where it is refused and why";
+
+/// What a check says, and an example.
+pub(crate) const CHECK_FORMS: &str =
+    r#"The script is that of `sabsim replay --help`. Where it isn't refused, standard output has
+  ok: 1 block, 1 view, 1 agent, 2 calls, 3 moves
+and then a line for each call that throws whenever it acts, whatever the other calls do:
+  warning: agents[0].calls[1]: wait on a always throws TypeError: Uint8 isn't waitable
+
+Where it is refused, standard output has one line: the place, the fault's number and name,
+and what is wrong:
+  agents[3].calls[37][1]: 11 BadName: no view is called "lokc"
+A place is the names of members and the indices, counted from 0, that lead to it, as in
+JavaScript; `script` is the whole; and of a text that isn't JSON it is a line and a column.
+Of several faults one is told. In what is quoted each byte that isn't ASCII that prints is
+told by its code, as Ã, and so are a quote and a backslash.
+
+Example:
+  echo '{"blocks":[1],"views":[{"name":"a","kind":"Uint8","block":0,"offset":0,"length":null}],
+  "agents":[{"block":true,"calls":[["load","a",0],["wait","a",0,0]]}],"schedule":[0,0,0]}' | sabsim check
+
+Exit status: 0 the script isn't refused, warnings or not; 1 it is refused; 2, 3 and 4 as for
+replay. Standard error has a line only where the status is 2, 3 or 4, or where the input is
+too long (18 TooLong)."#;
+
 /// What `race` does.
 pub(crate) const RACE: &str =
     "Reads a script from standard input, runs its agents in threads, and writes what each move did";
@@ -90,12 +122,25 @@ pub(crate) const SHARE: &str =
 pub(crate) const SPINS: &str =
     "How many steps an agent makes at each wait before its time is up, 0 to 1000";
 
+/// What `--mix` chooses.
+pub(crate) const MIX: &str =
+    "A number that the threads are mixed by; 0 leaves them as they come [default: another one each run]";
+
 /// What the threads do with a script, what the report says, and an example.
 pub(crate) const RACE_FORMS: &str =
     r#"The script and the report are those of `sabsim replay --help`. The script's schedule is checked
 and then not used: each agent makes its moves in a thread of its own, three steps for each
 call, and for a wait two steps, N steps, {"timeout":AGENT}, and two steps. They come in the
 order in which the threads take their turns, so that two runs may differ.
+
+An agent's steps at a wait are counted. Where nobody wakes it within them and the wait has no
+timeout, the moves for its later calls are used up too, and it is left in the middle of a call.
+So a script may come out unfinished without any lost wake-up; a greater N makes that rarer.
+
+By a SEED other than 0 a thread yields 0 to 3 times before each of its moves, and the owner of
+the rings begins to look for its next move at one of them. How often, and at which, is drawn
+from the SEED. The threads take their turns freely all the same, so that two runs of one SEED
+may differ.
 
 The lines of the report, from the first on, tell that order: `leave timed-out`, `stuck
 not-waiting` and `stuck endless` are of a move {"timeout":AGENT}, and every other line is of

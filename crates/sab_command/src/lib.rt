@@ -7,6 +7,7 @@ mod fault_line;
 mod help;
 mod no_job;
 mod no_words;
+mod outcome;
 mod running;
 mod status;
 
@@ -15,4 +16,5 @@ pub use ending::Ending;
 pub use fault_line::FaultLine;
 pub use no_job::without_job;
 pub use no_words::without_words;
+pub use outcome::Outcome;
 pub use running::run;

@@ -1,51 +1,119 @@
 //! From a job to its report.
 
-ghost use Rattle.std.specs.Prelude.{◌≤◌, IfErr, IfSome, OnOk};
-ghost use Rattle.std.specs.Io.KnownBytes.{IsAtEnd};
+ghost use Rattle.std.specs.Prelude.{◌≡◌, ◌≤◌, Some, IfOk, IfErr, IfSome, OnOk};
+ghost use Rattle.std.specs.Io.KnownBytes.{Appends, IsAtEnd};
 ghost use Rattle.sab_command.specs.Job.{IsWithinLimits};
 ghost use Rattle.sab_command.specs.Running.{RunsGiven, IsRunFault, IsUnwritten};
 
 use crate::command_line::Job;
-use sab_tool::{MAX_SPINS, Share, ToolFault, race_bytes, read_input, replay_bytes};
+use crate::outcome::Outcome;
+use sab_check::{Checked, check_script};
+use sab_tool::{MAX_SPINS, Share, ToolFault, race_mixed, read_input, replay_bytes};
 use std::alloc::Global;
 use std::io::{Read, Write};
+use std::random::RandomSource;
 use std::sync::Wait;
 use std::thread::Threads;
 
-/// Does what the program is asked for, with the script that a reader gives: writes its report, and flushes.
+/// Does what the program is asked for, with the script that a reader gives: writes its report, or what a check says of
+/// it, and flushes.
 ///
-/// TooLong where the reader gave more than [`MAX_INPUT`](sab_tool::MAX_INPUT) bytes, ReadFailed where a read failed, and
-/// WriteFailed where a write or the flush failed; nothing is said then of how much was written. Every other fault is that
-/// of the script's replay or race, and nothing was written.
-pub fn run<T: Threads + Wait + Sync + AllocGlobal, R: Read, W: Write>(
+/// TooLong where the reader gave more than [`MAX_INPUT`](sab_tool::MAX_INPUT) bytes, ReadFailed where a read failed,
+/// and WriteFailed where a write or the flush failed; nothing is said then of how much was written. Every other fault
+/// is that of the script's replay or race, or want of memory, and nothing was written. A check of a script that is
+/// refused isn't answered by its fault: what is written tells it.
+pub fn run<T: Threads + Wait + Sync + AllocGlobal + RandomSource, R: Read, W: Write>(
     rt: &T,
     job: Job,
     input: &mut R,
     output: &mut W,
-) -> Result<(), ToolFault>
+) -> Result<Outcome, ToolFault>
     requires { IsWithinLimits job }
-    ensures ok { OnOk result (IfSome (R.remaining input.old) (RunsGiven job (W.contents output.old) (W.contents output.new))) }
+    ensures ok { IfOk result (λ outcome. IfSome (R.remaining input.old)
+        (RunsGiven job outcome (W.contents output.old) (W.contents output.new))) }
     ensures end { OnOk result (IsAtEnd (R.remaining input.new)) }
     ensures err { IfErr result (IsRunFault (R.remaining input.old) job (W.contents output.old) (W.contents output.new)) }
     ensures unwritten { IfErr result (IsUnwritten (W.contents output.old) (W.contents output.new)) }
 {
     match job {
         Job::Replay => replay(rt.alloc(), input, output),
-        Job::Race { share, spins } => race(rt, share, spins, input, output),
+        Job::Check => check(rt.alloc(), input, output),
+        Job::Race { share, spins, mix } => {
+            let seed = seed_of(rt, mix);
+            race(rt, share, spins, seed, input, output)
+        }
     }
 }
 
 /// Replays the script that a reader gives.
 #[tactic(auto, using(crate::proofs::Flushed::flushed))]
-fn replay<R: Read, W: Write>(alloc: Global, input: &mut R, output: &mut W) -> Result<(), ToolFault>
-    ensures ok { OnOk result (IfSome (R.remaining input.old) (RunsGiven Job.Replay (W.contents output.old) (W.contents output.new))) }
+fn replay<R: Read, W: Write>(
+    alloc: Global,
+    input: &mut R,
+    output: &mut W,
+) -> Result<Outcome, ToolFault>
+    ensures ok { IfOk result (λ outcome. IfSome (R.remaining input.old)
+        (RunsGiven Job.Replay outcome (W.contents output.old) (W.contents output.new))) }
     ensures end { OnOk result (IsAtEnd (R.remaining input.new)) }
     ensures err { IfErr result (IsRunFault (R.remaining input.old) Job.Replay (W.contents output.old) (W.contents output.new)) }
     ensures unwritten { IfErr result (IsUnwritten (W.contents output.old) (W.contents output.new)) }
 {
     let script = read_input(alloc, input)?;
     replay_bytes(alloc, script.as_slice(), output)?;
+    output.flush().map_err(|_| ToolFault::WriteFailed)?;
+    Ok(Outcome::Done)
+}
+
+/// Checks the script that a reader gives.
+#[tactic(auto)]
+fn check<R: Read, W: Write>(
+    alloc: Global,
+    input: &mut R,
+    output: &mut W,
+) -> Result<Outcome, ToolFault>
+    ensures ok { IfOk result (λ outcome. IfSome (R.remaining input.old)
+        (RunsGiven Job.Check outcome (W.contents output.old) (W.contents output.new))) }
+    ensures end { OnOk result (IsAtEnd (R.remaining input.new)) }
+    ensures err { IfErr result (IsRunFault (R.remaining input.old) Job.Check (W.contents output.old) (W.contents output.new)) }
+    ensures unwritten { IfErr result (IsUnwritten (W.contents output.old) (W.contents output.new)) }
+{
+    let script = read_input(alloc, input)?;
+    match check_script(alloc, script.as_slice())? {
+        Checked::Accepted(text) => {
+            tell(text.as_str(), output)?;
+            Ok(Outcome::Done)
+        }
+        Checked::Refused(text) => {
+            tell(text.as_str(), output)?;
+            Ok(Outcome::Refused)
+        }
+    }
+}
+
+/// Writes a text, and flushes.
+#[tactic(auto, using(crate::proofs::Flushed::appends_kept))]
+fn tell<W: Write>(text: &str, output: &mut W) -> Result<(), ToolFault>
+    ensures ok { OnOk result (Appends (W.contents output.old) (W.contents output.new) text.now) }
+    ensures err { IfErr result (λ fault. fault ≡ ToolFault.WriteFailed) }
+{
+    output
+        .write_all(text.as_bytes())
+        .map_err(|_| ToolFault::WriteFailed)?;
     output.flush().map_err(|_| ToolFault::WriteFailed)
+}
+
+/// The seed that is given, or else one of the system's random numbers: 1 where it has none.
+fn seed_of(rt: &impl RandomSource, mix: Option<u64>) -> u64
+    ensures { IfSome mix (λ seed. result ≡ seed) }
+{
+    if let Some(seed) = mix {
+        return seed;
+    }
+    let mut bytes = [0; 8];
+    match rt.fill_bytes(&mut bytes) {
+        Ok(()) => u64::from_le_bytes(bytes),
+        Err(_) => 1,
+    }
 }
 
 /// Runs the agents of the script that a reader gives in threads.
@@ -54,17 +122,21 @@ fn race<T: Threads + Wait + Sync + AllocGlobal, R: Read, W: Write>(
     rt: &T,
     share: Share,
     spins: u32,
+    seed: u64,
     input: &mut R,
     output: &mut W,
-) -> Result<(), ToolFault>
+) -> Result<Outcome, ToolFault>
     requires { spins ≤ MAX_SPINS }
-    ensures ok { OnOk result (IfSome (R.remaining input.old) (RunsGiven (Job.Race share spins) (W.contents output.old) (W.contents output.new))) }
+    ensures ok { IfOk result (λ outcome. IfSome (R.remaining input.old)
+        (RunsGiven (Job.Race share spins (Some seed)) outcome (W.contents output.old) (W.contents output.new))) }
     ensures end { OnOk result (IsAtEnd (R.remaining input.new)) }
-    ensures err { IfErr result (IsRunFault (R.remaining input.old) (Job.Race share spins) (W.contents output.old) (W.contents output.new)) }
+    ensures err { IfErr result (IsRunFault (R.remaining input.old) (Job.Race share spins (Some seed))
+        (W.contents output.old) (W.contents output.new)) }
     ensures unwritten { IfErr result (IsUnwritten (W.contents output.old) (W.contents output.new)) }
 {
     let alloc = rt.alloc();
     let script = read_input(alloc, input)?;
-    race_bytes(rt, alloc, script.as_slice(), share, spins, output)?;
-    output.flush().map_err(|_| ToolFault::WriteFailed)
+    race_mixed(rt, alloc, script.as_slice(), share, spins, seed, output)?;
+    output.flush().map_err(|_| ToolFault::WriteFailed)?;
+    Ok(Outcome::Done)
 }

@@ -5,8 +5,8 @@ ghost use Rattle.sab_command.specs.Status.{status_after};
 
 use sab_tool::ToolFault;
 
-/// The exit status after a fault: 1 where the script was refused, 3 where standard input or output failed, 4 where there
-/// was no memory or no thread.
+/// The exit status after a fault: 1 where the script was refused, 3 where standard input or output failed, 4 where
+/// there was no memory or no thread.
 pub(crate) fn status_of(fault: ToolFault) -> u8
     ensures { result ≡ status_after fault }
 {

@@ -1,2 +1,3 @@
 mod UnderWay
 mod Equality
+mod Looking

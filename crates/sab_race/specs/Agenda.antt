@@ -1,5 +1,5 @@
 -- What agents still have to do in a race.
-use Rattle.std.specs.Prelude.{◌≡◌, ℕ, ◌+◌, ◌-◌, ◌<◌, List, [], length, sum_by, slice_get, slice_index_or, Some}
+use Rattle.std.specs.Prelude.{◌≡◌, ℕ, ◌+◌, ◌-◌, ◌<◌, List, [], length, sum_by, slice_get, slice_set, slice_index_or, Some}
 use Rattle.sab_sim.specs.declared.schedule.Move.{Move}
 
 -- an agent's moves, and how many of them were made
@@ -20,6 +20,10 @@ unmade moves = record { moves = moves; made = 0 }
 -- the agenda once its next move was made
 abbrev pub after_next : AgendaParts → AgendaParts
 after_next agenda = record { moves = agenda.moves; made = agenda.made + 1 }
+
+-- the agendas once an agent's next move was made
+abbrev pub advanced : List AgendaParts → ℕ → List AgendaParts
+advanced agendas a = slice_set agendas a (after_next (agenda_at agendas a))
 
 -- how many moves of an agenda are left, and of all
 abbrev pub left_in : AgendaParts → ℕ

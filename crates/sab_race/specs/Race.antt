@@ -31,7 +31,8 @@ pub record IsAgenda (plan : PlanParts) (spins : ℕ) (schedule : List Move) (a :
   pub within : agenda.made ≤ length agenda.moves
 
 -- each agent has its agenda, and there is room for all that is left
-pub record IsUnderWay (plan : PlanParts) (spins : ℕ) (schedule : List Move) (entries reserved : ℕ) (agendas : List AgendaParts) : Type 0 where
+pub record IsUnderWay (plan : PlanParts) (spins : ℕ) (schedule : List Move) (entries reserved : ℕ)
+    (agendas : List AgendaParts) : Type 0 where
   pub count : length agendas ≡ length plan.scripts
   pub each : (a : ℕ) → a < length agendas → IsAgenda plan spins schedule a (agenda_at agendas a)
   pub fits : entries + left_of agendas ≤ 2 ^ 20
@@ -44,7 +45,8 @@ IsDone race = (a : ℕ) → a < length race.plan.scripts → left_in (agenda_at 
 -- each agent has all its moves left
 pub record AreFresh (scripts : List ScriptParts) (spins : ℕ) (agendas : List AgendaParts) : Type 0 where
   pub count : length agendas ≡ length scripts
-  pub each : (a : ℕ) → a < length scripts → agenda_at agendas a ≡ unmade (moves_of (calls_in (slice_get scripts a)) a spins)
+  pub each : (a : ℕ) → a < length scripts
+      → agenda_at agendas a ≡ unmade (moves_of (calls_in (slice_get scripts a)) a spins)
 
 -- a plan without blocks, views and agents
 abbrev pub no_plan : PlanParts

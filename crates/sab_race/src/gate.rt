@@ -7,7 +7,8 @@ pub trait Gate: Send + Sync + Drop {
     /// Is called by the agent's thread: before it asks for the lock for its move `k`, or before it sends it.
     fn before(&self, agent: u32, k: u32);
 
-    /// Is called after move `k` was made: by the agent's thread once it gave the lock back, or by the owner of the rings.
+    /// Is called after move `k` was made: by the agent's thread once it gave the lock back, or by the owner of the
+    /// rings.
     fn applied(&self, agent: u32, k: u32);
 }
 

@@ -1,7 +1,7 @@
 //! The receiving end of a ring.
 
-ghost use Rattle.std.specs.Prelude.{◌≡◌, slice_set, IsTrue, IsFalse};
-ghost use Rattle.sab_race.specs.Agenda.{agenda_at, after_next, HasNext};
+ghost use Rattle.std.specs.Prelude.{◌≡◌, IsTrue, IsFalse};
+ghost use Rattle.sab_race.specs.Agenda.{advanced, HasNext};
 
 use crate::gate::Gate;
 use crate::race::Race;
@@ -58,7 +58,7 @@ impl Lane {
         ensures plan { race.new.plan ≡ race.old.plan }
         ensures spins { race.new.spins ≡ race.old.spins }
         ensures made { IsTrue result → HasNext race.old.agendas self.old.agent
-            × (race.new.agendas ≡ slice_set race.old.agendas self.old.agent (after_next (agenda_at race.old.agendas self.old.agent))) }
+            × (race.new.agendas ≡ advanced race.old.agendas self.old.agent) }
         ensures none { IsFalse result → race.new ≡ race.old }
     {
         let agent = self.agent;

@@ -76,10 +76,10 @@ impl<N: RaceName> Locked<N> {
 
 /// Runs each agent in a thread of its own, each of its moves under one lock, and answers the report of what happened.
 ///
-/// Each agent makes its `moves`. What is left over once the threads have ended is made without calls of the gate. Refused
-/// are, in this order, agents with more than 2^20 moves in all (TooManyMoves), and a race for which there is no memory
-/// (OutOfMemory) or no thread (NoThread). In every case each thread that was started has ended; after a refusal the plan is
-/// dropped. `spins` is at most [`MAX_SPINS`].
+/// Each agent makes its `moves`. What is left over once the threads have ended is made without calls of the gate.
+/// Refused are, in this order, agents with more than 2^20 moves in all (TooManyMoves), and a race for which there is no
+/// memory (OutOfMemory) or no thread (NoThread). In every case each thread that was started has ended; after a refusal
+/// the plan is dropped. `spins` is at most [`MAX_SPINS`].
 pub fn run_locked<R: Threads + Wait + Sync, G: Gate + 'static>(
     rt: &R,
     alloc: Global,
@@ -120,6 +120,8 @@ fn run_named<N: RaceName + Send + Sync, R: Threads + Wait + Sync, G: Gate>(
 }
 
 /// Whether each agent's thread could be started; all that were have ended.
+///
+/// The lock is held while they are started, so that they begin together.
 fn run_threads<N: RaceName + Send + Sync, R: Threads + Wait + Sync, G: Gate>(
     rt: &R,
     lock: &Mutex<Locked<N>>,
@@ -127,6 +129,7 @@ fn run_threads<N: RaceName + Send + Sync, R: Threads + Wait + Sync, G: Gate>(
     agents: u32,
 ) -> bool {
     thread::scope(thread::scope_env(), rt, |scope| -> bool {
+        let _held = lock.lock(rt);
         for agent in 0..agents {
             let started = scope.spawn(move || make_moves(rt, lock, gate, agent));
             if started.is_err() {

@@ -5,39 +5,52 @@ ghost use Rattle.std.specs.Prelude.{◌≡◌};
 use crate::gate::Gate;
 use crate::lane::Lane;
 use crate::race::Race;
+use crate::route::{Route, ring_at};
 use std::thread;
 
-/// Goes round the rings until all moves are made, or none came in so many rounds in a row.
-pub fn poll<G: Gate>(race: &mut Race, lanes: &mut Vec<Lane>, gate: &G, patience: u32)
+/// Looks into the rings until all moves are made, or none came in so many looks in a row.
+pub fn poll<G: Gate>(
+    race: &mut Race,
+    lanes: &mut Vec<Lane>,
+    gate: &G,
+    route: &mut Route,
+    patience: u32,
+)
     ensures plan { race.new.plan ≡ race.old.plan }
     ensures spins { race.new.spins ≡ race.old.spins }
 {
     for _ in 0..u64::MAX {
-        if !race.has_any_next() || !await_round(race, lanes, gate, patience) {
+        if !race.has_any_next() || !await_move(race, lanes, gate, route, patience) {
             return;
         }
     }
 }
 
 /// Makes what the rings still hold.
-pub fn drain<G: Gate>(race: &mut Race, lanes: &mut Vec<Lane>, gate: &G)
+pub fn drain<G: Gate>(race: &mut Race, lanes: &mut Vec<Lane>, gate: &G, route: &mut Route)
     ensures plan { race.new.plan ≡ race.old.plan }
     ensures spins { race.new.spins ≡ race.old.spins }
 {
     for _ in 0..u64::MAX {
-        if !go_round(race, lanes, gate) {
+        if !look(race, lanes, gate, route) {
             return;
         }
     }
 }
 
-/// Goes round the rings so often in a row at most, and tells whether a move came.
-fn await_round<G: Gate>(race: &mut Race, lanes: &mut Vec<Lane>, gate: &G, patience: u32) -> bool
+/// Looks into the rings so often in a row at most, and tells whether a move came.
+fn await_move<G: Gate>(
+    race: &mut Race,
+    lanes: &mut Vec<Lane>,
+    gate: &G,
+    route: &mut Route,
+    patience: u32,
+) -> bool
     ensures plan { race.new.plan ≡ race.old.plan }
     ensures spins { race.new.spins ≡ race.old.spins }
 {
     for _ in 0..patience {
-        if go_round(race, lanes, gate) {
+        if look(race, lanes, gate, route) {
             return true;
         }
         thread::yield_now();
@@ -45,16 +58,22 @@ fn await_round<G: Gate>(race: &mut Race, lanes: &mut Vec<Lane>, gate: &G, patien
     false
 }
 
-/// Makes one move out of each ring that holds one, and tells whether any did.
-fn go_round<G: Gate>(race: &mut Race, lanes: &mut Vec<Lane>, gate: &G) -> bool
+/// Looks into each ring, from the one on that the route says, until one gives a move, and tells whether one did.
+fn look<G: Gate>(race: &mut Race, lanes: &mut Vec<Lane>, gate: &G, route: &mut Route) -> bool
     ensures plan { race.new.plan ≡ race.old.plan }
     ensures spins { race.new.spins ≡ race.old.spins }
 {
-    let mut has_made = false;
-    for lane in lanes.iter_mut() {
-        if lane.take_one(race, gate) {
-            has_made = true;
+    let rings = lanes.len();
+    if rings == 0 {
+        return false;
+    }
+    let first = route.begin(rings);
+    for step in 0..rings {
+        let ring = ring_at(first, step, rings);
+        if lanes[ring].take_one(race, gate) {
+            route.came_from(ring);
+            return true;
         }
     }
-    has_made
+    false
 }

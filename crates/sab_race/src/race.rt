@@ -1,11 +1,11 @@
 //! A race as far as it came.
 
-ghost use Rattle.std.specs.Prelude.{◌≡◌, ◌≢◌, ℕ, ◌<◌, ◌≤◌, ◌^◌, ◌↔◌, length, slice_set, All, IsTrue, IsFalse, IfOk, IfSome, IfNone, IsErrOf, SomeIndex};
+ghost use Rattle.std.specs.Prelude.{◌≡◌, ◌≢◌, ℕ, ◌<◌, ◌≤◌, ◌^◌, ◌↔◌, length, All, IsTrue, IsFalse, IfOk, IfSome, IfNone, IsErrOf, SomeIndex};
 ghost use Rattle.sab_sim.specs.Script.{ScriptParts};
 ghost use Rattle.sab_sim.specs.Plan.{calls_of};
 ghost use Rattle.sab_sim.specs.Report.{IsOnly};
 ghost use Rattle.sab_race.specs.Moves.{moves_of, count_of};
-ghost use Rattle.sab_race.specs.Agenda.{agenda_at, left_in, after_next, HasNext, IsNext};
+ghost use Rattle.sab_race.specs.Agenda.{agenda_at, left_in, advanced, HasNext, IsNext};
 ghost use Rattle.sab_race.specs.Race.{IsRace, IsDone, AreFresh};
 
 use crate::agenda::Agenda;
@@ -18,7 +18,8 @@ use std::marker::Model;
 
 /// A simulator, and what each agent still has to do.
 ///
-/// At all times each agent's part of the moves so far is the first so many of its moves, and there is room for the rest.
+/// At all times each agent's part of the moves so far is the first so many of its moves, and there is room for the
+/// rest.
 #[derive(Drop)]
 pub struct Race {
     sim: Sim,
@@ -32,9 +33,11 @@ impl Model for Race {
 
     ghost Value = { RaceParts };
 
-    ghost view = { λ race. record { plan = race.sim.plan; spins = race.spins; schedule = race.sim.moves; agendas = race.agendas.items } };
+    ghost view = { λ race. record
+        { plan = race.sim.plan; spins = race.spins; schedule = race.sim.moves; agendas = race.agendas.items } };
 
-    ghost invariant = { λ race. IsUnderWay race.sim.plan race.spins race.sim.moves (length race.sim.journal) race.sim.reserved race.agendas.items };
+    ghost invariant = { λ race. IsUnderWay race.sim.plan race.spins race.sim.moves (length race.sim.journal) race.sim.reserved
+        race.agendas.items };
 }
 
 /// What each agent has to do at the start.
@@ -119,7 +122,7 @@ impl Race {
         requires left { 0 < left_in (agenda_at self.old.agendas agent) }
         ensures plan { self.new.plan ≡ self.old.plan }
         ensures spins { self.new.spins ≡ self.old.spins }
-        ensures agendas { self.new.agendas ≡ slice_set self.old.agendas agent (after_next (agenda_at self.old.agendas agent)) }
+        ensures agendas { self.new.agendas ≡ advanced self.old.agendas agent }
     {
         let next = self.agendas[agent as usize].take_next();
         let Ok(()) = self.sim.step(next) else {
@@ -131,7 +134,7 @@ impl Race {
     pub fn make_next(&mut self, agent: u32) -> bool
         ensures plan { self.new.plan ≡ self.old.plan }
         ensures spins { self.new.spins ≡ self.old.spins }
-        ensures made { IsTrue result → self.new.agendas ≡ slice_set self.old.agendas agent (after_next (agenda_at self.old.agendas agent)) }
+        ensures made { IsTrue result → self.new.agendas ≡ advanced self.old.agendas agent }
         ensures none { IsFalse result → self.new ≡ self.old }
         ensures left { IsTrue result ↔ HasNext self.old.agendas agent }
     {
@@ -146,7 +149,8 @@ impl Race {
     pub fn make_given(&mut self, agent: u32, given: Move) -> Option<u32>
         ensures plan { self.new.plan ≡ self.old.plan }
         ensures spins { self.new.spins ≡ self.old.spins }
-        ensures made { IfSome result (λ k. IsNext self.old.agendas agent k given × (self.new.agendas ≡ slice_set self.old.agendas agent (after_next (agenda_at self.old.agendas agent)))) }
+        ensures made { IfSome result
+            (λ k. IsNext self.old.agendas agent k given × (self.new.agendas ≡ advanced self.old.agendas agent)) }
         ensures none { IfNone result ((self.new ≡ self.old) × ((k : ℕ) → IsNext self.old.agendas agent k given → ⊥)) }
     {
         if !self.has_next(agent) {

@@ -12,6 +12,7 @@ use crate::lane::Lane;
 use crate::owner::{drain, poll};
 use crate::race::Race;
 use crate::race_fault::RaceFault;
+use crate::route::Route;
 use crate::script_moves::MAX_SPINS;
 use rtrb::{Producer, RingBuffer};
 use sab_sim::{Move, Plan, Report};
@@ -20,14 +21,14 @@ use std::sync::Arc;
 use std::thread;
 use std::thread::{JoinHandle, Threads};
 
-/// Runs each agent in a thread of its own, which sends its moves to the caller by a ring, and answers the report of what
-/// happened.
+/// Runs each agent in a thread of its own, which sends its moves to the caller by a ring, and answers the report of
+/// what happened.
 ///
-/// Each agent sends its `moves`, by `feed`. The caller goes round the rings and makes what comes, until all moves are made
-/// or none came in `patience` rounds in a row; then it waits for the threads to end, makes what the rings still hold, and
-/// makes what is left over without calls of the gate. Refused are, in this order, agents with more than 2^20 moves in all
-/// (TooManyMoves), and a race for which there is no memory (OutOfMemory) or no thread (NoThread). In every case each thread
-/// that was started has ended; after a refusal the plan is dropped. `spins` is at most [`MAX_SPINS`].
+/// Each agent sends its `moves`, by `feed`. The caller goes round the rings and makes what comes, until all moves are
+/// made or none came in `patience` rounds in a row; then it waits for the threads to end, makes what the rings still
+/// hold, and makes what is left over without calls of the gate. Refused are, in this order, agents with more than 2^20
+/// moves in all (TooManyMoves), and a race for which there is no memory (OutOfMemory) or no thread (NoThread). In every
+/// case each thread that was started has ended; after a refusal the plan is dropped. `spins` is at most [`MAX_SPINS`].
 pub fn run_rings<R: Threads, G: Gate + 'static>(
     rt: &R,
     alloc: Global,
@@ -41,18 +42,40 @@ pub fn run_rings<R: Threads, G: Gate + 'static>(
     ensures only { IfOk result (λ report. IsOnly plan report) }
     ensures too_many { IsErrOf result RaceFault.TooManyMoves ↔ (2 ^ 20 < count_of plan.scripts spins) }
 {
+    run_rings_mixed(rt, alloc, plan, spins, patience, gate, 0)
+}
+
+/// The same, but the caller doesn't go round: at which ring it begins to look for its next move is drawn from a seed.
+///
+/// From there on it looks into each ring until one gives a move, so that what a round is stays the same. By the seed 0
+/// it goes round.
+pub fn run_rings_mixed<R: Threads, G: Gate + 'static>(
+    rt: &R,
+    alloc: Global,
+    plan: Plan,
+    spins: u32,
+    patience: u32,
+    gate: Arc<G>,
+    seed: u64,
+) -> Result<Report, RaceFault>
+    requires { spins ≤ MAX_SPINS }
+    ensures race { IfOk result (λ report. IsRace plan spins report) }
+    ensures only { IfOk result (λ report. IsOnly plan report) }
+    ensures too_many { IsErrOf result RaceFault.TooManyMoves ↔ (2 ^ 20 < count_of plan.scripts spins) }
+{
+    let mut route = Route::new(seed);
     let mut race = Race::new(alloc, plan, spins)?;
     let mut lanes = Vec::with_capacity(alloc, race.agents() as usize)?;
     let mut threads = Vec::with_capacity(alloc, race.agents() as usize)?;
     let outcome = start_all(rt, alloc, &race, &mut lanes, &mut threads, &gate);
     if outcome.is_ok() {
-        poll(&mut race, &mut lanes, &*gate, patience);
+        poll(&mut race, &mut lanes, &*gate, &mut route, patience);
     }
     for thread in threads {
         thread.join(rt);
     }
     outcome?;
-    drain(&mut race, &mut lanes, &*gate);
+    drain(&mut race, &mut lanes, &*gate, &mut route);
     Ok(race.complete())
 }
 

@@ -12,9 +12,9 @@ pub const MAX_SPINS: u32 = 1_000;
 
 /// The moves that an agent makes for its script, in order.
 ///
-/// For an access or a notify they are three steps. For a wait they are two steps, then `spins` steps, then the end of its
-/// time, then two steps, so that it ends whether it was woken or not. A script has at most [`Plan::MAX_CALLS`] calls, and
-/// `spins` is at most [`MAX_SPINS`].
+/// For an access or a notify they are three steps. For a wait they are two steps, then `spins` steps, then the end of
+/// its time, then two steps, so that it ends whether it was woken or not. A script has at most [`Plan::MAX_CALLS`]
+/// calls, and `spins` is at most [`MAX_SPINS`].
 pub fn moves(
     alloc: Global,
     script: &Script,

@@ -9,13 +9,19 @@ use Rattle.sab_sim.specs.declared.plan_view.PlanView.{PlanView}
 use Rattle.sab_script.specs.declared.view_spec.ViewSpec.{ViewSpec}
 use Rattle.sab_script.specs.Views.{IsDescribed, AreDescribed}
 
-pub described_more : (lens : List ℕ) (vs : List (List ℕ × ViewSpec)) (ps : List PlanView) (v : List ℕ × ViewSpec) (p : PlanView) → AreDescribed lens vs ps → IsDescribed lens v.1 p → AreDescribed lens (vs ++ v ∷ []) (ps ++ p ∷ [])
+pub described_more : (lens : List ℕ) (vs : List (List ℕ × ViewSpec)) (ps : List PlanView) (v : List ℕ × ViewSpec)
+    (p : PlanView)
+    → AreDescribed lens vs ps → IsDescribed lens v.1 p → AreDescribed lens (vs ++ v ∷ []) (ps ++ p ∷ [])
 described_more lens [] [] v p h d = (d, tt)
 described_more lens [] (q ∷ ps) v p h d = absurd h
 described_more lens (w ∷ vs) [] v p h d = absurd h
 described_more lens (w ∷ vs) (q ∷ ps) v p h d = (h.0, described_more lens vs ps v p h.1 d)
 
 -- a view that was made is the one that was described
-pub made_of : (lens : List ℕ) (len : ℕ) (v : ViewSpec) (w : View) (r : Result View Thrown) (o : Option ℕ) → slice_get lens v.block ≡ Some len → count v.kind len v.offset v.length ≡ o → MatchOption o (r ≡ Err RangeError) (λ n. IsOkAnd r (IsViewOf v.kind len v.offset n)) → r ≡ Ok w → IsDescribed lens v (record { block = v.block; view = w })
+pub made_of : (lens : List ℕ) (len : ℕ) (v : ViewSpec) (w : View) (r : Result View Thrown) (o : Option ℕ)
+    → slice_get lens v.block ≡ Some len → count v.kind len v.offset v.length ≡ o
+    → MatchOption o (r ≡ Err RangeError) (λ n. IsOkAnd r (IsViewOf v.kind len v.offset n)) → r ≡ Ok w
+    → IsDescribed lens v (record { block = v.block; view = w })
 made_of lens len v w r None there counted h is = let bad : Err RangeError ≡ Ok w = sym h ∙ is in cc
-made_of lens len v w r (Some n) there counted h is = record { block = refl; len = len; there = there; elements = n; counted = counted; view = rw is at h }
+made_of lens len v w r (Some n) there counted h is =
+    record { block = refl; len = len; there = there; elements = n; counted = counted; view = rw is at h }

@@ -6,14 +6,16 @@ use Rattle.serde_json.specs.View.{view, items_view}
 use Rattle.serde_json.specs.declared.value.Value.{Value}
 use Rattle.sab_script.specs.Reading.{SpellsEach}
 
-pub length-each : {X : Type 0} (S : Data → X → Type 0) (ts : List Value) (xs : List X) → SpellsEach S (items_view ts) xs → length xs ≡ length ts
+pub length-each : {X : Type 0} (S : Data → X → Type 0) (ts : List Value) (xs : List X) → SpellsEach S (items_view ts) xs
+    → length xs ≡ length ts
 length-each S [] [] h = refl
 length-each S [] (x ∷ xs) h = absurd h
 length-each S (t ∷ ts) [] h = absurd h
 length-each S (t ∷ ts) (x ∷ xs) h = ap (λ n. suc n) (length-each S ts xs h.1)
 
 -- each item spells an element
-pub item_part : {X : Type 0} (S : Data → X → Type 0) (ts : List Value) (xs : List X) (i : ℕ) (t : Value) → i < length ts → t ≡ get_or ts i t → SpellsEach S (items_view ts) xs → (x : X) × S (view t) x
+pub item_part : {X : Type 0} (S : Data → X → Type 0) (ts : List Value) (xs : List X) (i : ℕ) (t : Value) → i < length ts
+    → t ≡ get_or ts i t → SpellsEach S (items_view ts) xs → (x : X) × S (view t) x
 item_part S [] xs i t lt e h = absurd (omega arith)
 item_part S (s ∷ ts) [] i t lt e h = absurd h
 item_part S (s ∷ ts) (x ∷ xs) zero t lt e h = (x, rw e h.0)
@@ -21,23 +23,28 @@ item_part S (s ∷ ts) (x ∷ xs) (suc i) t lt e h = item_part S ts xs i t (omeg
 
 -- xs are the elements of the items before the index i
 abbrev pub EachSoFar : {X : Type 0} → (Data → X → Type 0) → List Value → ℕ → List X → Type 0
-EachSoFar {X = X} S ts i xs = (rest : List X) → SpellsEach S (items_view (drop i ts)) rest → SpellsEach S (items_view ts) (xs ++ rest)
+EachSoFar {X = X} S ts i xs = (rest : List X) → SpellsEach S (items_view (drop i ts)) rest
+    → SpellsEach S (items_view ts) (xs ++ rest)
 
 pub each_none : {X : Type 0} (S : Data → X → Type 0) (ts : List Value) → EachSoFar S ts 0 []
 each_none S ts = λ rest h. h
 
-pub each_more : {X : Type 0} (S : Data → X → Type 0) (ts : List Value) (i : ℕ) (xs : List X) (t : Value) (x : X) → i < length ts → t ≡ get_or ts i t → EachSoFar S ts i xs → S (view t) x → EachSoFar S ts (i + 1) (xs ++ x ∷ [])
+pub each_more : {X : Type 0} (S : Data → X → Type 0) (ts : List Value) (i : ℕ) (xs : List X) (t : Value) (x : X)
+    → i < length ts → t ≡ get_or ts i t → EachSoFar S ts i xs → S (view t) x → EachSoFar S ts (i + 1) (xs ++ x ∷ [])
 each_more S ts i xs t x lt e h s = λ rest r.
-    let front : SpellsEach S (items_view (drop i ts)) (x ∷ rest) = let r' = rw add-one at r in rw (drop-cons ts i t, ← e) (s, r') in
+    let front : SpellsEach S (items_view (drop i ts)) (x ∷ rest) =
+    let r' = rw add-one at r in rw (drop-cons ts i t, ← e) (s, r') in
     rw append_assoc (h (x ∷ rest) front)
 
-pub each_all : {X : Type 0} (S : Data → X → Type 0) (ts : List Value) (i : ℕ) (xs : List X) → i ≡ length ts → EachSoFar S ts i xs → SpellsEach S (items_view ts) xs
+pub each_all : {X : Type 0} (S : Data → X → Type 0) (ts : List Value) (i : ℕ) (xs : List X) → i ≡ length ts
+    → EachSoFar S ts i xs → SpellsEach S (items_view ts) xs
 each_all S ts i xs e h =
     let end : SpellsEach S (items_view (drop i ts)) [] = rw (e, drop-length ts) tt in
     rw append-nil at (h [] end)
 
 -- one element for each item, so one list for all
-pub each_same : {X : Type 0} (S T : Data → X → Type 0) → ((d : Data) (x y : X) → S d x → T d y → x ≡ y) → (ds : Items) (xs ys : List X) → SpellsEach S ds xs → SpellsEach T ds ys → xs ≡ ys
+pub each_same : {X : Type 0} (S T : Data → X → Type 0) → ((d : Data) (x y : X) → S d x → T d y → x ≡ y)
+    → (ds : Items) (xs ys : List X) → SpellsEach S ds xs → SpellsEach T ds ys → xs ≡ ys
 each_same S T same no_items [] [] p q = refl
 each_same S T same no_items (x ∷ xs) ys p q = absurd p
 each_same S T same no_items [] (y ∷ ys) p q = absurd q

@@ -9,6 +9,8 @@ pub mod ViewNames
 pub mod Parts
 pub mod Places
 pub mod Refusing
+pub mod Scripts
+pub mod Starts
 pub mod WholeCall
 pub mod WholeScript
 pub mod SameSpec

@@ -6,8 +6,9 @@ use Rattle.serde_json.specs.View.{items_view}
 use Rattle.serde_json.specs.declared.value.Value.{Value}
 use Rattle.sab_script.specs.declared.form.Form.{Form}
 use Rattle.sab_script.specs.declared.form.Form.TheVariants.{Blocks}
-use Rattle.sab_script.specs.declared.read_fault.ReadFault.{ReadFault}
-use Rattle.sab_script.specs.Reading.{Reads, SpellsUpTo}
+use Rattle.sab_script.specs.declared.located.Located.{Located}
+use Rattle.sab_script.specs.Reading.{Finds, SpellsUpTo}
+use Rattle.sab_script.specs.Why.{fault_of}
 use Rattle.sab_script.specs.Blocks.{SpellsLen, SpellsLens}
 use Rattle.sab_script.proofs.Each.{length-each}
 use Rattle.sab_script.proofs.Refusing.{refuses_more}
@@ -16,18 +17,24 @@ pub at_least_one : (n : ℕ) → (n == 0) ≡ false → 1 ≤ n
 at_least_one zero e = absurd (true≢false e)
 at_least_one (suc n) e = omega arith
 
-spelled_lens : (d : Data) (ts : List Value) (lens : List ℕ) → d ≡ array (items_view ts) → 1 ≤ length ts → SpellsUpTo 4 SpellsLen (items_view ts) lens → SpellsLens Blocks d lens
+spelled_lens : (d : Data) (ts : List Value) (lens : List ℕ) → d ≡ array (items_view ts) → 1 ≤ length ts
+    → SpellsUpTo 4 SpellsLen (items_view ts) lens → SpellsLens Blocks d lens
 spelled_lens d ts lens e some h =
     let count = length-each SpellsLen ts lens h.0 in
     (items_view ts, e, h, omega (arith, count, some))
 
-lens_items : (d : Data) (ds : Items) (lens : List ℕ) → d ≡ array ds → SpellsLens Blocks d lens → SpellsUpTo 4 SpellsLen ds lens
+lens_items : (d : Data) (ds : Items) (lens : List ℕ) → d ≡ array ds → SpellsLens Blocks d lens
+    → SpellsUpTo 4 SpellsLen ds lens
 lens_items d ds lens e h =
     let trees : array h.0 ≡ array ds = sym h.1 ∙ e in
     let items : h.0 ≡ ds = cc in
     subst (λ (x : Items). SpellsUpTo 4 SpellsLen x lens) items h.2
 
-pub reads_lens : (form : Form) (d : Data) (ts : List Value) (r : Result (Vec ℕ Global) ReadFault) → form ≡ Blocks → d ≡ array (items_view ts) → 1 ≤ length ts → Reads (λ (lens : Vec ℕ Global). lens.items) (SpellsUpTo 4 SpellsLen (items_view ts)) r → Reads (λ (lens : Vec ℕ Global). lens.items) (SpellsLens form d) r
+pub reads_lens : (form : Form) (d : Data) (ts : List Value) (r : Result (Vec ℕ Global) Located) → form ≡ Blocks
+    → d ≡ array (items_view ts) → 1 ≤ length ts
+    → Finds (λ (lens : Vec ℕ Global). lens.items) (SpellsUpTo 4 SpellsLen (items_view ts)) r
+    → Finds (λ (lens : Vec ℕ Global). lens.items) (SpellsLens form d) r
 reads_lens form d ts (Ok lens) f e some h = rw f (spelled_lens d ts lens.items e some h)
-reads_lens form d ts (Err fault) f e some h =
-    rw f (refuses_more (SpellsUpTo 4 SpellsLen (items_view ts)) (SpellsLens Blocks d) fault (λ lens p. (lens, lens_items d (items_view ts) lens e p)) h)
+reads_lens form d ts (Err refusal) f e some h =
+    rw f (refuses_more (SpellsUpTo 4 SpellsLen (items_view ts)) (SpellsLens Blocks d) (fault_of refusal.why)
+    (λ lens p. (lens, lens_items d (items_view ts) lens e p)) h)

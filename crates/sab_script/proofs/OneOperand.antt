@@ -16,20 +16,24 @@ small n h = omega arith
 
 same_decimal : (m n : ℕ) → m ≤ 2 ^ 127 → n ≤ 2 ^ 127 → decimal m ≡ decimal n → m ≡ n
 same_decimal m n p q e =
-    sym (decimal_is_IsNumeral_wide m (small m p)).1 ∙ ap (digits_value 10) e ∙ (decimal_is_IsNumeral_wide n (small n q)).1
+    sym (decimal_is_IsNumeral_wide m (small m p)).1 ∙ ap (digits_value 10) e
+    ∙ (decimal_is_IsNumeral_wide n (small n q)).1
 
 no_minus : (n : ℕ) (ds : List ℕ) → n ≤ 2 ^ 127 → decimal n ≡ 45 ∷ ds → ⊥
-no_minus n ds h e = omega (arith, digit_from_value 45 (subst (AllDigits 10) e (decimal_is_IsNumeral_wide n (small n h)).0.1).0)
+no_minus n ds h e =
+    omega (arith, digit_from_value 45 (subst (AllDigits 10) e (decimal_is_IsNumeral_wide n (small n h)).0.1).0)
 
 same_big : (y z : ℤ) → FitsSigned w128 y → FitsSigned w128 z → signed_decimal y ≡ signed_decimal z → y ≡ z
 same_big (pos m) (pos n) p q e = ap pos (same_decimal m n (omega (arith, p.sfits)) (omega (arith, q.sfits)) e)
 same_big (pos m) (negsuc n) p q e = absurd (no_minus m _ (omega (arith, p.sfits)) e)
 same_big (negsuc m) (pos n) p q e = absurd (no_minus n _ (omega (arith, q.sfits)) (sym e))
 same_big (negsuc m) (negsuc n) p q e =
-    let same : suc m ≡ suc n = same_decimal (suc m) (suc n) (omega (arith, p.sfits)) (omega (arith, q.sfits)) (ap (drop 1) e) in
+    let same : suc m ≡ suc n =
+    same_decimal (suc m) (suc n) (omega (arith, p.sfits)) (omega (arith, q.sfits)) (ap (drop 1) e) in
     ap negsuc (omega (arith, same))
 
-same_data : (b c : Bool) (y z : ℤ) → IsInRange b y → IsInRange c z → operand_data b y ≡ operand_data c z → (b ≡ c) × (y ≡ z)
+same_data : (b c : Bool) (y z : ℤ) → IsInRange b y → IsInRange c z → operand_data b y ≡ operand_data c z
+    → (b ≡ c) × (y ≡ z)
 same_data false false y z p q e = (refl, same_whole y z e)
 same_data false true y z p q e = cc
 same_data true false y z p q e = cc

@@ -17,18 +17,21 @@ use Rattle.sab_script.proofs.SameSpec.{same_kind, same_optional}
 use Rattle.sab_script.proofs.WholeCall.{same_whole}
 
 -- the members that follow the block
-rest_same : (form : Form) (b c : ℕ) (m n : Members) → object (with_block form b m) ≡ object (with_block form c n) → m ≡ n
+rest_same : (form : Form) (b c : ℕ) (m n : Members) → object (with_block form b m) ≡ object (with_block form c n)
+    → m ≡ n
 rest_same Bytes b c m n e = cc
 rest_same Blocks b c m n e = cc
 
-block_same : (form : Form) (b c : ℕ) (m n : Members) → IsBlockIn form b → IsBlockIn form c → object (with_block form b m) ≡ object (with_block form c n) → b ≡ c
+block_same : (form : Form) (b c : ℕ) (m n : Members) → IsBlockIn form b → IsBlockIn form c
+    → object (with_block form b m) ≡ object (with_block form c n) → b ≡ c
 block_same Bytes b c m n p q e = p ∙ sym q
 block_same Blocks b c m n p q e =
     let tree : whole (pos b) ≡ whole (pos c) = cc in
     let same : pos b ≡ pos c = same_whole (pos b) (pos c) tree in cc
 
 -- views with one description, on one block
-same_described : (v w : List ℕ × ViewSpec) → description_of v.0 v.1 ≡ description_of w.0 w.1 → v.1.block ≡ w.1.block → v ≡ w
+same_described : (v w : List ℕ × ViewSpec) → description_of v.0 v.1 ≡ description_of w.0 w.1 → v.1.block ≡ w.1.block
+    → v ≡ w
 same_described v w e block =
     let word : string (kind_name v.1.kind) ≡ string (kind_name w.1.kind) = cc in
     let kind_text : kind_name v.1.kind ≡ kind_name w.1.kind = cc in
@@ -41,7 +44,8 @@ same_described v w e block =
     let offset = same_whole v.1.offset w.1.offset offsets in
     λ i. (name i, record { kind = kind i; offset = offset i; length = length i; block = block i })
 
-pub same_view : (form : Form) (lens : List ℕ) (d : Data) (v w : List ℕ × ViewSpec) → SpellsView form lens d v → SpellsView form lens d w → v ≡ w
+pub same_view : (form : Form) (lens : List ℕ) (d : Data) (v w : List ℕ × ViewSpec) → SpellsView form lens d v
+    → SpellsView form lens d w → v ≡ w
 same_view form lens d v w p q =
     let trees = sym p.tree ∙ q.tree in
     let rest : p.rest ≡ q.rest = rest_same form v.1.block w.1.block p.rest q.rest trees in
@@ -49,7 +53,8 @@ same_view form lens d v w p q =
     same_described v w (sym p.description.members ∙ rest ∙ q.description.members) block
 
 -- a view that can't be made isn't spelled
-pub not_made : (lens : List ℕ) (rest : Members) (name : List ℕ) (spec : ViewSpec) → rest ≡ description_of name spec → count_on lens spec ≡ None → (v : List ℕ × ViewSpec) → SpellsDescription lens rest v × (v.1.block ≡ spec.block) → ⊥
+pub not_made : (lens : List ℕ) (rest : Members) (name : List ℕ) (spec : ViewSpec) → rest ≡ description_of name spec
+    → count_on lens spec ≡ None → (v : List ℕ × ViewSpec) → SpellsDescription lens rest v × (v.1.block ≡ spec.block) → ⊥
 not_made lens rest name spec e none v h =
     let same : v ≡ (name, spec) = same_described v (name, spec) (sym h.0.members ∙ e) h.1 in
     let counted : count_on lens v.1 ≡ None = ap (λ (w : List ℕ × ViewSpec). count_on lens w.1) same ∙ none in
@@ -62,19 +67,23 @@ there (y ∷ ys) zero x h = omega arith
 there (y ∷ ys) (suc i) x h = let k = there ys i x h in omega (arith, k)
 
 -- a view that can be made is on one of the blocks
-on_there : (lens : List ℕ) (v : ViewSpec) (o : Option ℕ) → slice_get lens v.block ≡ o → IsTrue (is_some (count_on lens v)) → v.block < length lens
+on_there : (lens : List ℕ) (v : ViewSpec) (o : Option ℕ) → slice_get lens v.block ≡ o
+    → IsTrue (is_some (count_on lens v)) → v.block < length lens
 on_there lens v None e made = let bad = rw e at made in cc
 on_there lens v (Some len) e made = there lens v.block len e
 
 -- the block and the rest of a view that is spelled
-pub block_part : (form : Form) (lens : List ℕ) (d : Data) (m : Members) → d ≡ object m → (v : List ℕ × ViewSpec) → SpellsView form lens d v → (p : ℕ × Members) × ((m ≡ with_block form p.0 p.1) × (p.0 < length lens))
+pub block_part : (form : Form) (lens : List ℕ) (d : Data) (m : Members) → d ≡ object m → (v : List ℕ × ViewSpec)
+    → SpellsView form lens d v → (p : ℕ × Members) × ((m ≡ with_block form p.0 p.1) × (p.0 < length lens))
 block_part form lens d m e v h =
     let same : object m ≡ object (with_block form v.1.block h.rest) = sym e ∙ h.tree in
     let members : m ≡ with_block form v.1.block h.rest = cc in
     ((v.1.block, h.rest), (members, on_there lens v.1 (slice_get lens v.1.block) refl h.description.made))
 
 -- a view is spelled where its description is
-pub description_part : (form : Form) (lens : List ℕ) (d : Data) (b : ℕ) (m : Members) → d ≡ object (with_block form b m) → IsBlockIn form b → (v : List ℕ × ViewSpec) → SpellsView form lens d v → SpellsDescription lens m v × (v.1.block ≡ b)
+pub description_part : (form : Form) (lens : List ℕ) (d : Data) (b : ℕ) (m : Members) → d ≡ object (with_block form b m)
+    → IsBlockIn form b → (v : List ℕ × ViewSpec) → SpellsView form lens d v
+    → SpellsDescription lens m v × (v.1.block ≡ b)
 description_part form lens d b m e has v h =
     let trees = sym h.tree ∙ e in
     let rest : h.rest ≡ m = rest_same form v.1.block b h.rest m trees in
@@ -84,7 +93,8 @@ same_made : (lens : List ℕ) (v : ViewSpec) (p q : PlanView) → IsDescribed le
 same_made lens v p q g h =
     let lengths : Some g.len ≡ Some h.len = sym g.there ∙ h.there in
     let len_is : g.len ≡ h.len = cc in
-    let counts : Some g.elements ≡ Some h.elements = sym g.counted ∙ (λ i. count v.kind (len_is i) v.offset v.length) ∙ h.counted in
+    let counts : Some g.elements ≡ Some h.elements =
+    sym g.counted ∙ (λ i. count v.kind (len_is i) v.offset v.length) ∙ h.counted in
     let elements : g.elements ≡ h.elements = cc in
     let kind : p.view.kind ≡ q.view.kind = g.view.kind_is ∙ sym h.view.kind_is in
     let block_len : p.view.block_len ≡ q.view.block_len = g.view.block_len_is ∙ len_is ∙ sym h.view.block_len_is in
@@ -99,11 +109,14 @@ same_made lens v p q g h =
         block_len = block_len i;
         offset = offset i;
         len = len i;
-        inside = is_prop→PathP (λ j. offset j + len j * element_size (kind j) ≤ block_len j) (λ j. hlevel props) p.view.inside q.view.inside i;
+        inside =
+            is_prop→PathP (λ j. offset j + len j * element_size (kind j) ≤ block_len j) (λ j. hlevel props)
+            p.view.inside q.view.inside i;
       };
     }
 
-pub all_made : (lens : List ℕ) (vs : List (List ℕ × ViewSpec)) (ps qs : List PlanView) → AreDescribed lens vs ps → AreDescribed lens vs qs → ps ≡ qs
+pub all_made : (lens : List ℕ) (vs : List (List ℕ × ViewSpec)) (ps qs : List PlanView) → AreDescribed lens vs ps
+    → AreDescribed lens vs qs → ps ≡ qs
 all_made lens [] [] [] g h = refl
 all_made lens [] (p ∷ ps) qs g h = absurd g
 all_made lens [] [] (q ∷ qs) g h = absurd h

@@ -12,12 +12,14 @@ use Rattle.std.proofs.lemmas.Slice.Eq.{bytes_eq-Decides}
 use Rattle.sab_script.specs.declared.view_spec.ViewSpec.{ViewSpec}
 use Rattle.sab_script.proofs.ViewNames.{named, names_of}
 
-names_keys : (es : List (String Global × ViewSpec)) → names_of (named es) ≡ map (λ (k : String Global). string_bytes k) (keys_of es)
+names_keys : (es : List (String Global × ViewSpec))
+    → names_of (named es) ≡ map (λ (k : String Global). string_bytes k) (keys_of es)
 names_keys [] = refl
 names_keys (e ∷ es) = ap (λ (l : List (List ℕ)). string_bytes e.0 ∷ l) (names_keys es)
 
 -- where a name is found
-pub name_found : (es : List (String Global × ViewSpec)) (n : List ℕ) (i : ℕ) → position (λ k. bytes_eq n (string_bytes k)) (keys_of es) ≡ Some i → slice_get (names_of (named es)) i ≡ Some n
+pub name_found : (es : List (String Global × ViewSpec)) (n : List ℕ) (i : ℕ)
+    → position (λ k. bytes_eq n (string_bytes k)) (keys_of es) ≡ Some i → slice_get (names_of (named es)) i ≡ Some n
 name_found [] n i p = cc
 name_found (e ∷ es) n i p =
     let ks = keys_of (e ∷ es) in
@@ -30,7 +32,8 @@ name_found (e ∷ es) n i p =
     ∙ ap (λ (t : List ℕ). Some t) (sym same)
 
 -- a name that the map lacks has no place
-pub name_missing : (es : List (String Global × ViewSpec)) (n : List ℕ) (v : ℕ) → lookup (λ k. bytes_eq n (string_bytes k)) es ≡ None → slice_get (names_of (named es)) v ≡ Some n → ⊥
+pub name_missing : (es : List (String Global × ViewSpec)) (n : List ℕ) (v : ℕ)
+    → lookup (λ k. bytes_eq n (string_bytes k)) es ≡ None → slice_get (names_of (named es)) v ≡ Some n → ⊥
 name_missing [] n v l g = cc
 name_missing (e ∷ es) n zero l g =
     let same : n ≡ string_bytes e.0 = cc in

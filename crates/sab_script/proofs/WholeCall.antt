@@ -6,8 +6,9 @@ use Rattle.std.specs.Str.{bytes_eq}
 use Rattle.std.proofs.lemmas.Slice.Eq.{bytes_eq-Decides}
 use Rattle.serde_json.specs.Data.{Data, string, array, Items, item}
 use Rattle.sab_sim.specs.declared.call.Call.{Call}
-use Rattle.sab_script.specs.declared.read_fault.ReadFault.{ReadFault}
-use Rattle.sab_script.specs.Reading.{Reads}
+use Rattle.sab_script.specs.declared.located.Located.{Located}
+use Rattle.sab_script.specs.Reading.{Finds}
+use Rattle.sab_script.specs.Why.{fault_of}
 use Rattle.sab_script.specs.Calls.{Spelling, spelling_of, call_tree, SpellsParts, HasSpelling, SpellsCall}
 use Rattle.sab_script.specs.Views.{SpellsName}
 use Rattle.sab_script.specs.Numbers.{whole}
@@ -68,9 +69,9 @@ parts_of_whole names d b word v i rest s distinct e n h =
     }
 
 pub reads_call : (names : List (List ℕ)) (d b : Data) (word : List ℕ) (v : ℕ) (i : ℤ) (rest : Items)
-    (r : Result Call ReadFault) → IsDistinct bytes_eq names → d ≡ call_tree word b i rest → SpellsName names b v
-    → IsSafeInteger i → Reads (λ (c : Call). c) (λ c. SpellsParts word v i rest (spelling_of c)) r
-    → Reads (λ (c : Call). c) (SpellsCall names d) r
+    (r : Result Call Located) → IsDistinct bytes_eq names → d ≡ call_tree word b i rest → SpellsName names b v
+    → IsSafeInteger i → Finds (λ (c : Call). c) (λ c. SpellsParts word v i rest (spelling_of c)) r
+    → Finds (λ (c : Call). c) (SpellsCall names d) r
 reads_call names d b word v i rest (Ok c) distinct e n w h = record {
   view_tree = b;
   argument_trees = rest;
@@ -80,5 +81,5 @@ reads_call names d b word v i rest (Ok c) distinct e n w h = record {
   arguments = h.arguments;
 }
 reads_call names d b word v i rest (Err f) distinct e n w h =
-    refuses_more (λ (c : Call). SpellsParts word v i rest (spelling_of c)) (SpellsCall names d) f
+    refuses_more (λ (c : Call). SpellsParts word v i rest (spelling_of c)) (SpellsCall names d) (fault_of f.why)
     (λ c p. (c, parts_of_whole names d b word v i rest (spelling_of c) distinct e n p)) h

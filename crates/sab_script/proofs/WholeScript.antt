@@ -22,7 +22,8 @@ use Rattle.sab_script.proofs.WholeCall.{same_whole}
 use Rattle.sab_script.proofs.Parts.{script_parts}
 
 -- what a setup's parts are spelled by, where the form and the values of the members are known
-pub record Restated (form : Form) (agent_trees : Items) (lens_tree : Data) (move_trees view_trees : Items) (p : SetupParts) : Type 0 where
+pub record Restated (form : Form) (agent_trees : Items) (lens_tree : Data) (move_trees view_trees : Items)
+    (p : SetupParts) : Type 0 where
   pub lens : SpellsLens form lens_tree p.plan.lens
   pub views : SpellsViews form p.plan.lens view_trees p.views
   pub described : AreDescribed p.plan.lens p.views p.plan.views
@@ -32,9 +33,12 @@ pub record Restated (form : Form) (agent_trees : Items) (lens_tree : Data) (move
 same_items : (x y : Items) → array x ≡ array y → x ≡ y
 same_items x y e = cc
 
-pub restated : (d : Data) (form : Form) (agents : Items) (lens_tree : Data) (moves views : Items) → d ≡ script_object form (array agents) lens_tree (array moves) (array views) → (p : SetupParts) → Spells d p → Restated form agents lens_tree moves views p
+pub restated : (d : Data) (form : Form) (agents : Items) (lens_tree : Data) (moves views : Items)
+    → d ≡ script_object form (array agents) lens_tree (array moves) (array views) → (p : SetupParts) → Spells d p
+    → Restated form agents lens_tree moves views p
 restated d form agents lens_tree moves views e p h =
-    let q = script_parts form h.form (array agents) lens_tree (array moves) (array views) (array h.agent_trees) h.lens_tree (array h.move_trees) (array h.view_trees) (sym e ∙ h.tree) in
+    let q = script_parts form h.form (array agents) lens_tree (array moves) (array views) (array h.agent_trees)
+    h.lens_tree (array h.move_trees) (array h.view_trees) (sym e ∙ h.tree) in
     let agents_are : agents ≡ h.agent_trees = same_items agents h.agent_trees q.1 in
     let moves_are : moves ≡ h.move_trees = same_items moves h.move_trees q.3 in
     let views_are : views ≡ h.view_trees = same_items views h.view_trees q.4 in
@@ -47,7 +51,9 @@ restated d form agents lens_tree moves views e p h =
     }
 
 -- the tree of a script whose members' arrays are known
-pub with_items : (d : Data) (form : Form) (a l s v : Data) (agents moves views : Items) → d ≡ script_object form a l s v → a ≡ array agents → s ≡ array moves → v ≡ array views → d ≡ script_object form (array agents) l (array moves) (array views)
+pub with_items : (d : Data) (form : Form) (a l s v : Data) (agents moves views : Items) → d ≡ script_object form a l s v
+    → a ≡ array agents → s ≡ array moves → v ≡ array views
+    → d ≡ script_object form (array agents) l (array moves) (array views)
 with_items d form a l s v agents moves views e p q r = e ∙ (λ i. script_object form (p i) l (q i) (r i))
 
 -- a length has one tree
@@ -69,23 +75,32 @@ all_short (item d ds) [] h = absurd h
 all_short (item d ds) (len ∷ lens) h = All-cons (λ len. len ≤ 65536) len lens h.0.1 (all_short ds lens h.1)
 
 -- one block at least, not too many, and none too long
-pub lens_limits : (form : Form) (d : Data) (lens : List ℕ) → SpellsLens form d lens → (1 ≤ length lens) × (length lens ≤ 4) × All (λ len. len ≤ 65536) lens
+pub lens_limits : (form : Form) (d : Data) (lens : List ℕ) → SpellsLens form d lens
+    → (1 ≤ length lens) × (length lens ≤ 4) × All (λ len. len ≤ 65536) lens
 lens_limits Bytes d lens h =
     rw h.2 (omega arith, omega arith, All-cons (λ len. len ≤ 65536) h.0 [] h.1.1 (All-nil (λ len. len ≤ 65536)))
 lens_limits Blocks d lens h = (h.3, h.2.1, all_short h.0 lens h.2.0)
 
 -- the parts that are still to be read are spelled, where a setup is
 
-pub lens_part : (d : Data) (form : Form) (agents : Items) (l : Data) (moves views : Items) → d ≡ script_object form (array agents) l (array moves) (array views) → (p : SetupParts) → Spells d p → (lens : List ℕ) × SpellsLens form l lens
+pub lens_part : (d : Data) (form : Form) (agents : Items) (l : Data) (moves views : Items)
+    → d ≡ script_object form (array agents) l (array moves) (array views) → (p : SetupParts) → Spells d p
+    → (lens : List ℕ) × SpellsLens form l lens
 lens_part d form agents l moves views e p h = (p.plan.lens, (restated d form agents l moves views e p h).lens)
 
-pub views_part : (d : Data) (form : Form) (agents : Items) (l : Data) (moves views : Items) (lens : List ℕ) → d ≡ script_object form (array agents) l (array moves) (array views) → SpellsLens form l lens → (p : SetupParts) → Spells d p → (vs : List (List ℕ × ViewSpec)) × SpellsViews form lens views vs
+pub views_part : (d : Data) (form : Form) (agents : Items) (l : Data) (moves views : Items) (lens : List ℕ)
+    → d ≡ script_object form (array agents) l (array moves) (array views) → SpellsLens form l lens → (p : SetupParts)
+    → Spells d p → (vs : List (List ℕ × ViewSpec)) × SpellsViews form lens views vs
 views_part d form agents l moves views lens e own p h =
     let r = restated d form agents l moves views e p h in
     let same : lens ≡ p.plan.lens = same_lens form l lens p.plan.lens own r.lens in
     (p.views, rw same r.views)
 
-pub agents_part : (d : Data) (form : Form) (agents : Items) (l : Data) (moves : Items) (vt : List Value) (lens : List ℕ) (vs : List (List ℕ × ViewSpec)) → d ≡ script_object form (array agents) l (array moves) (array (items_view vt)) → SpellsLens form l lens → SpellsViews form lens (items_view vt) vs → (p : SetupParts) → Spells d p → (ss : List ScriptParts) × SpellsScripts (view_names vs) agents ss
+pub agents_part : (d : Data) (form : Form) (agents : Items) (l : Data) (moves : Items) (vt : List Value) (lens : List ℕ)
+    (vs : List (List ℕ × ViewSpec))
+    → d ≡ script_object form (array agents) l (array moves) (array (items_view vt)) → SpellsLens form l lens
+    → SpellsViews form lens (items_view vt) vs → (p : SetupParts) → Spells d p
+    → (ss : List ScriptParts) × SpellsScripts (view_names vs) agents ss
 agents_part d form agents l moves vt lens vs e own views p h =
     let r = restated d form agents l moves (items_view vt) e p h in
     let same : lens ≡ p.plan.lens = same_lens form l lens p.plan.lens own r.lens in
@@ -93,7 +108,11 @@ agents_part d form agents l moves vt lens vs e own views p h =
     let names : view_names vs ≡ view_names p.views = names_same form lens vt vs p.views views.each each in
     (p.plan.scripts, rw names r.agents)
 
-pub schedule_part : (d : Data) (form : Form) (ts : List Value) (l : Data) (moves views : Items) (names : List (List ℕ)) (ss : List ScriptParts) → d ≡ script_object form (array (items_view ts)) l (array moves) (array views) → SpellsScripts names (items_view ts) ss → (p : SetupParts) → Spells d p → (ms : List Move) × SpellsSchedule (length ss) moves ms
+pub schedule_part : (d : Data) (form : Form) (ts : List Value) (l : Data) (moves views : Items) (names : List (List ℕ))
+    (ss : List ScriptParts)
+    → d ≡ script_object form (array (items_view ts)) l (array moves) (array views)
+    → SpellsScripts names (items_view ts) ss → (p : SetupParts) → Spells d p
+    → (ms : List Move) × SpellsSchedule (length ss) moves ms
 schedule_part d form ts l moves views names ss e agents p h =
     let r = restated d form (items_view ts) l moves views e p h in
     let own = length-each (SpellsScript names) ts ss agents.0 in

@@ -1,4 +1,8 @@
 pub mod ReadFault
+pub mod Excerpt
+pub mod Location
+pub mod Why
+pub mod Located
 pub mod Reading
 pub mod Numbers
 pub mod Blocks
@@ -7,3 +11,4 @@ pub mod Calls
 pub mod Agents
 pub mod Schedule
 pub mod Setup
+pub mod Script

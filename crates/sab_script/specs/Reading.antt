@@ -3,6 +3,8 @@ use Rattle.std.specs.Prelude.{ℕ, ◌≤◌, List, [], ◌∷◌, length, Resul
 use Rattle.serde_json.specs.Data.{Data, Items, no_items, item}
 use Rattle.sab_script.specs.declared.read_fault.ReadFault.{ReadFault}
 use Rattle.sab_script.specs.declared.read_fault.ReadFault.TheVariants.{OutOfMemory}
+use Rattle.sab_script.specs.declared.located.Located.{Located}
+use Rattle.sab_script.specs.Why.{fault_of}
 
 -- a refusal: nothing is spelled, or memory ran out
 abbrev pub Refuses : {Y : Type 0} → (Y → Type 0) → ReadFault → Type 0
@@ -13,6 +15,11 @@ Refuses {Y = Y} Spelled _ = (y : Y) → Spelled y → ⊥
 abbrev pub Reads : {X Y : Type 0} → (X → Y) → (Y → Type 0) → Result X ReadFault → Type 0
 Reads view Spelled (Ok x) = Spelled (view x)
 Reads view Spelled (Err e) = Refuses Spelled e
+
+-- the same of a refusal with its place
+abbrev pub Finds : {X Y : Type 0} → (X → Y) → (Y → Type 0) → Result X Located → Type 0
+Finds view Spelled (Ok x) = Spelled (view x)
+Finds view Spelled (Err e) = Refuses Spelled (fault_of e.why)
 
 -- the items of an array spell the elements of a list, one by one
 abbrev pub SpellsEach : {X : Type 0} → (Data → X → Type 0) → Items → List X → Type 0

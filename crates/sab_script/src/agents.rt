@@ -3,29 +3,35 @@
 ghost use Rattle.std.specs.Prelude.{◌≡◌, IfErr, IfOk, OnErr};
 ghost use Rattle.serde_json.specs.Data.{Data};
 ghost use Rattle.serde_json.specs.View.{view, items_view};
-ghost use Rattle.sab_script.specs.Reading.{Reads};
+ghost use Rattle.sab_script.specs.Reading.{Finds};
 ghost use Rattle.sab_script.specs.Views.{view_names};
 ghost use Rattle.sab_script.specs.Agents.{agent_object, SpellsScript, SpellsScripts};
+ghost use Rattle.sab_script.specs.Why.{fault_of};
 
 use crate::calls::read_calls;
 use crate::elements::{Reader, read_each};
+use crate::located::Located;
+use crate::location::Location;
+use crate::member::Member;
 use crate::read_fault::ReadFault;
 use crate::tree::{end, flag, items, member, members};
 use crate::views::Views;
+use crate::why::Unit;
 use sab_sim::{Plan, Script};
 use serde_json::Value;
 use std::alloc::Global;
 
 /// The members of an agent.
-fn agent_members(tree: &Value) -> Result<(&Value, &Value), ReadFault>
+fn agent_members(at: Location, tree: &Value) -> Result<(&Value, &Value), Located>
     ensures ok { IfOk result (λ p. view tree.now ≡ agent_object (view p.0.now) (view p.1.now)) }
     ensures err { OnErr result ((block calls : Data) → view tree.now ≡ agent_object block calls → ⊥) }
-    ensures fault { IfErr result (λ given. given ≡ ReadFault.BadShape) }
+    ensures fault { IfErr result (λ e. fault_of e.why ≡ ReadFault.BadShape) }
+    ensures place { IfErr result (λ e. e.at ≡ at) }
 {
-    let mut rest = members(tree)?;
-    let block = member(&mut rest, "block")?;
-    let calls = member(&mut rest, "calls")?;
-    end(&mut rest)?;
+    let mut rest = members(at, tree)?;
+    let block = member(at, &mut rest, Member::Block)?;
+    let calls = member(at, &mut rest, Member::Calls)?;
+    end(at, &mut rest)?;
     Ok((block, calls))
 }
 
@@ -41,11 +47,12 @@ impl Reader for AgentReader<'_> {
 
     ghost Spells = { λ reader. SpellsScript (view_names reader.views.now) };
 
-    fn read(&self, tree: &Value) -> Result<Script, ReadFault> {
-        let (block_tree, calls_tree) = agent_members(tree)?;
-        let can_block = flag(block_tree)?;
-        let trees = items(calls_tree)?;
-        let calls = read_calls(self.alloc, self.views, trees)?;
+    fn read(&self, at: Location, tree: &Value) -> Result<Script, Located> {
+        let (block_tree, calls_tree) = agent_members(at, tree)?;
+        let can_block = flag(at.member(Member::Block), block_tree)?;
+        let at_calls = at.member(Member::Calls);
+        let trees = items(at_calls, calls_tree)?;
+        let calls = read_calls(self.alloc, at_calls, self.views, trees)?;
         Ok(Script { can_block, calls })
     }
 }
@@ -53,11 +60,12 @@ impl Reader for AgentReader<'_> {
 /// What the agents are to do, in order.
 pub(crate) fn read_agents(
     alloc: Global,
+    at: Location,
     views: &Views,
     trees: &[Value],
-) -> Result<Vec<Script>, ReadFault>
-    ensures { Reads (λ scripts. scripts.items) (SpellsScripts (view_names views.now) (items_view trees.now)) result }
+) -> Result<Vec<Script>, Located>
+    ensures { Finds (λ scripts. scripts.items) (SpellsScripts (view_names views.now) (items_view trees.now)) result }
 {
     let reader = AgentReader { alloc, views };
-    read_each(alloc, &reader, Plan::MAX_AGENTS, trees)
+    read_each(alloc, at, &reader, Unit::Agents, Plan::MAX_AGENTS, trees)
 }

@@ -2,27 +2,31 @@
 
 ghost use Rattle.std.specs.Prelude.{◌≡◌, ◌≤◌};
 ghost use Rattle.serde_json.specs.View.{view};
-ghost use Rattle.sab_script.specs.Reading.{Reads};
+ghost use Rattle.sab_script.specs.Reading.{Finds};
 ghost use Rattle.sab_script.specs.Blocks.{SpellsLen, SpellsLens};
 
 use crate::elements::{Reader, read_each};
 use crate::form::Form;
-use crate::read_fault::ReadFault;
+use crate::located::Located;
+use crate::location::Location;
 use crate::tree::{items, whole};
+use crate::why::{Unit, Wanted, Why};
 use sab_sim::Plan;
 use serde_json::Value;
 use std::alloc::Global;
 
 /// The length of a block.
-fn read_len(tree: &Value) -> Result<u32, ReadFault>
-    ensures { Reads (λ len. len) (SpellsLen (view tree.now)) result }
+fn read_len(at: Location, tree: &Value) -> Result<u32, Located>
+    ensures { Finds (λ len. len) (SpellsLen (view tree.now)) result }
 {
-    let len = whole(tree)?;
+    let len = whole(at, Wanted::Whole, tree)?;
     if len < 0 {
-        return Err(ReadFault::BadNumber);
+        let why = Why::BelowZero(len);
+        return Err(Located { at, why });
     }
     if len > i64::from(Plan::MAX_BLOCK_LEN) {
-        return Err(ReadFault::TooMany);
+        let why = Why::TooMany(Unit::Bytes, len as u64, u64::from(Plan::MAX_BLOCK_LEN));
+        return Err(Located { at, why });
     }
     Ok(len as u32)
 }
@@ -36,27 +40,33 @@ impl Reader for LenReader {
 
     ghost Spells = { λ _. SpellsLen };
 
-    fn read(&self, tree: &Value) -> Result<u32, ReadFault> {
-        read_len(tree)
+    fn read(&self, at: Location, tree: &Value) -> Result<u32, Located> {
+        read_len(at, tree)
     }
 }
 
 /// The lengths of the blocks, in order.
-pub(crate) fn read_lens(alloc: Global, form: Form, tree: &Value) -> Result<Vec<u32>, ReadFault>
-    ensures { Reads (λ lens. lens.items) (SpellsLens form (view tree.now)) result }
+pub(crate) fn read_lens(
+    alloc: Global,
+    at: Location,
+    form: Form,
+    tree: &Value,
+) -> Result<Vec<u32>, Located>
+    ensures { Finds (λ lens. lens.items) (SpellsLens form (view tree.now)) result }
 {
     match form {
         Form::Bytes => {
             let mut lens = Vec::with_capacity(alloc, 1)?;
-            lens.push_reserved(read_len(tree)?);
+            lens.push_reserved(read_len(at, tree)?);
             Ok(lens)
         }
         Form::Blocks => {
-            let trees = items(tree)?;
+            let trees = items(at, tree)?;
             if trees.is_empty() {
-                return Err(ReadFault::NoBlock);
+                let why = Why::NoBlocks;
+                return Err(Located { at, why });
             }
-            read_each(alloc, &LenReader, Plan::MAX_BLOCKS, trees)
+            read_each(alloc, at, &LenReader, Unit::Blocks, Plan::MAX_BLOCKS, trees)
         }
     }
 }

@@ -2,9 +2,11 @@
 
 ghost use Rattle.serde_json.specs.Data.{Data};
 ghost use Rattle.serde_json.specs.View.{view, items_view};
-ghost use Rattle.sab_script.specs.Reading.{Reads, SpellsUpTo};
+ghost use Rattle.sab_script.specs.Reading.{Finds, SpellsUpTo};
 
-use crate::read_fault::ReadFault;
+use crate::located::Located;
+use crate::location::Location;
+use crate::why::{Unit, Why};
 use serde_json::Value;
 use std::alloc::Global;
 
@@ -16,27 +18,30 @@ pub(crate) trait Reader {
     /// What it is to spell an element.
     ghost Spells: { Self → Data → Self.Element → Type 0 };
 
-    /// The element that a value spells.
-    fn read(&self, tree: &Value) -> Result<Self::Element, ReadFault>
-        ensures { Reads (λ x. x) (Spells self.now (view tree.now)) result };
+    /// The element that a value spells, which stands there.
+    fn read(&self, at: Location, tree: &Value) -> Result<Self::Element, Located>
+        ensures { Finds (λ x. x) (Spells self.now (view tree.now)) result };
 }
 
-/// The elements that values spell, in order, of which there may be `most`.
+/// The elements that the items of an array spell, in order, of which there may be `most`.
 #[tactic(auto, using(crate::proofs::Each::each_none, crate::proofs::Each::each_more, crate::proofs::Each::each_all))]
 pub(crate) fn read_each<R: Reader>(
     alloc: Global,
+    at: Location,
     reader: &R,
+    unit: Unit,
     most: usize,
     trees: &[Value],
-) -> Result<Vec<R::Element>, ReadFault>
-    ensures { Reads (λ elements. elements.items) (SpellsUpTo most (R.Spells reader.now) (items_view trees.now)) result }
+) -> Result<Vec<R::Element>, Located>
+    ensures { Finds (λ elements. elements.items) (SpellsUpTo most (R.Spells reader.now) (items_view trees.now)) result }
 {
     if trees.len() > most {
-        return Err(ReadFault::TooMany);
+        let why = Why::TooMany(unit, trees.len() as u64, most as u64);
+        return Err(Located { at, why });
     }
     let mut elements = Vec::with_capacity(alloc, trees.len())?;
     for tree in trees {
-        elements.push_reserved(reader.read(tree)?);
+        elements.push_reserved(reader.read(at.item(elements.len()), tree)?);
     }
     Ok(elements)
 }

@@ -1,5 +1,7 @@
 //! The two forms of a script.
 
+use crate::member::Member;
+
 /// How a script tells of its blocks.
 #[derive(Clone, Copy, Debug, PartialEq, Eq)]
 pub(crate) enum Form {
@@ -12,14 +14,15 @@ pub(crate) enum Form {
 impl Form {
     ghost use Rattle.std.specs.Prelude.{◌≡◌};
     ghost use Rattle.sab_script.specs.Blocks.{lens_name};
+    ghost use Rattle.sab_script.specs.Location.{member_name};
 
     /// The member of a script that tells of its blocks.
-    pub(crate) fn lens_name(self) -> &'static str
-        ensures { result.now ≡ lens_name self }
+    pub(crate) fn lens_member(self) -> Member
+        ensures { member_name result ≡ lens_name self }
     {
         match self {
-            Form::Bytes => "bytes",
-            Form::Blocks => "blocks",
+            Form::Bytes => Member::Bytes,
+            Form::Blocks => Member::Blocks,
         }
     }
 }

@@ -1,16 +1,22 @@
 //! The names of views and of kinds.
 
 ghost use Rattle.std.specs.Prelude.{◌≡◌, IfErr, ◌↔◌, ◌<◌, ◌≤◌, IsTrue};
-ghost use Rattle.sab_script.specs.Reading.{Reads};
+ghost use Rattle.sab_script.specs.Reading.{Finds};
 ghost use Rattle.sab_script.specs.Views.{kind_name, IsName};
+ghost use Rattle.sab_script.specs.Why.{fault_of};
 
+use crate::excerpt::Excerpt;
+use crate::located::Located;
+use crate::location::Location;
 use crate::read_fault::ReadFault;
+use crate::why::Why;
 use sab_block::Kind;
 
 /// The kind of a name.
-pub(crate) fn kind(name: &str) -> Result<Kind, ReadFault>
-    ensures reads { Reads (λ k. k) (λ k. name.now ≡ kind_name k) result }
-    ensures fault { IfErr result (λ given. given ≡ ReadFault.BadView) }
+pub(crate) fn kind(at: Location, name: &str) -> Result<Kind, Located>
+    ensures reads { Finds (λ k. k) (λ k. name.now ≡ kind_name k) result }
+    ensures fault { IfErr result (λ e. fault_of e.why ≡ ReadFault.BadView) }
+    ensures place { IfErr result (λ e. e.at ≡ at) }
 {
     match name {
         "Int8" => Ok(Kind::Int8),
@@ -24,7 +30,10 @@ pub(crate) fn kind(name: &str) -> Result<Kind, ReadFault>
         "Float64" => Ok(Kind::Float64),
         "BigInt64" => Ok(Kind::BigInt64),
         "BigUint64" => Ok(Kind::BigUint64),
-        _ => Err(ReadFault::BadView),
+        _ => {
+            let why = Why::NoKind(Excerpt::of(name));
+            Err(Located { at, why })
+        }
     }
 }
 

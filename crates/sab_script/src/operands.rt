@@ -1,100 +1,141 @@
 //! Operands, and what else stands behind the index of a call.
 
-ghost use Rattle.std.specs.Prelude.{[], ◌∷◌};
+ghost use Rattle.std.specs.Prelude.{◌≡◌, [], ◌∷◌};
 ghost use Rattle.serde_json.specs.View.{view, items_view};
-ghost use Rattle.sab_script.specs.Reading.{Reads};
+ghost use Rattle.sab_script.specs.Reading.{Finds};
 ghost use Rattle.sab_script.specs.Numbers.{SpellsBig, SpellsOperand};
 ghost use Rattle.sab_script.specs.Calls.{value, optional, SpellsArguments};
+ghost use Rattle.sab_script.specs.Why.{fault_of};
 
+use crate::excerpt::Excerpt;
+use crate::located::Located;
+use crate::location::Location;
 use crate::read_fault::ReadFault;
 use crate::tree::whole;
+use crate::why::{Wanted, Why};
 use sab_block::Operand;
 use serde_json::Value;
 
+/// Where in a call what stands behind its index begins.
+const FIRST: usize = 3;
+
+/// A refusal of a string that isn't the one spelling of a BigInt.
+fn no_big(at: Location, digits: &str) -> Located
+    ensures fault { fault_of result.why ≡ ReadFault.BadNumber }
+    ensures place { result.at ≡ at }
+{
+    let why = Why::NoBigInt(Excerpt::of(digits));
+    Located { at, why }
+}
+
+/// A refusal of a call with so many elements behind its index, where it can have so many.
+fn wrong_count(at: Location, count: usize, least: usize, most: usize) -> Located
+    ensures fault { fault_of result.why ≡ ReadFault.BadCall }
+    ensures place { result.at ≡ at }
+{
+    let why = if count < least {
+        Why::FewElements(count.saturating_add(FIRST), least.saturating_add(FIRST))
+    } else {
+        Why::ManyElements(count.saturating_add(FIRST), most.saturating_add(FIRST))
+    };
+    Located { at, why }
+}
+
 /// A BigInt of 128 bits, by its one spelling.
-fn big(digits: &str) -> Result<i128, ReadFault>
-    ensures { Reads (λ z. z) (SpellsBig digits.now) result }
+fn big(at: Location, digits: &str) -> Result<i128, Located>
+    ensures { Finds (λ z. z) (SpellsBig digits.now) result }
 {
     match digits.parse::<i128>() {
         Ok(n) => if itoa::Buffer::new().format(n) == digits {
             Ok(n)
         } else {
-            Err(ReadFault::BadNumber)
+            Err(no_big(at, digits))
         },
-        Err(_) => Err(ReadFault::BadNumber),
+        Err(_) => Err(no_big(at, digits)),
     }
 }
 
 /// An operand: a whole number is a Number, and a string is a BigInt.
-pub(crate) fn operand(tree: &Value) -> Result<Operand, ReadFault>
-    ensures { Reads (λ x. x) (SpellsOperand (view tree.now)) result }
+pub(crate) fn operand(at: Location, tree: &Value) -> Result<Operand, Located>
+    ensures { Finds (λ x. x) (SpellsOperand (view tree.now)) result }
 {
     if let Value::String(digits) = tree {
-        return Ok(Operand::big(big(digits.as_str())?));
+        return Ok(Operand::big(big(at, digits.as_str())?));
     }
-    let number = whole(tree)?;
-    Operand::number(number).ok_or(ReadFault::BadNumber)
+    let number = whole(at, Wanted::Operand, tree)?;
+    let why = Why::NotWhole;
+    Operand::number(number).ok_or(Located { at, why })
 }
 
 /// Nothing, where a call has no operand.
 #[tactic(auto, using(crate::proofs::Lengths::as_many))]
-pub(crate) fn no_operand(trees: &[Value]) -> Result<(), ReadFault>
-    ensures { Reads (λ u. u) (λ _. SpellsArguments (items_view trees.now) []) result }
+pub(crate) fn no_operand(at: Location, trees: &[Value]) -> Result<(), Located>
+    ensures { Finds (λ u. u) (λ _. SpellsArguments (items_view trees.now) []) result }
 {
     let [] = trees else {
-        return Err(ReadFault::BadCall);
+        return Err(wrong_count(at, trees.len(), 0, 0));
     };
     Ok(())
 }
 
 /// The one operand of a call.
 #[tactic(auto, using(crate::proofs::Lengths::as_many))]
-pub(crate) fn one_operand(trees: &[Value]) -> Result<Operand, ReadFault>
-    ensures { Reads (λ x. x) (λ x. SpellsArguments (items_view trees.now) (value x ∷ [])) result }
+pub(crate) fn one_operand(at: Location, trees: &[Value]) -> Result<Operand, Located>
+    ensures { Finds (λ x. x) (λ x. SpellsArguments (items_view trees.now) (value x ∷ [])) result }
 {
     let [value] = trees else {
-        return Err(ReadFault::BadCall);
+        return Err(wrong_count(at, trees.len(), 1, 1));
     };
-    operand(value)
+    operand(at.item(FIRST), value)
 }
 
 /// The two operands of a call.
 #[tactic(auto, using(crate::proofs::Lengths::as_many))]
-pub(crate) fn two_operands(trees: &[Value]) -> Result<(Operand, Operand), ReadFault>
-    ensures { Reads (λ p. p) (λ p. SpellsArguments (items_view trees.now) (value p.0 ∷ value p.1 ∷ [])) result }
+pub(crate) fn two_operands(at: Location, trees: &[Value]) -> Result<(Operand, Operand), Located>
+    ensures { Finds (λ p. p) (λ p. SpellsArguments (items_view trees.now) (value p.0 ∷ value p.1 ∷ [])) result }
 {
     let [expected, replacement] = trees else {
-        return Err(ReadFault::BadCall);
+        return Err(wrong_count(at, trees.len(), 2, 2));
     };
-    let expected = operand(expected)?;
-    let replacement = operand(replacement)?;
+    let expected = operand(at.item(FIRST), expected)?;
+    let replacement = operand(at.item(FIRST + 1), replacement)?;
     Ok((expected, replacement))
 }
 
-/// A timeout or a count, which may be absent.
+/// A timeout or a count, which may be absent, behind so many operands.
 #[tactic(auto, using(crate::proofs::Lengths::as_many, crate::proofs::Lengths::one_at_most))]
-pub(crate) fn optional_limit(trees: &[Value]) -> Result<Option<i64>, ReadFault>
-    ensures { Reads (λ o. o) (λ o. SpellsArguments (items_view trees.now) (optional o)) result }
+pub(crate) fn optional_limit(
+    at: Location,
+    operands: usize,
+    trees: &[Value],
+) -> Result<Option<i64>, Located>
+    ensures { Finds (λ o. o) (λ o. SpellsArguments (items_view trees.now) (optional o)) result }
 {
     match trees {
         [] => Ok(None),
         [last] => {
-            let last = whole(last)?;
+            let last = whole(at.item(FIRST.saturating_add(operands)), Wanted::Whole, last)?;
             Ok(Some(last))
         }
-        _ => Err(ReadFault::BadCall),
+        _ => {
+            let count = operands.saturating_add(trees.len());
+            Err(wrong_count(at, count, operands, operands.saturating_add(1)))
+        }
     }
 }
 
 /// An operand, and a timeout that may be absent.
 #[tactic(auto, using(crate::proofs::Lengths::as_many, crate::proofs::Lengths::one_at_most))]
-pub(crate) fn timed_operand(trees: &[Value]) -> Result<(Operand, Option<i64>), ReadFault>
-    ensures { Reads (λ p. p) (λ p. SpellsArguments (items_view trees.now) (value p.0 ∷ optional p.1)) result }
+pub(crate) fn timed_operand(
+    at: Location,
+    trees: &[Value],
+) -> Result<(Operand, Option<i64>), Located>
+    ensures { Finds (λ p. p) (λ p. SpellsArguments (items_view trees.now) (value p.0 ∷ optional p.1)) result }
 {
     let [value, rest @ ..] = trees else {
-        return Err(ReadFault::BadCall);
+        return Err(wrong_count(at, trees.len(), 1, 2));
     };
-    let value = operand(value)?;
-    let timeout = optional_limit(rest)?;
+    let value = operand(at.item(FIRST), value)?;
+    let timeout = optional_limit(at, 1, rest)?;
     Ok((value, timeout))
 }

@@ -7,10 +7,11 @@ use std::fmt;
 /// Why a JSON value is refused as a script.
 #[derive(Clone, Copy, Debug, PartialEq, Eq, Hash)]
 pub enum ReadFault {
-    /// A block has more than 65,536 bytes, or there are more than 4 blocks, 64 views, 16 agents, 1,000 calls of an agent
-    /// or 100,000 moves.
+    /// A block has more than 65,536 bytes, or there are more than 4 blocks, 64 views, 16 agents, 1,000 calls of an
+    /// agent or 100,000 moves.
     TooMany,
-    /// A value is of another type than its place asks for, a member is missing or too many, or a call is an empty array.
+    /// A value is of another type than its place asks for, a member is missing or too many, or a call is an empty
+    /// array.
     BadShape,
     /// A view's name isn't 1 to 32 ASCII letters, digits and `_`, or is given twice; or a call names no view.
     BadName,
@@ -26,6 +27,45 @@ pub enum ReadFault {
     NoBlock,
     /// A growth was refused.
     OutOfMemory,
+}
+
+impl ReadFault {
+    ghost use Rattle.std.specs.Prelude.{◌≡◌};
+    ghost use Rattle.sab_script.specs.ReadFault.{number_of, name_of};
+
+    /// The number that it is told by.
+    pub fn number(self) -> u32
+        ensures { result ≡ number_of self }
+    {
+        match self {
+            ReadFault::TooMany => 3,
+            ReadFault::OutOfMemory => 5,
+            ReadFault::BadShape => 10,
+            ReadFault::BadName => 11,
+            ReadFault::BadNumber => 12,
+            ReadFault::BadCall => 13,
+            ReadFault::BadView => 14,
+            ReadFault::BadAgent => 15,
+            ReadFault::NoBlock => 20,
+        }
+    }
+
+    /// Its name, as it is spelled here.
+    pub fn name(self) -> &'static str
+        ensures { result.now ≡ name_of self }
+    {
+        match self {
+            ReadFault::TooMany => "TooMany",
+            ReadFault::OutOfMemory => "OutOfMemory",
+            ReadFault::BadShape => "BadShape",
+            ReadFault::BadName => "BadName",
+            ReadFault::BadNumber => "BadNumber",
+            ReadFault::BadCall => "BadCall",
+            ReadFault::BadView => "BadView",
+            ReadFault::BadAgent => "BadAgent",
+            ReadFault::NoBlock => "NoBlock",
+        }
+    }
 }
 
 impl fmt::Display for ReadFault {

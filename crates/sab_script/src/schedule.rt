@@ -2,12 +2,15 @@
 
 ghost use Rattle.std.specs.Prelude.{◌≡◌, ◌≤◌};
 ghost use Rattle.serde_json.specs.View.{view, items_view};
-ghost use Rattle.sab_script.specs.Reading.{Reads};
+ghost use Rattle.sab_script.specs.Reading.{Finds};
 ghost use Rattle.sab_script.specs.Schedule.{SpellsMove, SpellsSchedule};
 
 use crate::elements::{Reader, read_each};
-use crate::read_fault::ReadFault;
+use crate::located::Located;
+use crate::location::Location;
+use crate::member::Member;
 use crate::tree::{end, member, members, position};
+use crate::why::{Counted, Unit, Wanted};
 use sab_sim::Move;
 use serde_json::Value;
 use std::alloc::Global;
@@ -19,16 +22,19 @@ pub const MAX_MOVES: usize = 100_000;
 const _: () = prove!(MAX_MOVES == 100_000);
 
 /// A move of an agent, of which there are so many.
-fn read_move(agents: u32, tree: &Value) -> Result<Move, ReadFault>
-    ensures { Reads (λ m. m) (SpellsMove agents (view tree.now)) result }
+fn read_move(at: Location, agents: u32, tree: &Value) -> Result<Move, Located>
+    ensures { Finds (λ m. m) (SpellsMove agents (view tree.now)) result }
 {
     if let Value::Object(_) = tree {
-        let mut rest = members(tree)?;
-        let agent = position(member(&mut rest, "timeout")?, agents, ReadFault::BadAgent)?;
-        end(&mut rest)?;
+        let mut rest = members(at, tree)?;
+        let timeout = member(at, &mut rest, Member::Timeout)?;
+        let at_timeout = at.member(Member::Timeout);
+        let agent = position(at_timeout, Wanted::Whole, Counted::Agent, agents, timeout)?;
+        end(at, &mut rest)?;
         return Ok(Move::TimeUp(agent));
     }
-    Ok(Move::Step(position(tree, agents, ReadFault::BadAgent)?))
+    let agent = position(at, Wanted::Move, Counted::Agent, agents, tree)?;
+    Ok(Move::Step(agent))
 }
 
 /// Reads a move of one of the agents.
@@ -42,18 +48,20 @@ impl Reader for MoveReader {
 
     ghost Spells = { λ reader. SpellsMove reader.agents };
 
-    fn read(&self, tree: &Value) -> Result<Move, ReadFault> {
-        read_move(self.agents, tree)
+    fn read(&self, at: Location, tree: &Value) -> Result<Move, Located> {
+        read_move(at, self.agents, tree)
     }
 }
 
 /// The moves of so many agents, in order.
 pub(crate) fn read_schedule(
     alloc: Global,
+    at: Location,
     agents: u32,
     trees: &[Value],
-) -> Result<Vec<Move>, ReadFault>
-    ensures { Reads (λ moves. moves.items) (SpellsSchedule agents (items_view trees.now)) result }
+) -> Result<Vec<Move>, Located>
+    ensures { Finds (λ moves. moves.items) (SpellsSchedule agents (items_view trees.now)) result }
 {
-    read_each(alloc, &MoveReader { agents }, MAX_MOVES, trees)
+    let reader = MoveReader { agents };
+    read_each(alloc, at, &reader, Unit::Moves, MAX_MOVES, trees)
 }

@@ -5,13 +5,16 @@ ghost use Rattle.serde_json.specs.Data.{Data};
 ghost use Rattle.serde_json.specs.View.{view};
 ghost use Rattle.sab_sim.specs.Plan.{IsPlan, parts_of};
 ghost use Rattle.sab_script.specs.declared.read_fault.ReadFault.TheVariants.{OutOfMemory};
-ghost use Rattle.sab_script.specs.Reading.{Reads};
+ghost use Rattle.sab_script.specs.Reading.{Reads, Finds};
 ghost use Rattle.sab_script.specs.Views.{named_views};
 ghost use Rattle.sab_script.specs.Setup.{IsSetup, Spells, IsOnlySetup, script_object};
 
 use crate::agents::read_agents;
 use crate::blocks::read_lens;
 use crate::form::Form;
+use crate::located::Located;
+use crate::location::Location;
+use crate::member::Member;
 use crate::read_fault::ReadFault;
 use crate::schedule::read_schedule;
 use crate::tree::{end, items, member, members};
@@ -78,32 +81,38 @@ impl Setup {
 }
 
 /// The values of a script's members: its agents, its blocks, its schedule and its views; and its form.
-fn script_members(tree: &Value) -> Result<(Form, (&Value, &Value, &Value, &Value)), ReadFault>
+fn script_members(tree: &Value) -> Result<(Form, (&Value, &Value, &Value, &Value)), Located>
     ensures ok { IfOk result (λ p. view tree.now
         ≡ script_object p.0 (view p.1.0.now) (view p.1.1.now) (view p.1.2.now) (view p.1.3.now)) }
     ensures err { OnErr result ((form : Form) (a l s v : Data) → view tree.now ≡ script_object form a l s v → ⊥) }
 {
     match members_in(tree, Form::Blocks) {
         Ok(found) => Ok((Form::Blocks, found)),
-        Err(_) => {
-            let found = members_in(tree, Form::Bytes)?;
-            Ok((Form::Bytes, found))
-        }
+        Err(refusal) => match members_in(tree, Form::Bytes) {
+            Ok(found) => Ok((Form::Bytes, found)),
+            // A script with `bytes` is meant to be of the older form.
+            Err(older) => Err(if tree.get("bytes").is_some() {
+                older
+            } else {
+                refusal
+            }),
+        },
     }
 }
 
 /// The values of the members of a script of one form: its agents, its blocks, its schedule and its views.
-fn members_in(tree: &Value, form: Form) -> Result<(&Value, &Value, &Value, &Value), ReadFault>
+fn members_in(tree: &Value, form: Form) -> Result<(&Value, &Value, &Value, &Value), Located>
     ensures ok { IfOk result (λ p. view tree.now
         ≡ script_object form (view p.0.now) (view p.1.now) (view p.2.now) (view p.3.now)) }
     ensures err { OnErr result ((a l s v : Data) → view tree.now ≡ script_object form a l s v → ⊥) }
 {
-    let mut rest = members(tree)?;
-    let agents = member(&mut rest, "agents")?;
-    let lens = member(&mut rest, form.lens_name())?;
-    let schedule = member(&mut rest, "schedule")?;
-    let views = member(&mut rest, "views")?;
-    end(&mut rest)?;
+    let at = Location::Script;
+    let mut rest = members(at, tree)?;
+    let agents = member(at, &mut rest, Member::Agents)?;
+    let lens = member(at, &mut rest, form.lens_member())?;
+    let schedule = member(at, &mut rest, Member::Schedule)?;
+    let views = member(at, &mut rest, Member::Views)?;
+    end(at, &mut rest)?;
     Ok((agents, lens, schedule, views))
 }
 
@@ -118,6 +127,32 @@ fn plan_of(lens: Vec<u32>, views: Vec<PlanView>, scripts: Vec<Script>) -> Plan
     }
 }
 
+/// The one setup that a JSON value spells, in either form of a script; or where it isn't one, and why.
+///
+/// A fault other than OutOfMemory is answered only where the value spells none.
+pub fn locate_setup(alloc: Global, tree: &Value) -> Result<Setup, Located>
+    ensures spelled { Finds (λ setup. setup) (Spells (view tree.now)) result }
+    ensures only { IfOk result (IsOnlySetup (view tree.now)) }
+{
+    let (form, (agents_tree, lens_tree, schedule_tree, views_tree)) = script_members(tree)?;
+    let at_agents = Location::Member(Member::Agents);
+    let at_schedule = Location::Member(Member::Schedule);
+    let at_views = Location::Member(Member::Views);
+    let agent_trees = items(at_agents, agents_tree)?;
+    let move_trees = items(at_schedule, schedule_tree)?;
+    let view_trees = items(at_views, views_tree)?;
+    let lens = read_lens(alloc, Location::Member(form.lens_member()), form, lens_tree)?;
+    let (views, plan_views) = read_views(alloc, at_views, form, &lens, view_trees)?;
+    let scripts = read_agents(alloc, at_agents, &views, agent_trees)?;
+    let schedule = read_schedule(alloc, at_schedule, scripts.len() as u32, move_trees)?;
+    let plan = plan_of(lens, plan_views, scripts);
+    Ok(Setup {
+        plan,
+        views,
+        schedule,
+    })
+}
+
 /// The one setup that a JSON value spells, in either form of a script.
 ///
 /// A fault other than OutOfMemory is answered only where the value spells none.
@@ -125,18 +160,8 @@ pub fn read_setup(alloc: Global, tree: &Value) -> Result<Setup, ReadFault>
     ensures spelled { Reads (λ setup. setup) (Spells (view tree.now)) result }
     ensures only { IfOk result (IsOnlySetup (view tree.now)) }
 {
-    let (form, (agents_tree, lens_tree, schedule_tree, views_tree)) = script_members(tree)?;
-    let agent_trees = items(agents_tree)?;
-    let move_trees = items(schedule_tree)?;
-    let view_trees = items(views_tree)?;
-    let lens = read_lens(alloc, form, lens_tree)?;
-    let (views, plan_views) = read_views(alloc, form, &lens, view_trees)?;
-    let scripts = read_agents(alloc, &views, agent_trees)?;
-    let schedule = read_schedule(alloc, scripts.len() as u32, move_trees)?;
-    let plan = plan_of(lens, plan_views, scripts);
-    Ok(Setup {
-        plan,
-        views,
-        schedule,
-    })
+    match locate_setup(alloc, tree) {
+        Ok(setup) => Ok(setup),
+        Err(refusal) => Err(refusal.fault()),
+    }
 }

@@ -2,12 +2,15 @@
 
 ghost use Rattle.std.specs.Prelude.{◌≡◌, ◌<◌, ℕ, [], ◌∷◌, ◌++◌, length, slice_get, Some, IfSome, IfNone, IfOk, OnOk};
 ghost use Rattle.serde_json.specs.View.{view};
-ghost use Rattle.sab_script.specs.Reading.{Reads};
+ghost use Rattle.sab_script.specs.Reading.{Finds};
 ghost use Rattle.sab_script.specs.Views.{named_views, view_names, AreViews, SpellsName};
 
-use crate::read_fault::ReadFault;
+use crate::excerpt::Excerpt;
+use crate::located::Located;
+use crate::location::Location;
 use crate::tree::text;
 use crate::view_spec::ViewSpec;
+use crate::why::Why;
 use indexmap::IndexMap;
 use sab_sim::Plan;
 use serde_json::Value;
@@ -78,10 +81,16 @@ impl Views {
 }
 
 /// The position of the view that a value names.
-pub(crate) fn view_of(views: &Views, tree: &Value) -> Result<u32, ReadFault>
-    ensures read { Reads (λ v. v) (SpellsName (view_names views.now) (view tree.now)) result }
+pub(crate) fn view_of(at: Location, views: &Views, tree: &Value) -> Result<u32, Located>
+    ensures read { Finds (λ v. v) (SpellsName (view_names views.now) (view tree.now)) result }
     ensures views { IfOk result (λ _. AreViews views.now) }
 {
-    let name = text(tree)?;
-    views.position(name).ok_or(ReadFault::BadName)
+    let name = text(at, tree)?;
+    match views.position(name) {
+        Some(view) => Ok(view),
+        None => {
+            let why = Why::NoView(Excerpt::of(name));
+            Err(Located { at, why })
+        }
+    }
 }

@@ -24,7 +24,8 @@ use Rattle.sab_sim.specs.contracts.script.ScriptPartialEq.TheImpl as script
 use Rattle.sab_sim.specs.contracts.script.ScriptEq.TheImpl.Laws as script_laws
 
 -- an equivalence that finds only the same values equal decides whether two are the same
-decides_same : {X : Type 0} {E : X → X → Bool} → IsEquivalence E → ((a b : X) → E a b ≡ true → a ≡ b) → (a b : X) → Decides (E a b) (a ≡ b)
+decides_same : {X : Type 0} {E : X → X → Bool} → IsEquivalence E → ((a b : X) → E a b ≡ true → a ≡ b) → (a b : X)
+    → Decides (E a b) (a ≡ b)
 decides_same {X} {E} laws same a b = (same a b, λ p. subst (λ x. E a x ≡ true) p (laws.refl a))
 
 same_option : (t u : Option ℤ) → option_eq int_eq t u ≡ true → t ≡ u
@@ -40,11 +41,12 @@ same_plan_view a b e =
     let view = same_view a.view b.view blocks.1 in
     λ i. record { block = block i; view = view i }
 
-same_call : (a b : Call) → (call.ghosts).eq a b ≡ true → a ≡ b
+pub same_call : (a b : Call) → (call.ghosts).eq a b ≡ true → a ≡ b
 same_call (C.Access n a) (C.Access m b) e =
     ap (λ p. C.Access p.0 p.1) (same_pair (eqb-true n m) (same_access a b) e)
 same_call (C.Wait n i x t) (C.Wait m j y u) e =
-    ap (λ p. C.Wait p.0 p.1.0 p.1.1.0 p.1.1.1) (same_pair (eqb-true n m) (same_pair (same_int i j) (same_pair (same_operand x y) (same_option t u))) e)
+    ap (λ p. C.Wait p.0 p.1.0 p.1.1.0 p.1.1.1)
+    (same_pair (eqb-true n m) (same_pair (same_int i j) (same_pair (same_operand x y) (same_option t u))) e)
 same_call (C.Notify n i t) (C.Notify m j u) e =
     ap (λ p. C.Notify p.0 p.1.0 p.1.1) (same_pair (eqb-true n m) (same_pair (same_int i j) (same_option t u)) e)
 same_call _ _ e = absurd (cc)

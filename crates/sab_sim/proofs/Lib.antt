@@ -1,14 +1,15 @@
-pub mod Lists
-pub mod Seating
-pub mod Waking
-pub mod Turning
-pub mod Queueing
-pub mod Placing
+pub mod ChangedLists
+pub mod SeatedLine
+pub mod OwnMoves
+pub mod LineMoves
+pub mod CallActs
 pub mod Equality
 mod EntryEquality
-pub mod Keeping
-pub mod Simulating
-pub mod OneAct
-pub mod OneEntry
-pub mod OneReport
-pub mod Showing
+pub mod OneMoveMore
+pub mod KeptFits
+pub mod OnlyAct
+pub mod OnlyEntry
+pub mod OnlyReport
+pub mod PlaceLine
+pub mod WokenLine
+pub mod Fronts

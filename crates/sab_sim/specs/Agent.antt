@@ -30,6 +30,10 @@ abbrev pub is_waiting : Option Agent → Bool
 is_waiting None = false
 is_waiting (Some g) = waiting_phase g.phase
 
+-- the agent is woken
+abbrev pub woken_agent : Agent → Agent
+woken_agent g = record g { phase = P.Woken }
+
 -- an agent that has begun nothing
 abbrev pub newcomer : Agent
 newcomer = record { returned = 0; phase = P.Ready }
@@ -98,13 +102,5 @@ IsLike g h = (h ≡ g) ⊎ ((p : Place) × (t : ℕ) × (g.phase ≡ P.Waiting p
 
 -- each agent is at one of its calls, or between them
 abbrev pub AllAtCalls : PlanParts → List Agent → Type 0
-AllAtCalls plan agents = (a : ℕ) (g : Agent) → slice_get agents a ≡ Some g → IsAtCall plan (calls_of plan a) g.returned g.phase
-
--- the agent has begun a call
-abbrev pub IsBegun : List Agent → ℕ → Type 0
-IsBegun agents a = (g : Agent) × (slice_get agents a ≡ Some g) × (g.phase ≡ P.Begun)
-
--- each agent stays as it was, or is woken
-abbrev pub AllAlike : List Agent → List Agent → Type 0
-AllAlike agents agents' =
-    (b : ℕ) (h : Agent) → slice_get agents' b ≡ Some h → (g : Agent) × (slice_get agents b ≡ Some g) × IsLike g h
+AllAtCalls plan agents = (a : ℕ) (g : Agent) → slice_get agents a ≡ Some g
+    → IsAtCall plan (calls_of plan a) g.returned g.phase

@@ -16,8 +16,8 @@ use Rattle.sab_sim.specs.Plan.{PlanParts, calls_of, call_of}
 use Rattle.sab_sim.specs.Object.{State, opening, stands, Does}
 
 -- the entries that act
-abbrev pub acts : List Entry → List Entry
-acts journal = filter (λ (e : Entry). is_act e.what) journal
+abbrev pub acts_of : List Entry → List Entry
+acts_of journal = filter (λ (e : Entry). is_act e.what) journal
 
 -- each of these acts leads from one state to the next
 abbrev pub Run : PlanParts → State → List Entry → State → Type 0
@@ -26,7 +26,7 @@ Run plan S (e ∷ es) T = (U : State) × Does plan S e U × Run plan U es T
 
 -- the acts of these entries are a run from zero blocks, and this is its last state
 abbrev pub Reaches : PlanParts → List Entry → State → Type 0
-Reaches plan journal S = Run plan (opening plan.lens) (acts journal) S
+Reaches plan journal S = Run plan (opening plan.lens) (acts_of journal) S
 
 -- an agent's track: what it did that had an effect
 abbrev pub track : List Entry → ℕ → List What
@@ -72,7 +72,8 @@ pub record Answers (before : List Entry) (m : Move) (e : Entry) : Type 0 where
 -- each entry answers the move at its position
 abbrev pub EachAnswers : List Move → List Entry → Type 0
 EachAnswers moves journal =
-    (k : ℕ) (m : Move) (e : Entry) → slice_get moves k ≡ Some m → slice_get journal k ≡ Some e → Answers (take k journal) m e
+    (k : ℕ) (m : Move) (e : Entry) → slice_get moves k ≡ Some m → slice_get journal k ≡ Some e
+    → Answers (take k journal) m e
 
 abbrev pub WaitsForever : Call → Type 0
 WaitsForever (C.Wait n index x None) = ⊤

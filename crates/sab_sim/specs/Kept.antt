@@ -8,14 +8,14 @@ use Rattle.sab_sim.specs.Plan.{PlanParts}
 use Rattle.sab_sim.specs.Object.{State}
 use Rattle.sab_sim.specs.Journal.{EachAnswers, IsJustified, EachAfter, Reaches}
 use Rattle.sab_sim.specs.Agent.{IsWhere}
-use Rattle.sab_sim.specs.Line.{Represents}
+use Rattle.sab_sim.specs.Machine.{MachineParts, Represents}
 
--- the agents, the bytes and the object are where the journal leaves them, and each entry was right
-pub record Kept (plan : PlanParts) (moves : List Move) (journal : List Entry) (mem : List (List ℕ)) (agents : List Agent) (next_ticket : ℕ) : Type 0 where
+-- the machine and the object are where the journal leaves them, and each entry was right
+pub record Kept (plan : PlanParts) (moves : List Move) (journal : List Entry) (m : MachineParts) : Type 0 where
   pub one_each : length journal ≡ length moves
-  pub named : (k : ℕ) (m : Move) → slice_get moves k ≡ Some m → agent_of m < length plan.scripts
+  pub named : (k : ℕ) (d : Move) → slice_get moves k ≡ Some d → agent_of d < length plan.scripts
   pub answers : EachAnswers moves journal
   pub justified : EachAfter (IsJustified plan) journal
-  pub object : (S : State) × Reaches plan journal S × Represents mem agents next_ticket S
-  pub size : length agents ≡ length plan.scripts
-  pub agents_are : (a : ℕ) (g : Agent) → slice_get agents a ≡ Some g → IsWhere plan journal a g
+  pub object : (S : State) × Reaches plan journal S × Represents m S
+  pub size : length m.agents ≡ length plan.scripts
+  pub agents_are : (a : ℕ) (g : Agent) → slice_get m.agents a ≡ Some g → IsWhere plan journal a g

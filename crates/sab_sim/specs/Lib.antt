@@ -11,9 +11,11 @@ pub mod Journal
 pub mod Report
 pub mod Agent
 pub mod Line
+pub mod Machine
 pub mod Finding
 pub mod Turn
 pub mod Kept
 pub mod Shown
+pub mod States
 pub mod SimFault
 pub mod Sim

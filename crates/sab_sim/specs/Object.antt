@@ -98,11 +98,13 @@ DoesCall can_block a v call S (Acted (Threw e)) T = (verdict can_block v.view ca
 -- an access, on the bytes of its block
 DoesCall can_block a v (C.Access n access) S (Acted (Value x)) T =
     (verdict can_block v.view (C.Access n access) ≡ None)
-    × ((bytes : List ℕ) × Acts v.view access (bytes_of S.mem v.block) x bytes × (T ≡ record S { mem = slice_set S.mem v.block bytes }))
+    × ((bytes : List ℕ) × Acts v.view access (bytes_of S.mem v.block) x bytes
+    × (T ≡ record S { mem = slice_set S.mem v.block bytes }))
 -- Atomics.notify
 DoesCall can_block a v (C.Notify n index count) S (Acted (Count k)) T =
     (verdict can_block v.view (C.Notify n index count) ≡ None)
-    × ((p : Place) × (place_of v index ≡ Some p) × (k ≡ woken_count count (length (waiters p S.line))) × (T ≡ woken k p S))
+    × ((p : Place) × (place_of v index ≡ Some p) × (k ≡ woken_count count (length (waiters p S.line)))
+    × (T ≡ woken k p S))
 -- Atomics.wait, where the value isn't the element
 DoesCall can_block a v (C.Wait n index x timeout) S (Acted NotEqual) T =
     (verdict can_block v.view (C.Wait n index x timeout) ≡ None)
@@ -115,7 +117,8 @@ DoesCall can_block a v (C.Wait n index x timeout) S Enlisted T =
 DoesCall can_block a v (C.Wait n index x timeout) S (Left Woken) T = (S.notified a ≡ true) × (T ≡ departed a S)
 -- a wait with a timeout, whose agent stands in the line
 DoesCall can_block a v (C.Wait n index x (Some timeout)) S (Left TimedOut) T =
-    (p : Place) × (place_of v index ≡ Some p) × Contains S.line (record { place = p; agent = a }) × (T ≡ taken_off p a S)
+    (p : Place) × (place_of v index ≡ Some p) × Contains S.line (record { place = p; agent = a })
+    × (T ≡ taken_off p a S)
 DoesCall can_block a v call S what T = ⊥
 
 -- the entry is an act that leads from S to T

@@ -23,7 +23,8 @@ abbrev pub items_of_each : List (Vec ℕ Global) → List (List ℕ)
 items_of_each blocks = map (λ (b : Vec ℕ Global). b.items) blocks
 
 -- the journal and the bytes fit the plan and the moves
-pub record FitsMoves (plan : PlanParts) (moves : List Move) (journal : List Entry) (blocks : List (List ℕ)) : Type 0 where
+pub record FitsMoves (plan : PlanParts) (moves : List Move) (journal : List Entry)
+    (blocks : List (List ℕ)) : Type 0 where
   -- there are at most 2^20 moves, each of an agent of the plan
   pub few : length moves ≤ 2 ^ 20
   pub named : All (λ m. agent_of m < length plan.scripts) moves

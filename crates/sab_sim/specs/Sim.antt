@@ -8,6 +8,7 @@ use Rattle.sab_sim.specs.declared.progress.Progress.{Progress}
 use Rattle.sab_sim.specs.Plan.{PlanParts, IsPlan}
 use Rattle.sab_sim.specs.Script.{ScriptParts}
 use Rattle.sab_sim.specs.Agent.{agent_at}
+use Rattle.sab_sim.specs.Machine.{MachineParts}
 use Rattle.sab_sim.specs.Kept.{Kept}
 
 -- a plan, the moves so far, what each did, the bytes of each block now, and how many steps have their room reserved
@@ -31,17 +32,16 @@ pub record HasRoom (plan : PlanParts) (bytes : Vec (Vec ℕ Global) Global) (age
 
 -- what the simulator kept after the first k moves
 pub record WasKept (plan : PlanParts) (moves : List Move) (journal : List Entry) (k : ℕ) : Type 0 where
-  pub mem : List (List ℕ)
-  pub agents : List Agent
-  pub next_ticket : ℕ
-  pub kept : Kept plan (take k moves) (take k journal) mem agents next_ticket
+  pub machine : MachineParts
+  pub kept : Kept plan (take k moves) (take k journal) machine
 
-pub record IsKept (plan : PlanParts) (moves : List Move) (journal : List Entry) (mem : List (List ℕ)) (agents : List Agent) (next_ticket : ℕ) : Type 0 where
+-- what the simulator keeps
+pub record IsKept (plan : PlanParts) (moves : List Move) (journal : List Entry) (m : MachineParts) : Type 0 where
   pub is_plan : IsPlan plan
-  pub kept : Kept plan moves journal mem agents next_ticket
+  pub kept : Kept plan moves journal m
   pub few : length journal ≤ 2 ^ 20
-  pub few_tickets : next_ticket ≤ length journal
-  pub lens : map length mem ≡ plan.lens
+  pub few_tickets : m.next_ticket ≤ length journal
+  pub lens : map length m.blocks ≡ plan.lens
   pub history : (k : ℕ) → k ≤ length journal → WasKept plan moves journal k
 
 -- for each agent from a on, how many of its calls returned by where it stands, and how many it has

@@ -1,5 +1,5 @@
 -- What one move does.
-use Rattle.std.specs.Prelude.{◌≡◌, ◌≢◌, ℕ, suc, List, slice_get, Some, MatchBool}
+use Rattle.std.specs.Prelude.{◌≡◌, ◌≢◌, ℕ, suc, length, map, slice_get, Some, MatchBool}
 use Rattle.sab_sim.specs.declared.entry.What.{What}
 use Rattle.sab_sim.specs.declared.entry.What.TheVariants.{Enlisted}
 use Rattle.sab_sim.specs.declared.entry.Entry.{Entry}
@@ -8,8 +8,8 @@ use Rattle.sab_sim.specs.Entry.{is_act}
 use Rattle.sab_sim.specs.Plan.{PlanParts, calls_of}
 use Rattle.sab_sim.specs.Object.{State, Does}
 use Rattle.sab_sim.specs.Journal.{Justifies}
-use Rattle.sab_sim.specs.Agent.{IsAtCall, Advances, IsLike}
-use Rattle.sab_sim.specs.Line.{Represents}
+use Rattle.sab_sim.specs.Agent.{agent_at, IsAtCall, Advances, IsLike}
+use Rattle.sab_sim.specs.Machine.{MachineParts, Represents}
 
 -- the entry leads from one state to the next, and where it is stuck the state allows it
 pub record Goes (plan : PlanParts) (S : State) (e : Entry) (T : State) : Type 0 where
@@ -21,8 +21,26 @@ abbrev pub ticket_after : What → ℕ → ℕ
 ticket_after Enlisted t = suc t
 ticket_after _ t = t
 
--- one move of agent a does this
-pub record Turns (plan : PlanParts) (a : ℕ) (mem : List (List ℕ)) (agents : List Agent) (ticket : ℕ) (what : What) (mem' : List (List ℕ)) (agents' : List Agent) : Type 0 where
-  pub own : (g h : Agent) → slice_get agents a ≡ Some g → slice_get agents' a ≡ Some h → Advances g what h × IsAtCall plan (calls_of plan a) h.returned h.phase
-  pub others : (b : ℕ) (h : Agent) → b ≢ a → slice_get agents' b ≡ Some h → (g : Agent) × (slice_get agents b ≡ Some g) × IsLike g h
-  pub object : (S : State) (g : Agent) → Represents mem agents ticket S → slice_get agents a ≡ Some g → (T : State) × Goes plan S (record { agent = a; call = g.returned; what = what }) T × Represents mem' agents' (ticket_after what ticket) T
+-- the entry of a move of agent a that does this
+abbrev pub entry_of : MachineParts → ℕ → What → Entry
+entry_of m a what = record { agent = a; call = (agent_at m.agents a).returned; what = what }
+
+-- from each state that the first machine represents the entry leads to one that the second represents
+abbrev pub ObjectGoes : PlanParts → MachineParts → Entry → MachineParts → Type 0
+ObjectGoes plan m e n = (S : State) → Represents m S → (T : State) × Goes plan S e T × Represents n T
+
+-- a move with this entry leads from one machine to the next
+pub record Turns (plan : PlanParts) (m : MachineParts) (e : Entry) (n : MachineParts) : Type 0 where
+  -- the entry has the number of the call that the agent is at
+  pub call : (g : Agent) → slice_get m.agents e.agent ≡ Some g → e.call ≡ g.returned
+  -- the agent goes on, and is at a call or between two
+  pub own : (g h : Agent) → slice_get m.agents e.agent ≡ Some g → slice_get n.agents e.agent ≡ Some h
+      → Advances g e.what h × IsAtCall plan (calls_of plan e.agent) h.returned h.phase
+  -- the others stay as they were, or are woken
+  pub others : (b : ℕ) (h : Agent) → b ≢ e.agent → slice_get n.agents b ≡ Some h
+      → (g : Agent) × (slice_get m.agents b ≡ Some g) × IsLike g h
+  -- the object goes the same way
+  pub object : ObjectGoes plan m e n
+  pub size : length n.agents ≡ length m.agents
+  pub lens : map length n.blocks ≡ map length m.blocks
+  pub ticket : n.next_ticket ≡ ticket_after e.what m.next_ticket

@@ -1,6 +1,6 @@
 //! Where agents stand.
 
-ghost use Rattle.std.specs.Prelude.{◌≡◌};
+ghost use Rattle.std.specs.Prelude.{◌≡◌, slice_get};
 
 use crate::answer::Answer;
 use crate::place::Place;
@@ -31,7 +31,7 @@ pub enum Phase {
 }
 
 impl Phase {
-    ghost use Rattle.sab_sim.specs.Agent.{waiting_phase};
+    ghost use Rattle.sab_sim.specs.Agent.{waiting_phase, woken_phase};
 
     /// Whether the agent stands in a line.
     pub fn is_waiting(self) -> bool
@@ -39,4 +39,18 @@ impl Phase {
     {
         matches!(self, Phase::Waiting { .. })
     }
+
+    /// Whether the agent was woken and hasn't left its wait.
+    pub fn is_woken(self) -> bool
+        ensures { result ≡ woken_phase self }
+    {
+        matches!(self, Phase::Woken)
+    }
+}
+
+/// An agent, by its number; none, where there is no such agent.
+pub fn find_agent(agents: &[Agent], agent: u32) -> Option<Agent>
+    ensures { result ≡ slice_get agents.now agent }
+{
+    agents.get(agent as usize).copied()
 }

@@ -1,7 +1,7 @@
 //! Calls of an agent.
 
 ghost use Rattle.std.specs.Prelude.{◌≡◌};
-ghost use Rattle.sab_sim.specs.Call.{view_of};
+ghost use Rattle.sab_sim.specs.Call.{view_of, index_of};
 
 use sab_block::{Access, Operand};
 
@@ -32,11 +32,21 @@ pub enum Call {
 
 impl Call {
     /// The position of the view that it names.
-    pub(crate) fn view(self) -> u32
+    pub fn view(self) -> u32
         ensures { result ≡ view_of self }
     {
         match self {
             Call::Access { view, .. } | Call::Wait { view, .. } | Call::Notify { view, .. } => view,
+        }
+    }
+
+    /// The index of the element that it names.
+    pub fn index(self) -> i64
+        ensures { result ≡ index_of self }
+    {
+        match self {
+            Call::Access { access, .. } => access.index(),
+            Call::Wait { index, .. } | Call::Notify { index, .. } => index,
         }
     }
 }

@@ -8,7 +8,7 @@ mod call;
 mod entry;
 mod limits;
 mod line;
-mod line_at;
+mod machine;
 mod place;
 mod plan;
 mod plan_fault;
@@ -21,7 +21,6 @@ mod schedule;
 mod script;
 mod sim;
 mod sim_fault;
-mod turn;
 mod waiters;
 
 pub use answer::Answer;

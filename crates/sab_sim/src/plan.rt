@@ -55,9 +55,9 @@ impl Plan {
 
     /// A plan of blocks, by their lengths, of views on them and of agents, by their scripts. It takes no memory.
     ///
-    /// Refused are, in this order, parts beyond a limit (TooMany), no block at all or a view on a block that isn't there
-    /// (NoBlock), and a view for another length than its block's or a call on a view that isn't there (NoView). After a
-    /// refusal the parts are dropped.
+    /// Refused are, in this order, parts beyond a limit (TooMany), no block at all or a view on a block that isn't
+    /// there (NoBlock), and a view for another length than its block's or a call on a view that isn't there (NoView).
+    /// After a refusal the parts are dropped.
     pub fn new(
         lens: Vec<u32>,
         views: Vec<PlanView>,
@@ -165,7 +165,9 @@ impl Plan {
 }
 
 impl PartialEq for Plan {
-    ghost eq = { eq_of_both (on (λ p. p.lens) (pointwise ⟦<u32 as PartialEq>⟧.eq)) (eq_of_both (on (λ p. p.views) (pointwise ⟦<PlanView as PartialEq>⟧.eq)) (on (λ p. p.scripts) (pointwise ⟦<Script as PartialEq>⟧.eq))) };
+    ghost eq = { eq_of_both (on (λ p. p.lens) (pointwise ⟦<u32 as PartialEq>⟧.eq)) (eq_of_both
+        (on (λ p. p.views) (pointwise ⟦<PlanView as PartialEq>⟧.eq))
+        (on (λ p. p.scripts) (pointwise ⟦<Script as PartialEq>⟧.eq))) };
 
     ghost laws = { Prim.search (comparing, view_laws.laws-law, script_laws.laws-law) depth 9 };
 

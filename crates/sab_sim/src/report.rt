@@ -23,5 +23,10 @@ impl Model for Report {
 
     ghost Value = { ReportParts };
 
-    ghost view = { λ r. record { schedule = r.schedule.items; journal = r.journal.items; blocks = items_of_each r.blocks.items; agents = r.agents.items } };
+    ghost view = { λ r. record {
+      schedule = r.schedule.items;
+      journal = r.journal.items;
+      blocks = items_of_each r.blocks.items;
+      agents = r.agents.items;
+    } };
 }

@@ -40,7 +40,8 @@ impl Script {
 }
 
 impl PartialEq for Script {
-    ghost eq = { eq_of_both (on (λ s. s.can_block) ⟦<bool as PartialEq>⟧.eq) (on (λ s. s.calls) (pointwise ⟦<Call as PartialEq>⟧.eq)) };
+    ghost eq = { eq_of_both (on (λ s. s.can_block) ⟦<bool as PartialEq>⟧.eq)
+        (on (λ s. s.calls) (pointwise ⟦<Call as PartialEq>⟧.eq)) };
 
     ghost laws = { Prim.search (comparing, laws-law) };
 

@@ -4,13 +4,18 @@ ghost use Rattle.std.specs.Prelude.{◌≡◌, ℕ, ◌<◌, ◌≤◌, ◌^◌,
 ghost use Rattle.sab_sim.specs.declared.entry.Entry.{Entry};
 ghost use Rattle.sab_sim.specs.declared.sim_fault.SimFault.TheVariants.{NoAgent, Full, OutOfMemory};
 ghost use Rattle.sab_sim.specs.Schedule.{agent_of};
-ghost use Rattle.sab_sim.specs.Object.{zero_blocks, waiters};
+ghost use Rattle.sab_sim.specs.Object.{zero_blocks, waiters, stands};
+ghost use Rattle.sab_sim.specs.Plan.{call_of};
+ghost use Rattle.sab_sim.specs.Journal.{returned_of};
 ghost use Rattle.sab_sim.specs.Shown.{AtEnd};
+ghost use Rattle.sab_sim.specs.States.{HasStates, IsOfWaits};
 ghost use Rattle.sab_sim.specs.Report.{FitsMoves, Fits, IsOnly};
 
-use crate::agent::{Agent, Phase};
-use crate::entry::{Entry, What};
-use crate::line_at::line_at;
+use crate::agent::find_agent;
+use crate::call::Call;
+use crate::entry::Entry;
+use crate::line::line_at;
+use crate::machine::Machine;
 use crate::place::Place;
 use crate::plan::Plan;
 use crate::progress::Progress;
@@ -18,7 +23,6 @@ use crate::report::Report;
 use crate::room::{hand_over, tell_progress};
 use crate::schedule::Move;
 use crate::sim_fault::SimFault;
-use crate::turn::turn;
 use crate::waiters::Waiters;
 use sab_block::Block;
 use std::alloc::{AllocError, Global};
@@ -32,9 +36,7 @@ pub struct Sim {
     plan: Plan,
     moves: Vec<Move>,
     journal: Vec<Entry>,
-    blocks: Vec<Block>,
-    agents: Vec<Agent>,
-    next_ticket: u32,
+    machine: Machine,
     block_room: Vec<Vec<u8>>,
     agent_room: Vec<Progress>,
 }
@@ -45,9 +47,15 @@ impl Model for Sim {
 
     ghost Value = { SimParts };
 
-    ghost view = { λ s. record { plan = s.plan; moves = s.moves.items; journal = s.journal.items; blocks = s.blocks.items; reserved = min (spare_of s.moves) (spare_of s.journal) } };
+    ghost view = { λ s. record {
+      plan = s.plan;
+      moves = s.moves.items;
+      journal = s.journal.items;
+      blocks = s.machine.blocks;
+      reserved = min (spare_of s.moves) (spare_of s.journal);
+    } };
 
-    ghost invariant = { λ s. IsKept s.plan s.moves.items s.journal.items s.blocks.items s.agents.items s.next_ticket × HasRoom s.plan s.block_room s.agent_room };
+    ghost invariant = { λ s. IsKept s.plan s.moves.items s.journal.items s.machine × HasRoom s.plan s.block_room s.agent_room };
 }
 
 impl Sim {
@@ -63,24 +71,14 @@ impl Sim {
         ensures journal { IfOk result (λ sim. sim.journal ≡ []) }
         ensures blocks { IfOk result (λ sim. sim.blocks ≡ zero_blocks plan.lens) }
     {
-        let mut blocks = Vec::with_capacity(alloc, plan.block_lens().len())?;
-        for &len in plan.block_lens() {
-            blocks.push_reserved(Block::new(alloc, len)?);
-        }
-        let newcomer = Agent {
-            returned: 0,
-            phase: Phase::Ready,
-        };
-        let agents = vec![in alloc; newcomer; plan.scripts().len()]?;
-        let block_room = Vec::with_capacity(alloc, blocks.len())?;
-        let agent_room = Vec::with_capacity(alloc, agents.len())?;
+        let machine = Machine::new(alloc, &plan)?;
+        let block_room = Vec::with_capacity(alloc, plan.block_lens().len())?;
+        let agent_room = Vec::with_capacity(alloc, plan.scripts().len())?;
         Ok(Sim {
             plan,
             moves: Vec::new(alloc),
             journal: Vec::new(alloc),
-            blocks,
-            agents,
-            next_ticket: 0,
+            machine,
             block_room,
             agent_room,
         })
@@ -89,7 +87,8 @@ impl Sim {
     /// Makes one move, which appends one entry to the journal.
     ///
     /// Refused are, in this order, a move that names no agent (NoAgent), any move once the journal has 2^20 entries
-    /// (Full), and one for which there is no memory (OutOfMemory). A refusal changes nothing, and the simulator goes on.
+    /// (Full), and one for which there is no memory (OutOfMemory). A refusal changes nothing, and the simulator goes
+    /// on.
     pub fn step(&mut self, m: Move) -> Result<(), SimFault>
         ensures plan { self.new.plan ≡ self.old.plan }
         ensures moves { OnOk result (self.new.moves ≡ self.old.moves ++ m ∷ []) }
@@ -99,13 +98,14 @@ impl Sim {
 
         ensures no_agent { length self.old.plan.scripts ≤ agent_of m → result ≡ Err NoAgent }
         ensures full { agent_of m < length self.old.plan.scripts → length self.old.journal ≡ 2 ^ 20 → result ≡ Err Full }
-        ensures memory { agent_of m < length self.old.plan.scripts → length self.old.journal < 2 ^ 20 → IsOkUnless result OutOfMemory }
+        ensures memory { agent_of m < length self.old.plan.scripts → length self.old.journal < 2 ^ 20
+            → IsOkUnless result OutOfMemory }
 
         ensures reserved { self.old.reserved ≤ self.new.reserved + 1 }
-        ensures spare { agent_of m < length self.old.plan.scripts → length self.old.journal < 2 ^ 20 → 0 < self.old.reserved → IsOk result }
+        ensures spare { agent_of m < length self.old.plan.scripts → length self.old.journal < 2 ^ 20
+            → 0 < self.old.reserved → IsOk result }
     {
-        let a = m.agent();
-        if self.agents.len() <= a as usize {
+        if self.plan.scripts().len() <= m.agent() as usize {
             return Err(SimFault::NoAgent);
         }
         if Self::MAX_ENTRIES <= self.journal.len() {
@@ -114,23 +114,9 @@ impl Sim {
         if self.moves.try_reserve(1).is_err() || self.journal.try_reserve(1).is_err() {
             return Err(SimFault::OutOfMemory);
         }
-        let call = self.agents[a as usize].returned;
-        let what = turn(
-            &self.plan,
-            &mut self.blocks,
-            &mut self.agents,
-            self.next_ticket,
-            m,
-        );
-        if what == What::Enlisted {
-            self.next_ticket += 1;
-        }
+        let entry = self.machine.turn(&self.plan, m);
         self.moves.push_reserved(m);
-        self.journal.push_reserved(Entry {
-            agent: a,
-            call,
-            what,
-        });
+        self.journal.push_reserved(entry);
         Ok(())
     }
 
@@ -171,9 +157,10 @@ impl Sim {
 
     /// The blocks as the moves so far left them, in the order of the plan.
     pub fn blocks(&self) -> &[Block]
-        ensures { result.now ≡ self.now.blocks }
+        ensures blocks { result.now ≡ self.now.blocks }
+        ensures lens { map length result.now ≡ self.now.plan.lens }
     {
-        self.blocks.as_slice()
+        self.machine.blocks()
     }
 
     /// The agents that wait at a place now, oldest first; none, where the plan has no such place.
@@ -182,15 +169,45 @@ impl Sim {
         ensures named { All (λ a. a < length self.now.plan.scripts) result }
         ensures most { length result ≤ 16 }
     {
-        line_at(&self.agents, place)
+        line_at(self.machine.agents(), place)
     }
 
     /// What each move so far did.
     pub fn journal(&self) -> &[Entry]
         ensures journal { result.now ≡ self.now.journal }
         ensures fits { FitsMoves self.now.plan self.now.moves self.now.journal self.now.blocks }
+        ensures states { HasStates self.now.plan self.now.journal }
+        ensures line { AtEnd self.now.plan self.now.journal (IsOfWaits self.now.plan self.now.journal) }
     {
         self.journal.as_slice()
+    }
+
+    /// The call of an agent that is to return next; none, where all its calls have returned, or there is no such agent.
+    pub fn next_call(&self, agent: u32) -> Option<Call>
+        ensures { result ≡ call_of self.now.plan agent (returned_of self.now.journal agent) }
+    {
+        let returned = find_agent(self.machine.agents(), agent)?.returned;
+        self.plan.call(agent, returned)
+    }
+
+    /// Whether an agent stands in the line of a place.
+    pub fn is_waiting(&self, agent: u32) -> bool
+        ensures { AtEnd self.now.plan self.now.journal (λ S. result ≡ stands S agent) }
+    {
+        match find_agent(self.machine.agents(), agent) {
+            Some(agent) => agent.phase.is_waiting(),
+            None => false,
+        }
+    }
+
+    /// Whether an agent was woken and hasn't left its wait.
+    pub fn is_woken(&self, agent: u32) -> bool
+        ensures { AtEnd self.now.plan self.now.journal (λ S. result ≡ S.notified agent) }
+    {
+        match find_agent(self.machine.agents(), agent) {
+            Some(agent) => agent.phase.is_woken(),
+            None => false,
+        }
     }
 
     /// The report of the moves so far.
@@ -205,14 +222,12 @@ impl Sim {
             plan,
             moves,
             journal,
-            blocks,
-            agents,
-            next_ticket: _,
+            machine,
             mut block_room,
             mut agent_room,
         } = self;
-        hand_over(&mut block_room, blocks);
-        tell_progress(&mut agent_room, plan.scripts(), &agents);
+        tell_progress(&mut agent_room, plan.scripts(), machine.agents());
+        hand_over(&mut block_room, machine.into_blocks());
         Report {
             schedule: moves,
             journal,

@@ -1,6 +1,6 @@
 //! The agents that wait at a place.
 
-ghost use Rattle.std.specs.Prelude.{◌≡◌, ◌<◌, ◌≤◌, ◌++◌, ◌∷◌, [], length};
+ghost use Rattle.std.specs.Prelude.{◌≡◌, ◌<◌, ◌≤◌, ◌++◌, ◌∷◌, [], length, take};
 
 use std::marker::Model;
 
@@ -47,5 +47,14 @@ impl Waiters {
         ensures most { length self.now ≤ 16 }
     {
         &self.agents[..self.len]
+    }
+
+    /// Keeps the `n` oldest alone, or all, where there are no more.
+    pub fn truncate(&mut self, n: usize)
+        ensures { self.new ≡ take n self.old }
+    {
+        if n < self.len {
+            self.len = n;
+        }
     }
 }

@@ -1,5 +1,3 @@
-pub mod Appending
 pub mod Consuming
-pub mod Digits
 pub mod ReplaySteps
 pub mod Equality

@@ -3,9 +3,7 @@ use Rattle.std.proofs.Common.{◌≡◌, inl, inr, ℕ, suc, ◌+◌, ◌<◌, �
 use Rattle.std.proofs.lemmas.Bool.{lt-leb}
 use Rattle.std.proofs.lemmas.List.Elements.{All-nil, All-cons, All-head, All-tail}
 use Rattle.std.specs.Io.KnownBytes.{Keeps}
-use Rattle.std.specs.Prelude.{IsUtf8}
-use Rattle.serde_json.specs.Data.{Data, Items, no_items, item}
-use Rattle.serde_json.specs.Read.{read}
+use Rattle.serde_json.specs.Data.{Items, no_items, item}
 use Rattle.sab_sim.specs.declared.schedule.Move.{Move}
 use Rattle.sab_sim.specs.declared.sim_fault.SimFault.{SimFault}
 use Rattle.sab_sim.specs.declared.sim_fault.SimFault.TheVariants as F
@@ -14,48 +12,58 @@ use Rattle.sab_sim.specs.Plan.{PlanParts}
 use Rattle.sab_sim.specs.Report.{IsRefusal, first_refusal}
 use Rattle.sab_script.specs.declared.read_fault.ReadFault.{ReadFault}
 use Rattle.sab_script.specs.declared.read_fault.ReadFault.TheVariants.{TooMany, OutOfMemory, BadShape, BadName, BadNumber, BadCall, BadView, BadAgent, NoBlock}
-use Rattle.sab_script.specs.Reading.{Refuses, SpellsEach}
+use Rattle.sab_script.specs.declared.refusal.Refusal.{Refusal}
+use Rattle.sab_script.specs.declared.refusal.Refusal.TheVariants.{NotJson, Tree}
+use Rattle.sab_script.specs.Reading.{SpellsEach}
 use Rattle.sab_script.specs.Schedule.{SpellsMove}
-use Rattle.sab_script.specs.Setup.{Spells}
-use Rattle.sab_tool.specs.Replay.{ReadsAs, IsRefused, as_tool_fault}
+use Rattle.sab_script.specs.Script.{IsTreeFault, IsRefusedBy}
+use Rattle.sab_script.specs.Why.{fault_of}
+use Rattle.sab_tool.specs.Replay.{IsRefused, as_tool_fault, script_as_tool_fault}
 
 pub keeps_same : (o : Option (List ℕ)) → Keeps o o
 keeps_same None = tt
 keeps_same (Some x) = refl
 
--- bytes without a reading
-pub no_reading : (script : List ℕ) (tree : Data) → (IsUtf8 script → read script ≡ None) → ReadsAs script tree → ⊥
-no_reading script tree none r = let e = none r.0 in let s = r.1 in cc
-
 -- a tree that is refused
-pub refused_tree : (script : List ℕ) (d : Data) (e : ReadFault) → ReadsAs script d → Refuses (Spells d) e → IsRefused script (as_tool_fault e)
-refused_tree script d OutOfMemory r h = tt
-refused_tree script d TooMany r h = record { tree = d; reading = r; unspelled = h }
-refused_tree script d BadShape r h = record { tree = d; reading = r; unspelled = h }
-refused_tree script d BadName r h = record { tree = d; reading = r; unspelled = h }
-refused_tree script d BadNumber r h = record { tree = d; reading = r; unspelled = h }
-refused_tree script d BadCall r h = record { tree = d; reading = r; unspelled = h }
-refused_tree script d BadView r h = record { tree = d; reading = r; unspelled = h }
-refused_tree script d BadAgent r h = record { tree = d; reading = r; unspelled = h }
-refused_tree script d NoBlock r h = record { tree = d; reading = r; unspelled = h }
+refused_tree : (script : List ℕ) (e : ReadFault) → IsTreeFault script e → IsRefused script (as_tool_fault e)
+refused_tree script OutOfMemory h = tt
+refused_tree script TooMany h = h
+refused_tree script BadShape h = h
+refused_tree script BadName h = h
+refused_tree script BadNumber h = h
+refused_tree script BadCall h = h
+refused_tree script BadView h = h
+refused_tree script BadAgent h = h
+refused_tree script NoBlock h = h
+
+-- a script that is refused
+pub refused_script : (script : List ℕ) (r : Refusal) → IsRefusedBy script r → IsRefused script (script_as_tool_fault r)
+refused_script script (NotJson line column is_cut) h = h
+refused_script script (Tree e) h = refused_tree script (fault_of e.why) h
 
 -- the moves that are spelled are the agents'
-pub spelled_moves : (agents : ℕ) (ds : Items) (ms : List Move) → SpellsEach (SpellsMove agents) ds ms → All (λ m. agent_of m < agents) ms
+pub spelled_moves : (agents : ℕ) (ds : Items) (ms : List Move) → SpellsEach (SpellsMove agents) ds ms
+    → All (λ m. agent_of m < agents) ms
 spelled_moves agents no_items [] h = All-nil (λ (m : Move). agent_of m < agents)
 spelled_moves agents no_items (m ∷ ms) h = absurd h
 spelled_moves agents (item d ds) [] h = absurd h
-spelled_moves agents (item d ds) (m ∷ ms) h = All-cons (λ (m : Move). agent_of m < agents) m ms h.0.1 (spelled_moves agents ds ms h.1)
+spelled_moves agents (item d ds) (m ∷ ms) h =
+    All-cons (λ (m : Move). agent_of m < agents) m ms h.0.1 (spelled_moves agents ds ms h.1)
 
 -- few moves, each of an agent that is there, are all made
-pub none_refused : (agents k : ℕ) (ms : List Move) → All (λ m. agent_of m < agents) ms → k + length ms ≤ 2 ^ 20 → first_refusal agents k ms ≡ None
+pub none_refused : (agents k : ℕ) (ms : List Move) → All (λ m. agent_of m < agents) ms → k + length ms ≤ 2 ^ 20
+    → first_refusal agents k ms ≡ None
 none_refused agents k [] h few = refl
 none_refused agents k (m ∷ ms) h few =
-    let a : nat_le agents (agent_of m) ≡ false = lt-leb agents (agent_of m) (All-head (λ (m : Move). agent_of m < agents) m ms h) in
+    let a : nat_le agents (agent_of m) ≡ false =
+    lt-leb agents (agent_of m) (All-head (λ (m : Move). agent_of m < agents) m ms h) in
     let b : nat_le (2 ^ 20) k ≡ false = lt-leb (2 ^ 20) k (omega arith) in
     rw (a, b) (none_refused agents (suc k) ms (All-tail (λ (m : Move). agent_of m < agents) m ms h) (omega arith))
 
 -- few moves, each of an agent that is there, are refused for want of memory alone
-pub refused_memory : (plan of : PlanParts) (ms schedule : List Move) (fault : SimFault) → plan ≡ of → ms ≡ schedule → All (λ m. agent_of m < length of.scripts) schedule → length schedule ≤ 100000 → IsRefusal plan ms fault → fault ≡ F.OutOfMemory
+pub refused_memory : (plan of : PlanParts) (ms schedule : List Move) (fault : SimFault) → plan ≡ of → ms ≡ schedule
+    → All (λ m. agent_of m < length of.scripts) schedule → length schedule ≤ 100000 → IsRefusal plan ms fault
+    → fault ≡ F.OutOfMemory
 refused_memory plan of ms schedule fault p m h few (inl e) = e
 refused_memory plan of ms schedule fault p m h few (inr e) =
     let n = none_refused (length of.scripts) 0 schedule h (omega arith) in

@@ -1,5 +1,4 @@
 pub mod ToolFault
-pub mod Text
 pub mod Input
 pub mod Racing
 pub mod Replay

@@ -11,7 +11,7 @@ use Rattle.sab_tool.specs.declared.tool_fault.ToolFault.{ToolFault}
 use Rattle.sab_tool.specs.declared.tool_fault.ToolFault.TheVariants.{OutOfMemory, TooManyMoves, NoThread, WriteFailed}
 use Rattle.sab_script.specs.Setup.{SetupParts}
 use Rattle.sab_tool.specs.Replay.{IsScriptOf, IsRefused}
-use Rattle.sab_tool.specs.Text.{text}
+use Rattle.sab_text.specs.Text.{text}
 -- how many steps an agent can make at a wait, for the crates above
 pub use Rattle.sab_race.specs.declared.script_moves.TheConstants.{MAX_SPINS}
 

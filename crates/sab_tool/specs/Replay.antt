@@ -1,15 +1,19 @@
 -- What replaying a script answers.
-use Rattle.std.specs.Prelude.{◌≡◌, ◌⊎◌, ℕ, List, Option, Some, IsUtf8}
+use Rattle.std.specs.Prelude.{◌≡◌, ◌⊎◌, ℕ, List, Option}
 use Rattle.std.specs.Io.KnownBytes.{Appends, Keeps}
 use Rattle.serde_json.specs.Data.{Data}
-use Rattle.serde_json.specs.Read.{read}
 use Rattle.sab_sim.specs.Report.{ReportParts, Fits, IsOnly}
 use Rattle.sab_script.specs.declared.read_fault.ReadFault.{ReadFault}
 use Rattle.sab_script.specs.declared.read_fault.ReadFault.TheVariants as R
+use Rattle.sab_script.specs.declared.refusal.Refusal.{Refusal}
+use Rattle.sab_script.specs.declared.refusal.Refusal.TheVariants as S
+use Rattle.sab_script.specs.Why.{fault_of}
 use Rattle.sab_tool.specs.declared.tool_fault.ToolFault.{ToolFault}
 use Rattle.sab_tool.specs.declared.tool_fault.ToolFault.TheVariants.{TooMany, OutOfMemory, BadShape, BadName, BadNumber, BadCall, BadView, BadAgent, NoBlock, NotJson, WriteFailed}
-use Rattle.sab_script.specs.Setup.{SetupParts, Spells, IsOnlySetup}
-use Rattle.sab_tool.specs.Text.{text}
+use Rattle.sab_script.specs.Setup.{SetupParts}
+-- scripts as bytes, for the crates above
+pub use Rattle.sab_script.specs.Script.{ReadsAs, IsScriptOf, SpellsNone}
+use Rattle.sab_text.specs.Text.{text}
 
 -- the fault of a tree as a tool's
 abbrev pub as_tool_fault : ReadFault → ToolFault
@@ -23,22 +27,10 @@ as_tool_fault R.BadAgent = BadAgent
 as_tool_fault R.NoBlock = NoBlock
 as_tool_fault R.OutOfMemory = OutOfMemory
 
--- the bytes are a JSON text in UTF-8, which reads as the tree
-abbrev pub ReadsAs : List ℕ → Data → Type 0
-ReadsAs script tree = IsUtf8 script × (read script ≡ Some tree)
-
--- the script reads as a tree that spells the setup, and no other
-pub record IsScriptOf (script : List ℕ) (setup : SetupParts) : Type 0 where
-  pub tree : Data
-  pub reading : ReadsAs script tree
-  pub spelled : Spells tree setup
-  pub only : IsOnlySetup tree setup
-
--- the script reads as a tree, and that one spells no setup
-pub record SpellsNone (script : List ℕ) : Type 0 where
-  pub tree : Data
-  pub reading : ReadsAs script tree
-  pub unspelled : (setup : SetupParts) → Spells tree setup → ⊥
+-- the fault of a script as a tool's
+abbrev pub script_as_tool_fault : Refusal → ToolFault
+script_as_tool_fault (S.NotJson line column is_cut) = NotJson
+script_as_tool_fault (S.Tree e) = as_tool_fault (fault_of e.why)
 
 -- what a script is refused for before anything is written
 abbrev pub IsRefused : List ℕ → ToolFault → Type 0
@@ -71,4 +63,5 @@ pub record Replays (old new : Option (List ℕ)) (script : List ℕ) : Type 0 wh
 -- the script is refused and nothing was written, or it spells a setup and a write failed
 abbrev pub IsReplayFault : Option (List ℕ) → Option (List ℕ) → List ℕ → ToolFault → Type 0
 IsReplayFault old new script fault =
-    (Keeps old new × IsRefused script fault) ⊎ ((fault ≡ WriteFailed) × ((setup : SetupParts) × IsScriptOf script setup))
+    (Keeps old new × IsRefused script fault)
+    ⊎ ((fault ≡ WriteFailed) × ((setup : SetupParts) × IsScriptOf script setup))

@@ -2,10 +2,7 @@
 //! it, and writes what each move did.
 #![tactic(auto)]
 
-mod chunk;
-mod entry_line;
 mod input;
-mod line;
 mod racing;
 mod replaying;
 mod report;
@@ -14,7 +11,7 @@ mod share;
 mod tool_fault;
 
 pub use input::{MAX_INPUT, read_input};
-pub use racing::race_bytes;
+pub use racing::{race_bytes, race_mixed};
 pub use replaying::replay_bytes;
 pub use report::write_report;
 pub use sab_race::MAX_SPINS;

@@ -7,7 +7,7 @@ use crate::report::write_report;
 use crate::script::setup_of;
 use crate::share::Share;
 use crate::tool_fault::ToolFault;
-use sab_race::{MAX_SPINS, NoGate, run_locked, run_rings};
+use sab_race::{MAX_SPINS, Mix, run_locked, run_rings_mixed};
 use sab_sim::{Plan, Report};
 use std::alloc::Global;
 use std::io::Write;
@@ -19,11 +19,11 @@ const PATIENCE: u32 = 1_000_000;
 
 /// Runs the agents of a script in threads, and writes the text of the report; it doesn't flush.
 ///
-/// The script's schedule is read and checked and then not used: the report's is the order in which the moves took effect.
-/// An agent steps `spins` times, at most [`MAX_SPINS`], at each wait before the wait's time is up. WriteFailed where a
-/// write failed; nothing is said then of how much was written. Every other fault is a refusal of the script, agents with
-/// more than 2^20 moves in all (TooManyMoves), want of memory, or a thread that couldn't be started (NoThread), and nothing
-/// was written.
+/// The script's schedule is read and checked and then not used: the report's is the order in which the moves took
+/// effect. An agent steps `spins` times, at most [`MAX_SPINS`], at each wait before the wait's time is up. WriteFailed
+/// where a write failed; nothing is said then of how much was written. Every other fault is a refusal of the script,
+/// agents with more than 2^20 moves in all (TooManyMoves), want of memory, or a thread that couldn't be started
+/// (NoThread), and nothing was written.
 pub fn race_bytes<R: Threads + Wait + Sync, W: Write>(
     rt: &R,
     alloc: Global,
@@ -36,9 +36,29 @@ pub fn race_bytes<R: Threads + Wait + Sync, W: Write>(
     ensures ok { OnOk result (Races (W.contents w.old) (W.contents w.new) script.now spins) }
     ensures err { IfErr result (IsRaceFault (W.contents w.old) (W.contents w.new) script.now spins) }
 {
+    race_mixed(rt, alloc, script, share, spins, 0, w)
+}
+
+/// The same, with the threads mixed by a seed: each yields 0 to 3 times before each of its moves, and the owner of the
+/// rings begins at one that is drawn when it looks for its next move.
+///
+/// By the seed 0 none yields, and the owner goes round.
+pub fn race_mixed<R: Threads + Wait + Sync, W: Write>(
+    rt: &R,
+    alloc: Global,
+    script: &[u8],
+    share: Share,
+    spins: u32,
+    seed: u64,
+    w: &mut W,
+) -> Result<(), ToolFault>
+    requires { spins ≤ MAX_SPINS }
+    ensures ok { OnOk result (Races (W.contents w.old) (W.contents w.new) script.now spins) }
+    ensures err { IfErr result (IsRaceFault (W.contents w.old) (W.contents w.new) script.now spins) }
+{
     let setup = setup_of(alloc, script)?;
     let (plan, _) = setup.into_parts();
-    let report = run(rt, alloc, plan, share, spins)?;
+    let report = run(rt, alloc, plan, share, spins, seed)?;
     write_report(&report, w)
 }
 
@@ -49,14 +69,15 @@ fn run<R: Threads + Wait + Sync>(
     plan: Plan,
     share: Share,
     spins: u32,
+    seed: u64,
 ) -> Result<Report, ToolFault>
     requires { spins ≤ MAX_SPINS }
     ensures race { IfOk result (IsRaceOf plan spins) }
     ensures err { IfErr result (IsUnraced plan spins) }
 {
     match share {
-        Share::Lock => run_by_lock(rt, alloc, plan, spins),
-        Share::Ring => run_by_rings(rt, alloc, plan, spins),
+        Share::Lock => run_by_lock(rt, alloc, plan, spins, seed),
+        Share::Ring => run_by_rings(rt, alloc, plan, spins, seed),
     }
 }
 
@@ -66,12 +87,13 @@ fn run_by_lock<R: Threads + Wait + Sync>(
     alloc: Global,
     plan: Plan,
     spins: u32,
+    seed: u64,
 ) -> Result<Report, ToolFault>
     requires { spins ≤ MAX_SPINS }
     ensures race { IfOk result (IsRaceOf plan spins) }
     ensures err { IfErr result (IsUnraced plan spins) }
 {
-    let Ok(gate) = Arc::new(alloc, NoGate) else {
+    let Ok(gate) = Arc::new(alloc, Mix::new(seed)) else {
         return Err(ToolFault::OutOfMemory);
     };
     Ok(run_locked(rt, alloc, plan, spins, gate)?)
@@ -83,13 +105,14 @@ fn run_by_rings<R: Threads>(
     alloc: Global,
     plan: Plan,
     spins: u32,
+    seed: u64,
 ) -> Result<Report, ToolFault>
     requires { spins ≤ MAX_SPINS }
     ensures race { IfOk result (IsRaceOf plan spins) }
     ensures err { IfErr result (IsUnraced plan spins) }
 {
-    let Ok(gate) = Arc::new(alloc, NoGate) else {
+    let Ok(gate) = Arc::new(alloc, Mix::new(seed)) else {
         return Err(ToolFault::OutOfMemory);
     };
-    Ok(run_rings(rt, alloc, plan, spins, PATIENCE, gate)?)
+    Ok(run_rings_mixed(rt, alloc, plan, spins, PATIENCE, gate, seed)?)
 }

@@ -14,8 +14,8 @@ use std::io::Write;
 
 /// Runs a script, and writes the text of its report; it doesn't flush.
 ///
-/// WriteFailed where a write failed; nothing is said then of how much was written. Every other fault is a refusal of the
-/// script, or want of memory, and nothing was written.
+/// WriteFailed where a write failed; nothing is said then of how much was written. Every other fault is a refusal of
+/// the script, or want of memory, and nothing was written.
 #[tactic(auto, using(crate::proofs::ReplaySteps::keeps_same))]
 pub fn replay_bytes<W: Write>(alloc: Global, script: &[u8], w: &mut W) -> Result<(), ToolFault>
     ensures ok { OnOk result (Replays (W.contents w.old) (W.contents w.new) script.now) }

@@ -3,7 +3,7 @@
 ghost use Rattle.std.specs.Prelude.{◌≡◌};
 
 use sab_race::RaceFault;
-use sab_script::ReadFault;
+use sab_script::{ReadFault, Refusal};
 use std::alloc::AllocError;
 use thiserror::Error;
 
@@ -126,6 +126,19 @@ impl From<ReadFault> for ToolFault {
             ReadFault::BadAgent => ToolFault::BadAgent,
             ReadFault::NoBlock => ToolFault::NoBlock,
             ReadFault::OutOfMemory => ToolFault::OutOfMemory,
+        }
+    }
+}
+
+impl From<Refusal> for ToolFault {
+    ghost use Rattle.sab_tool.specs.Replay.{script_as_tool_fault};
+
+    ghost from_gives = { λ r f. f ≡ script_as_tool_fault r };
+
+    fn from(refusal: Refusal) -> ToolFault {
+        match refusal {
+            Refusal::NotJson { .. } => ToolFault::NotJson,
+            Refusal::Tree(refusal) => ToolFault::from(refusal.fault()),
         }
     }
 }

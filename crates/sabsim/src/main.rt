@@ -4,6 +4,7 @@
 use sab_command::{Ending, FaultLine, job_of, run, without_job, without_words};
 use std::io;
 use std::process::ExitCode;
+use std::random::RandomSource;
 use std::sync::Wait;
 use std::thread::Threads;
 
@@ -15,7 +16,7 @@ fn words(rt: &(impl std::rt::Env + AllocGlobal)) -> io::Result<Vec<String>> {
 
 /// Does what the words ask for, between standard input and standard output.
 fn obey(
-    rt: &(impl Print + Eprint + Input + AllocGlobal + Threads + Wait + Sync),
+    rt: &(impl Print + Eprint + Input + AllocGlobal + Threads + Wait + Sync + RandomSource),
     words: &[String],
 ) -> Ending {
     match job_of(rt.alloc(), words) {

@@ -15,18 +15,46 @@ fn asks(alloc: Global, words: &[&str], job: Job) -> bool {
 
 #[test]
 fn a_command_line_is_read(rt: HostRuntime) {
-    let race = |share, spins| Job::Race { share, spins };
-    let table: [(&[&str], Job); 5] = [
+    let race = |share, spins, mix| Job::Race { share, spins, mix };
+    let table: [(&[&str], Job); 9] = [
         (&["sabsim", "replay"], Job::Replay),
-        (&["sabsim", "race", "--share", "lock"], race(Share::Lock, 0)),
-        (&["sabsim", "race", "--share=ring"], race(Share::Ring, 0)),
+        (&["sabsim", "check"], Job::Check),
+        (
+            &["sabsim", "race", "--share", "lock"],
+            race(Share::Lock, 0, None),
+        ),
+        (
+            &["sabsim", "race", "--share=ring"],
+            race(Share::Ring, 0, None),
+        ),
         (
             &["sabsim", "race", "--spins", "1000", "--share", "lock"],
-            race(Share::Lock, 1_000),
+            race(Share::Lock, 1_000, None),
         ),
         (
             &["sabsim", "race", "--share", "ring", "--spins", "7"],
-            race(Share::Ring, 7),
+            race(Share::Ring, 7, None),
+        ),
+        (
+            &["sabsim", "race", "--share", "ring", "--mix", "0"],
+            race(Share::Ring, 0, Some(0)),
+        ),
+        (
+            &[
+                "sabsim", "race", "--mix=7", "--share", "lock", "--spins", "3",
+            ],
+            race(Share::Lock, 3, Some(7)),
+        ),
+        (
+            &[
+                "sabsim",
+                "race",
+                "--share",
+                "lock",
+                "--mix",
+                "18446744073709551615",
+            ],
+            race(Share::Lock, 0, Some(u64::MAX)),
         ),
     ];
     for (words, job) in table {
@@ -44,7 +72,7 @@ fn is_refused(alloc: Global, words: &[&str], kind: ErrorKind, to_stderr: bool) -
 
 #[test]
 fn another_command_line_is_refused(rt: HostRuntime) {
-    let table: [(&[&str], ErrorKind, bool); 12] = [
+    let table: [(&[&str], ErrorKind, bool); 16] = [
         (&["sabsim"], ErrorKind::MissingSubcommand, true),
         (&["sabsim", "play"], ErrorKind::InvalidSubcommand, true),
         (
@@ -74,6 +102,29 @@ fn another_command_line_is_refused(rt: HostRuntime) {
         ),
         (
             &["sabsim", "race", "--share", "lock", "--spins", "-1"],
+            ErrorKind::UnknownArgument,
+            true,
+        ),
+        (
+            &["sabsim", "check", "script.json"],
+            ErrorKind::UnknownArgument,
+            true,
+        ),
+        (&["sabsim", "--version"], ErrorKind::DisplayVersion, false),
+        (
+            &[
+                "sabsim",
+                "race",
+                "--share",
+                "lock",
+                "--mix",
+                "18446744073709551616",
+            ],
+            ErrorKind::ValueValidation,
+            true,
+        ),
+        (
+            &["sabsim", "race", "--share", "lock", "--mix", "-1"],
             ErrorKind::UnknownArgument,
             true,
         ),

@@ -100,7 +100,8 @@ fn run<R: Threads + Wait + Sync>(
     }
 }
 
-/// Runs a script into writers that fail at their first write, at their second and so on, until one takes the whole report.
+/// Runs a script into writers that fail at their first write, at their second and so on, until one takes the whole
+/// report.
 ///
 /// Answers how many of them failed, where each of these was told.
 fn failures_of<R: Threads + Wait + Sync>(

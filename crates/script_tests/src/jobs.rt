@@ -3,10 +3,11 @@
 ghost use Rattle.sab_command.specs.Job.{IsWithinLimits};
 
 use crate::scripts::{STORE_AND_LOAD, report_of};
-use sab_command::{Job, run};
+use sab_command::{Job, Outcome, run};
 use sab_tool::{Share, ToolFault};
 use std::io;
 use std::io::Write;
+use std::random::RandomSource;
 use std::sync::Wait;
 use std::test::Fail;
 use std::thread::Threads;
@@ -35,8 +36,9 @@ impl Write for Basin {
     }
 }
 
-/// Whether the job of a script with one agent writes its whole report, and flushes it unless the flush fails, which it tells.
-fn reports_to<R: AllocGlobal + Threads + Wait + Sync>(
+/// Whether the job of a script with one agent writes its whole report, and flushes it unless the flush fails, which it
+/// tells.
+fn reports_to<R: AllocGlobal + Threads + Wait + Sync + RandomSource>(
     rt: &R,
     job: Job,
     is_stuck: bool,
@@ -52,7 +54,7 @@ fn reports_to<R: AllocGlobal + Threads + Wait + Sync>(
         is_stuck,
     };
     let is_right = match run(rt, job, &mut input, &mut output) {
-        Ok(()) => output.is_flushed,
+        Ok(outcome) => outcome == Outcome::Done && output.is_flushed,
         Err(fault) => is_stuck && fault == ToolFault::WriteFailed,
     };
     Ok(is_right && output.taken == report)
@@ -65,10 +67,12 @@ fn a_job_flushes_its_report(rt: HostRuntime) -> Result<(), Fail> {
         Job::Race {
             share: Share::Lock,
             spins: 0,
+            mix: None,
         },
         Job::Race {
             share: Share::Ring,
             spins: 0,
+            mix: Some(7),
         },
     ];
     for job in jobs {
@@ -76,4 +80,49 @@ fn a_job_flushes_its_report(rt: HostRuntime) -> Result<(), Fail> {
         assert!(rt; reports_to(&rt, job, true)?);
     }
     Ok(())
+}
+
+/// What a check says of a script, by what came of it; none where the writer failed.
+fn checked<R: AllocGlobal + Threads + Wait + Sync + RandomSource>(
+    rt: &R,
+    script: &str,
+    is_stuck: bool,
+) -> (Option<Outcome>, Vec<u8>) {
+    let mut input = script.as_bytes();
+    let mut output = Basin {
+        taken: Vec::new(rt.alloc()),
+        is_flushed: false,
+        is_stuck,
+    };
+    let outcome = match run(rt, Job::Check, &mut input, &mut output) {
+        Ok(outcome) if output.is_flushed => Some(outcome),
+        _ => None,
+    };
+    (outcome, output.taken)
+}
+
+#[test]
+fn a_check_flushes_what_it_says(rt: HostRuntime) {
+    let said = b"ok: 1 block, 1 view, 1 agent, 2 calls, 6 moves\n";
+    let refused = b"line 1, column 2: 16 NotJson: the text ends too early\n";
+    for (script, outcome, text) in [
+        (STORE_AND_LOAD, Outcome::Done, said.as_slice()),
+        ("[1", Outcome::Refused, refused.as_slice()),
+    ] {
+        let (found, taken) = checked(&rt, script, false);
+        assert!(rt; found == Some(outcome) && taken.as_slice() == text);
+        let (found, taken) = checked(&rt, script, true);
+        assert!(rt; found.is_none() && taken.as_slice() == text);
+    }
+}
+
+#[test]
+fn a_check_without_room_for_what_it_says_fails(rt: HostRuntime) {
+    for script in [STORE_AND_LOAD, "[1"] {
+        let mut room = [0; 8];
+        let mut input = script.as_bytes();
+        let mut rest = room.as_mut_slice();
+        let answer = run(&rt, Job::Check, &mut input, &mut rest);
+        assert!(rt; answer == Err(ToolFault::WriteFailed));
+    }
 }

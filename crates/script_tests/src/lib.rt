@@ -8,6 +8,8 @@ mod command_lines;
 #[cfg(test)]
 mod devices;
 #[cfg(test)]
+mod explaining;
+#[cfg(test)]
 mod faults;
 #[cfg(test)]
 mod jobs;

@@ -2,22 +2,26 @@
 
 ghost use Rattle.std.specs.Prelude.{◌≤◌};
 
-use crate::scripts::STORE_AND_LOAD;
-use sab_tool::{MAX_SPINS, Share, ToolFault, race_bytes};
+use crate::scripts::{STORE_AND_LOAD, STORED_AND_LOADED};
+use sab_tool::{MAX_SPINS, Share, ToolFault, race_bytes, race_mixed};
 use std::alloc::{AllocError, Global};
 use std::sync::Wait;
 use std::test::Fail;
 use std::thread::Threads;
 
 /// One agent that waits on one word, with a timeout.
-const TIMED: &str =
-    r#"{"bytes":4,"views":[{"name":"a","kind":"Int32","offset":0,"length":null}],"agents":[{"block":true,"calls":[["wait","a",0,0,5]]}],"schedule":[]}"#;
+const TIMED: &str = r#"{"bytes":4,
+  "views":[{"name":"a","kind":"Int32","offset":0,"length":null}],
+  "agents":[{"block":true,"calls":[["wait","a",0,0,5]]}],
+  "schedule":[]}"#;
 
 /// The same without a timeout.
-const ENDLESS: &str =
-    r#"{"bytes":4,"views":[{"name":"a","kind":"Int32","offset":0,"length":null}],"agents":[{"block":true,"calls":[["wait","a",0,0]]}],"schedule":[]}"#;
+const ENDLESS: &str = r#"{"bytes":4,
+  "views":[{"name":"a","kind":"Int32","offset":0,"length":null}],
+  "agents":[{"block":true,"calls":[["wait","a",0,0]]}],
+  "schedule":[]}"#;
 
-/// Whether the race of a script gives just this report, by a lock and by rings.
+/// Whether the race of a script gives just this report, by a lock and by rings, mixed or not.
 fn gives<R: Threads + Wait + Sync>(
     rt: &R,
     alloc: Global,
@@ -30,7 +34,9 @@ fn gives<R: Threads + Wait + Sync>(
     for share in [Share::Lock, Share::Ring] {
         let mut text = Vec::new(alloc);
         race_bytes(rt, alloc, script.as_bytes(), share, spins, &mut text)?;
-        if text.as_slice() != report.as_bytes() {
+        let mut mixed = Vec::new(alloc);
+        race_mixed(rt, alloc, script.as_bytes(), share, spins, 7, &mut mixed)?;
+        if text.as_slice() != report.as_bytes() || mixed != text {
             return Ok(false);
         }
     }
@@ -39,17 +45,7 @@ fn gives<R: Threads + Wait + Sync>(
 
 #[test]
 fn one_agent_alone_races_as_it_is_replayed(rt: HostRuntime) -> Result<(), Fail> {
-    let report = "\
-0 0 0 begin
-1 0 0 act 300
-2 0 0 return 300
-3 0 1 begin
-4 0 1 act 44
-5 0 1 return 44
-block 0 2c
-agent 0 2 of 2
-";
-    assert!(rt; gives(&rt, rt.alloc(), STORE_AND_LOAD, 0, report)?);
+    assert!(rt; gives(&rt, rt.alloc(), STORE_AND_LOAD, 0, STORED_AND_LOADED)?);
     Ok(())
 }
 
@@ -103,7 +99,10 @@ fn many_waits(alloc: Global) -> Result<String, AllocError> {
         .repeat(alloc, 1_000)?
         .join(alloc, ",")?;
     format!(in alloc;
-        r#"{{"bytes":4,"views":[{{"name":"a","kind":"Int32","offset":0,"length":null}}],"agents":[{{"block":true,"calls":[{calls}]}},{{"block":true,"calls":[{calls}]}}],"schedule":[]}}"#
+        r#"{{"bytes":4,
+  "views":[{{"name":"a","kind":"Int32","offset":0,"length":null}}],
+  "agents":[{{"block":true,"calls":[{calls}]}},{{"block":true,"calls":[{calls}]}}],
+  "schedule":[]}}"#
     )
 }
 

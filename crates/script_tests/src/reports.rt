@@ -1,7 +1,7 @@
 //! The text of a report.
 
 use crate::parts::number;
-use crate::scripts::{STORE_AND_LOAD, lines, replayed};
+use crate::scripts::{STORE_AND_LOAD, STORED_AND_LOADED, replayed};
 use sab_block::{Operand, Thrown};
 use sab_sim::{Answer, Entry, Progress, Report, What, Why};
 use sab_tool::{ToolFault, write_report};
@@ -147,10 +147,6 @@ fn a_long_block_is_written_whole(rt: HostRuntime) -> Result<(), Fail> {
 fn a_replayed_report_has_the_text_that_its_script_gives(rt: HostRuntime) -> Result<(), Fail> {
     let alloc = rt.alloc();
     let text = text_of(alloc, &replayed(alloc, STORE_AND_LOAD)?)?;
-    let expected = lines(
-        alloc,
-        "0 0 0 begin / 1 0 0 act 300 / 2 0 0 return 300 / 3 0 1 begin / 4 0 1 act 44 / 5 0 1 return 44 / block 0 2c / agent 0 2 of 2",
-    )?;
-    assert!(rt; text.as_slice() == expected.as_bytes());
+    assert!(rt; text.as_slice() == STORED_AND_LOADED.as_bytes());
     Ok(())
 }

@@ -3,20 +3,42 @@
 use sab_sim::{Report, replay};
 use sab_tool::{Setup, read_setup, replay_bytes};
 use serde_json::Value;
-use std::alloc::{AllocError, Global};
+use std::alloc::Global;
 use std::test::Fail;
 
 /// An agent that stores a value in a byte and loads it.
-pub const STORE_AND_LOAD: &str =
-    r#"{"bytes":1,"views":[{"name":"a","kind":"Uint8","offset":0,"length":null}],"agents":[{"block":true,"calls":[["store","a",0,300],["load","a",0]]}],"schedule":[0,0,0,0,0,0]}"#;
+pub const STORE_AND_LOAD: &str = r#"{"bytes":1,
+  "views":[{"name":"a","kind":"Uint8","offset":0,"length":null}],
+  "agents":[{"block":true,"calls":[["store","a",0,300],["load","a",0]]}],
+  "schedule":[0,0,0,0,0,0]}"#;
+
+/// The text of its report, replayed or raced.
+pub const STORED_AND_LOADED: &str = "\
+0 0 0 begin
+1 0 0 act 300
+2 0 0 return 300
+3 0 1 begin
+4 0 1 act 44
+5 0 1 return 44
+block 0 2c
+agent 0 2 of 2
+";
 
 /// Two agents that can't block, on one word.
-pub const SHARED_WORD: &str =
-    r#"{"bytes":4,"views":[{"name":"a","kind":"Int32","offset":0,"length":1}],"agents":[{"block":false,"calls":[["store","a",0,5],["load","a",0]]},{"block":false,"calls":[["load","a",0]]}],"schedule":[0,1,0,1,0,1,0,0,0,0]}"#;
+pub const SHARED_WORD: &str = r#"{"bytes":4,
+  "views":[{"name":"a","kind":"Int32","offset":0,"length":1}],
+  "agents":[{"block":false,"calls":[["store","a",0,5],["load","a",0]]},{"block":false,"calls":[["load","a",0]]}],
+  "schedule":[0,1,0,1,0,1,0,0,0,0]}"#;
 
 /// Two agents on two blocks: a notify in one block doesn't wake who waits in the other.
-pub const TWO_BLOCKS: &str =
-    r#"{"blocks":[4,4],"views":[{"name":"a","kind":"Int32","offset":0,"length":null,"block":0},{"name":"b","kind":"Int32","offset":0,"length":null,"block":1}],"agents":[{"block":true,"calls":[["wait","a",0,0]]},{"block":true,"calls":[["notify","b",0],["store","b",0,7],["notify","a",0]]}],"schedule":[0,0,1,1,1,1,1,1,1,1,0]}"#;
+pub const TWO_BLOCKS: &str = r#"{"blocks":[4,4],
+  "views":[
+    {"name":"a","kind":"Int32","offset":0,"length":null,"block":0},
+    {"name":"b","kind":"Int32","offset":0,"length":null,"block":1}],
+  "agents":[
+    {"block":true,"calls":[["wait","a",0,0]]},
+    {"block":true,"calls":[["notify","b",0],["store","b",0,7],["notify","a",0]]}],
+  "schedule":[0,0,1,1,1,1,1,1,1,1,0]}"#;
 
 /// The setup that a script is expected to spell.
 pub fn setup_of(alloc: Global, script: &str) -> Result<Setup, Fail> {
@@ -35,11 +57,4 @@ pub fn report_of(alloc: Global, script: &str) -> Result<Vec<u8>, Fail> {
     let mut text = Vec::new(alloc);
     replay_bytes(alloc, script.as_bytes(), &mut text)?;
     Ok(text)
-}
-
-/// Lines that are given with ` / ` between them.
-pub fn lines(alloc: Global, text: &str) -> Result<String, AllocError> {
-    let mut lines = text.replace(alloc, " / ", "\n")?;
-    lines.push_str("\n")?;
-    Ok(lines)
 }

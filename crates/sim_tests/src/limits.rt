@@ -105,9 +105,9 @@ fn a_refused_move_leaves_the_simulator_as_it_was(rt: HostRuntime) -> Result<(), 
 /// Whether the moves of a run, one by one, with so many reserved, make its report.
 fn makes(mut sim: Sim, run: &Run, reserved: u32) -> bool {
     sim.reserve(reserved).is_ok()
-        && run.schedule.iter().all(|m| sim.step(*m).is_ok())
-        && sim.journal() == run.journal
-        && sim.moves() == run.schedule
+        && run.moves.iter().all(|(m, _)| sim.step(*m).is_ok())
+        && run.has_journal(sim.journal())
+        && run.has_moves(sim.moves())
         && sim
             .blocks()
             .iter()
@@ -129,41 +129,23 @@ fn steps_are_made_reserved_or_not(rt: HostRuntime) -> Result<(), Fail> {
             (true, &[notify(0, 0, Some(1))]),
             (true, &[wait(0, 0, Some(5))?]),
         ],
-        schedule: &[
-            Step(0),
-            Step(0),
-            Step(1),
-            Step(1),
-            Step(2),
-            Step(2),
-            Step(0),
-            Step(1),
-            Step(2),
-            Step(0),
-            Step(3),
-            Step(3),
-            TimeUp(3),
-            TimeUp(1),
-            TimeUp(2),
-            Step(2),
-        ],
-        journal: &[
-            began(0, 0),
-            enlisted(0, 0),
-            began(1, 0),
-            enlisted(1, 0),
-            began(2, 0),
-            acted(2, 0, Count(1)),
-            left(0, 0, Woken),
-            stuck(1, 0, Why::Waiting),
-            returned(2, 0, Count(1)),
-            returned(0, 0, Woken),
-            began(3, 0),
-            enlisted(3, 0),
-            left(3, 0, TimedOut),
-            stuck(1, 0, Why::Endless),
-            stuck(2, 1, Why::NotWaiting),
-            stuck(2, 1, Why::Done),
+        moves: &[
+            (Step(0), began(0, 0)),
+            (Step(0), enlisted(0, 0)),
+            (Step(1), began(1, 0)),
+            (Step(1), enlisted(1, 0)),
+            (Step(2), began(2, 0)),
+            (Step(2), acted(2, 0, Count(1))),
+            (Step(0), left(0, 0, Woken)),
+            (Step(1), stuck(1, 0, Why::Waiting)),
+            (Step(2), returned(2, 0, Count(1))),
+            (Step(0), returned(0, 0, Woken)),
+            (Step(3), began(3, 0)),
+            (Step(3), enlisted(3, 0)),
+            (TimeUp(3), left(3, 0, TimedOut)),
+            (TimeUp(1), stuck(1, 0, Why::Endless)),
+            (TimeUp(2), stuck(2, 1, Why::NotWaiting)),
+            (Step(2), stuck(2, 1, Why::Done)),
         ],
         blocks: &[&[0; 4]],
         progress: &[(1, 1), (0, 1), (1, 1), (0, 1)],

@@ -13,8 +13,8 @@ pub struct Run<'a> {
     pub views: &'a [PlanView],
     /// For each agent whether it can block, and its calls.
     pub agents: &'a [(bool, &'a [Call])],
-    pub schedule: &'a [Move],
-    pub journal: &'a [Entry],
+    /// Each move, and what it did.
+    pub moves: &'a [(Move, Entry)],
     /// The bytes of each block at the end.
     pub blocks: &'a [&'a [u8]],
     /// For each agent how many of its calls returned, and how many it has.
@@ -22,6 +22,16 @@ pub struct Run<'a> {
 }
 
 impl Run<'_> {
+    /// Whether these are the moves.
+    pub fn has_moves(&self, schedule: &[Move]) -> bool {
+        schedule.iter().eq(self.moves.iter().map(|(m, _)| m))
+    }
+
+    /// Whether this is what the moves did.
+    pub fn has_journal(&self, journal: &[Entry]) -> bool {
+        journal.iter().eq(self.moves.iter().map(|(_, entry)| entry))
+    }
+
     /// Whether a report is what is expected.
     pub fn is_of(&self, report: &Report) -> bool {
         let blocks = report.blocks.iter().map(|bytes| bytes.as_slice());
@@ -29,8 +39,8 @@ impl Run<'_> {
             .agents
             .iter()
             .map(|agent| (agent.returned, agent.total));
-        report.schedule.as_slice() == self.schedule
-            && report.journal.as_slice() == self.journal
+        self.has_moves(&report.schedule)
+            && self.has_journal(&report.journal)
             && blocks.eq(self.blocks.iter().copied())
             && progress.eq(self.progress.iter().copied())
     }

@@ -70,12 +70,11 @@ impl Hold for Order {
     }
 }
 
-/// Agent 0 stores 5 and loads and agent 1 loads, in the order of this schedule, and this is what they do.
+/// Agent 0 stores 5 and loads and agent 1 loads, in the order of these moves, and this is what they do.
 fn check<R: Threads + Wait + Sync>(
     rt: &R,
     alloc: Global,
-    schedule: &[Move; 9],
-    journal: &[Entry; 9],
+    moves: &[(Move, Entry); 9],
 ) -> Result<(), Fail> {
     let view = View::new(Kind::Int32, 4, 0, Some(1)).ok().ok_or("no view")?;
     let load = access(Access::Load { index: 0 });
@@ -87,13 +86,12 @@ fn check<R: Threads + Wait + Sync>(
         lens: &[4],
         views: &[PlanView { block: 0, view }],
         agents: &[(false, &[store, load]), (false, &[load])],
-        schedule,
-        journal,
+        moves,
         blocks: &[&[5, 0, 0, 0]],
         progress: &[(2, 2), (1, 1)],
     };
     for way in [Way::Lock, Way::PATIENT] {
-        let order = schedule.map(Move::agent).to_vec(alloc)?;
+        let order = moves.map(|(m, _)| m.agent()).to_vec(alloc)?;
         expect(is_raced(rt, alloc, way, &run, order)?, "another report")?;
     }
     Ok(())
@@ -120,38 +118,36 @@ fn access(access: Access) -> Call {
 #[test]
 fn two_agents_take_turns_as_their_threads_do(rt: HostRuntime) -> Result<(), Fail> {
     let five = Value(number(5)?);
-    let schedule = [0, 1, 0, 1, 0, 1, 0, 0, 0].map(Step);
-    let journal = [
-        began(0, 0),
-        began(1, 0),
-        acted(0, 0, five),
-        acted(1, 0, five),
-        returned(0, 0, five),
-        returned(1, 0, five),
-        began(0, 1),
-        acted(0, 1, five),
-        returned(0, 1, five),
+    let moves = [
+        (Step(0), began(0, 0)),
+        (Step(1), began(1, 0)),
+        (Step(0), acted(0, 0, five)),
+        (Step(1), acted(1, 0, five)),
+        (Step(0), returned(0, 0, five)),
+        (Step(1), returned(1, 0, five)),
+        (Step(0), began(0, 1)),
+        (Step(0), acted(0, 1, five)),
+        (Step(0), returned(0, 1, five)),
     ];
-    check(&rt, rt.alloc(), &schedule, &journal)
+    check(&rt, rt.alloc(), &moves)
 }
 
 #[test]
 fn two_agents_come_last_agent_first(rt: HostRuntime) -> Result<(), Fail> {
     let five = Value(number(5)?);
     let zero = Value(number(0)?);
-    let schedule = [1, 1, 1, 0, 0, 0, 0, 0, 0].map(Step);
-    let journal = [
-        began(1, 0),
-        acted(1, 0, zero),
-        returned(1, 0, zero),
-        began(0, 0),
-        acted(0, 0, five),
-        returned(0, 0, five),
-        began(0, 1),
-        acted(0, 1, five),
-        returned(0, 1, five),
+    let moves = [
+        (Step(1), began(1, 0)),
+        (Step(1), acted(1, 0, zero)),
+        (Step(1), returned(1, 0, zero)),
+        (Step(0), began(0, 0)),
+        (Step(0), acted(0, 0, five)),
+        (Step(0), returned(0, 0, five)),
+        (Step(0), began(0, 1)),
+        (Step(0), acted(0, 1, five)),
+        (Step(0), returned(0, 1, five)),
     ];
-    check(&rt, rt.alloc(), &schedule, &journal)
+    check(&rt, rt.alloc(), &moves)
 }
 
 /// In which direction sixteen agents come, and how many moves in a row each makes then.

@@ -7,6 +7,7 @@ use Rattle.sab_command.proofs.command_line.spins_of.Goals as goal
 pub returns-clause-number : goal.returns-clause-number
 returns-clause-number c = λ n small text.
     let read : c.get_one.result ≡ Some n =
-    reads_decimal (λ bs r. ParsesUnsigned 32 10 bs r × ExplainsUnsignedError 10 bs r × HasUnsignedDigitsIfOk bs r) (λ bs r g. g.0) n small
+    reads_decimal (λ bs r. ParsesUnsigned 32 10 bs r × ExplainsUnsignedError 10 bs r × HasUnsignedDigitsIfOk bs r)
+    (λ bs r g. g.0) n small
     c.get_one.result (c.get_one.ensures.value (decimal n) text) in
     search rules

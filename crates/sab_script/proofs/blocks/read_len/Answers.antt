@@ -9,5 +9,6 @@ use Rattle.sab_script.proofs.blocks.read_len.Goals as goal
 pub returns-in_err-len : goal.returns-in_err-len
 returns-in_err-len c =
     let d = view c.args.tree.now in
-    exit_refuses (λ (n : ℕ). n) (SpellsWhole d) (SpellsLen d) c.from_residual.result c.in_err-len.field-0.0 c.from_residual.ensures.1 c.in_err-len.ensures.reads
+    exit_refuses (λ (n : ℕ). n) (SpellsWhole d) (SpellsLen d) c.from_residual.result c.in_err-len.field-0.0
+    c.from_residual.ensures.1 c.in_err-len.ensures.reads
     (λ n h. (pos n, (h.0, (omega (arith, ints), omega (arith, ints, h.1)))))

@@ -5,4 +5,6 @@ use Rattle.sab_script.proofs.blocks.read_lens.Goals as goal
 
 pub returns-else-is_empty : goal.returns-else-is_empty
 returns-else-is_empty c =
-    reads_lens c.args.form (view c.args.tree.now) c.in_ok-trees-in-Blocks.trees.now c.read_each.result c.in-Blocks.is c.in_ok-trees-in-Blocks.ensures.reads (at_least_one _ (sym c.is_empty.ensures ∙ c.if-is_empty.false)) c.read_each.ensures
+    reads_lens c.args.form (view c.args.tree.now) c.in_ok-trees-in-Blocks.trees.now c.read_each.result c.in-Blocks.is
+    c.in_ok-trees-in-Blocks.ensures.reads (at_least_one _ (sym c.is_empty.ensures ∙ c.if-is_empty.false))
+    c.read_each.ensures

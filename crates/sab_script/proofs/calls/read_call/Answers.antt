@@ -16,14 +16,19 @@ pub returns-in_err-view : goal.returns-in_err-view
 returns-in_err-view c =
     let names = view_names c.args.views.now in
     let d = view c.args.tree.now in
-    let tree = c.in_ok-trees.ensures.reads ∙ ap array (three_items c.in_ok-trees.trees.now c.name_tree-item.result c.view_tree-item.result c.index_tree-item.result c.in-len3-up.len_at_least c.name_tree-item.is c.view_tree-item.is c.index_tree-item.is) in
-    exit_refuses (λ (x : Call). x) (SpellsName names (view c.view_tree-item.result)) (SpellsCall names d) c.from_residual-in_err-view.result c.in_err-view.field-0.0 c.from_residual-in_err-view.ensures.1 c.in_err-view.ensures.read
+    let tree = c.in_ok-trees.ensures.reads ∙ ap array (three_items c.in_ok-trees.trees.now c.name_tree-item.result
+    c.view_tree-item.result c.index_tree-item.result c.in-len3-up.len_at_least c.name_tree-item.is
+    c.view_tree-item.is c.index_tree-item.is) in
+    exit_refuses (λ (x : Call). x) (SpellsName names (view c.view_tree-item.result)) (SpellsCall names d)
+    c.from_residual-in_err-view.result c.in_err-view.field-0.0 c.from_residual-in_err-view.ensures.1
+    c.in_err-view.ensures.read
     (name_part names d _ _ _ _ tree)
 
 pub returns-in_default : goal.returns-in_default
 returns-in_default c = λ call h.
     let s = spelling_of call in
-    let same : array (items_view c.in_ok-trees.trees.now) ≡ call_tree s.name h.view_tree s.index h.argument_trees = sym c.in_ok-trees.ensures.reads ∙ h.tree in
+    let same : array (items_view c.in_ok-trees.trees.now) ≡ call_tree s.name h.view_tree s.index h.argument_trees =
+    sym c.in_ok-trees.ensures.reads ∙ h.tree in
     let parts : items_view c.in_ok-trees.trees.now
     ≡ item (string s.name) (item h.view_tree (item (whole s.index) h.argument_trees)) = cc in
     let long = three_long c.in_ok-trees.trees.now _ _ _ _ parts in
@@ -34,10 +39,14 @@ returns c =
     let names = view_names c.args.views.now in
     let d = view c.args.tree.now in
     let rest = items_view (drop 3 c.in_ok-trees.trees.now) in
-    let tree = c.in_ok-trees.ensures.reads ∙ ap array (three_items c.in_ok-trees.trees.now c.name_tree-item.result c.view_tree-item.result c.index_tree-item.result c.in-len3-up.len_at_least c.name_tree-item.is c.view_tree-item.is c.index_tree-item.is) in
+    let tree = c.in_ok-trees.ensures.reads ∙ ap array (three_items c.in_ok-trees.trees.now c.name_tree-item.result
+    c.view_tree-item.result c.index_tree-item.result c.in-len3-up.len_at_least c.name_tree-item.is
+    c.view_tree-item.is c.index_tree-item.is) in
     let word = c.in_ok-name.ensures.reads in
     let index = c.in_ok-index.ensures.reads in
     let fits : FitsSigned w64 c.in_ok-index.index = search rules in
-    reads_call names d (view c.view_tree-item.result) c.in_ok-name.name.now c.in_ok-view.view c.in_ok-index.index rest c.call_of.result c.in_ok-view.ensures.views.distinct
+    reads_call names d (view c.view_tree-item.result) c.in_ok-name.name.now c.in_ok-view.view c.in_ok-index.index rest
+    c.call_of.result c.in_ok-view.ensures.views.distinct
     (tree ∙ (λ k. array (item (word k) (item (view c.view_tree-item.result) (item (index.0 k) rest)))))
-    c.in_ok-view.ensures.read index.1 (rw (to_z-of_z w64 c.in_ok-index.index fits, end_whole c.in_ok-trees.trees.now) at c.call_of.ensures)
+    c.in_ok-view.ensures.read index.1
+    (rw (to_z-of_z w64 c.in_ok-index.index fits, end_whole c.in_ok-trees.trees.now) at c.call_of.ensures)

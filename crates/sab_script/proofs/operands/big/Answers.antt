@@ -9,14 +9,17 @@ use Rattle.sab_script.proofs.BigText.{parse-big}
 use Rattle.sab_script.proofs.operands.big.Goals as goal
 
 pub returns-else-eq : goal.returns-else-eq
-returns-else-eq c = λ z h.
+returns-else-eq c = rw c.no_big.ensures.fault (λ z h.
     let read = parse-big z c.args.digits.now c.parse.result h.1 h.0 c.parse.ensures.value.0 in
     let same : c.in-Ok.n ≡ z = cc in
-    let text : c.format.result.now ≡ c.args.digits.now = c.format.ensures.text ∙ ap (λ (y : ℤ). signed_decimal (to_z w128 (of_z w128 y))) same ∙ ap signed_decimal (to_z-of_z w128 z h.1) ∙ sym h.0 in
-    let alike : pointwise nat_eq c.format.result.now c.args.digits.now ≡ true = rw text (nat_list_eq_equiv.refl c.args.digits.now) in
+    let text : c.format.result.now ≡ c.args.digits.now = c.format.ensures.text
+    ∙ ap (λ (y : ℤ). signed_decimal (to_z w128 (of_z w128 y))) same ∙ ap signed_decimal (to_z-of_z w128 z h.1)
+    ∙ sym h.0 in
+    let alike : pointwise nat_eq c.format.result.now c.args.digits.now ≡ true =
+    rw text (nat_list_eq_equiv.refl c.args.digits.now) in
     let differs : false ≡ pointwise nat_eq c.format.result.now c.args.digits.now = c.if-eq.ensures in
-    let bad : false ≡ true = differs ∙ alike in cc
+    let bad : false ≡ true = differs ∙ alike in cc)
 
 pub returns-in-Err : goal.returns-in-Err
-returns-in-Err c = λ z h.
-    let read = parse-big z c.args.digits.now c.parse.result h.1 h.0 c.parse.ensures.value.0 in cc
+returns-in-Err c = rw c.no_big-in-Err.ensures.fault (λ z h.
+    let read = parse-big z c.args.digits.now c.parse.result h.1 h.0 c.parse.ensures.value.0 in cc)

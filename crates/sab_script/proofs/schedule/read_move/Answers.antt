@@ -11,6 +11,9 @@ use Rattle.sab_script.proofs.schedule.read_move.Goals as goal
 pub returns-in_err-agent : goal.returns-in_err-agent
 returns-in_err-agent c =
     let d = view c.args.tree.now in
-    let x = view c.in_ok-member.field-0.now in
-    exit_refuses (λ (m : Move). m) (SpellsPosition c.args.agents x) (SpellsMove c.args.agents d) c.from_residual-in_err-agent.result c.in_err-agent.field-0.0 c.from_residual-in_err-agent.ensures.1 c.in_err-agent.ensures.reads
-    (timeout_part c.args.agents d x (members_view c.member.new.members) (c.in_ok-rest.ensures.ok ∙ ap object c.in_ok-member.ensures.ok))
+    let x = view c.in_ok-timeout.timeout.now in
+    exit_refuses (λ (m : Move). m) (SpellsPosition c.args.agents x) (SpellsMove c.args.agents d)
+    c.from_residual-in_err-agent.result c.in_err-agent.field-0.0 c.from_residual-in_err-agent.ensures.1
+    c.in_err-agent.ensures.reads
+    (timeout_part c.args.agents d x (members_view c.member.new.members)
+    (c.in_ok-rest.ensures.ok ∙ ap object c.in_ok-timeout.ensures.ok))

@@ -14,5 +14,8 @@ returns-in-Ok-clause-made c =
     let len = get_or c.args.lens.now v.block 0 in
     let offset = to_z w64 (of_z w64 v.offset) in
     let fits : FitsSigned w64 v.offset = search rules in
-    let given : MatchOption (count v.kind len offset v.length) (c.new.result ≡ Err RangeError) (λ n. IsOkAnd c.new.result (IsViewOf v.kind len offset n)) = c.new.ensures in
-    made_of c.args.lens.now len v c.in-Ok.view c.new.result (count v.kind len v.offset v.length) (slice_get-get_or c.args.lens.now v.block 0 c.requires) refl (rw (to_z-of_z w64 v.offset fits) at given) c.in-Ok.is
+    let given : MatchOption (count v.kind len offset v.length) (c.new.result ≡ Err RangeError)
+    (λ n. IsOkAnd c.new.result (IsViewOf v.kind len offset n)) = c.new.ensures in
+    made_of c.args.lens.now len v c.in-Ok.view c.new.result (count v.kind len v.offset v.length)
+    (slice_get-get_or c.args.lens.now v.block 0 c.requires) refl (rw (to_z-of_z w64 v.offset fits) at given)
+    c.in-Ok.is

@@ -13,8 +13,18 @@ use Rattle.sab_script.proofs.view_entry.read_description.Goals as goal
 pub returns-in_err-plan_view-clause-read : goal.returns-in_err-plan_view-clause-read
 returns-in_err-plan_view-clause-read c =
     let fits : FitsSigned w64 c.in_ok-offset.offset = search rules in
-    let spec : ViewSpec = record { kind = c.in_ok-kind.kind; offset = c.in_ok-offset.offset; length = c.in_ok-length.length; block = c.args.block } in
+    let spec : ViewSpec = record {
+      kind =
+          c.in_ok-kind.kind;
+      offset = c.in_ok-offset.offset;
+      length = c.in_ok-length.length;
+      block = c.args.block;
+    } in
     let kind = c.in_ok-kind_word.ensures.reads ∙ ap string c.in_ok-kind.ensures.reads in
-    let members = c.in_ok-kind_tree.ensures.ok ∙ (λ i. description (kind i) (c.in_ok-length.ensures.reads.0 i) (c.in_ok-name.ensures.reads i) (c.in_ok-offset.ensures.reads.0 i)) in
-    exit_none (λ (p : Bor (List ℕ) × ViewSpec × PlanView). (p.0.now, p.1)) (λ (v : List ℕ × ViewSpec). SpellsDescription c.args.lens.now (members_view c.args.rest) v × (v.1.block ≡ c.args.block)) c.from_residual-in_err-plan_view.result c.in_err-plan_view.field-0.0 c.from_residual-in_err-plan_view.ensures.1
-    (not_made c.args.lens.now (members_view c.args.rest) c.in_ok-name.name.now spec members (rw (to_z-of_z w64 c.in_ok-offset.offset fits) at c.in_err-plan_view.ensures.err))
+    let members = c.in_ok-kind_tree.ensures.ok ∙ (λ i. description (kind i) (c.in_ok-length.ensures.reads.0 i)
+    (c.in_ok-name.ensures.reads i) (c.in_ok-offset.ensures.reads.0 i)) in
+    exit_none (λ (p : Bor (List ℕ) × ViewSpec × PlanView). (p.0.now, p.1)) (λ (v : List ℕ × ViewSpec). SpellsDescription
+    c.args.lens.now (members_view c.args.rest) v × (v.1.block ≡ c.args.block))
+    c.from_residual-in_err-plan_view.result c.in_err-plan_view.field-0.0 c.from_residual-in_err-plan_view.ensures.1
+    (not_made c.args.lens.now (members_view c.args.rest) c.in_ok-name.name.now spec members
+    (rw (to_z-of_z w64 c.in_ok-offset.offset fits) at c.in_err-plan_view.ensures.err))

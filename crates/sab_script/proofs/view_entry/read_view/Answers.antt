@@ -11,6 +11,9 @@ use Rattle.sab_script.proofs.view_entry.read_view.Goals as goal
 
 pub returns-in_err-block-clause-read : goal.returns-in_err-block-clause-read
 returns-in_err-block-clause-read c =
-    exit_refuses (λ (p : Bor (List ℕ) × ViewSpec × PlanView). (p.0.now, p.1)) (λ (p : ℕ × Members). (members_view c.in_ok-rest.rest ≡ with_block c.args.form p.0 p.1) × (p.0 < length c.args.lens.now)) (SpellsView c.args.form c.args.lens.now (view c.args.tree.now)) c.from_residual-in_err-block.result c.in_err-block.field-0.0
+    exit_refuses (λ (p : Bor (List ℕ) × ViewSpec × PlanView). (p.0.now, p.1)) (λ (p : ℕ × Members).
+    (members_view c.in_ok-rest.rest ≡ with_block c.args.form p.0 p.1) × (p.0 < length c.args.lens.now)) (SpellsView
+    c.args.form c.args.lens.now (view c.args.tree.now)) c.from_residual-in_err-block.result c.in_err-block.field-0.0
     c.from_residual-in_err-block.ensures.1 c.in_err-block.ensures.err
-    (block_part c.args.form c.args.lens.now (view c.args.tree.now) (members_view c.in_ok-rest.rest) c.in_ok-rest.ensures.ok)
+    (block_part c.args.form c.args.lens.now (view c.args.tree.now) (members_view c.in_ok-rest.rest)
+    c.in_ok-rest.ensures.ok)

@@ -1,4 +1,4 @@
-use Rattle.std.proofs.Common.{◌≡◌, ℕ, List, [], ◌∷◌, arith, true, is_some, sym, length-append}
+use Rattle.std.proofs.Common.{◌≡◌, ℕ, List, [], ◌∷◌, arith, true, is_some, ap, length-append}
 use Rattle.serde_json.specs.View.{view, items_view}
 use Rattle.sab_script.specs.declared.view_spec.ViewSpec.{ViewSpec}
 use Rattle.sab_script.specs.Views.{SpellsView, SpellsViews}
@@ -10,23 +10,31 @@ use Rattle.sab_script.proofs.view_entry.read_views.Goals as goal
 
 pub returns-then-trees-gt-MAX_VIEWS-clause-read : goal.returns-then-trees-gt-MAX_VIEWS-clause-read
 returns-then-trees-gt-MAX_VIEWS-clause-read c = λ vs h.
-    let count = length-each (SpellsView c.args.form c.args.lens.now) c.args.trees.now vs h.each in omega (arith, h.views.few)
+    let count =
+    length-each (SpellsView c.args.form c.args.lens.now) c.args.trees.now vs h.each in omega (arith, h.views.few)
 
 pub returns-in_err-name-clause-read : goal.returns-in_err-name-clause-read
 returns-in_err-name-clause-read c =
     let S = SpellsView c.args.form c.args.lens.now in
-    exit_refuses (λ p. p.0) (S (view c.tree-item.result)) (SpellsViews c.args.form c.args.lens.now (items_view c.args.trees.now)) c.from_residual-in_err-name.result c.in_err-name.field-0.0
+    exit_refuses (λ p. p.0) (S (view c.tree-item.result))
+    (SpellsViews c.args.form c.args.lens.now (items_view c.args.trees.now)) c.from_residual-in_err-name.result
+    c.in_err-name.field-0.0
     c.from_residual-in_err-name.ensures.1 c.in_err-name.ensures.read
-    (λ vs h. item_part S c.args.trees.now vs c.loop-tree.tree-index c.tree-item.result c.loop-tree-test.true c.tree-item.is h.each)
+    (λ vs h. item_part S c.args.trees.now vs c.loop-tree.tree-index c.tree-item.result c.loop-tree-test.true
+    c.tree-item.is h.each)
 
-pub returns-then-is_some-clause-read : goal.returns-then-is_some-clause-read
-returns-then-is_some-clause-read c =
-    let some : is_some c.position.result ≡ true = sym c.if-is_some.ensures in
-    twice_by c.args.form c.args.lens.now c.args.trees.now c.loop-tree.tree-index c.tree-item.result c.in_ok-name.name.now c.in_ok-name.spec c.loop-tree.views c.position.result c.loop-tree-test.true c.tree-item.is c.loop-tree.invariant.read c.in_ok-name.ensures.read c.position.ensures.some some
+pub returns-in-Some-clause-read : goal.returns-in-Some-clause-read
+returns-in-Some-clause-read c =
+    let some : is_some c.position.result ≡ true = ap is_some c.in-Some.is in
+    twice_by c.args.form c.args.lens.now c.args.trees.now c.loop-tree.tree-index c.tree-item.result
+    c.in_ok-name.name.now c.in_ok-name.spec c.loop-tree.views c.position.result c.loop-tree-test.true c.tree-item.is
+    c.loop-tree.invariant.read c.in_ok-name.ensures.read c.position.ensures.some some
 
 pub returns-clause-read : goal.returns-clause-read
 returns-clause-read c = record {
-  each = each_all (SpellsView c.args.form c.args.lens.now) c.args.trees.now c.loop-tree.tree-index c.loop-tree.views (omega arith) c.loop-tree.invariant.read;
+  each =
+      each_all (SpellsView c.args.form c.args.lens.now) c.args.trees.now c.loop-tree.tree-index c.loop-tree.views
+      (omega arith) c.loop-tree.invariant.read;
   views = c.loop-tree.invariant.views;
 }
 
@@ -36,10 +44,15 @@ loop-tree-preserved c =
     let view : List ℕ × ViewSpec = (c.in_ok-name.name.now, c.in_ok-name.spec) in
     let added = c.in_ok-add.ensures.added in
     record {
-      read = rw added (each_more S c.args.trees.now c.loop-tree.tree-index c.loop-tree.views c.tree-item.result view c.loop-tree-test.true c.tree-item.is c.loop-tree.invariant.read c.in_ok-name.ensures.read);
+      read =
+          rw added (each_more S c.args.trees.now c.loop-tree.tree-index c.loop-tree.views c.tree-item.result view
+          c.loop-tree-test.true c.tree-item.is c.loop-tree.invariant.read c.in_ok-name.ensures.read);
       count = rw added (omega (arith, length-append c.loop-tree.views (view ∷ []), c.loop-tree.invariant.count));
       views = c.in_ok-add.ensures.views;
-      made = rw (added, c.push_reserved.ensures.items) (described_more c.args.lens.now c.loop-tree.views c.loop-tree.plan_views.items view c.in_ok-name.plan_view c.loop-tree.invariant.made c.in_ok-name.ensures.made);
+      made =
+          rw (added, c.push_reserved.ensures.items) (described_more c.args.lens.now c.loop-tree.views
+          c.loop-tree.plan_views.items view c.in_ok-name.plan_view c.loop-tree.invariant.made
+          c.in_ok-name.ensures.made);
       filled = omega (arith, c.push_reserved.ensures.len, c.loop-tree.invariant.filled);
       room = omega (arith, c.push_reserved.ensures.capacity, c.loop-tree.invariant.room);
     }

@@ -8,5 +8,6 @@ invariant-loop-m l = record {
   plan : l.sim.plan ≡ l.fn.plan;
   moves : l.sim.moves ≡ take l.m-index l.schedule;
   len : length l.sim.journal ≡ l.m-index;
-  rest : first_refusal (length l.fn.plan.scripts) l.m-index (drop l.m-index l.schedule) ≡ first_refusal (length l.fn.plan.scripts) 0 l.schedule;
+  rest : first_refusal (length l.fn.plan.scripts) l.m-index (drop l.m-index l.schedule) ≡ first_refusal
+      (length l.fn.plan.scripts) 0 l.schedule;
 }

@@ -6,8 +6,10 @@ use Rattle.sab_tool.proofs.replaying.report_of.Goals as goal
 
 pub unreachable-requires : goal.unreachable-requires
 unreachable-requires c =
-    let memory : c.in-Err.fault ≡ OutOfMemory = refused_memory _ c.args.setup.plan _ c.args.setup.schedule c.in-Err.fault
-    c.into_parts-plan.ensures.plan (c.as_slice.ensures.value ∙ c.into_parts-plan.ensures.schedule) c.requires.named c.requires.few c.in-Err.ensures.refused in
+    let memory : c.in-Err.fault ≡ OutOfMemory =
+    refused_memory _ c.args.setup.plan _ c.args.setup.schedule c.in-Err.fault
+    c.into_parts-plan.ensures.plan (c.as_slice.ensures.value ∙ c.into_parts-plan.ensures.schedule) c.requires.named
+    c.requires.few c.in-Err.ensures.refused in
     elim c.in-NoAgent.is [
       | inl e ↦ let f : c.in-Err.fault ≡ OutOfMemory = memory in cc
       | inr e ↦ let f : c.in-Err.fault ≡ OutOfMemory = memory in cc

@@ -10,6 +10,9 @@ invariant_of-result c =
     let agendas = rw c.scripts-2.ensures.scripts at c.in_ok-agendas.ensures in
     let count = rw c.scripts.ensures.scripts at c.count_moves-total.ensures in
     let entries = ap length (reserved.journal ∙ fresh.journal) in
-    let few : count_of c.args.plan.scripts c.args.spins ≤ 2 ^ 20 = omega (arith, count, c.if-total-gt-MAX_ENTRIES.false) in
-    let room : count_of c.args.plan.scripts c.args.spins ≤ c.reserve.new.self.reserved = omega (arith, reserved.room, count, few, ap length fresh.journal) in
-    rw (reserved.plan ∙ fresh.plan, reserved.moves ∙ fresh.moves) (begins c.args.plan c.args.spins _ c.reserve.new.self.reserved c.in_ok-agendas.agendas.items agendas few entries room)
+    let few : count_of c.args.plan.scripts c.args.spins ≤ 2 ^ 20 =
+    omega (arith, count, c.if-total-gt-MAX_ENTRIES.false) in
+    let room : count_of c.args.plan.scripts c.args.spins ≤ c.reserve.new.self.reserved =
+    omega (arith, reserved.room, count, few, ap length fresh.journal) in
+    rw (reserved.plan ∙ fresh.plan, reserved.moves ∙ fresh.moves) (begins c.args.plan c.args.spins _
+    c.reserve.new.self.reserved c.in_ok-agendas.agendas.items agendas few entries room)

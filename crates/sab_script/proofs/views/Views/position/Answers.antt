@@ -4,8 +4,10 @@ use Rattle.sab_script.proofs.views.Views.position.Goals as goal
 
 pub returns-in_err-position-clause-none : goal.returns-in_err-position-clause-none
 returns-in_err-position-clause-none c =
-    rw c.from_residual.ensures (λ v g. name_missing c.self.inside.by_name.entries c.args.name.now v (none_from _ c.in_err-position.ensures.found) (rw (← c.self.view_is) at g))
+    rw c.from_residual.ensures (λ v g. name_missing c.self.inside.by_name.entries c.args.name.now v
+    (none_from _ c.in_err-position.ensures.found) (rw (← c.self.view_is) at g))
 
 pub returns-clause-some : goal.returns-clause-some
 returns-clause-some c =
-    rw (← c.self.view_is) (name_found c.self.inside.by_name.entries c.args.name.now c.in_ok-position.position (sym c.in_ok-position.ensures.index))
+    rw (← c.self.view_is) (name_found c.self.inside.by_name.entries c.args.name.now c.in_ok-position.position
+    (sym c.in_ok-position.ensures.index))

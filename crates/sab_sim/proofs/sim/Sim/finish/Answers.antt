@@ -2,25 +2,33 @@
 use Rattle.std.proofs.Common.{◌∙◌, refl, subst}
 use Rattle.sab_sim.specs.Report.{Fits, IsOnly, ReportParts, items_of_each}
 use Rattle.sab_sim.specs.Sim.{SimParts}
-use Rattle.sab_sim.proofs.Simulating.{Fits-kept}
-use Rattle.sab_sim.proofs.OneReport.{IsOnly-kept}
+use Rattle.sab_sim.proofs.KeptFits.{Fits-kept}
+use Rattle.sab_sim.proofs.OnlyReport.{IsOnly-kept}
 use Rattle.sab_sim.proofs.sim.Sim.finish.Goals as goal
 
 -- what is told
 abbrev report : goal.After-drop-plan-inside-3 → ReportParts
-report c = record { schedule = c.self.inside.moves.items; journal = c.self.inside.journal.items; blocks = items_of_each c.hand_over.new.room.items; agents = c.tell_progress.new.room.items }
+report c = record {
+  schedule = c.self.inside.moves.items;
+  journal = c.self.inside.journal.items;
+  blocks = items_of_each c.hand_over.new.room.items;
+  agents = c.tell_progress.new.room.items;
+}
 
 -- of the plan that is kept
 fits : (c : goal.After-drop-plan-inside-3) → Fits c.self.inside.plan (report c)
 fits c =
-    Fits-kept c.self.inside.plan (report c) c.self.inside.moves.items c.self.inside.journal.items c.self.inside.blocks.items c.self.inside.agents.items c.self.inside.next_ticket
-    c.self.invariant.0 refl refl c.hand_over.ensures (c.tell_progress.ensures ∙ (rw (c.deref.ensures.value, c.scripts.ensures.scripts) refl))
+    let sim = c.self.inside in
+    Fits-kept sim.plan (report c) sim.moves.items sim.journal.items sim.machine c.self.invariant.0
+    refl refl (c.hand_over.ensures ∙ c.into_blocks.ensures)
+    (c.tell_progress.ensures ∙ (rw (c.agents.ensures, c.scripts.ensures.scripts) refl))
 
 pub returns-clause-fits : goal.returns-clause-fits
 returns-clause-fits c = subst (λ (t : SimParts). Fits t.plan (report c)) c.self.view_is (fits c)
 
 pub returns-clause-one : goal.returns-clause-one
 returns-clause-one c =
+    let sim = c.self.inside in
     subst (λ (t : SimParts). IsOnly t.plan (report c)) c.self.view_is
-    (IsOnly-kept c.self.inside.plan (report c) c.self.inside.moves.items c.self.inside.journal.items c.self.inside.blocks.items c.self.inside.agents.items c.self.inside.next_ticket
-    c.self.invariant.0 refl refl c.hand_over.ensures (fits c))
+    (IsOnly-kept sim.plan (report c) sim.moves.items sim.journal.items sim.machine c.self.invariant.0
+    refl refl (c.hand_over.ensures ∙ c.into_blocks.ensures) (fits c))

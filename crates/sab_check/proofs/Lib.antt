@@ -1,0 +1,4 @@
+pub mod Causes
+pub mod Counts
+pub mod Lines
+pub mod Names

@@ -1,0 +1,3 @@
+pub mod Cause
+pub mod Text
+pub mod Checked

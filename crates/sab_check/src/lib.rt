@@ -1,0 +1,13 @@
+//! Checks scripts: says what a script has and which of its calls throw whenever they act, or where it is refused and
+//! why.
+#![tactic(auto)]
+
+mod cause;
+mod check;
+mod judging;
+mod ok_line;
+mod warning;
+mod warnings;
+mod words;
+
+pub use check::{Checked, check_script};

@@ -1,0 +1,10 @@
+mod Noting
+mod Seeing
+mod Explaining
+mod LastOnes
+mod Concluding
+mod Waking
+mod OneFact
+mod Stepping
+mod OneStanding
+mod Equality

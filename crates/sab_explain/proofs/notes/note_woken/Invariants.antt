@@ -1,0 +1,9 @@
+use Rattle.std.proofs.Common.{◌≡◌, length, take}
+use Rattle.sab_explain.specs.Explainer.{IsNoted}
+use Rattle.sab_explain.proofs.notes.note_woken.Given as goal
+
+abbrev pub invariant-loop-a : goal.invariant-loop-a
+invariant-loop-a l = record {
+  size : length l.wakers ≡ 16;
+  noted : IsNoted (take l.a-index l.agents) l.entry l.initial.wakers l.wakers;
+}

@@ -1,0 +1,4 @@
+pub mod Check
+pub mod Fact
+pub mod Explainer
+pub mod Standing

@@ -1,0 +1,18 @@
+-- The names that a script spells are short, and its moves are its agents'.
+use Rattle.sab_tool.proofs.ReplaySteps.{spelled_moves}
+use Rattle.sab_explained.proofs.ViewNames.{spelled_short}
+use Rattle.sab_explained.proofs.explaining.explain_bytes.Goals as goal
+
+pub names_of-requires : goal.names_of-requires
+names_of-requires g c = spelled_short _ _ c.in_ok-setup.ensures.ok.spelled
+
+pub write_explained-requires-clause-named : goal.write_explained-requires-clause-named
+write_explained-requires-clause-named g c =
+    let spelled = c.in_ok-setup.ensures.ok.spelled in
+    rw (
+      c.deref-2.ensures.value,
+      c.into_parts-plan.ensures.schedule,
+      c.in_ok-explainer.ensures.plan,
+      c.into_parts-plan.ensures.plan,
+    )
+    (spelled_moves _ spelled.move_trees _ spelled.schedule.0)

@@ -1,0 +1,9 @@
+use Rattle.std.proofs.Common.{◌≡◌, ℕ, ◌<◌, None, length, slice_index_or}
+use Rattle.sab_fact_text.specs.Explained.{IsStandingOf}
+use Rattle.sab_fact_text.proofs.standings.standings_of.Given as goal
+
+abbrev pub invariant-loop-a : goal.invariant-loop-a
+invariant-loop-a l = record {
+  len : length l.standings ≡ 16;
+  each : (k : ℕ) → k < l.a → IsStandingOf l.explainer.plan l.explainer.journal k (slice_index_or l.standings k None);
+}

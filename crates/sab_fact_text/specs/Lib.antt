@@ -1,0 +1,3 @@
+pub mod CallText
+pub mod FactText
+pub mod Explained

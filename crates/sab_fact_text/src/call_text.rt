@@ -1,0 +1,158 @@
+//! Calls as JavaScript writes them, and elements.
+
+ghost use Rattle.std.specs.Prelude.{◌≡◌, ◌+◌, ◌*◌, ◌≤◌, ◌++◌, length};
+ghost use Rattle.sab_text.specs.Text.{operand_text};
+ghost use Rattle.sab_fact_text.specs.CallText.{name_of, function_of, argument, optional, operand_arguments, more_arguments, call_text, element_text};
+ghost use Rattle.sab_fact_text.specs.FactText.{stand_text};
+
+use crate::counts::push_since;
+use crate::name::Name;
+use sab_block::{Access, Operand, RmwOp};
+use sab_sim::Call;
+use sab_text::Chunk;
+
+/// The most bytes of an argument: a comma, a space and an operand.
+const ARGUMENT_LEN: usize = 43;
+
+/// The most bytes of a call: its function, a name, an index and two arguments more.
+pub(crate) const CALL_LEN: usize = 180;
+
+/// The most bytes of an element: a name and an index.
+pub(crate) const ELEMENT_LEN: usize = 74;
+
+/// The most bytes of where an agent stands in line, and since when.
+pub(crate) const STAND_LEN: usize = 105;
+
+/// Puts a call last, as `load(m, 0)`.
+#[tactic(auto, unfolding(crate::specs::CallText::call_text))]
+pub(crate) fn push_call(names: &[Name], call: Call, chunk: &mut Chunk)
+    requires { length chunk.old + CALL_LEN ≤ Chunk.ROOM }
+    ensures bytes { chunk.new ≡ chunk.old ++ call_text names.now call }
+    ensures len { length chunk.new ≤ length chunk.old + CALL_LEN }
+{
+    chunk.push(function_of(call).as_bytes());
+    chunk.push(b"(");
+    push_name(names, call.view(), chunk);
+    chunk.push(b", ");
+    chunk.push_whole(i128::from(call.index()));
+    push_more_arguments(call, chunk);
+    chunk.push(b")");
+}
+
+/// Puts the element that a call names last, as `m[0]`.
+#[tactic(auto, unfolding(crate::specs::CallText::element_text))]
+pub(crate) fn push_element(names: &[Name], call: Call, chunk: &mut Chunk)
+    requires { length chunk.old + ELEMENT_LEN ≤ Chunk.ROOM }
+    ensures bytes { chunk.new ≡ chunk.old ++ element_text names.now call }
+    ensures len { length chunk.new ≤ length chunk.old + ELEMENT_LEN }
+{
+    push_name(names, call.view(), chunk);
+    chunk.push(b"[");
+    chunk.push_whole(i128::from(call.index()));
+    chunk.push(b"]");
+}
+
+/// Puts last at which element an agent stands in line, and since when.
+#[tactic(auto, unfolding(crate::specs::FactText::stand_text))]
+pub(crate) fn push_stand(names: &[Name], call: Call, since: Option<u32>, chunk: &mut Chunk)
+    requires { length chunk.old + STAND_LEN ≤ Chunk.ROOM }
+    ensures bytes { chunk.new ≡ chunk.old ++ stand_text (element_text names.now call) since }
+    ensures len { length chunk.new ≤ length chunk.old + STAND_LEN }
+{
+    chunk.push(b" at ");
+    push_element(names, call, chunk);
+    push_since(since, chunk);
+}
+
+/// Puts the name of a view last, and nothing where it has none.
+pub(crate) fn push_name(names: &[Name], view: u32, chunk: &mut Chunk)
+    requires { length chunk.old + Name.MAX_LEN ≤ Chunk.ROOM }
+    ensures bytes { chunk.new ≡ chunk.old ++ name_of names.now view }
+    ensures len { length chunk.new ≤ length chunk.old + Name.MAX_LEN }
+{
+    if let Some(name) = names.get(view as usize) {
+        chunk.push(name.bytes());
+    }
+}
+
+/// The function of `Atomics` that a call is of.
+fn function_of(call: Call) -> &'static str
+    ensures text { result.now ≡ function_of call }
+    ensures len { length result.now ≤ 15 }
+{
+    match call {
+        Call::Access { access, .. } => match access {
+            Access::Load { .. } => "load",
+            Access::Store { .. } => "store",
+            Access::Rmw { op, .. } => match op {
+                RmwOp::Exchange => "exchange",
+                RmwOp::Add => "add",
+                RmwOp::Sub => "sub",
+                RmwOp::And => "and",
+                RmwOp::Or => "or",
+                RmwOp::Xor => "xor",
+            },
+            Access::CompareExchange { .. } => "compareExchange",
+        },
+        Call::Wait { .. } => "wait",
+        Call::Notify { .. } => "notify",
+    }
+}
+
+/// Puts last what a call takes besides a view and an index.
+fn push_more_arguments(call: Call, chunk: &mut Chunk)
+    requires { length chunk.old + 2 * ARGUMENT_LEN ≤ Chunk.ROOM }
+    ensures bytes { chunk.new ≡ chunk.old ++ more_arguments call }
+    ensures len { length chunk.new ≤ length chunk.old + 2 * ARGUMENT_LEN }
+{
+    match call {
+        Call::Access { access, .. } => push_operands(access, chunk),
+        Call::Wait { value, timeout, .. } => {
+            push_argument(value, chunk);
+            push_optional(timeout, chunk);
+        }
+        Call::Notify { count, .. } => push_optional(count, chunk),
+    }
+}
+
+/// Puts the operands of an access last.
+fn push_operands(access: Access, chunk: &mut Chunk)
+    requires { length chunk.old + 2 * ARGUMENT_LEN ≤ Chunk.ROOM }
+    ensures bytes { chunk.new ≡ chunk.old ++ operand_arguments access }
+    ensures len { length chunk.new ≤ length chunk.old + 2 * ARGUMENT_LEN }
+{
+    match access {
+        Access::Load { .. } => {}
+        Access::Store { value, .. } | Access::Rmw { value, .. } => push_argument(value, chunk),
+        Access::CompareExchange {
+            expected,
+            replacement,
+            ..
+        } => {
+            push_argument(expected, chunk);
+            push_argument(replacement, chunk);
+        }
+    }
+}
+
+/// Puts an operand last, behind a comma.
+fn push_argument(operand: Operand, chunk: &mut Chunk)
+    requires { length chunk.old + ARGUMENT_LEN ≤ Chunk.ROOM }
+    ensures bytes { chunk.new ≡ chunk.old ++ argument (operand_text operand) }
+    ensures len { length chunk.new ≤ length chunk.old + ARGUMENT_LEN }
+{
+    chunk.push(b", ");
+    chunk.push_operand(operand);
+}
+
+/// Puts a number last, behind a comma, where there is one.
+fn push_optional(number: Option<i64>, chunk: &mut Chunk)
+    requires { length chunk.old + ARGUMENT_LEN ≤ Chunk.ROOM }
+    ensures bytes { chunk.new ≡ chunk.old ++ optional number }
+    ensures len { length chunk.new ≤ length chunk.old + ARGUMENT_LEN }
+{
+    if let Some(number) = number {
+        chunk.push(b", ");
+        chunk.push_whole(i128::from(number));
+    }
+}

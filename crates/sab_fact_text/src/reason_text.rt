@@ -1,0 +1,103 @@
+//! Why calls throw.
+
+ghost use Rattle.std.specs.Prelude.{◌≡◌, ◌+◌, ◌≤◌, ◌++◌, length};
+ghost use Rattle.sab_fact_text.specs.FactText.{kind_text, unfit_text, view_reason, reason_text};
+
+use crate::call_text::push_name;
+use crate::counts::push_counted;
+use crate::name::Name;
+use sab_block::Kind;
+use sab_explain::Check;
+use sab_sim::{Call, Plan, PlanView};
+use sab_text::Chunk;
+
+/// The most bytes of what a view is or has.
+const VIEW_REASON_LEN: usize = 60;
+
+/// The most bytes of why a call throws.
+pub(crate) const REASON_LEN: usize = 100;
+
+/// Puts last why a call of an agent throws, by the check that failed.
+pub(crate) fn push_reason(
+    names: &[Name],
+    plan: &Plan,
+    agent: u32,
+    call: Call,
+    check: Check,
+    chunk: &mut Chunk,
+)
+    requires { length chunk.old + REASON_LEN ≤ Chunk.ROOM }
+    ensures bytes { chunk.new ≡ chunk.old ++ reason_text names.now plan.now agent call check }
+    ensures len { length chunk.new ≤ length chunk.old + REASON_LEN }
+{
+    if check == Check::CanBlock {
+        chunk.push(b"agent ");
+        chunk.push_number(u64::from(agent));
+        chunk.push(b" can't block");
+        return;
+    }
+    push_name(names, call.view(), chunk);
+    if let Some(view) = plan.views().get(call.view() as usize) {
+        push_view_reason(call, *view, check, chunk);
+    }
+}
+
+/// Puts last what a view is or has for which a call on it fails a check.
+fn push_view_reason(call: Call, view: PlanView, check: Check, chunk: &mut Chunk)
+    requires { length chunk.old + VIEW_REASON_LEN ≤ Chunk.ROOM }
+    ensures bytes { chunk.new ≡ chunk.old ++ view_reason call view check }
+    ensures len { length chunk.new ≤ length chunk.old + VIEW_REASON_LEN }
+{
+    let kind = view.view.kind();
+    match check {
+        Check::Kind => {
+            chunk.push(b" is ");
+            chunk.push(kind_text(kind).as_bytes());
+            chunk.push(unfit_text(call).as_bytes());
+        }
+        Check::Index => {
+            chunk.push(b" has ");
+            push_counted(view.view.len(), b" element", b" elements", chunk);
+        }
+        Check::Operand => {
+            chunk.push(b" takes ");
+            chunk.push(if kind.is_big() {
+                b"BigInts"
+            } else {
+                b"Numbers"
+            });
+        }
+        Check::CanBlock => {}
+    }
+}
+
+/// What a kind is called.
+fn kind_text(kind: Kind) -> &'static str
+    ensures text { result.now ≡ kind_text kind }
+    ensures len { length result.now ≤ 17 }
+{
+    match kind {
+        Kind::Int8 => "Int8",
+        Kind::Uint8 => "Uint8",
+        Kind::Uint8Clamped => "Uint8Clamped",
+        Kind::Int16 => "Int16",
+        Kind::Uint16 => "Uint16",
+        Kind::Int32 => "Int32",
+        Kind::Uint32 => "Uint32",
+        Kind::Float32 => "Float32",
+        Kind::Float64 => "Float64",
+        Kind::BigInt64 => "BigInt64",
+        Kind::BigUint64 => "BigUint64",
+    }
+}
+
+/// What is wrong with a kind that a call doesn't take.
+fn unfit_text(call: Call) -> &'static str
+    ensures text { result.now ≡ unfit_text call }
+    ensures len { length result.now ≤ 28 }
+{
+    match call {
+        Call::Access { .. } => ", which Atomics doesn't take",
+        Call::Wait { .. } | Call::Notify { .. } => ", not Int32 or BigInt64",
+    }
+}

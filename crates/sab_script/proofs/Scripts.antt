@@ -1,0 +1,27 @@
+-- Scripts that are refused.
+use Rattle.std.proofs.Common.{◌≡◌, ℕ, List, None}
+use Rattle.std.specs.Prelude.{IsUtf8}
+use Rattle.serde_json.specs.Data.{Data}
+use Rattle.serde_json.specs.Read.{read}
+use Rattle.sab_script.specs.declared.read_fault.ReadFault.{ReadFault}
+use Rattle.sab_script.specs.declared.read_fault.ReadFault.TheVariants.{TooMany, OutOfMemory, BadShape, BadName, BadNumber, BadCall, BadView, BadAgent, NoBlock}
+use Rattle.sab_script.specs.Reading.{Refuses}
+use Rattle.sab_script.specs.Setup.{Spells}
+use Rattle.sab_script.specs.Script.{ReadsAs, IsTreeFault}
+
+-- bytes without a reading
+pub no_reading : (script : List ℕ) (tree : Data) → (IsUtf8 script → read script ≡ None) → ReadsAs script tree → ⊥
+no_reading script tree none r = let e = none r.0 in let s = r.1 in cc
+
+-- a tree that is refused
+pub refused_tree : (script : List ℕ) (d : Data) (e : ReadFault) → ReadsAs script d → Refuses (Spells d) e
+    → IsTreeFault script e
+refused_tree script d OutOfMemory r h = tt
+refused_tree script d TooMany r h = record { tree = d; reading = r; unspelled = h }
+refused_tree script d BadShape r h = record { tree = d; reading = r; unspelled = h }
+refused_tree script d BadName r h = record { tree = d; reading = r; unspelled = h }
+refused_tree script d BadNumber r h = record { tree = d; reading = r; unspelled = h }
+refused_tree script d BadCall r h = record { tree = d; reading = r; unspelled = h }
+refused_tree script d BadView r h = record { tree = d; reading = r; unspelled = h }
+refused_tree script d BadAgent r h = record { tree = d; reading = r; unspelled = h }
+refused_tree script d NoBlock r h = record { tree = d; reading = r; unspelled = h }

@@ -1,0 +1,41 @@
+//! Scripts as bytes.
+
+ghost use Rattle.std.specs.Prelude.{IfOk, IfErr};
+ghost use Rattle.sab_script.specs.Script.{IsScriptOf, IsRefusedBy};
+
+use crate::located::Located;
+use crate::location::Location;
+use crate::refusal::Refusal;
+use crate::setup::{Setup, locate_setup};
+use crate::why::Why;
+use serde_json::Value;
+use std::alloc::Global;
+
+/// The setup that a script spells; or where the script is refused, and why.
+///
+/// Other than for want of memory it is refused only where it isn't a JSON text, or one that spells no setup.
+#[tactic(auto, using(crate::proofs::Scripts::no_reading, crate::proofs::Scripts::refused_tree))]
+pub fn read_script(alloc: Global, script: &[u8]) -> Result<Setup, Refusal>
+    ensures ok { IfOk result (IsScriptOf script.now) }
+    ensures err { IfErr result (IsRefusedBy script.now) }
+{
+    let tree = match Value::from_slice(alloc, script) {
+        Ok(tree) => tree,
+        Err(error) => {
+            if error.is_memory() {
+                let at = Location::Script;
+                let why = Why::Memory;
+                return Err(Refusal::Tree(Located { at, why }));
+            }
+            return Err(Refusal::NotJson {
+                line: error.line(),
+                column: error.column(),
+                is_cut: error.is_eof(),
+            });
+        }
+    };
+    match locate_setup(alloc, &tree) {
+        Ok(setup) => Ok(setup),
+        Err(refusal) => Err(Refusal::Tree(refusal)),
+    }
+}

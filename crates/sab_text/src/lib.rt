@@ -1,0 +1,12 @@
+//! The text of a report.
+#![tactic(auto)]
+
+mod chunk;
+mod entry_line;
+mod line;
+mod report;
+
+pub use chunk::Chunk;
+pub use entry_line::prepend_entry;
+pub use line::Line;
+pub use report::{prepend_agent, write_blocks, write_report};
