@@ -1,0 +1,35 @@
+// Writes what a script came to as `sabsim replay` does (docs/FORMATS.md), and tells whose answers its lines are.
+
+/** @typedef {import("./replay.mjs").Outcome} Outcome */
+
+/**
+ * The report.
+ * @param {import("./script.mjs").Script} script
+ * @param {Outcome} outcome
+ * @returns {string}
+ */
+export function reportText(script, { entries, blocks, returned }) {
+  const moves = entries.map(({ agent, call, text }, position) => `${position} ${agent} ${call} ${text}`);
+  const bytes = blocks.map((block, position) => `block ${position} ${hexadecimal(block) || "-"}`);
+  const agents = script.agents.map(({ calls }, agent) => `agent ${agent} ${returned[agent]} of ${calls.length}`);
+  return [...moves, ...bytes, ...agents].map((line) => `${line}\n`).join("");
+}
+
+const hexadecimal = (block) => Buffer.from(block.buffer, block.byteOffset, block.byteLength).toString("hex");
+
+/**
+ * Whose answers the lines of moves are, in one line.
+ * @param {Outcome} outcome
+ * @returns {string}
+ */
+export function summary({ entries }) {
+  const own = entries.filter((entry) => !entry.isOfEngine);
+  const counts = [
+    [own.filter(({ text }) => /^(begin|return)/.test(text)).length, "begin, return"],
+    [own.filter(({ text }) => text.startsWith("stuck")).length, "stuck done, not-waiting or endless"],
+    [own.filter(({ text }) => text.startsWith("act")).length, "a wait of an agent that can't block"],
+  ];
+  const told = counts.filter(([count]) => count > 0).map(([count, what]) => `${count} (${what})`);
+  const asked = `${entries.length - own.length} of ${entries.length} moves are the engine's answers`;
+  return told.length === 0 ? asked : `${asked}; the script's own: ${told.join(", ")}`;
+}

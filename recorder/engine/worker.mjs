@@ -1,0 +1,38 @@
+// A worker makes one agent's calls with the engine's own `Atomics`, one at a time, as it is told.
+//
+// It first tells `{ stateFile }`, where its thread's state can be read. It gets `{ views }`, the typed arrays that its
+// calls are on, and then `{ method, view, operands }` for each call, and answers each with `{ answer }`, or with
+// `{ threw, message }` and the error's name.
+
+import { parentPort, workerData } from "node:worker_threads";
+import { ownStateFile } from "./asleep.mjs";
+import { STAGE } from "./stage.mjs";
+
+/** How far the call is that was sent last. */
+const stage = workerData.stage;
+
+/** @type {ArrayBufferView[]} */
+let views = [];
+
+parentPort.postMessage({ stateFile: ownStateFile() });
+
+parentPort.on("message", (order) => {
+  if (order.views) {
+    views = order.views;
+    return;
+  }
+  const answer = made(order);
+  Atomics.store(stage, 0, STAGE.answered);
+  parentPort.postMessage(answer);
+});
+
+function made({ method, view, operands }) {
+  const array = views[view];
+  const call = Atomics[method];
+  Atomics.store(stage, 0, STAGE.called);
+  try {
+    return { answer: call(array, ...operands) };
+  } catch (error) {
+    return { threw: error.name, message: error.message };
+  }
+}

@@ -1,0 +1,11 @@
+// Three agents count together, each time under the naive mutex.
+
+import { NaiveMutex } from "./mutex-naive.mjs";
+import { countTogether } from "./count-together.mjs";
+
+export const setup = { agents: 3, buffers: [12] };
+
+export default function agent({ buffers, args }) {
+  const mutex = new NaiveMutex(new Int32Array(buffers[0], 0, 2));
+  countTogether(mutex, new Int32Array(buffers[0], 8, 1), Number(args[0] ?? 3));
+}

@@ -1,0 +1,18 @@
+// The limits of a script, as docs/FORMATS.md of the project gives them, and those that a run has by itself.
+
+/** What a script can have at most. */
+export const SCRIPT_LIMITS = Object.freeze({
+  blocks: 4,
+  bytes: 65_536,
+  views: 64,
+  agents: 16,
+  calls: 1_000,
+  moves: 100_000,
+  text: 1_048_576,
+});
+
+/** For how many seconds an agent may make no call, where nothing else is asked for. */
+export const DEFAULT_SECONDS = 10;
+
+/** One in how many seeds that don't fail is checked, where nothing else is asked for. */
+export const DEFAULT_CHECK = 10;

@@ -1,0 +1,248 @@
+// The command line, as a user runs it: what it prints, its status, what it writes, and that nothing is left of it.
+
+import assert from "node:assert/strict";
+import { execFile, spawn, spawnSync } from "node:child_process";
+import { randomUUID } from "node:crypto";
+import { existsSync, mkdirSync, readFileSync, readdirSync, writeFileSync } from "node:fs";
+import { join } from "node:path";
+import { test } from "node:test";
+import { optionsOf } from "../lib/options.mjs";
+import { Refused } from "../lib/plan.mjs";
+import { RECORD, SABSIM, agentsOf, agentsPath, temporaryFolder, withSabsim } from "./common.mjs";
+
+/**
+ * Runs the command line to its end.
+ * @param {string[]} words
+ * @param {object} [options] of spawnSync
+ */
+function run(words, options = {}) {
+  const { status, stdout, stderr } = spawnSync(process.execPath, [RECORD, ...words], { encoding: "utf8", ...options });
+  return { status, stdout, stderr };
+}
+
+const cases = (name, ...words) => [agentsPath("cases"), "--agents", "2", "--bytes", "12", ...words, "--", name];
+const sabsim = ["--sabsim", SABSIM];
+
+test("where no run fails, the status is 0", withSabsim, () => {
+  assert.deepEqual(run(cases("addition", "--seeds", "1..20", ...sabsim)), {
+    status: 0,
+    stdout: [
+      "20 runs: 20 finished",
+      "1 final state: how it ended, and the bytes",
+      "  20 runs finished, seed 1 the first: 030000000300000000000000",
+      "2 runs checked: sabsim says the same",
+      "",
+    ].join("\n"),
+    stderr: "",
+  });
+});
+
+test("where some fail, the status is 1, and the first is kept in --out", withSabsim, (context) => {
+  const folder = temporaryFolder(context);
+  const out = join(folder, "a", "b");
+  const { status, stdout, stderr } = run([agentsPath("naive-mutex"), "--seeds", "1..100", "--out", out, ...sabsim]);
+  assert.deepEqual([status, stderr], [1, ""]);
+  const [, seed] = /^first failing seed: (\d+), deadlock\n  agent \d waits at byte 4 /m.exec(stdout);
+  assert.match(stdout, /^100 runs: \d+ finished, \d+ deadlock\n/);
+  assert.match(stdout, new RegExp(`^kept in ${out}: seed-${seed}\\.json, seed-${seed}\\.report`, "m"));
+  const script = readFileSync(join(out, `seed-${seed}.json`));
+  const replayed = spawnSync(SABSIM, ["replay"], { input: script, encoding: "utf8" });
+  assert.equal(replayed.stdout, readFileSync(join(out, `seed-${seed}.report`), "utf8"));
+  const names = readdirSync(out).filter((name) => !name.endsWith(".explained"));
+  assert.deepEqual(names.sort(), [`seed-${seed}.json`, `seed-${seed}.report`]);
+});
+
+test("nothing is written outside of --out, and without it nothing at all", withSabsim, (context) => {
+  const folder = temporaryFolder(context);
+  const places = ["here", "home", "temporary"];
+  for (const place of places) mkdirSync(join(folder, place));
+  const [cwd, HOME, TMPDIR] = places.map((place) => join(folder, place));
+  const options = { cwd, env: { PATH: process.env.PATH, HOME, TMPDIR } };
+  assert.equal(run(cases("waitsForEver", "--seeds", "1..3", ...sabsim), options).status, 1);
+  assert.equal(run(cases("waitsForEver", "--seeds", "1..3", "--out", "kept", ...sabsim), options).status, 1);
+  assert.deepEqual(places.map((place) => readdirSync(join(folder, place))), [["kept"], [], []]);
+  assert.deepEqual(readdirSync(folder).sort(), places);
+});
+
+test("each wrong option is refused, with one line that names it", () => {
+  const wrong = [
+    [[], /the agents' module is missing/],
+    [["m.mjs", "n.mjs"], /one module/],
+    [["m.mjs", "--agents", "0"], /--agents must be a whole number from 1 to 16, but is "0"/],
+    [["m.mjs", "--agents", "17"], /--agents/],
+    [["m.mjs", "--agents", "2.0"], /--agents/],
+    [["m.mjs", "--agents", ""], /--agents/],
+    [["m.mjs", "--agents"], /--agents/],
+    [["m.mjs", "--bytes", "65537"], /--bytes/],
+    [["m.mjs", "--bytes", "4,"], /--bytes/],
+    [["m.mjs", "--bytes", "1,1,1,1,1"], /1 to 4 buffers/],
+    [["m.mjs", "--no-block", "x"], /--no-block/],
+    [["m.mjs", "--seeds", "5..1"], /the last seed is before the first/],
+    [["m.mjs", "--seeds", "1..2..3"], /--seeds/],
+    [["m.mjs", "--seeds", "a..b"], /--seeds/],
+    [["m.mjs", "--seeds", "9007199254740992"], /--seeds/],
+    [["m.mjs", "--switch", "1.5"], /--switch/],
+    [["m.mjs", "--switch", "often"], /--switch/],
+    [["m.mjs", "--jobs", "0"], /--jobs/],
+    [["m.mjs", "--jobs", "65"], /--jobs/],
+    [["m.mjs", "--check", "-1"], /--check/],
+    [["m.mjs", "--max-moves", "100001"], /--max-moves/],
+    [["m.mjs", "--seconds", "0"], /--seconds/],
+    [["m.mjs", "--wrong"], /--wrong/],
+    [["m.mjs", "--fresh=yes"], /--fresh/],
+  ];
+  for (const [words, why] of wrong) {
+    assert.throws(() => optionsOf(words), (error) => {
+      assert.ok(error instanceof Refused, words.join(" "));
+      assert.match(error.message, why);
+      return !error.message.includes("\n");
+    });
+  }
+});
+
+test("what the command line leaves out has its default", () => {
+  const { first, last, jobs, check, maxMoves, seconds, fresh, args, noBlock, switching, out } = optionsOf(["m.mjs"]);
+  assert.deepEqual([first, last, jobs, check, maxMoves, seconds], [1, 100, 1, 10, 100_000, 10]);
+  assert.deepEqual([fresh, args, noBlock, switching, out], [false, [], [], undefined, undefined]);
+  assert.equal(optionsOf(["m.mjs", "--seeds", "8"]).last, 8);
+});
+
+test("a wrong command line is refused with status 2 and one line", async (context) => {
+  const folder = temporaryFolder(context);
+  const file = join(folder, "file");
+  writeFileSync(file, "");
+  const module = agentsPath("cases");
+  const unchecked = ["--check", "0"];
+  const wrong = [
+    [["--seeds", "1"], /the agents' module is missing/],
+    [[`${folder}/none.mjs`], /there is no file/],
+    [[folder], /there is no file/],
+    [[module, "--bytes", "4", ...unchecked], /number of agents is missing/],
+    [[module, "--agents", "1", ...unchecked], /buffers' bytes are missing/],
+    [[module, "--agents", "1", "--bytes", "4", "--no-block", "1", ...unchecked], /--no-block 1: .* no such agent/],
+    [[module, "--out", file], /--out .*file can't be used/],
+  ];
+  const ran = await Promise.all(wrong.map(([words]) => new Promise((done) => {
+    const answered = (error, stdout, stderr) => done({ status: error?.code, stdout, stderr });
+    execFile(process.execPath, [RECORD, ...words], { cwd: folder }, answered);
+  })));
+  ran.forEach(({ status, stdout, stderr }, at) => {
+    const [words, why] = wrong[at];
+    assert.deepEqual([status, stdout], [2, ""], words.join(" "));
+    assert.match(stderr, /^record: [^\n]+\n$/, words.join(" "));
+    assert.match(stderr, why);
+  });
+});
+
+test("README's worked command prints what README says", withSabsim, () => {
+  const readme = readFileSync(new URL("../README.md", import.meta.url), "utf8");
+  const [, command, printed] = /^ {4}\$ node recorder\/record\.mjs (.*)\n((?: {4}.*\n)+)/m.exec(readme);
+  const { stdout } = run([...command.split(" "), ...sabsim], { cwd: new URL("../../", import.meta.url) });
+  assert.equal(stdout, printed.replaceAll(/^ {4}/gm, ""));
+});
+
+test("help is on standard output, with status 0", () => {
+  const { status, stdout, stderr } = run(["--help"]);
+  assert.deepEqual([status, stderr], [0, ""]);
+  assert.match(stdout, /^usage: node recorder\/record\.mjs AGENTS\.mjs /);
+});
+
+test("without sabsim the status is 3, and with --check 0 it isn't needed", () => {
+  const missing = ["--sabsim", "/nowhere/sabsim"];
+  const { status, stdout, stderr } = run(cases("nothing", ...missing));
+  assert.deepEqual([status, stdout], [3, ""]);
+  assert.match(stderr, /^record: sabsim isn't at \/nowhere\/sabsim: build it by [^\n]+\n$/);
+  const unchecked = run(cases("waitsForEver", "--seeds", "1", "--check", "0", ...missing));
+  assert.equal(unchecked.status, 1);
+  assert.match(unchecked.stdout, /^no run was checked$/m);
+});
+
+test("a difference stops everything with status 3, and is kept", (context) => {
+  const folder = temporaryFolder(context);
+  const lying = join(folder, "lying");
+  writeFileSync(lying, "#!/bin/sh\ncat > /dev/null\necho '0 0 0 begin'\n", { mode: 0o755 });
+  const out = join(folder, "out");
+  const { status, stderr } = run(cases("addition", "--seeds", "7", "--out", out, "--sabsim", lying));
+  assert.equal(status, 3);
+  assert.match(stderr, /^record: seed 7: the code and sabsim differ, in line \d of the report\n {2}the code: .*\n/);
+  assert.deepEqual(readdirSync(out).sort(), ["seed-7.json", "seed-7.report", "seed-7.sabsim-report"]);
+  assert.equal(readFileSync(join(out, "seed-7.sabsim-report"), "utf8"), "0 0 0 begin\n");
+});
+
+test("arguments after -- go to the agents, and what they print goes to standard error at once", (context) => {
+  const printed = run(cases("prints", "--seeds", "3", "--check", "0"));
+  assert.equal(printed.status, 0);
+  const lines = printed.stderr.trimEnd().split("\n");
+  assert.deepEqual(lines.map((line) => Number(line.split(" ")[3])), [0, 1, 2, 3, 4, 5]);
+  const agents = agentsOf(temporaryFolder(context), "throw new Error(JSON.stringify([agent, agents, args]));");
+  const words = ["--agents", "1", "--bytes", "4", "--seeds", "1", "--check", "0", "--", "--seeds", "--", "x y"];
+  assert.match(run([agents, ...words]).stdout, /agent 0 threw Error: \[0,1,\["--seeds","--","x y"\]\]/);
+});
+
+test("a module's own setup serves, and the command line goes before it", withSabsim, () => {
+  const module = agentsPath("setup");
+  assert.match(run([module, "--seeds", "1", ...sabsim]).stdout, /: 02000000 \| 0200000001000000$/m);
+  const longer = run([module, "--seeds", "1", "--bytes", "8,8", ...sabsim]);
+  assert.match(longer.stdout, /: 0200000000000000 \| 0200000001000000$/m);
+  const blocked = run([module, "--seeds", "1", "--agents", "3", "--bytes", "4,8,4", "--no-block", "0", ...sabsim]);
+  assert.match(blocked.stdout, /^1 run: 1 finished$/m);
+});
+
+test("a module that can't be loaded is refused with status 2", (context) => {
+  const folder = temporaryFolder(context);
+  writeFileSync(join(folder, "bad.mjs"), "export default 5;\n");
+  const { status, stderr } = run([join(folder, "bad.mjs"), "--agents", "1", "--bytes", "4", "--check", "0"]);
+  assert.equal(status, 2);
+  assert.match(stderr, /^record: .*bad\.mjs can't be loaded: .*no function as its default export/);
+});
+
+/** The processes whose environment has a word, which all children of a process inherit. */
+function processesWith(word) {
+  return readdirSync("/proc").filter((name) => /^\d+$/.test(name)).filter((name) => {
+    try {
+      return readFileSync(`/proc/${name}/environ`, "utf8").includes(word);
+    } catch {
+      return false;
+    }
+  });
+}
+
+const soon = async (holds, milliseconds = 20_000) => {
+  const until = Date.now() + milliseconds;
+  while (!holds() && Date.now() < until) {
+    await new Promise((done) => {
+      setTimeout(done, 20);
+    });
+  }
+  return holds();
+};
+
+const onLinux = { skip: existsSync("/proc/self/environ") ? false : "there is no /proc" };
+
+// What the recorder is busy with in two processes when it is killed, and what it has printed by then.
+const BUSY = { "agents that loop": ["loops", /(it loops\s+){2}/], checks: ["prints", /(agent \d says \d+\s+){100}/] };
+
+for (const signal of ["SIGINT", "SIGTERM", "SIGKILL"]) {
+  for (const [what, [name, printed]] of Object.entries(BUSY)) {
+    const options = { skip: withSabsim.skip || onLinux.skip };
+    test(`${signal} amid ${what} leaves no worker and no sabsim behind`, options, async (context) => {
+      const mark = randomUUID();
+      context.after(() => processesWith(mark).forEach((id) => process.kill(Number(id), "SIGKILL")));
+      const words = cases(name, "--jobs", "2", "--seeds", "1..1000000", "--check", "1", "--seconds", "3600", ...sabsim);
+      const env = { ...process.env, RECORDER_TEST: mark };
+      const child = spawn(process.execPath, [RECORD, ...words], { env, stdio: ["ignore", "ignore", "pipe"] });
+      const ended = new Promise((done) => {
+        child.on("exit", (code, by) => done(by));
+      });
+      let text = "";
+      child.stderr.setEncoding("utf8").on("data", (more) => {
+        text += more;
+      });
+      assert.ok(await soon(() => printed.test(text)), text);
+      assert.ok(processesWith(mark).length >= 3);
+      child.kill(signal);
+      assert.equal(await ended, signal);
+      assert.ok(await soon(() => processesWith(mark).length === 0));
+    });
+  }
+}

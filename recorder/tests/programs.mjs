@@ -1,0 +1,55 @@
+// Runs programs in tests: sabsim and those of this folder.
+
+import { spawn } from "node:child_process";
+import { existsSync } from "node:fs";
+import { fileURLToPath } from "node:url";
+
+/** The path of something in this repository. */
+export const pathOf = (path) => fileURLToPath(new URL(`../../${path}`, import.meta.url));
+
+/** Where the built sabsim is: the environment's SABSIM, or its place in this repository. */
+export const SABSIM = process.env.SABSIM ?? pathOf("crates/sabsim/out/sabsim");
+
+/** For tests that need sabsim: where it isn't built they fail, as it has to be, unless SABSIM_OPTIONAL is 1. */
+export const withSabsim = {
+  skip: !existsSync(SABSIM) && process.env.SABSIM_OPTIONAL === "1" ? `there is no sabsim at ${SABSIM}` : false,
+};
+
+/** @typedef {{ status: number | null, signal: string | null, output: string, errors: string }} Ended */
+
+/**
+ * Starts a program.
+ * @param {string} program
+ * @param {string[]} args
+ * @param {string | Uint8Array} [input] its whole standard input; without, its standard input stays open
+ * @returns {{ child: import("node:child_process").ChildProcess, ended: Promise<Ended> }}
+ */
+export function start(program, args, input) {
+  const child = spawn(program, args);
+  const texts = { output: "", errors: "" };
+  child.stdout.setEncoding("utf8").on("data", (text) => (texts.output += text));
+  child.stderr.setEncoding("utf8").on("data", (text) => (texts.errors += text));
+  // A program may end before it has read everything.
+  child.stdin.on("error", () => {});
+  if (input !== undefined) child.stdin.end(input);
+  const ended = new Promise((resolve, reject) => {
+    child.on("error", reject);
+    child.on("close", (status, signal) => resolve({ status, signal, ...texts }));
+  });
+  return { child, ended };
+}
+
+/** Runs `node` with one of this folder's programs. */
+export const runNode = (program, args, input) => start(process.execPath, [pathOf(program), ...args], input).ended;
+
+/**
+ * The report that `sabsim replay` answers to a script.
+ * @param {string} script
+ * @returns {Promise<string>}
+ */
+export async function replayBySabsim(script) {
+  if (!existsSync(SABSIM)) throw new Error(`there is no sabsim at ${SABSIM}: build it, or name it in SABSIM`);
+  const { status, output, errors } = await start(SABSIM, ["replay"], script).ended;
+  if (status !== 0) throw new Error(`sabsim ended with status ${status}: ${errors}`);
+  return output;
+}

@@ -1,0 +1,238 @@
+// Runs of real agents: what they are answered, how they end, and what is told of it.
+
+import assert from "node:assert/strict";
+import { writeFileSync } from "node:fs";
+import { test } from "node:test";
+import { Difference, NoSabsim, Refused, record } from "../recorder.mjs";
+import { Group } from "../lib/group.mjs";
+import { NAMES } from "./agents/refused.mjs";
+import { SABSIM, agentsOf, agentsPath, recordCase, temporaryFolder, withSabsim } from "./common.mjs";
+
+/** Records a module of the tests, checked by sabsim. */
+function recordChecked(name, options) {
+  return record({ agents: agentsPath(name), sabsim: SABSIM, ...options });
+}
+
+for (const part of ["accesses", "errors"]) {
+  test(`${part} are answered by the standard's rules, and sabsim agrees`, withSabsim, async () => {
+    const outcome = await recordChecked("answers", { args: [part], count: 1, buffers: [32] });
+    assert.deepEqual([outcome.ending, outcome.detail], ["finished", ""]);
+  });
+}
+
+test("waits are answered by the standard's rules, and sabsim agrees", withSabsim, async () => {
+  for (const seed of [1, 2, 3]) {
+    const outcome = await recordChecked("answers", { args: ["waits"], count: 2, buffers: [16], seed });
+    assert.deepEqual([outcome.ending, outcome.detail], ["finished", ""]);
+    assert.deepEqual(outcome.answers[0], ["not-equal", "timed-out", "timed-out", "not-equal", "0", "ok"]);
+  }
+});
+
+test("an agent that can't block gets a TypeError of its wait, and the others wait", withSabsim, async () => {
+  const [first] = (await recordChecked("setup")).answers;
+  assert.deepEqual(first, ["2"]);
+  const outcome = await recordChecked("setup", { args: ["one more"] });
+  assert.deepEqual(outcome.answers, [["3"], ["3", "TypeError", "1"]]);
+  assert.deepEqual(outcome.bytes, ["03000000", "0300000001000000"]);
+  assert.deepEqual(JSON.parse(outcome.script).blocks, [4, 8]);
+  assert.deepEqual(JSON.parse(outcome.script).agents.map((agent) => agent.block), [true, false]);
+  assert.deepEqual((await recordChecked("setup", { block: [true, true] })).ending, "deadlock");
+});
+
+test("a run in which all agents come to their end has finished", withSabsim, async () => {
+  const outcome = await recordCase("addition", { check: true });
+  assert.equal(outcome.ending, "finished");
+  assert.equal(outcome.detail, "");
+  assert.deepEqual(outcome.answers, [["0", "1", "2"], ["0", "1", "2"]]);
+  assert.deepEqual(outcome.progress, [{ returned: 3, calls: 3 }, { returned: 3, calls: 3 }]);
+  assert.deepEqual(outcome.bytes, ["030000000300000000000000"]);
+  assert.equal(outcome.moves, 18);
+  const { bytes, views, agents } = JSON.parse(outcome.script);
+  assert.equal(bytes, 12);
+  assert.deepEqual(views, [{ name: "Int32", kind: "Int32", offset: 0, length: 3 }]);
+  assert.deepEqual(agents[1].calls, Array(3).fill(["add", "Int32", 1, 1]));
+});
+
+test("agents that never call Atomics finish, with a script without calls", withSabsim, async () => {
+  const outcome = await recordCase("nothing", { check: true });
+  assert.equal(outcome.ending, "finished");
+  assert.deepEqual(JSON.parse(outcome.script).agents.map((agent) => agent.calls), [[], []]);
+});
+
+test("a wait that nobody ends is a deadlock, which tells who waits where", withSabsim, async () => {
+  const outcome = await recordCase("waitsForEver", { check: true });
+  assert.equal(outcome.ending, "deadlock");
+  assert.equal(outcome.detail, 'agent 0 waits at byte 4 of block 0: its call 0, ["wait", "Int32", 1, 0]');
+  assert.deepEqual(outcome.answers, [[null], ["0"]]);
+  assert.deepEqual(outcome.progress[0], { returned: 0, calls: 1 });
+});
+
+test("a wait with a timeout ends; its fraction has no effect, and isn't in the script", withSabsim, async () => {
+  const outcome = await recordCase("waitsWithTime", { check: true, count: 1 });
+  assert.equal(outcome.ending, "finished");
+  assert.deepEqual(JSON.parse(outcome.script).schedule, [0, 0, { timeout: 0 }, 0]);
+  assert.deepEqual(JSON.parse(outcome.script).agents[0].calls, [["wait", "Int32", 0, 0, 0]]);
+});
+
+test("an agent that throws fails the run, with its message and stack", withSabsim, async () => {
+  const atOnce = await recordCase("throwsAtOnce", { check: true });
+  assert.equal(atOnce.ending, "failed");
+  assert.match(atOnce.detail, /^agent 1 threw RangeError: no such luck\n +at .*cases\.mjs/);
+  const later = await recordCase("throwsLater", { check: true });
+  assert.match(later.detail, /^agent 1 threw Error: after a call\n/);
+  const noError = await recordCase("throwsNoError");
+  assert.equal(noError.detail, "agent 0 threw an object");
+});
+
+test("an agent that answers a promise fails the run", async () => {
+  const outcome = await recordCase("promises");
+  assert.deepEqual([outcome.ending, outcome.detail],
+    ["failed", "agent 0 answered a promise, but an agent must be synchronous"]);
+});
+
+test("an agent that spins for ever comes to the bound of calls, or of moves", withSabsim, async () => {
+  const calls = await recordCase("spins", { check: true });
+  assert.equal(calls.ending, "bound");
+  assert.match(calls.detail, /^agent [01] has made 1000 calls, and goes on$/);
+  assert.equal(Math.max(...calls.progress.map((agent) => agent.calls)), 1_000);
+  const moves = await recordCase("spins", { check: true, maxMoves: 100 });
+  assert.deepEqual([moves.ending, moves.detail, moves.moves], ["bound", "more than 100 moves would be made", 99]);
+});
+
+test("an agent that makes no call comes to the bound of seconds", withSabsim, async () => {
+  const outcome = await recordCase("loops", { check: true, seconds: 1.5 });
+  assert.deepEqual([outcome.ending, outcome.detail], ["bound", "agent 1 has made no call for 1.5 s"]);
+});
+
+test("more typed arrays than a script can have are a bound", withSabsim, async () => {
+  const outcome = await recordCase("manyViews", { check: true, count: 1, buffers: [70] });
+  assert.deepEqual([outcome.ending, outcome.detail], ["bound", "more than 64 different typed arrays were used"]);
+  assert.equal(JSON.parse(outcome.script).views.length, 64);
+});
+
+test("a script that would be too long is a bound", withSabsim, async () => {
+  const outcome = await recordCase("longCalls", { check: true, count: 16, buffers: [65_536] });
+  assert.deepEqual([outcome.ending, outcome.detail], ["bound", "the script would be longer than 1048576 bytes"]);
+  assert.ok(outcome.script.length > 900_000 && outcome.script.length <= 1_048_576, `${outcome.script.length} bytes`);
+});
+
+test("bytes that change without a call are found, with the agent and the place", withSabsim, async () => {
+  const outcome = await recordCase("writesPlainly", { check: true });
+  assert.equal(outcome.ending, "failed");
+  assert.equal(outcome.detail, "agent 1 changed byte 6 of block 0 from 0 to 5 without a call of Atomics,"
+    + ' after its call 0, ["add", "Int32", 0, 1]');
+  const atTheEnd = await recordCase("writesPlainlyAtTheEnd", { count: 1 });
+  assert.equal(atTheEnd.detail, "agent 0 changed byte 8 of block 0 from 0 to 1 without a call of Atomics,"
+    + " before its first call");
+});
+
+test("a worker that dies fails the run", withSabsim, async () => {
+  const outcome = await recordCase("exits", { check: true });
+  assert.equal(outcome.ending, "failed");
+  assert.match(outcome.detail, /^agent 1's worker died: .*exit code 7$/);
+});
+
+test("what an agent does when its run is over changes nothing that is told", withSabsim, async () => {
+  const outcome = await recordCase("cleansUp", { check: true });
+  assert.equal(outcome.ending, "deadlock");
+  assert.deepEqual(outcome.bytes, ["000000000000000000000000"]);
+  assert.equal(outcome.answers.flat().length, 2);
+  const endless = await recordCase("catchesAll", { check: true });
+  assert.match(endless.detail, /^agent 1 threw Error: the end/);
+});
+
+test("an agent whose stack comes to its end amid a call is told of, or not harmed", withSabsim, async () => {
+  const outcome = await recordCase("deep", { check: true, count: 1, seconds: 1 });
+  const told = /^agent 0 (ran out of stack in|didn't come out of) a call/;
+  if (outcome.ending === "failed") assert.match(outcome.detail, told);
+  else assert.equal(outcome.bytes[0].slice(0, 8), "01000000");
+});
+
+test("each call outside of the profile is refused by name, even where the agent catches it", async () => {
+  const outcomes = await Promise.all(NAMES.map((name) => {
+    return record({ agents: agentsPath("refused"), args: [name], count: 2, buffers: [16], check: false });
+  }));
+  outcomes.forEach(({ ending, detail }, at) => {
+    assert.equal(ending, "failed", NAMES[at]);
+    const told = /^agent 1 stands outside of sabsim's profile: Error: Atomics\.[a-zA-Z]+: .*\n +at /;
+    assert.match(detail, told, NAMES[at]);
+  });
+  const told = (name) => outcomes[NAMES.indexOf(name)].detail;
+  assert.match(told("fraction"), /Atomics\.store: the value 1\.5 isn't a whole number/);
+  assert.match(told("object"), /Atomics\.add: the value an object is no Number or BigInt/);
+  assert.match(told("waitAsync"), /Atomics\.waitAsync: no script can have this function/);
+  assert.match(told("unshared"), /Atomics\.load: the typed array isn't on one of the agent's buffers/);
+  assert.match(told("replacement"), /Atomics\.compareExchange: the replacement undefined/);
+});
+
+test("the agents' Atomics look like the engine's", async (context) => {
+  const agents = agentsOf(temporaryFolder(context), `
+    const told = Object.getOwnPropertyNames(Atomics).map((name) => [name, Atomics[name].name, Atomics[name].length]);
+    throw new Error(JSON.stringify([String(Atomics), told, Atomics.isLockFree(4)]));`);
+  const { detail } = await record({ agents, count: 1, buffers: [4], check: false });
+  const told = Object.getOwnPropertyNames(Atomics).map((name) => [name, Atomics[name].name, Atomics[name].length]);
+  assert.equal(detail.split("\n")[0], `agent 0 threw Error: ${JSON.stringify(["[object Atomics]", told, true])}`);
+});
+
+test("sixteen agents, four buffers and the greatest buffer are served", withSabsim, async () => {
+  const outcome = await recordCase("addition", { check: true, count: 16, buffers: [65_536, 0, 8, 1] });
+  assert.equal(outcome.ending, "finished");
+  assert.equal(outcome.bytes[0].slice(0, 128), "03000000".repeat(16));
+});
+
+test("options that can't be are refused", async () => {
+  const cases = [
+    { count: 0 }, { count: 17 }, { count: 1.5 }, { buffers: [] }, { buffers: [65_537] }, { buffers: [-1] },
+    { buffers: [1, 1, 1, 1, 1] }, { seed: -1 }, { seed: 0.5 }, { maxMoves: 100_001 }, { seconds: 0 }, { switch: 2 },
+    { block: [1] },
+  ];
+  for (const options of cases) {
+    await assert.rejects(recordCase("nothing", options), Refused, JSON.stringify(options));
+  }
+  const agents = agentsPath("cases");
+  await assert.rejects(record({ agents, check: false, buffers: [4] }), /the number of agents is missing/);
+  await assert.rejects(record({ agents, check: false, count: 1 }), /the buffers' bytes are missing/);
+  await assert.rejects(record({ count: 1, buffers: [4], check: false }), Refused);
+});
+
+test("a module that can't be loaded is refused", async (context) => {
+  const folder = temporaryFolder(context);
+  const load = (agents) => record({ agents, count: 1, buffers: [4], check: false });
+  await assert.rejects(load(`${folder}/none.mjs`), /can't be loaded: .*none\.mjs/s);
+  await assert.rejects(load("data:text/javascript,export const setup = 1"), Refused);
+  await assert.rejects(load(new URL("data:text/javascript,export const a = 1")), /no function as its default export/);
+  await assert.rejects(load(new URL("data:text/javascript,syntax error")), /SyntaxError/);
+  await assert.rejects(load(new URL("data:text/javascript,throw new Error('at once')")), /at once/);
+  await assert.rejects(load(new URL("data:text/javascript,process.exit(3)")), /exit code 3/);
+  const endless = { module: "data:text/javascript,for (;;);", args: [], count: 1, buffers: [4], loadSeconds: 1 };
+  await assert.rejects(Group.open(endless), /wasn't loaded within 1 s/);
+  const early = "Atomics.load(new Int32Array(new SharedArrayBuffer(4)), 0); export default () => {};";
+  await assert.rejects(load(new URL(`data:text/javascript,${early}`)), /only being loaded|isn't on one/);
+});
+
+test("a missing sabsim is told of before anything is run", async () => {
+  const options = { check: true, sabsim: "/nowhere/sabsim" };
+  await assert.rejects(recordCase("nothing", options), (error) => {
+    assert.ok(error instanceof NoSabsim);
+    assert.match(error.message, /isn't at \/nowhere\/sabsim: build it by/);
+    return true;
+  });
+});
+
+test("a difference shows both sides", async (context) => {
+  const folder = temporaryFolder(context);
+  const lying = `${folder}/lying`;
+  writeFileSync(lying, "#!/bin/sh\ncat > /dev/null\nprintf '0 0 0 begin\\n1 0 0 act 5\\n'\n", { mode: 0o755 });
+  await assert.rejects(recordCase("addition", { check: true, count: 1, sabsim: lying }), (error) => {
+    assert.ok(error instanceof Difference);
+    assert.equal(error.message, [
+      "seed 1: the code and sabsim differ, in line 2 of the report",
+      "  the code: 1 0 0 act 0",
+      "  sabsim:   1 0 0 act 5",
+    ].join("\n"));
+    return true;
+  });
+  writeFileSync(lying, "#!/bin/sh\necho 'sabsim: 13 BadCall' >&2\nexit 1\n", { mode: 0o755 });
+  const refused = recordCase("addition", { check: true, sabsim: lying });
+  await assert.rejects(refused, /status 1 on the script: sabsim: 13 BadCall/);
+});

@@ -1,0 +1,110 @@
+// Many seeds: what is found, and that an outcome depends on its seed alone.
+
+import assert from "node:assert/strict";
+import { test } from "node:test";
+import { recordSeeds } from "../lib/seeds.mjs";
+import { moduleUrl } from "../lib/recorder.mjs";
+import { SABSIM, agentsPath, recordCase, withSabsim } from "./common.mjs";
+
+/**
+ * The outcomes of some seeds, in the order of the seeds.
+ * @param {string} name of a module of agents
+ * @param {object} options
+ */
+async function outcomesOf(name, options) {
+  const outcomes = [];
+  const all = {
+    module: moduleUrl(agentsPath(name)), args: [], first: 1, last: 40, jobs: 1, check: 0, sabsim: SABSIM,
+    maxMoves: 100_000, seconds: 5, fresh: false, ...options,
+  };
+  const { checked } = await recordSeeds(all, (outcome) => outcomes.push(outcome));
+  outcomes.sort((one, other) => one.seed - other.seed);
+  assert.deepEqual(outcomes.map((outcome) => outcome.seed), outcomes.map((_, at) => all.first + at));
+  return { outcomes, checked };
+}
+
+const endingsOf = (outcomes) => new Set(outcomes.map((outcome) => outcome.ending));
+
+test("the lost wake-up of a naive mutex is found within 200 seeds, and sabsim agrees", withSabsim, async () => {
+  const { outcomes, checked } = await outcomesOf("naive-mutex", { last: 200, check: 10 });
+  const failing = outcomes.filter((outcome) => outcome.ending !== "finished");
+  assert.ok(failing.length > 0);
+  assert.deepEqual([...endingsOf(failing)], ["deadlock"]);
+  const waits = /^agent \d waits at byte 4 of block 0: its call \d+, \["wait", /;
+  for (const { detail } of failing) assert.match(detail, waits);
+  const others = outcomes.filter((outcome, at) => outcome.ending === "finished" && at % 10 === 0);
+  assert.equal(checked, failing.length + others.length);
+});
+
+test("the mutex of three states comes to its end under 200 seeds, each checked", withSabsim, async () => {
+  const { outcomes, checked } = await outcomesOf("three-state-mutex", { last: 200, check: 1, jobs: 2 });
+  assert.deepEqual([...endingsOf(outcomes)], ["finished"]);
+  assert.deepEqual([...new Set(outcomes.map((outcome) => outcome.bytes[0]))], ["0000000009000000"]);
+  assert.equal(checked, 200);
+});
+
+test("random calls of all kinds, right and wrong, are answered as sabsim answers them", withSabsim, async () => {
+  const seen = new Set();
+  for (const start of ["1", "2"]) {
+    const { outcomes, checked } = await outcomesOf("random", { args: [start], last: 60, check: 1 });
+    assert.equal(checked, 60);
+    for (const outcome of outcomes) for (const answer of outcome.answers.flat()) seen.add(answer);
+  }
+  for (const answer of ["ok", "not-equal", "timed-out", "TypeError", "RangeError", "1", "2", "0n", "-1n", null]) {
+    assert.ok(seen.has(answer), String(answer));
+  }
+});
+
+test("the same seeds give the same scripts byte for byte, whatever the jobs", withSabsim, async () => {
+  const one = await outcomesOf("naive-mutex", { check: 1, jobs: 1 });
+  const again = await outcomesOf("naive-mutex", { check: 1, jobs: 1 });
+  const four = await outcomesOf("naive-mutex", { check: 1, jobs: 4 });
+  assert.deepEqual(again.outcomes, one.outcomes);
+  assert.deepEqual(four.outcomes, one.outcomes);
+  assert.ok(new Set(one.outcomes.map((outcome) => outcome.script)).size > 30);
+});
+
+test("a run among others is the run that is recorded by itself, in fresh workers too", withSabsim, async () => {
+  const { outcomes } = await outcomesOf("cases", { args: ["racy"], count: 3, buffers: [12], check: 1, last: 6 });
+  const options = { args: ["racy"], count: 3, buffers: [12], check: 1, last: 6, fresh: true };
+  assert.deepEqual((await outcomesOf("cases", options)).outcomes, outcomes);
+  const alone = await recordCase("racy", { count: 3, seed: 5, check: true });
+  assert.deepEqual(alone, outcomes[4]);
+});
+
+test("a value that is read and written gets lost under some seeds, and under others not", async () => {
+  const { outcomes } = await outcomesOf("cases", { args: ["racy"], count: 3, buffers: [4], last: 200 });
+  const bytes = new Set(outcomes.map((outcome) => outcome.bytes[0]));
+  assert.deepEqual([...bytes].sort(), ["01000000", "02000000", "03000000"]);
+});
+
+test("with --switch 0 each agent comes to its end before the next one goes on", async () => {
+  const options = { args: ["racy"], count: 3, buffers: [4], last: 30, switching: 0 };
+  const { outcomes } = await outcomesOf("cases", options);
+  assert.deepEqual([...new Set(outcomes.map((outcome) => outcome.bytes[0]))], ["03000000"]);
+});
+
+test("state of a module stays from seed to seed, and with fresh workers it doesn't", async () => {
+  const last = (outcomes) => outcomes.at(-1).bytes[0];
+  const options = { args: ["countsSeeds"], count: 1, buffers: [4], last: 5 };
+  assert.equal(last((await outcomesOf("cases", options)).outcomes), "05000000");
+  assert.equal(last((await outcomesOf("cases", { ...options, fresh: true })).outcomes), "01000000");
+  // An agent that is left waiting is sent home, and its worker stays too.
+  const waiting = { ...options, args: ["countsAndWaits"], buffers: [8] };
+  assert.equal(last((await outcomesOf("cases", waiting)).outcomes), "0500000000000000");
+});
+
+test("after an agent that has gone astray the next seeds are recorded all the same", withSabsim, async () => {
+  const astray = { exits: "failed", catchesAll: "failed", loops: "bound", manyViews: "bound" };
+  for (const [name, ending] of Object.entries(astray)) {
+    const options = { args: [name], count: 2, buffers: [72], last: 2, seconds: 1, check: 1 };
+    const { outcomes } = await outcomesOf("cases", options);
+    assert.deepEqual(outcomes.map((outcome) => outcome.ending), [ending, ending], name);
+  }
+});
+
+test("seeds begin where they are told, up to the greatest", async () => {
+  const most = Number.MAX_SAFE_INTEGER;
+  const options = { args: ["racy"], count: 3, buffers: [4], first: most - 1, last: most };
+  assert.equal((await outcomesOf("cases", options)).outcomes.length, 2);
+});

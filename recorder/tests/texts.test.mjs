@@ -1,0 +1,154 @@
+// Scripts, reports, names and summaries: what people and sabsim read.
+
+import assert from "node:assert/strict";
+import { readFileSync, readdirSync } from "node:fs";
+import { test } from "node:test";
+import { KINDS } from "../lib/kinds.mjs";
+import { firstDifference, reportText } from "../lib/report.mjs";
+import { scriptText } from "../lib/script.mjs";
+import { Summary } from "../lib/summary.mjs";
+import { callText, textRoom, viewKey, viewName } from "../lib/trace.mjs";
+
+const EXAMPLES = new URL("../../examples/", import.meta.url);
+const kind = (name) => KINDS.indexOf(name);
+
+test("a view is named by its kind and place, and no two have one name or one key", () => {
+  const name = (...view) => viewName([16], { kind: kind(view[0]), block: 0, offset: view[1], length: view[2] });
+  assert.equal(name("Int32", 0, 4), "Int32");
+  assert.equal(name("Int32", 8, 2), "Int32_at8");
+  assert.equal(name("Int32", 8, 1), "Int32_at8_x1");
+  assert.equal(name("BigInt64", 0, 1), "BigInt64_x1");
+  const several = { kind: kind("Uint8"), block: 1, offset: 0, length: 3 };
+  assert.equal(viewName([16, 3], several), "Uint8_b1");
+  const longest = { kind: kind("Uint8Clamped"), block: 3, offset: 10_000, length: 50_000 };
+  const all = viewName([0, 0, 0, 65_536], longest);
+  assert.match(all, /^[A-Za-z0-9_]{1,32}$/);
+  const names = new Set();
+  const keys = new Set();
+  for (let number = 0; number < KINDS.length; number += 1) {
+    for (let block = 0; block < 2; block += 1) {
+      for (const [offset, length] of [[0, 1], [0, 2], [8, 1], [16, 0]]) {
+        const view = { kind: number, block, offset, length };
+        names.add(viewName([16, 16], view));
+        keys.add(viewKey(view));
+      }
+    }
+  }
+  assert.equal(names.size, KINDS.length * 8);
+  assert.equal(keys.size, KINDS.length * 8);
+});
+
+test("a call is spelled as docs/FORMATS.md has it, and room is kept for all of it", () => {
+  const call = (name, index, operands, limit) => ({ call: name, kind: 5, index, operands, limit });
+  const spelled = [
+    [call(0, 3, []), '["load", "v", 3]'],
+    [call(1, -1, [-5]), '["store", "v", -1, -5]'],
+    [call(8, 0, [1n, -(2n ** 127n)]), `["compareExchange", "v", 0, "1", "${-(2n ** 127n)}"]`],
+    [call(9, 0, [0]), '["wait", "v", 0, 0]'],
+    [call(9, 0, [0n], 0), '["wait", "v", 0, "0", 0]'],
+    [call(10, 0, []), '["notify", "v", 0]'],
+    [call(10, 0, [], 2), '["notify", "v", 0, 2]'],
+  ];
+  for (const [given, text] of spelled) {
+    assert.equal(callText("v", given), text);
+    assert.ok(textRoom(1, given) > text.length + ",\n      ".length);
+  }
+});
+
+const trace = (lengths) => ({
+  lengths,
+  canBlock: [true, false],
+  views: [{ name: "Int32", kind: "Int32", block: 0, offset: 0, length: 1 }],
+  calls: [[{ text: '["wait", "Int32", 0, 0, 5]', joined: true, answer: "timed-out" }], []],
+  moves: [
+    { agent: 0, timeUp: false }, { agent: 0, timeUp: false }, { agent: 0, timeUp: true }, { agent: 0, timeUp: false },
+  ],
+});
+
+test("a script has the older form where there is one block, and else the newer", () => {
+  const agents = [{ block: true, calls: [["wait", "Int32", 0, 0, 5]] }, { block: false, calls: [] }];
+  const schedule = [0, 0, { timeout: 0 }, 0];
+  const view = { name: "Int32", kind: "Int32", offset: 0, length: 1 };
+  assert.deepEqual(JSON.parse(scriptText(trace([4]))), { bytes: 4, views: [view], agents, schedule });
+  const blocks = { blocks: [4, 0], views: [{ ...view, block: 0 }], agents, schedule };
+  assert.deepEqual(JSON.parse(scriptText(trace([4, 0]))), blocks);
+  const empty = { lengths: [0], canBlock: [true], views: [], calls: [[]], moves: [] };
+  assert.deepEqual(JSON.parse(scriptText(empty)), {
+    bytes: 0, views: [], agents: [{ block: true, calls: [] }], schedule: [],
+  });
+});
+
+test("a report has a line for each move, for each block and for each agent", () => {
+  assert.equal(reportText(trace([4, 0]), ["00000000", ""]), [
+    "0 0 0 begin", "1 0 0 wait", "2 0 0 leave timed-out", "3 0 0 return timed-out",
+    "block 0 00000000", "block 1 -", "agent 0 1 of 1", "agent 1 0 of 0", "",
+  ].join("\n"));
+});
+
+/**
+ * The trace of an example whose report has no stuck entry: what was done, read off its report.
+ * @param {string} name
+ */
+function traceOfExample(name) {
+  const script = JSON.parse(readFileSync(new URL(`${name}.json`, EXAMPLES), "utf8"));
+  const report = readFileSync(new URL(`${name}.report`, EXAMPLES), "utf8");
+  const calls = script.agents.map((agent) => agent.calls.map((call) => {
+    return { text: JSON.stringify(call), joined: false, answer: null };
+  }));
+  for (const line of report.split("\n")) {
+    const [, agent, call, what, answer] = line.split(" ");
+    if (what === "wait") calls[agent][call].joined = true;
+    if (what === "act" || what === "leave") calls[agent][call].answer = answer;
+  }
+  const moves = script.schedule.map((move) => {
+    return typeof move === "number" ? { agent: move, timeUp: false } : { agent: move.timeout, timeUp: true };
+  });
+  const bytes = report.split("\n").filter((line) => line.startsWith("block")).map((line) => line.split(" ")[2]);
+  return { report, trace: { calls, moves }, bytes };
+}
+
+test("the reports of the project's examples are written as they are there", () => {
+  const names = readdirSync(EXAMPLES).filter((file) => file.endsWith(".report")).map((file) => file.slice(0, -7));
+  const examples = names.map(traceOfExample).filter((example) => !example.report.includes("stuck"));
+  assert.ok(examples.length >= 4, `${examples.length} examples have no stuck entry`);
+  for (const example of examples) assert.equal(reportText(example.trace, example.bytes), example.report);
+});
+
+test("the first line that differs is shown with both sides", () => {
+  assert.equal(firstDifference("a\nb\n", "a\nb\n"), undefined);
+  assert.deepEqual(firstDifference("a\nb\n", "a\nc\n"), { line: 2, recorded: "b", replayed: "c" });
+  assert.deepEqual(firstDifference("a\n", "a"), { line: 2, recorded: "", replayed: "(no line)" });
+});
+
+test("a summary is the same in whatever order the runs come", () => {
+  const outcomes = [
+    { seed: 1, ending: "finished", detail: "", bytes: ["01"] },
+    { seed: 2, ending: "deadlock", detail: "agent 0 waits\nagent 1 waits", bytes: ["01"] },
+    { seed: 3, ending: "finished", detail: "", bytes: ["02"] },
+    { seed: 4, ending: "deadlock", detail: "another", bytes: ["01"] },
+    { seed: 5, ending: "bound", detail: "too much", bytes: ["01"] },
+    { seed: 6, ending: "finished", detail: "", bytes: ["02"] },
+  ];
+  const told = (order) => {
+    const summary = new Summary();
+    for (const outcome of order) summary.add(outcome);
+    assert.equal(summary.failed, 3);
+    assert.equal(summary.failing.seed, 2);
+    return summary.text(3);
+  };
+  const text = told(outcomes);
+  assert.equal(told(outcomes.toReversed()), text);
+  assert.equal(text, [
+    "6 runs: 3 finished, 2 deadlock, 1 bound",
+    "4 final states: how it ended, and the bytes",
+    "  2 runs deadlock, seed 2 the first: 01",
+    "  2 runs finished, seed 3 the first: 02",
+    "  1 run finished, seed 1 the first: 01",
+    "  1 run bound, seed 5 the first: 01",
+    "3 runs checked: sabsim says the same",
+    "first failing seed: 2, deadlock",
+    "  agent 0 waits",
+    "  agent 1 waits",
+    "",
+  ].join("\n"));
+});
