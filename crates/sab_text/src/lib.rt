@@ -4,9 +4,11 @@
 mod chunk;
 mod entry_line;
 mod line;
+mod lines;
 mod report;
 
 pub use chunk::Chunk;
 pub use entry_line::prepend_entry;
 pub use line::Line;
+pub use lines::Lines;
 pub use report::{prepend_agent, write_blocks, write_report};
