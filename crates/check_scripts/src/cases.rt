@@ -32,6 +32,7 @@ impl Partner {
 pub struct Case {
     script: bool,
     report: bool,
+    explained: bool,
     fault: bool,
     changes: bool,
     located: bool,
@@ -44,6 +45,7 @@ impl Case {
         match ending {
             "json" => self.script = true,
             "report" => self.report = true,
+            "explained" => self.explained = true,
             "fault" => self.fault = true,
             "changes" => self.changes = true,
             "located" => self.located = true,
@@ -53,14 +55,20 @@ impl Case {
 
     /// The one partner of the script.
     ///
-    /// An error where the files are no case: there is no script, no partner or a second one, changes of a script that
-    /// has no report, a line of a check without a fault, or a file of another ending.
+    /// An error where the files are no case: there is no script, no partner or a second one, a report that isn't
+    /// explained, changes of a script that has no report, a line of a check without a fault, or a file of another
+    /// ending.
     pub fn partner(self) -> Result<Partner> {
         if self.other {
-            bail!("a file's name ends in none of .json, .report, .fault, .changes and .located");
+            bail!(
+                "a file's name ends in none of .json, .report, .explained, .fault, .changes and .located"
+            );
         }
         if !self.script {
             bail!("there is no script");
+        }
+        if self.explained != self.report {
+            bail!("of a report and an explained report there is one alone");
         }
         if self.changes && !self.report {
             bail!("there are changes without a report");

@@ -1,5 +1,5 @@
-//! Goes over cases: each is a script that lies beside its report, or beside the fault that it is refused with. Beside a
-//! report there may be a table of changes of the script, each with the fault that it leads to.
+//! Goes over cases: each is a script that lies beside its report, plain and explained, or beside the fault that it is
+//! refused with. Beside a report there may be a table of changes of the script, each with the fault that it leads to.
 //!
 //! Its argument is a folder that has a folder of cases for each subject; without one it is the folder where it runs. It
 //! tells of each subject, and of each finding by the case's name. It ends with status 1 if there is a finding.
@@ -13,6 +13,7 @@ mod raced;
 mod refused;
 mod reported;
 mod tally;
+mod told;
 mod way;
 
 use anyhow::{Context, Result};
@@ -21,12 +22,14 @@ use changes::check_changes;
 use checked::{check_accepted, check_located};
 use refused::check_fault;
 use reported::check_report;
+use sab_report::Format;
 use std::process::ExitCode;
 use std::rt::{Env, Files};
 use std::sync::Wait;
 use std::thread::Threads;
 use std::{env, fs};
 use tally::Tally;
+use told::check_told;
 
 /// The file of a case that has this ending.
 fn part<R: Files + AllocGlobal>(rt: &R, folder: &str, name: &str, ending: &str) -> Result<Vec<u8>> {
@@ -48,6 +51,11 @@ fn check<R: Files + AllocGlobal + Threads + Wait + Sync>(
     match partner {
         Partner::Report => {
             check_accepted(alloc, script.as_slice())?;
+            let explained = part(rt, folder, name, "explained")?;
+            for (format, text) in [(Format::Plain, &expected), (Format::Explained, &explained)] {
+                let text = std::str::from_utf8(text.as_slice())?;
+                check_told(alloc, script.as_slice(), format, text)?;
+            }
             let cuts = check_report(rt, alloc, script.as_slice(), expected.as_slice())?;
             let changes = if case.has_changes() {
                 let table = part(rt, folder, name, "changes")?;

@@ -1,14 +1,16 @@
 -- Equality of jobs, endings and fault lines: values that a derived `==` finds equal are the same.
 use Rattle.std.proofs.Common.{◌≡◌, ℕ, Option, Some, None, true, nat_eq, refl, ap, rules}
+use Rattle.std.specs.Cmp.{booleans_Decides}
 use Rattle.std.specs.Option.{option_eq}
 use borrow.Author.Tests.{eqb-true}
 use denote.Enum.Bare.{same_true}
 use Rattle.std.proofs.lemmas.Bool.{and_parts}
 use Rattle.sab_tool.proofs.Equality.{same_share, same_tool_fault}
+use Rattle.sab_report.proofs.Equality.{same_telling}
 use Rattle.sab_command.specs.declared.command_line.Job.{Job}
 use Rattle.sab_command.specs.declared.command_line.Job.TheVariants.{Replay, Check, Race}
 use Rattle.sab_command.specs.declared.ending.Ending.{Ending}
-use Rattle.sab_command.specs.declared.ending.Ending.TheVariants.{Done, Refused, ScriptRefused, Failed}
+use Rattle.sab_command.specs.declared.ending.Ending.TheVariants.{Done, Refused, ScriptRefused, Unfinished, Failed}
 use Rattle.sab_command.specs.declared.fault_line.FaultLine.{FaultLine}
 use Rattle.sab_command.specs.contracts.command_line.JobPartialEq.TheImpl as job
 use Rattle.sab_command.specs.contracts.ending.EndingPartialEq.TheImpl as ending
@@ -24,21 +26,30 @@ same_seed (Some n) None e = absurd (cc)
 same_seed (Some n) (Some m) e = ap Some (eqb-true n m e)
 
 same_job : (x y : Job) → (job.ghosts).eq x y ≡ true → x ≡ y
-same_job Replay Replay e = refl
+same_job (Replay t f) (Replay u g) e =
+    let parts = and_parts _ _ e in
+    let telling = same_telling t u parts.0 in
+    let finish = (booleans_Decides f g).0 parts.1 in
+    λ i. Replay (telling i) (finish i)
 same_job Check Check e = refl
-same_job (Race s n x) (Race t k y) e =
+same_job (Race s n x t f) (Race r k y u g) e =
     let shares = and_parts _ _ e in
     let counts = and_parts _ _ shares.1 in
-    let share = same_share s t shares.0 in
+    let mixes = and_parts _ _ counts.1 in
+    let tellings = and_parts _ _ mixes.1 in
+    let share = same_share s r shares.0 in
     let spins = eqb-true n k counts.0 in
-    let mix = same_seed x y counts.1 in
-    λ i. Race (share i) (spins i) (mix i)
+    let mix = same_seed x y mixes.0 in
+    let telling = same_telling t u tellings.0 in
+    let finish = (booleans_Decides f g).0 tellings.1 in
+    λ i. Race (share i) (spins i) (mix i) (telling i) (finish i)
 same_job _ _ e = absurd (cc)
 
 same_ending : (x y : Ending) → (ending.ghosts).eq x y ≡ true → x ≡ y
 same_ending Done Done e = refl
 same_ending Refused Refused e = refl
 same_ending ScriptRefused ScriptRefused e = refl
+same_ending Unfinished Unfinished e = refl
 same_ending (Failed f) (Failed g) e = ap Failed (same_tool_fault f g e)
 same_ending _ _ e = absurd (cc)
 

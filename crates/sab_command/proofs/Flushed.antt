@@ -1,8 +1,12 @@
 -- A flush after a replay, and after a race.
 use Rattle.std.proofs.Common.{ℕ, List, Option, Some, None, ◌∙◌}
 use Rattle.std.specs.Io.KnownBytes.{Appends, Keeps}
-use Rattle.sab_tool.specs.Replay.{Replays}
-use Rattle.sab_tool.specs.Racing.{Races}
+use Rattle.sab_sim.specs.Plan.{PlanParts}
+use Rattle.sab_sim.specs.Report.{ReportParts}
+use Rattle.sab_report.specs.declared.ended.Ended.{Ended}
+use Rattle.sab_report.specs.declared.format.Telling.{Telling}
+use Rattle.sab_report.specs.Telling.{Tells}
+use Rattle.sab_report.specs.Reporting.{ReplaysAs, RacesAs}
 
 pub appends_kept : (old mid new : Option (List ℕ)) (bs : List ℕ) → Appends old mid bs → Keeps mid new
     → Appends old new bs
@@ -11,22 +15,30 @@ appends_kept (Some x) None new bs a k = absurd a
 appends_kept (Some x) (Some y) None bs a k = absurd k
 appends_kept (Some x) (Some y) (Some z) bs a k = k ∙ a
 
-pub flushed : (old mid new : Option (List ℕ)) (script : List ℕ) → Replays old mid script → Keeps mid new
-    → Replays old new script
-flushed old mid new script r k = record {
+told_kept : (telling : Telling) (names : List (List ℕ)) (plan : PlanParts) (report : ReportParts)
+    (old mid new : Option (List ℕ)) → Tells telling names plan report old mid → Keeps mid new
+    → Tells telling names plan report old new
+told_kept telling names plan report old mid new t k =
+    record { text = t.text; text_is = t.text_is; written = appends_kept old mid new t.text t.written k }
+
+pub flushed : (telling : Telling) (old mid new : Option (List ℕ)) (script : List ℕ) (ended : Ended)
+    → ReplaysAs telling old mid script ended → Keeps mid new → ReplaysAs telling old new script ended
+flushed telling old mid new script ended r k = record {
   setup = r.setup;
   spelled = r.spelled;
   report = r.report;
   is_its = r.is_its;
-  written = appends_kept old mid new _ r.written k;
+  told = told_kept telling _ r.setup.plan r.report old mid new r.told k;
+  ended_is = r.ended_is;
 }
 
-pub flushed_race : (old mid new : Option (List ℕ)) (script : List ℕ) (spins : ℕ) → Races old mid script spins
-    → Keeps mid new → Races old new script spins
-flushed_race old mid new script spins r k = record {
+pub flushed_race : (telling : Telling) (old mid new : Option (List ℕ)) (script : List ℕ) (spins : ℕ) (ended : Ended)
+    → RacesAs telling old mid script spins ended → Keeps mid new → RacesAs telling old new script spins ended
+flushed_race telling old mid new script spins ended r k = record {
   setup = r.setup;
   spelled = r.spelled;
   report = r.report;
   is_its = r.is_its;
-  written = appends_kept old mid new _ r.written k;
+  told = told_kept telling _ r.setup.plan r.report old mid new r.told k;
+  ended_is = r.ended_is;
 }

@@ -6,6 +6,6 @@ use Rattle.sab_tool.specs.Racing.{MAX_SPINS}
 
 -- a race is asked for with at most so many steps at a wait
 abbrev pub IsWithinLimits : Job → Type 0
-IsWithinLimits Replay = ⊤
+IsWithinLimits (Replay telling finish) = ⊤
 IsWithinLimits Check = ⊤
-IsWithinLimits (Race share spins mix) = spins ≤ MAX_SPINS
+IsWithinLimits (Race share spins mix telling finish) = spins ≤ MAX_SPINS

@@ -1,5 +1,6 @@
 pub mod Job
 pub mod Status
+pub mod Outcome
 pub mod FaultLine
 pub mod Ending
 pub mod Running

@@ -5,26 +5,31 @@ use Rattle.sab_tool.specs.declared.input.TheConstants.{MAX_INPUT}
 use Rattle.sab_tool.specs.declared.tool_fault.ToolFault.{ToolFault}
 use Rattle.sab_tool.specs.declared.tool_fault.ToolFault.TheVariants.{OutOfMemory, WriteFailed}
 use Rattle.sab_tool.specs.Input.{IsInputFault}
-use Rattle.sab_tool.specs.Replay.{Replays, IsReplayFault}
-use Rattle.sab_tool.specs.Racing.{Races, IsRaceFault}
+use Rattle.sab_tool.specs.Replay.{IsReplayFault}
+use Rattle.sab_tool.specs.Racing.{IsRaceFault}
+use Rattle.sab_report.specs.declared.ended.Ended.{Ended}
+use Rattle.sab_report.specs.Reporting.{ReplaysAs, RacesAs}
 use Rattle.sab_check.specs.Checked.{IsAccepted, IsRefused}
 use Rattle.sab_command.specs.declared.command_line.Job.{Job}
 use Rattle.sab_command.specs.declared.command_line.Job.TheVariants.{Replay, Check, Race}
 use Rattle.sab_command.specs.declared.outcome.Outcome.{Outcome}
-use Rattle.sab_command.specs.declared.outcome.Outcome.TheVariants.{Done, Refused}
+use Rattle.sab_command.specs.declared.outcome.Outcome.TheVariants.{Done, Refused, Unfinished}
+use Rattle.sab_command.specs.Outcome.{outcome_of}
 
 -- just what a check says came behind what the writer held: of a script that isn't refused, or of one that is
 abbrev pub Checks : Outcome → Option (List ℕ) → Option (List ℕ) → List ℕ → Type 0
 Checks Done old new script = (text : List ℕ) × IsAccepted script text × Appends old new text
 Checks Refused old new script = (text : List ℕ) × IsRefused script text × Appends old new text
+Checks Unfinished old new script = ⊥
 
--- just the text of the job's report came behind what the writer held: of a replay, or of a race with the job's steps; or
--- what a check says
+-- just the job's report came behind what the writer held, of a replay, or of a race with the job's steps, and the outcome
+-- is by how it ended; or what a check says
 abbrev pub Runs : Job → Outcome → Option (List ℕ) → Option (List ℕ) → List ℕ → Type 0
 Runs Check outcome old new script = Checks outcome old new script
-Runs Replay Done old new script = Replays old new script
-Runs (Race share spins mix) Done old new script = Races old new script spins
-Runs _ Refused old new script = ⊥
+Runs (Replay telling finish) outcome old new script =
+    (ended : Ended) × ReplaysAs telling old new script ended × (outcome ≡ outcome_of ended finish)
+Runs (Race share spins mix telling finish) outcome old new script =
+    (ended : Ended) × RacesAs telling old new script spins ended × (outcome ≡ outcome_of ended finish)
 
 -- want of memory, before anything was written, or a write that failed
 abbrev pub IsCheckFault : Option (List ℕ) → Option (List ℕ) → ToolFault → Type 0
@@ -32,9 +37,9 @@ IsCheckFault old new fault = (Keeps old new × (fault ≡ OutOfMemory)) ⊎ (fau
 
 -- what a job of a script is refused for
 abbrev pub IsFaultOf : Job → Option (List ℕ) → Option (List ℕ) → List ℕ → ToolFault → Type 0
-IsFaultOf Replay old new script fault = IsReplayFault old new script fault
+IsFaultOf (Replay telling finish) old new script fault = IsReplayFault old new script fault
 IsFaultOf Check old new script fault = IsCheckFault old new fault
-IsFaultOf (Race share spins mix) old new script fault = IsRaceFault old new script spins fault
+IsFaultOf (Race share spins mix telling finish) old new script fault = IsRaceFault old new script spins fault
 
 -- the script isn't too long, and the job came to this
 abbrev pub RunsGiven : Job → Outcome → Option (List ℕ) → Option (List ℕ) → List ℕ → Type 0

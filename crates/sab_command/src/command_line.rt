@@ -1,11 +1,12 @@
 //! What the program can be asked for.
 
-ghost use Rattle.std.specs.Prelude.{◌≡◌, ◌≤◌, ◌<◌, ◌^◌, ℕ, IfOk, Some, None, codes, decimal};
+ghost use Rattle.std.specs.Prelude.{◌≡◌, ◌≤◌, ◌<◌, ◌^◌, ℕ, IfOk, Some, None, true, false, codes, decimal};
 ghost use Rattle.clap.specs.Words.{first_value, found_of, one_text};
 ghost use Rattle.sab_command.specs.Job.{IsWithinLimits};
 
 use crate::help;
-use clap::{Arg, ArgMatches, Command, Error, value_parser};
+use clap::{Arg, ArgAction, ArgMatches, Command, Error, value_parser};
+use sab_report::{Format, Lines, Telling};
 use sab_tool::{MAX_SPINS, Share};
 use std::alloc::{AllocError, Global};
 use std::convert::AsStr;
@@ -13,11 +14,19 @@ use std::convert::AsStr;
 /// What `--share` takes.
 static SHARES: [&str; 2] = ["lock", "ring"];
 
+/// What `--format` takes.
+static FORMATS: [&str; 2] = ["plain", "explained"];
+
 /// What the program is asked for.
 #[derive(Clone, Copy, Debug, PartialEq, Eq)]
 pub enum Job {
     /// To replay the script on standard input.
-    Replay,
+    Replay {
+        /// How the report is told.
+        telling: Telling,
+        /// Whether it is an answer of its own that some calls haven't returned.
+        finish: bool,
+    },
     /// To check the script on standard input.
     Check,
     /// To run the agents of the script on standard input in threads.
@@ -28,7 +37,30 @@ pub enum Job {
         spins: u32,
         /// The seed that the threads are mixed by, or none where each run takes another one.
         mix: Option<u64>,
+        /// How the report is told.
+        telling: Telling,
+        /// Whether it is an answer of its own that some calls haven't returned.
+        finish: bool,
     },
+}
+
+/// The command that takes besides how a report is told, and whether all calls are to return.
+fn with_telling<'a>(alloc: Global, command: Command<'a>) -> Result<Command<'a>, AllocError> {
+    let format = Arg::new(alloc, "format")
+        .long("format")
+        .value_name("FORMAT")
+        .help(help::FORMAT)
+        .default_value("plain")
+        .value_parser(FORMATS.as_slice());
+    let acts = Arg::new(alloc, "acts")
+        .long("acts")
+        .help(help::ACTS)
+        .action(ArgAction::SetTrue);
+    let finish = Arg::new(alloc, "finish")
+        .long("finish")
+        .help(help::FINISH)
+        .action(ArgAction::SetTrue);
+    command.arg(format)?.arg(acts)?.arg(finish)
 }
 
 /// The command line, with its help.
@@ -36,6 +68,7 @@ fn command<'a>(alloc: Global) -> Result<Command<'a>, AllocError> {
     let replay = Command::new(alloc, "replay")
         .about(help::REPLAY)
         .after_help(help::REPLAY_FORMS);
+    let replay = with_telling(alloc, replay)?;
     let share = Arg::new(alloc, "share")
         .long("share")
         .value_name("WAY")
@@ -59,6 +92,7 @@ fn command<'a>(alloc: Global) -> Result<Command<'a>, AllocError> {
         .arg(share)?
         .arg(spins)?
         .arg(mix)?;
+    let race = with_telling(alloc, race)?;
     let check = Command::new(alloc, "check")
         .about(help::CHECK)
         .after_help(help::CHECK_FORMS);
@@ -100,6 +134,46 @@ fn mix_of(matches: &ArgMatches<'_>) -> Option<u64>
     matches.get_one::<u64>("mix")
 }
 
+/// In which format a report is to be told.
+fn format_of(matches: &ArgMatches<'_>) -> Format
+    ensures plain { first_value (found_of matches.now) (codes "format") ≡ Some (codes "plain") → result ≡ Format.Plain }
+    ensures explained { first_value (found_of matches.now) (codes "format") ≡ Some (codes "explained")
+        → result ≡ Format.Explained }
+{
+    match matches.get_str("format") {
+        Some("explained") => Format::Explained,
+        _ => Format::Plain,
+    }
+}
+
+/// Which entries are to have a line.
+fn lines_of(matches: &ArgMatches<'_>) -> Lines
+    ensures all { one_text (found_of matches.now) (codes "acts") ≡ Some (codes "false") → result ≡ Lines.All }
+    ensures acts { one_text (found_of matches.now) (codes "acts") ≡ Some (codes "true") → result ≡ Lines.Acts }
+{
+    if matches.get_flag("acts") {
+        Lines::Acts
+    } else {
+        Lines::All
+    }
+}
+
+/// How a report is to be told.
+fn telling_of(matches: &ArgMatches<'_>) -> Telling {
+    Telling {
+        format: format_of(matches),
+        lines: lines_of(matches),
+    }
+}
+
+/// Whether all calls are to return.
+fn finish_of(matches: &ArgMatches<'_>) -> bool
+    ensures yes { one_text (found_of matches.now) (codes "finish") ≡ Some (codes "true") → result ≡ true }
+    ensures no { one_text (found_of matches.now) (codes "finish") ≡ Some (codes "false") → result ≡ false }
+{
+    matches.get_flag("finish")
+}
+
 /// What the words ask for, of which the first is the program's name.
 ///
 /// An error is a request for help too, and OutOfMemory where memory ran out while the command line was built or read.
@@ -113,8 +187,13 @@ pub fn job_of<'a, S: AsStr>(alloc: Global, words: &'a [S]) -> Result<Job, Error>
             share: share_of(matches),
             spins: spins_of(matches),
             mix: mix_of(matches),
+            telling: telling_of(matches),
+            finish: finish_of(matches),
         }),
-        Some(("check", _)) => Ok(Job::Check),
-        _ => Ok(Job::Replay),
+        Some(("replay", matches)) => Ok(Job::Replay {
+            telling: telling_of(matches),
+            finish: finish_of(matches),
+        }),
+        _ => Ok(Job::Check),
     }
 }

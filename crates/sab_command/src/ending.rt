@@ -16,6 +16,8 @@ pub enum Ending {
     Refused,
     /// The script was refused, as standard output tells.
     ScriptRefused,
+    /// The script was run, and some call hasn't returned, though all were to.
+    Unfinished,
     /// A fault, which the program tells of with a [`FaultLine`](crate::FaultLine).
     Failed(ToolFault),
 }
@@ -28,12 +30,13 @@ impl Ending {
         match answer {
             Ok(Outcome::Done) => Ending::Done,
             Ok(Outcome::Refused) => Ending::ScriptRefused,
+            Ok(Outcome::Unfinished) => Ending::Unfinished,
             Err(fault) => Ending::Failed(fault),
         }
     }
 
-    /// The exit status: 0 where all is done, 1 where the script was refused, 2 where the command line was, and else
-    /// that of the fault.
+    /// The exit status: 0 where all is done, 1 where the script was refused, 2 where the command line was, 5 where
+    /// some call hasn't returned that was to, and else that of the fault.
     pub fn status(self) -> u8
         ensures { result ≡ status_at self }
     {
@@ -41,6 +44,7 @@ impl Ending {
             Ending::Done => 0,
             Ending::ScriptRefused => 1,
             Ending::Refused => 2,
+            Ending::Unfinished => 5,
             Ending::Failed(fault) => status_of(fault),
         }
     }

@@ -15,6 +15,7 @@ Exit status:
   2  the command line was refused
   3  standard input or standard output failed
   4  there is no memory, or no thread
+  5  with --finish, some call hasn't returned
 
 Where the status is 1, 3 or 4, standard error has one line with the fault's number
 and name, as `sabsim: 14 BadView`; but `sabsim check` tells of a script that is
@@ -57,6 +58,10 @@ agent, which of its calls it is at, and what happened:
 X is a value, ok, not-equal, timed-out, a count, TypeError or RangeError. Then come for each
 block its bytes in hexadecimal, and for each agent how many of its calls returned.
 
+With --format explained there stand behind the lines, from column 20 on, words for people: what
+a call changed, who waits where and behind whom, whom a notify woke and who woke a waiter, why
+a call threw, and at the end where each agent is stuck. With --acts begin and return have no line.
+
 Example:
   echo '{"blocks":[1],"views":[{"name":"a","kind":"Uint8","block":0,"offset":0,"length":null}],
   "agents":[{"block":true,"calls":[["store","a",0,300]]}],"schedule":[0,0,0]}' | sabsim replay
@@ -68,8 +73,9 @@ writes
   agent 0 1 of 1
 
 Exit status: 0 done, 1 the script was refused, 2 the command line was refused, 3 standard
-input or standard output failed, 4 there is no memory. Where it is 1, 3 or 4, standard error
-has one line with the fault's number and name, as `sabsim: 14 BadView`.
+input or standard output failed, 4 there is no memory, 5 with --finish some call hasn't
+returned. Where it is 1, 3 or 4, standard error has one line with the fault's number and name,
+as `sabsim: 14 BadView`.
 
 What the script is refused for:
    3 TooMany    more blocks, bytes, views, agents, calls or moves than above
@@ -100,7 +106,7 @@ and what is wrong:
 A place is the names of members and the indices, counted from 0, that lead to it, as in
 JavaScript; `script` is the whole; and of a text that isn't JSON it is a line and a column.
 Of several faults one is told. In what is quoted each byte that isn't ASCII that prints is
-told by its code, as Ã, and so are a quote and a backslash.
+told by its code, as \xc3, and so are a quote and a backslash.
 
 Example:
   echo '{"blocks":[1],"views":[{"name":"a","kind":"Uint8","block":0,"offset":0,"length":null}],
@@ -113,6 +119,16 @@ too long (18 TooLong)."#;
 /// What `race` does.
 pub(crate) const RACE: &str =
     "Reads a script from standard input, runs its agents in threads, and writes what each move did";
+
+/// What `--format` chooses.
+pub(crate) const FORMAT: &str =
+    "How the report is told: plain, or explained in words behind each line";
+
+/// What `--acts` leaves out.
+pub(crate) const ACTS: &str = "Leave out the lines of begin and return";
+
+/// What `--finish` asks for.
+pub(crate) const FINISH: &str = "End with status 5, after the report, if some call hasn't returned";
 
 /// What `--share` chooses.
 pub(crate) const SHARE: &str =

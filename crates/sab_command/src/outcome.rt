@@ -1,5 +1,10 @@
 //! What a job came to.
 
+ghost use Rattle.std.specs.Prelude.{◌≡◌};
+ghost use Rattle.sab_command.specs.Outcome.{outcome_of};
+
+use sab_report::Ended;
+
 /// What a job came to that wrote all that it had to.
 #[derive(Clone, Copy, Debug, PartialEq, Eq, Hash)]
 pub enum Outcome {
@@ -7,4 +12,18 @@ pub enum Outcome {
     Done,
     /// The script was refused, and what was written says where and why.
     Refused,
+    /// All calls were to return, and some haven't.
+    Unfinished,
+}
+
+impl Outcome {
+    /// What a run came to that ended so, and in which all calls were to return or not.
+    pub(crate) fn of_run(ended: Ended, finish: bool) -> Outcome
+        ensures { result ≡ outcome_of ended finish }
+    {
+        match ended {
+            Ended::Unfinished if finish => Outcome::Unfinished,
+            _ => Outcome::Done,
+        }
+    }
 }

@@ -8,7 +8,8 @@ ghost use Rattle.sab_command.specs.Running.{RunsGiven, IsRunFault, IsUnwritten};
 use crate::command_line::Job;
 use crate::outcome::Outcome;
 use sab_check::{Checked, check_script};
-use sab_tool::{MAX_SPINS, Share, ToolFault, race_mixed, read_input, replay_bytes};
+use sab_report::{Race, Telling, race_as, replay_as};
+use sab_tool::{MAX_SPINS, ToolFault, read_input};
 use std::alloc::Global;
 use std::io::{Read, Write};
 use std::random::RandomSource;
@@ -36,11 +37,18 @@ pub fn run<T: Threads + Wait + Sync + AllocGlobal + RandomSource, R: Read, W: Wr
     ensures unwritten { IfErr result (IsUnwritten (W.contents output.old) (W.contents output.new)) }
 {
     match job {
-        Job::Replay => replay(rt.alloc(), input, output),
+        Job::Replay { telling, finish } => replay(rt.alloc(), telling, finish, input, output),
         Job::Check => check(rt.alloc(), input, output),
-        Job::Race { share, spins, mix } => {
+        Job::Race {
+            share,
+            spins,
+            mix,
+            telling,
+            finish,
+        } => {
             let seed = seed_of(rt, mix);
-            race(rt, share, spins, seed, input, output)
+            let how = Race { share, spins, seed };
+            race(rt, how, telling, finish, input, output)
         }
     }
 }
@@ -49,19 +57,22 @@ pub fn run<T: Threads + Wait + Sync + AllocGlobal + RandomSource, R: Read, W: Wr
 #[tactic(auto, using(crate::proofs::Flushed::flushed))]
 fn replay<R: Read, W: Write>(
     alloc: Global,
+    telling: Telling,
+    finish: bool,
     input: &mut R,
     output: &mut W,
 ) -> Result<Outcome, ToolFault>
     ensures ok { IfOk result (λ outcome. IfSome (R.remaining input.old)
-        (RunsGiven Job.Replay outcome (W.contents output.old) (W.contents output.new))) }
+        (RunsGiven (Job.Replay telling finish) outcome (W.contents output.old) (W.contents output.new))) }
     ensures end { OnOk result (IsAtEnd (R.remaining input.new)) }
-    ensures err { IfErr result (IsRunFault (R.remaining input.old) Job.Replay (W.contents output.old) (W.contents output.new)) }
+    ensures err { IfErr result (IsRunFault (R.remaining input.old) (Job.Replay telling finish)
+        (W.contents output.old) (W.contents output.new)) }
     ensures unwritten { IfErr result (IsUnwritten (W.contents output.old) (W.contents output.new)) }
 {
     let script = read_input(alloc, input)?;
-    replay_bytes(alloc, script.as_slice(), output)?;
+    let ended = replay_as(alloc, script.as_slice(), telling, output)?;
     output.flush().map_err(|_| ToolFault::WriteFailed)?;
-    Ok(Outcome::Done)
+    Ok(Outcome::of_run(ended, finish))
 }
 
 /// Checks the script that a reader gives.
@@ -120,23 +131,25 @@ fn seed_of(rt: &impl RandomSource, mix: Option<u64>) -> u64
 #[tactic(auto, using(crate::proofs::Flushed::flushed_race))]
 fn race<T: Threads + Wait + Sync + AllocGlobal, R: Read, W: Write>(
     rt: &T,
-    share: Share,
-    spins: u32,
-    seed: u64,
+    how: Race,
+    telling: Telling,
+    finish: bool,
     input: &mut R,
     output: &mut W,
 ) -> Result<Outcome, ToolFault>
-    requires { spins ≤ MAX_SPINS }
-    ensures ok { IfOk result (λ outcome. IfSome (R.remaining input.old)
-        (RunsGiven (Job.Race share spins (Some seed)) outcome (W.contents output.old) (W.contents output.new))) }
+    requires { how.spins ≤ MAX_SPINS }
+    ensures ok { IfOk result (λ outcome. IfSome (R.remaining input.old) (RunsGiven
+        (Job.Race how.share how.spins (Some how.seed) telling finish) outcome
+        (W.contents output.old) (W.contents output.new))) }
     ensures end { OnOk result (IsAtEnd (R.remaining input.new)) }
-    ensures err { IfErr result (IsRunFault (R.remaining input.old) (Job.Race share spins (Some seed))
+    ensures err { IfErr result (IsRunFault (R.remaining input.old)
+        (Job.Race how.share how.spins (Some how.seed) telling finish)
         (W.contents output.old) (W.contents output.new)) }
     ensures unwritten { IfErr result (IsUnwritten (W.contents output.old) (W.contents output.new)) }
 {
     let alloc = rt.alloc();
     let script = read_input(alloc, input)?;
-    race_mixed(rt, alloc, script.as_slice(), share, spins, seed, output)?;
+    let ended = race_as(rt, alloc, script.as_slice(), how, telling, output)?;
     output.flush().map_err(|_| ToolFault::WriteFailed)?;
-    Ok(Outcome::Done)
+    Ok(Outcome::of_run(ended, finish))
 }

@@ -14,6 +14,8 @@ use Rattle.sab_explain.specs.declared.standing.At.TheVariants as A
 use Rattle.sab_explain.specs.declared.standing.Standing.{Standing}
 use Rattle.sab_explain.specs.Fact.{IsFact, IsOnlyFact}
 use Rattle.sab_explain.specs.Standing.{IsStanding, IsOnlyStanding}
+use Rattle.sab_text.specs.declared.lines.Lines.{Lines}
+use Rattle.sab_text.specs.Lines.{line_if}
 use Rattle.sab_text.specs.Text.{entry_text, agent_text, agent_line, block_lines}
 use Rattle.sab_fact_text.specs.CallText.{call_text, element_text}
 use Rattle.sab_fact_text.specs.FactText.{stand_text, fact_words}
@@ -34,17 +36,18 @@ explained_line names plan sinces k e fact =
 abbrev pub noted : List (Option ℕ) → ℕ → Entry → List (Option ℕ)
 noted sinces k e = if is_stuck e.what then sinces else slice_set sinces e.agent (Some k)
 
--- a line for each entry with its fact, of which the first is entry k
-abbrev pub explained_lines : List (List ℕ) → PlanParts → List (Option ℕ) → ℕ → List Entry → List Fact → List ℕ
-explained_lines names plan sinces k [] facts = []
-explained_lines names plan sinces k (e ∷ journal) [] = []
-explained_lines names plan sinces k (e ∷ journal) (fact ∷ facts) =
-    explained_line names plan sinces k e fact ++ explained_lines names plan (noted sinces k e) (k + 1) journal facts
+-- a line for each entry that has one, with its fact, of which the first is entry k
+abbrev pub explained_lines : List (List ℕ) → PlanParts → Lines → List (Option ℕ) → ℕ → List Entry → List Fact → List ℕ
+explained_lines names plan lines sinces k [] facts = []
+explained_lines names plan lines sinces k (e ∷ journal) [] = []
+explained_lines names plan lines sinces k (e ∷ journal) (fact ∷ facts) =
+    line_if lines e.what (explained_line names plan sinces k e fact)
+    ++ explained_lines names plan lines (noted sinces k e) (k + 1) journal facts
 
 -- whether a place was notified while an agent waits there
 abbrev pub passed_text : List ℕ → Bool → List ℕ
 passed_text element false = codes "; nobody has notified " ++ element ++ codes " since"
-passed_text element true = codes "; " ++ element ++ codes " was notified since, but it wasn't woken"
+passed_text element true = codes "; " ++ element ++ codes " was notified since, waking others or nobody"
 
 -- at which entry a call began, where that is known
 abbrev pub at_text : Option ℕ → List ℕ
@@ -90,10 +93,10 @@ standing_lines names standings a (p ∷ agents) =
 abbrev pub no_sinces : List (Option ℕ)
 no_sinces = replicate 16 None
 
--- the explained text of a report
-abbrev pub explained_text : List (List ℕ) → PlanParts → ReportParts → List Fact → List (Option Standing) → List ℕ
-explained_text names plan report facts standings =
-    explained_lines names plan no_sinces 0 report.journal facts ++ block_lines 0 report.blocks
+-- the explained text of a report, its journal by these lines
+abbrev pub explained_text : List (List ℕ) → PlanParts → Lines → ReportParts → List Fact → List (Option Standing) → List ℕ
+explained_text names plan lines report facts standings =
+    explained_lines names plan lines no_sinces 0 report.journal facts ++ block_lines 0 report.blocks
     ++ standing_lines names standings 0 report.agents
 
 -- the fact is that of an entry after a journal, and no other is
@@ -108,11 +111,11 @@ pub record AreFacts (plan : PlanParts) (journal : List Entry) (facts : List Fact
       → IsTheFact plan (take k journal) e fact
 
 -- the explained lines of a journal came behind what was told
-pub record Told (names : List (List ℕ)) (plan : PlanParts) (journal : List Entry) (old new : Option (List ℕ)) : Type 0
-  where
-    pub facts : List Fact
-    pub are : AreFacts plan journal facts
-    pub written : Appends old new (explained_lines names plan no_sinces 0 journal facts)
+pub record Told (names : List (List ℕ)) (plan : PlanParts) (lines : Lines) (journal : List Entry)
+    (old new : Option (List ℕ)) : Type 0 where
+  pub facts : List Fact
+  pub are : AreFacts plan journal facts
+  pub written : Appends old new (explained_lines names plan lines no_sinces 0 journal facts)
 
 -- where an agent stands after a journal, and in no other way; none where all its calls have returned
 abbrev pub IsStandingOf : PlanParts → List Entry → ℕ → Option Standing → Type 0
@@ -124,8 +127,8 @@ abbrev pub AreStandings : PlanParts → List Entry → List (Option Standing) �
 AreStandings plan journal standings = (a : ℕ) → a < 16 → IsStandingOf plan journal a (slice_index_or standings a None)
 
 -- the one report of the moves fits, and its explained text came behind what the writer held
-pub record Explains (names : List (List ℕ)) (plan : PlanParts) (moves : List Move) (old new : Option (List ℕ))
-    (report : ReportParts) : Type 0 where
+pub record Explains (names : List (List ℕ)) (plan : PlanParts) (lines : Lines) (moves : List Move)
+    (old new : Option (List ℕ)) (report : ReportParts) : Type 0 where
   pub fits : Fits plan report
   pub one : IsOnly plan report
   pub schedule : report.schedule ≡ moves
@@ -133,4 +136,4 @@ pub record Explains (names : List (List ℕ)) (plan : PlanParts) (moves : List M
   pub facts_are : AreFacts plan report.journal facts
   pub standings : List (Option Standing)
   pub standings_are : AreStandings plan report.journal standings
-  pub written : Appends old new (explained_text names plan report facts standings)
+  pub written : Appends old new (explained_text names plan lines report facts standings)

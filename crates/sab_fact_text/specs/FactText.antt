@@ -7,6 +7,8 @@ use Rattle.sab_block.specs.declared.operand.Operand.{Operand}
 use Rattle.sab_block.specs.Kind.{is_big}
 use Rattle.sab_block.specs.Operand.{whole_of}
 use Rattle.sab_block.specs.View.{kind_of, len_of}
+use Rattle.sab_sim.specs.declared.answer.Answer.{Answer}
+use Rattle.sab_sim.specs.declared.answer.Answer.TheVariants.{Threw}
 use Rattle.sab_sim.specs.declared.call.Call.{Call}
 use Rattle.sab_sim.specs.declared.call.Call.TheVariants as C
 use Rattle.sab_sim.specs.declared.plan_view.PlanView.{PlanView}
@@ -196,10 +198,15 @@ stuck_text names call since why F.Waited =
 stuck_text names call since why (F.WokenBy k) = codes "doesn't wait any more: it was woken by " ++ decimal k
 stuck_text names call since why found = codes "doesn't wait"
 
+-- how a call ends that has this answer
+abbrev pub return_words : Answer → List ℕ
+return_words (Threw thrown) = codes "throws out of "
+return_words answer = codes "returns from "
+
 -- what an entry did, of an agent that has a call left
 abbrev pub called_words : List (List ℕ) → PlanParts → List (Option ℕ) → ℕ → Call → Fact → What → List ℕ
 called_words names plan sinces a call fact Began = codes "calls " ++ call_text names call
-called_words names plan sinces a call fact (Returned x) = codes "returns from " ++ call_text names call
+called_words names plan sinces a call fact (Returned x) = return_words x ++ call_text names call
 called_words names plan sinces a call fact (Stuck why) = stuck_text names call fact.since why fact.found
 called_words names plan sinces a call fact what =
     call_text names call ++ outcome_text names plan sinces a call fact.since fact.found

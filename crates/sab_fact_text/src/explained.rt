@@ -1,16 +1,17 @@
 //! The lines of entries, with words behind them.
 
 ghost use Rattle.std.specs.Prelude.{◌≡◌, ◌+◌, ◌≤◌, ◌++◌, length};
+ghost use Rattle.sab_text.specs.Lines.{line_if};
 ghost use Rattle.sab_fact_text.specs.CallText.{call_text};
-ghost use Rattle.sab_fact_text.specs.FactText.{wait_text, stuck_text, done_text, called_words, fact_words};
+ghost use Rattle.sab_fact_text.specs.FactText.{wait_text, stuck_text, done_text, return_words, called_words, fact_words};
 ghost use Rattle.sab_fact_text.specs.Explained.{spaced, explained_line};
 
 use crate::call_text::{CALL_LEN, push_call, push_stand};
 use crate::name::Name;
 use crate::outcome_text::push_outcome;
-use sab_explain::{Fact, Found};
-use sab_sim::{Call, Entry, Plan, What, Why};
-use sab_text::{Chunk, Line, prepend_entry};
+use sab_explain::{Explained, Fact, Found};
+use sab_sim::{Answer, Call, Entry, Plan, What, Why};
+use sab_text::{Chunk, Line, Lines, prepend_entry};
 
 /// The most bytes of why a wait goes on.
 const WAIT_LEN: usize = 205;
@@ -24,10 +25,29 @@ const WORDS_LEN: usize = 1_150;
 /// As many spaces as there are columns before the words.
 const SPACES: &[u8; 20] = b"                    ";
 
-/// Puts the line of an entry last, which is entry `k` of its journal, with its fact in words behind it.
+/// Puts the line of an entry last, if it has one, with its fact in words behind it; it is entry `k` of its journal.
 ///
 /// `sinces` has for each agent the position of its last entry before this one that had an effect.
 pub fn push_explained(
+    names: &[Name],
+    plan: &Plan,
+    lines: Lines,
+    sinces: &[Option<u32>],
+    k: usize,
+    told: &Explained,
+    chunk: &mut Chunk,
+)
+    requires { length chunk.old + Chunk.LINE_ROOM ≤ Chunk.ROOM }
+    ensures { chunk.new ≡ chunk.old ++ line_if lines told.now.entry.what
+        (explained_line names.now plan.now sinces.now k told.now.entry told.now.fact) }
+{
+    if lines.has(told.entry.what) {
+        push_line(names, plan, sinces, k, &told.entry, &told.fact, chunk);
+    }
+}
+
+/// Puts the line of an entry last, with its fact in words behind it.
+fn push_line(
     names: &[Name],
     plan: &Plan,
     sinces: &[Option<u32>],
@@ -108,8 +128,8 @@ fn push_called(
             chunk.push(b"calls ");
             push_call(names, call, chunk);
         }
-        What::Returned(_) => {
-            chunk.push(b"returns from ");
+        What::Returned(answer) => {
+            push_return(answer, chunk);
             push_call(names, call, chunk);
         }
         What::Stuck(why) => push_stuck(names, call, why, fact, chunk),
@@ -117,6 +137,18 @@ fn push_called(
             push_call(names, call, chunk);
             push_outcome(names, plan, sinces, entry.agent, call, fact, chunk);
         }
+    }
+}
+
+/// Puts last how a call ends that has this answer.
+fn push_return(answer: Answer, chunk: &mut Chunk)
+    requires { length chunk.old + 14 ≤ Chunk.ROOM }
+    ensures bytes { chunk.new ≡ chunk.old ++ return_words answer }
+    ensures len { length chunk.new ≤ length chunk.old + 14 }
+{
+    match answer {
+        Answer::Threw(_) => chunk.push(b"throws out of "),
+        _ => chunk.push(b"returns from "),
     }
 }
 

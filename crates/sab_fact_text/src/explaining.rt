@@ -11,17 +11,19 @@ use crate::name::Name;
 use crate::standings::{standings_of, write_standings};
 use sab_explain::{Explainer, Standing};
 use sab_sim::{Entry, Move, Report, What};
-use sab_text::{Chunk, write_blocks};
+use sab_text::{Chunk, Lines, write_blocks};
 use std::io;
 use std::io::Write;
 
-/// Makes all moves of a schedule, for which the room is reserved, and writes the explained text of its report.
+/// Makes all moves of a schedule, for which the room is reserved, and writes the explained text of its report, the
+/// journal by these lines.
 ///
 /// It takes no memory, and doesn't flush. Where a write failed nothing is said of how much was written.
 pub fn write_explained<W: Write>(
     mut explainer: Explainer,
     names: &[Name],
     schedule: &[Move],
+    lines: Lines,
     w: &mut W,
 ) -> io::Result<Report>
     requires moves { explainer.moves ≡ [] }
@@ -29,10 +31,10 @@ pub fn write_explained<W: Write>(
     requires named { All (λ m. agent_of m < length explainer.plan.scripts) schedule.now }
     requires few { length schedule.now ≤ 2 ^ 20 }
     requires reserved { length schedule.now ≤ explainer.reserved }
-    ensures { IfOk result (Explains names.now explainer.plan schedule.now (W.contents w.old) (W.contents w.new)) }
+    ensures { IfOk result (Explains names.now explainer.plan lines schedule.now (W.contents w.old) (W.contents w.new)) }
 {
     let mut chunk = Chunk::new();
-    write_moves(&mut explainer, names, schedule, &mut chunk, w)?;
+    write_moves(&mut explainer, names, schedule, lines, &mut chunk, w)?;
     let standings = standings_of(&explainer);
     let report = explainer.finish();
     write_end(names, &standings, &report, &mut chunk, w)?;
@@ -57,14 +59,15 @@ fn write_end<W: Write>(
     chunk.write(w)
 }
 
-/// Makes all moves of a schedule, for which the room is reserved, and writes the explained line of each; the last lines
-/// may stay in the chunk.
+/// Makes all moves of a schedule, for which the room is reserved, and writes the explained line of each that has one;
+/// the last lines may stay in the chunk.
 ///
 /// Where a write failed, nothing is said of how many moves were made or how much was written.
 fn write_moves<W: Write>(
     explainer: &mut Explainer,
     names: &[Name],
     schedule: &[Move],
+    lines: Lines,
     chunk: &mut Chunk,
     w: &mut W,
 ) -> io::Result<()>
@@ -76,7 +79,7 @@ fn write_moves<W: Write>(
     requires room { length chunk.old + Chunk.LINE_ROOM ≤ Chunk.ROOM }
     ensures plan { OnOk result (explainer.new.plan ≡ explainer.old.plan) }
     ensures moves { OnOk result (explainer.new.moves ≡ schedule.now) }
-    ensures told { OnOk result (Told names.now explainer.old.plan explainer.new.journal
+    ensures told { OnOk result (Told names.now explainer.old.plan lines explainer.new.journal
         (append_known (W.contents w.old) chunk.old) (append_known (W.contents w.new) chunk.new)) }
     ensures room { OnOk result (length chunk.new + Chunk.LINE_ROOM ≤ Chunk.ROOM) }
 {
@@ -86,7 +89,7 @@ fn write_moves<W: Write>(
             unreachable!();
         };
         let plan = explainer.sim().plan();
-        push_explained(names, plan, &sinces, k, &told.entry, &told.fact, chunk);
+        push_explained(names, plan, lines, &sinces, k, &told, chunk);
         chunk.make_room(w)?;
         note(&mut sinces, k as u32, told.entry);
     }

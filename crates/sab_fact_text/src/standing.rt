@@ -109,7 +109,7 @@ fn push_passed(names: &[Name], call: Call, notified: bool, chunk: &mut Chunk)
     if notified {
         chunk.push(b"; ");
         push_element(names, call, chunk);
-        chunk.push(b" was notified since, but it wasn't woken");
+        chunk.push(b" was notified since, waking others or nobody");
     } else {
         chunk.push(b"; nobody has notified ");
         push_element(names, call, chunk);

@@ -6,6 +6,8 @@ use Rattle.std.proofs.lemmas.Result.{on_ok_weaker}
 use Rattle.sab_sim.specs.declared.entry.Entry.{Entry}
 use Rattle.sab_sim.specs.declared.progress.Progress.{Progress}
 use Rattle.sab_sim.specs.Report.{items_of_each}
+use Rattle.sab_text.specs.declared.lines.Lines.{Lines}
+use Rattle.sab_text.specs.Lines.{line_if}
 use Rattle.sab_text.specs.Text.{entry_line, journal_lines, block_line, block_lines, agent_line, agent_lines}
 
 pub appends_both : (a b c : Option (List ℕ)) (xs ys : List ℕ) → Appends a b xs → Appends b c ys → Appends a c (xs ++ ys)
@@ -78,17 +80,23 @@ pub left_after : (a b y : Option (List ℕ)) (chunk piece rest all : List ℕ)
 left_after a b y chunk piece rest all p q =
     left_told a (append_known b chunk) y piece rest all p (kept_appended b y chunk piece q)
 
-journal_left : (es : List Entry) (k : ℕ) (d : Entry) → k < length es
-    → journal_lines k (drop k es) ≡ entry_line k (get_or es k d) ++ journal_lines (k + 1) (drop (k + 1) es)
-journal_left es k d h = rw (drop-cons es k d, add-one) refl
+-- the line of entry k, if it has one
+abbrev line_at : Lines → ℕ → Entry → List ℕ
+line_at lines k e = line_if lines e.what (entry_line k e)
 
-pub journal_after : (a b y : Option (List ℕ)) (chunk : List ℕ) (es : List Entry) (k : ℕ) (d : Entry) (all : List ℕ)
-    → k < length es → Appends a (append_known (append_known b chunk) (journal_lines k (drop k es))) all
-    → Keeps (append_known b (chunk ++ entry_line k (get_or es k d))) y
-    → Appends a (append_known y (journal_lines (k + 1) (drop (k + 1) es))) all
-journal_after a b y chunk es k d all h p q =
-    left_after a b y chunk (entry_line k (get_or es k d)) (journal_lines (k + 1) (drop (k + 1) es)) all
-    (rw (journal_left es k d h) at p) q
+journal_left : (lines : Lines) (es : List Entry) (k : ℕ) (d : Entry) → k < length es
+    → journal_lines lines k (drop k es)
+    ≡ line_at lines k (get_or es k d) ++ journal_lines lines (k + 1) (drop (k + 1) es)
+journal_left lines es k d h = rw (drop-cons es k d, add-one) refl
+
+pub journal_after : (a b y : Option (List ℕ)) (chunk : List ℕ) (lines : Lines) (es : List Entry) (k : ℕ) (d : Entry)
+    (all : List ℕ)
+    → k < length es → Appends a (append_known (append_known b chunk) (journal_lines lines k (drop k es))) all
+    → Keeps (append_known b (chunk ++ line_at lines k (get_or es k d))) y
+    → Appends a (append_known y (journal_lines lines (k + 1) (drop (k + 1) es))) all
+journal_after a b y chunk lines es k d all h p q =
+    left_after a b y chunk (line_at lines k (get_or es k d)) (journal_lines lines (k + 1) (drop (k + 1) es)) all
+    (rw (journal_left lines es k d h) at p) q
 
 blocks_left : (bs : List (Vec ℕ Global)) (k : ℕ) (d : Vec ℕ Global) → k < length bs
     → block_lines k (items_of_each (drop k bs)) ≡ block_line k (get_or bs k d).items

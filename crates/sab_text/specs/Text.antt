@@ -13,6 +13,9 @@ use Rattle.sab_sim.specs.declared.entry.What.TheVariants.{Began, Acted, Enlisted
 use Rattle.sab_sim.specs.declared.entry.Entry.{Entry}
 use Rattle.sab_sim.specs.declared.progress.Progress.{Progress}
 use Rattle.sab_sim.specs.Report.{ReportParts}
+use Rattle.sab_text.specs.declared.lines.Lines.{Lines}
+use Rattle.sab_text.specs.declared.lines.Lines.TheVariants.{All}
+use Rattle.sab_text.specs.Lines.{line_if}
 
 -- the whole number, and behind it "n" where it is a BigInt
 abbrev pub operand_text : Operand → List ℕ
@@ -51,10 +54,10 @@ entry_text k e = field k ++ field e.agent ++ field e.call ++ what_text e.what
 abbrev pub entry_line : ℕ → Entry → List ℕ
 entry_line k e = entry_text k e ++ codes "\n"
 
--- a line for each entry, of which the first is entry k
-abbrev pub journal_lines : ℕ → List Entry → List ℕ
-journal_lines k [] = []
-journal_lines k (e ∷ journal) = entry_line k e ++ journal_lines (k + 1) journal
+-- a line for each entry that has one, of which the first is entry k
+abbrev pub journal_lines : Lines → ℕ → List Entry → List ℕ
+journal_lines lines k [] = []
+journal_lines lines k (e ∷ journal) = line_if lines e.what (entry_line k e) ++ journal_lines lines (k + 1) journal
 
 -- a byte in two lower-case hexadecimal digits
 abbrev pub hex_byte : ℕ → List ℕ
@@ -86,6 +89,11 @@ abbrev pub agent_lines : ℕ → List Progress → List ℕ
 agent_lines a [] = []
 agent_lines a (p ∷ agents) = agent_line a p ++ agent_lines (a + 1) agents
 
+-- the text of a report whose journal is told by these lines
+abbrev pub text_by : Lines → ReportParts → List ℕ
+text_by lines report =
+    journal_lines lines 0 report.journal ++ block_lines 0 report.blocks ++ agent_lines 0 report.agents
+
 -- the text of a report
 abbrev pub text : ReportParts → List ℕ
-text report = journal_lines 0 report.journal ++ block_lines 0 report.blocks ++ agent_lines 0 report.agents
+text = text_by All

@@ -2,9 +2,11 @@
 
 ghost use Rattle.std.specs.Prelude.{◌≡◌, ◌+◌, ◌≤◌, ◌++◌, length};
 ghost use Rattle.sab_text.specs.Text.{operand_text, answer_text, why_text, what_text, entry_text, entry_line};
+ghost use Rattle.sab_text.specs.Lines.{line_if};
 
 use crate::chunk::Chunk;
 use crate::line::Line;
+use crate::lines::Lines;
 use sab_block::{Operand, Thrown};
 use sab_sim::{Answer, Entry, What, Why};
 
@@ -17,11 +19,14 @@ const WHAT_LEN: usize = 48;
 /// The most bytes of an entry's text: three numbers, and what a move did.
 const ENTRY_LEN: usize = 111;
 
-/// Puts the line of an entry last, which is entry `k` of its journal.
-pub fn push_entry(k: usize, entry: &Entry, chunk: &mut Chunk)
+/// Puts the line of an entry last, if it has one; it is entry `k` of its journal.
+pub fn push_entry(lines: Lines, k: usize, entry: &Entry, chunk: &mut Chunk)
     requires { length chunk.old + Chunk.LINE_ROOM ≤ Chunk.ROOM }
-    ensures { chunk.new ≡ chunk.old ++ entry_line k entry.now }
+    ensures { chunk.new ≡ chunk.old ++ line_if lines entry.now.what (entry_line k entry.now) }
 {
+    if !lines.has(entry.what) {
+        return;
+    }
     let mut line = Line::new();
     line.prepend(b"\n");
     prepend_entry(k, entry, &mut line);

@@ -61,11 +61,10 @@ none_refused agents k (m ∷ ms) h few =
     rw (a, b) (none_refused agents (suc k) ms (All-tail (λ (m : Move). agent_of m < agents) m ms h) (omega arith))
 
 -- few moves, each of an agent that is there, are refused for want of memory alone
-pub refused_memory : (plan of : PlanParts) (ms schedule : List Move) (fault : SimFault) → plan ≡ of → ms ≡ schedule
-    → All (λ m. agent_of m < length of.scripts) schedule → length schedule ≤ 100000 → IsRefusal plan ms fault
+pub refused_memory : (plan : PlanParts) (moves : List Move) (fault : SimFault)
+    → All (λ m. agent_of m < length plan.scripts) moves → length moves ≤ 2 ^ 20 → IsRefusal plan moves fault
     → fault ≡ F.OutOfMemory
-refused_memory plan of ms schedule fault p m h few (inl e) = e
-refused_memory plan of ms schedule fault p m h few (inr e) =
-    let n = none_refused (length of.scripts) 0 schedule h (omega arith) in
-    let e' = rw (p, m) at e in
+refused_memory plan moves fault h few (inl e) = e
+refused_memory plan moves fault h few (inr e) =
+    let n = none_refused (length plan.scripts) 0 moves h (omega (arith, few)) in
     cc

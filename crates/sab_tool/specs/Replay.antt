@@ -2,6 +2,8 @@
 use Rattle.std.specs.Prelude.{◌≡◌, ◌⊎◌, ℕ, List, Option}
 use Rattle.std.specs.Io.KnownBytes.{Appends, Keeps}
 use Rattle.serde_json.specs.Data.{Data}
+use Rattle.sab_sim.specs.declared.schedule.Move.{Move}
+use Rattle.sab_sim.specs.Plan.{PlanParts}
 use Rattle.sab_sim.specs.Report.{ReportParts, Fits, IsOnly}
 use Rattle.sab_script.specs.declared.read_fault.ReadFault.{ReadFault}
 use Rattle.sab_script.specs.declared.read_fault.ReadFault.TheVariants as R
@@ -46,11 +48,15 @@ IsRefused script BadAgent = SpellsNone script
 IsRefused script NoBlock = SpellsNone script
 IsRefused script _ = ⊥
 
+-- the one report that fits the plan and has these moves
+pub record IsReplayOf (plan : PlanParts) (moves : List Move) (report : ReportParts) : Type 0 where
+  pub fits : Fits plan report
+  pub schedule : report.schedule ≡ moves
+  pub one : IsOnly plan report
+
 -- the one report that fits the setup's plan and has its schedule
-pub record IsReportOf (setup : SetupParts) (report : ReportParts) : Type 0 where
-  pub fits : Fits setup.plan report
-  pub schedule : report.schedule ≡ setup.schedule
-  pub one : IsOnly setup.plan report
+abbrev pub IsReportOf : SetupParts → ReportParts → Type 0
+IsReportOf setup report = IsReplayOf setup.plan setup.schedule report
 
 -- the script spells a setup, and just the text of its report came behind what the writer held
 pub record Replays (old new : Option (List ℕ)) (script : List ℕ) : Type 0 where

@@ -58,12 +58,12 @@ pub fn race_mixed<R: Threads + Wait + Sync, W: Write>(
 {
     let setup = setup_of(alloc, script)?;
     let (plan, _) = setup.into_parts();
-    let report = run(rt, alloc, plan, share, spins, seed)?;
+    let report = race_plan(rt, alloc, plan, share, spins, seed)?;
     write_report(&report, w)
 }
 
-/// Runs the agents of a plan in threads.
-fn run<R: Threads + Wait + Sync>(
+/// Runs the agents of a plan in threads, mixed by a seed, and answers the report of what happened.
+pub fn race_plan<R: Threads + Wait + Sync>(
     rt: &R,
     alloc: Global,
     plan: Plan,

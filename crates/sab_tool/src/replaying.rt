@@ -1,15 +1,14 @@
 //! From a script to the text of its report.
 
-ghost use Rattle.std.specs.Prelude.{◌≡◌, ◌<◌, ◌≤◌, length, All, IfOk, OnOk, IfErr};
+ghost use Rattle.std.specs.Prelude.{◌^◌, ◌<◌, ◌≤◌, length, All, IfOk, OnOk, IfErr};
 ghost use Rattle.sab_sim.specs.Schedule.{agent_of};
-ghost use Rattle.sab_tool.specs.Replay.{IsReportOf, Replays, IsReplayFault};
+ghost use Rattle.sab_tool.specs.Replay.{IsReplayOf, Replays, IsReplayFault};
 
 use crate::report::write_report;
 use crate::script::setup_of;
 use crate::tool_fault::ToolFault;
-use sab_script::{MAX_MOVES, Setup};
-use sab_sim::{Report, SimFault, replay};
-use std::alloc::Global;
+use sab_sim::{Move, Plan, Report, SimFault, replay};
+use std::alloc::{AllocError, Global};
 use std::io::Write;
 
 /// Runs a script, and writes the text of its report; it doesn't flush.
@@ -22,22 +21,21 @@ pub fn replay_bytes<W: Write>(alloc: Global, script: &[u8], w: &mut W) -> Result
     ensures err { IfErr result (IsReplayFault (W.contents w.old) (W.contents w.new) script.now) }
 {
     let setup = setup_of(alloc, script)?;
-    let report = report_of(alloc, setup)?;
+    let (plan, schedule) = setup.into_parts();
+    let report = replay_moves(alloc, plan, schedule.as_slice())?;
     write_report(&report, w)
 }
 
-/// The report of a setup.
-fn report_of(alloc: Global, setup: Setup) -> Result<Report, ToolFault>
-    requires few { length setup.schedule ≤ MAX_MOVES }
-    requires named { All (λ m. agent_of m < length setup.plan.scripts) setup.schedule }
-    ensures report { IfOk result (IsReportOf setup) }
-    ensures err { IfErr result (λ fault. fault ≡ ToolFault.OutOfMemory) }
+/// Makes the moves of a schedule, at most 2^20 and each of an agent of the plan, and answers their report.
+pub fn replay_moves(alloc: Global, plan: Plan, schedule: &[Move]) -> Result<Report, AllocError>
+    requires few { length schedule.now ≤ 2 ^ 20 }
+    requires named { All (λ m. agent_of m < length plan.scripts) schedule.now }
+    ensures { IfOk result (IsReplayOf plan schedule.now) }
 {
-    let (plan, schedule) = setup.into_parts();
-    match replay(alloc, plan, schedule.as_slice()) {
+    match replay(alloc, plan, schedule) {
         Ok(report) => Ok(report),
         Err(fault) => match fault {
-            SimFault::OutOfMemory => Err(ToolFault::OutOfMemory),
+            SimFault::OutOfMemory => Err(AllocError),
             SimFault::NoAgent | SimFault::Full => unreachable!(),
         },
     }

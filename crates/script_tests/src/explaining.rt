@@ -1,6 +1,6 @@
 //! The explained text of a script's report.
 
-use sab_explained::explain_bytes;
+use sab_report::{Ended, Format, Lines, Telling, replay_as};
 use sab_tool::ToolFault;
 use std::test::Fail;
 
@@ -28,17 +28,23 @@ agent 0 0 of 1      hasn't returned from wait(m, 0, 0)
 agent 1 2 of 2
 ";
 
+/// In words, and whole.
+const EXPLAINED: Telling = Telling {
+    format: Format::Explained,
+    lines: Lines::All,
+};
+
 #[test]
 fn a_report_is_explained(rt: HostRuntime) -> Result<(), Fail> {
     let mut text = Vec::new(rt.alloc());
-    explain_bytes(rt.alloc(), WOKEN.as_bytes(), &mut text)?;
-    assert!(rt; text.as_slice() == ITS_STORY.as_bytes());
+    let ended = replay_as(rt.alloc(), WOKEN.as_bytes(), EXPLAINED, &mut text)?;
+    assert!(rt; ended == Ended::Unfinished && text.as_slice() == ITS_STORY.as_bytes());
     Ok(())
 }
 
 #[test]
 fn a_script_that_is_refused_is_not_explained(rt: HostRuntime) {
     let mut text = Vec::new(rt.alloc());
-    let answer = explain_bytes(rt.alloc(), b"{}", &mut text);
+    let answer = replay_as(rt.alloc(), b"{}", EXPLAINED, &mut text);
     assert!(rt; answer == Err(ToolFault::BadShape) && text.is_empty());
 }

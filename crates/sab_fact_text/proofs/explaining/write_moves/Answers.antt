@@ -5,8 +5,8 @@ use Rattle.std.specs.Io.KnownBytes.{append_known}
 use Rattle.sab_sim.specs.declared.schedule.Move.TheVariants.{Step}
 use Rattle.sab_sim.specs.Plan.{PlanParts}
 use Rattle.sab_sim.specs.Sim.{SimParts}
-use Rattle.sab_fact_text.specs.Explained.{IsTheFact, no_sinces, noted, explained_line}
-use Rattle.sab_fact_text.proofs.Telling.{told_more, sinces_after-push}
+use Rattle.sab_fact_text.specs.Explained.{IsTheFact, no_sinces, noted}
+use Rattle.sab_fact_text.proofs.Telling.{told_more, sinces_after-push, line_at}
 use Rattle.sab_fact_text.proofs.explaining.write_moves.Goals as goal
 
 pub loop-k-preserved : goal.loop-k-preserved
@@ -14,9 +14,9 @@ loop-k-preserved g c =
     let position : c.loop-k.k ≡ 0 + length c.loop-k.explainer.journal = omega (arith, c.loop-k.invariant.count) in
     let plan : c.plan-plan.result.now ≡ c.args.explainer.now.plan = c.plan-plan.ensures
     ∙ (ap (λ (s : SimParts). s.plan) c.sim.ensures ∙ (c.step.ensures.plan ∙ c.loop-k.invariant.plan)) in
-    let line : c.push_explained.new.chunk ≡ c.loop-k.chunk ++ explained_line c.args.names.now c.args.explainer.now.plan
-    c.loop-k.sinces c.loop-k.k c.in-Ok.told.entry c.in-Ok.told.fact
-    = subst (λ (p : PlanParts). c.push_explained.new.chunk ≡ c.loop-k.chunk ++ explained_line c.args.names.now p
+    let line : c.push_explained.new.chunk ≡ c.loop-k.chunk ++ line_at c.args.names.now c.args.explainer.now.plan
+    c.args.lines c.loop-k.sinces c.loop-k.k c.in-Ok.told.entry c.in-Ok.told.fact
+    = subst (λ (p : PlanParts). c.push_explained.new.chunk ≡ c.loop-k.chunk ++ line_at c.args.names.now p c.args.lines
     c.loop-k.sinces c.loop-k.k c.in-Ok.told.entry c.in-Ok.told.fact) plan c.push_explained.ensures in
     record {
       plan = c.step.ensures.plan ∙ c.loop-k.invariant.plan;
@@ -39,7 +39,7 @@ loop-k-preserved g c =
           (c.note.ensures ∙ ap (λ (n : ℕ). noted c.loop-k.sinces n c.in-Ok.told.entry) position);
       reserved = omega (arith, c.step.ensures.reserved, c.loop-k.invariant.reserved);
       told =
-          rw c.in-Ok.ensures.journal (told_more c.args.names.now c.args.explainer.now.plan c.loop-k.explainer.journal _
+          rw c.in-Ok.ensures.journal (told_more c.args.names.now c.args.explainer.now.plan c.args.lines c.loop-k.explainer.journal _
           (g.W.Write.contents c.loop-k.w)
           (append_known (g.W.Write.contents c.make_room.new.w) c.make_room.new.self) c.loop-k.chunk c.loop-k.sinces
           c.loop-k.k c.in-Ok.told.entry c.in-Ok.told.fact

@@ -2,7 +2,8 @@
 use Rattle.sab_tool.proofs.ReplaySteps.{spelled_moves}
 use Rattle.sab_tool.proofs.replaying.replay_bytes.Goals as goal
 
-pub report_of-requires-clause-named : goal.report_of-requires-clause-named
-report_of-requires-clause-named g c =
+pub replay_moves-requires-clause-named : goal.replay_moves-requires-clause-named
+replay_moves-requires-clause-named g c =
     let spelled = c.in_ok-setup.ensures.ok.spelled in
-    spelled_moves _ spelled.move_trees _ spelled.schedule.0
+    rw (c.as_slice.ensures.value, c.into_parts-plan.ensures.schedule, c.into_parts-plan.ensures.plan)
+    (spelled_moves _ spelled.move_trees _ spelled.schedule.0)

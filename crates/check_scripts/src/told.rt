@@ -1,0 +1,38 @@
+//! Reports in each format.
+
+use anyhow::{Result, ensure};
+use sab_report::{Format, Lines, Telling, replay_as};
+use std::alloc::Global;
+
+/// Checks that a script's report is told just so in a format, and without the lines of begin and return where these are
+/// to be left out.
+pub fn check_told(alloc: Global, script: &[u8], format: Format, expected: &str) -> Result<()> {
+    let whole = told(alloc, script, format, Lines::All)?;
+    ensure!(
+        whole.as_slice() == expected.as_bytes(),
+        "{format:?}: another text"
+    );
+    let mut acts = String::new(alloc);
+    for line in expected.lines().filter(|line| !begins_or_returns(line)) {
+        acts.push_str(line)?;
+        acts.push('\n')?;
+    }
+    let short = told(alloc, script, format, Lines::Acts)?;
+    ensure!(
+        short.as_slice() == acts.as_bytes(),
+        "{format:?}, acts alone: another text"
+    );
+    Ok(())
+}
+
+/// The report of a script.
+fn told(alloc: Global, script: &[u8], format: Format, lines: Lines) -> Result<Vec<u8>> {
+    let mut text = Vec::new(alloc);
+    replay_as(alloc, script, Telling { format, lines }, &mut text)?;
+    Ok(text)
+}
+
+/// Whether a line is of a call that begins or returns: then that is its fourth word.
+fn begins_or_returns(line: &str) -> bool {
+    matches!(line.split(' ').nth(3), Some("begin" | "return"))
+}

@@ -1,0 +1,61 @@
+-- The formats of a report, each as its writer tells of it.
+use Rattle.std.proofs.Common.{◌≡◌, ℕ, List, Option, refl, subst}
+use Rattle.std.specs.Io.KnownBytes.{Appends}
+use Rattle.sab_sim.specs.declared.schedule.Move.{Move}
+use Rattle.sab_sim.specs.Plan.{PlanParts}
+use Rattle.sab_sim.specs.Report.{ReportParts}
+use Rattle.sab_text.specs.Text.{text_by}
+use Rattle.sab_fact_text.specs.Explained.{Explains, explained_text}
+use Rattle.sab_tool.specs.Replay.{IsReplayOf}
+use Rattle.sab_tool.specs.Racing.{IsRaceOf}
+use Rattle.sab_report.specs.declared.format.Format.TheVariants.{Plain, Explained}
+use Rattle.sab_report.specs.declared.format.Telling.{Telling}
+use Rattle.sab_report.specs.Telling.{IsTextIn, Tells, TellsMoves}
+use Rattle.sab_report.specs.Racing.{TellsRace}
+
+-- a plain text that was written is a telling
+plain : (telling : Telling) (names : List (List ℕ)) (plan : PlanParts) (report : ReportParts) (old new : Option (List ℕ))
+    → telling.format ≡ Plain → Appends old new (text_by telling.lines report) → Tells telling names plan report old new
+plain telling names plan report old new is w = record {
+  text = text_by telling.lines report;
+  text_is = rw is refl;
+  written = w;
+}
+
+pub told_plainly : (telling : Telling) (names : List (List ℕ)) (plan : PlanParts) (moves : List Move)
+    (report : ReportParts) (old new : Option (List ℕ)) → telling.format ≡ Plain → IsReplayOf plan moves report
+    → Appends old new (text_by telling.lines report) → TellsMoves telling names plan moves old new report
+told_plainly telling names plan moves report old new is r w =
+    record { is_its = r; told = plain telling names plan report old new is w }
+
+pub raced_plainly : (telling : Telling) (names : List (List ℕ)) (plan : PlanParts) (spins : ℕ) (report : ReportParts)
+    (old new : Option (List ℕ)) → telling.format ≡ Plain → IsRaceOf plan spins report
+    → Appends old new (text_by telling.lines report) → TellsRace telling names plan spins old new report
+raced_plainly telling names plan spins report old new is r w =
+    record { is_its = r; told = plain telling names plan report old new is w }
+
+pub told_explained : (telling : Telling) (names : List (List ℕ)) (plan : PlanParts) (moves : List Move)
+    (report : ReportParts) (old new : Option (List ℕ)) → telling.format ≡ Explained
+    → Explains names plan telling.lines moves old new report → TellsMoves telling names plan moves old new report
+told_explained telling names plan moves report old new is x = record {
+  is_its = record { fits = x.fits; schedule = x.schedule; one = x.one };
+  told = record {
+    text = explained_text names plan telling.lines report x.facts x.standings;
+    text_is = rw is (record {
+      facts = x.facts;
+      facts_are = x.facts_are;
+      standings = x.standings;
+      standings_are = x.standings_are;
+      is_its = refl;
+    });
+    written = x.written;
+  };
+}
+
+-- the moves of a race that are made again have its report
+pub told_again : (telling : Telling) (names : List (List ℕ)) (plan : PlanParts) (spins : ℕ) (race again : ReportParts)
+    (old new : Option (List ℕ)) → IsRaceOf plan spins race
+    → TellsMoves telling names plan race.schedule old new again → TellsRace telling names plan spins old new again
+told_again telling names plan spins race again old new r t =
+    let same : again ≡ race = r.only again t.is_its.fits t.is_its.schedule in
+    record { is_its = rw same r; told = t.told }

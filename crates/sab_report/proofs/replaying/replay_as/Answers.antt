@@ -1,0 +1,13 @@
+-- The names that a script spells are short, and its moves are its agents'.
+use Rattle.sab_tool.proofs.ReplaySteps.{spelled_moves}
+use Rattle.sab_report.proofs.ViewNames.{spelled_short}
+use Rattle.sab_report.proofs.replaying.replay_as.Goals as goal
+
+pub names_of-requires : goal.names_of-requires
+names_of-requires g c = spelled_short _ _ c.in_ok-setup.ensures.ok.spelled
+
+pub tell_moves-requires-clause-named : goal.tell_moves-requires-clause-named
+tell_moves-requires-clause-named g c =
+    let spelled = c.in_ok-setup.ensures.ok.spelled in
+    rw (c.as_slice.ensures.value, c.into_parts-plan.ensures.schedule, c.into_parts-plan.ensures.plan)
+    (spelled_moves _ spelled.move_trees _ spelled.schedule.0)

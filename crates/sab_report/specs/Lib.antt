@@ -1,0 +1,4 @@
+pub mod Ended
+pub mod Telling
+pub mod Racing
+pub mod Reporting

@@ -1,0 +1,49 @@
+-- What is told of a run.
+use Rattle.std.specs.Prelude.{◌≡◌, ◌⊎◌, ℕ, List, Option}
+use Rattle.std.specs.Io.KnownBytes.{Appends, Keeps}
+use Rattle.sab_sim.specs.declared.schedule.Move.{Move}
+use Rattle.sab_sim.specs.Plan.{PlanParts}
+use Rattle.sab_sim.specs.Report.{ReportParts}
+use Rattle.sab_explain.specs.declared.fact.Fact.{Fact}
+use Rattle.sab_explain.specs.declared.standing.Standing.{Standing}
+use Rattle.sab_text.specs.declared.lines.Lines.{Lines}
+use Rattle.sab_text.specs.Text.{text_by}
+use Rattle.sab_fact_text.specs.Explained.{AreFacts, AreStandings, explained_text}
+use Rattle.sab_tool.specs.declared.tool_fault.ToolFault.{ToolFault}
+use Rattle.sab_tool.specs.declared.tool_fault.ToolFault.TheVariants.{OutOfMemory, WriteFailed}
+use Rattle.sab_tool.specs.Replay.{IsReplayOf}
+use Rattle.sab_report.specs.declared.format.Format.{Format}
+use Rattle.sab_report.specs.declared.format.Format.TheVariants.{Plain, Explained}
+use Rattle.sab_report.specs.declared.format.Telling.{Telling}
+
+-- the facts of the report's entries and where its agents stand in the end make this text
+pub record IsByFacts (text_of : List Fact → List (Option Standing) → List ℕ) (plan : PlanParts) (report : ReportParts)
+    (text : List ℕ) : Type 0 where
+  pub facts : List Fact
+  pub facts_are : AreFacts plan report.journal facts
+  pub standings : List (Option Standing)
+  pub standings_are : AreStandings plan report.journal standings
+  pub is_its : text ≡ text_of facts standings
+
+-- the text of a report in a format, by the names of the plan's views
+abbrev pub IsTextIn : Format → Lines → List (List ℕ) → PlanParts → ReportParts → List ℕ → Type 0
+IsTextIn Plain lines names plan report text = text ≡ text_by lines report
+IsTextIn Explained lines names plan report text =
+    IsByFacts (explained_text names plan lines report) plan report text
+
+-- just the text of the report came behind what the writer held
+pub record Tells (telling : Telling) (names : List (List ℕ)) (plan : PlanParts) (report : ReportParts)
+    (old new : Option (List ℕ)) : Type 0 where
+  pub text : List ℕ
+  pub text_is : IsTextIn telling.format telling.lines names plan report text
+  pub written : Appends old new text
+
+-- the one report of the moves was told
+pub record TellsMoves (telling : Telling) (names : List (List ℕ)) (plan : PlanParts) (moves : List Move)
+    (old new : Option (List ℕ)) (report : ReportParts) : Type 0 where
+  pub is_its : IsReplayOf plan moves report
+  pub told : Tells telling names plan report old new
+
+-- there was no memory and nothing was written, or a write failed
+abbrev pub IsTellingFault : Option (List ℕ) → Option (List ℕ) → ToolFault → Type 0
+IsTellingFault old new fault = (Keeps old new × (fault ≡ OutOfMemory)) ⊎ (fault ≡ WriteFailed)

@@ -1,0 +1,49 @@
+//! From moves to the explained text of their report.
+
+ghost use Rattle.std.specs.Prelude.{◌≡◌, ◌^◌, ◌<◌, ◌≤◌, [], length, All, IfOk, IfErr};
+ghost use Rattle.sab_sim.specs.Schedule.{agent_of};
+ghost use Rattle.sab_fact_text.specs.Explained.{Explains};
+ghost use Rattle.sab_report.specs.Telling.{IsTellingFault};
+
+use sab_explain::Explainer;
+use sab_fact_text::{Name, write_explained};
+use sab_sim::{Move, Plan, Report};
+use sab_text::Lines;
+use sab_tool::ToolFault;
+use std::alloc::{AllocError, Global};
+use std::io::Write;
+
+/// Makes the moves of a schedule, and writes the explained text of their report.
+#[tactic(auto, using(sab_tool::proofs::ReplaySteps::keeps_same))]
+pub(crate) fn explain<W: Write>(
+    alloc: Global,
+    plan: Plan,
+    names: &[Name],
+    schedule: &[Move],
+    lines: Lines,
+    w: &mut W,
+) -> Result<Report, ToolFault>
+    requires few { length schedule.now ≤ 2 ^ 20 }
+    requires named { All (λ m. agent_of m < length plan.scripts) schedule.now }
+    ensures ok { IfOk result (Explains names.now plan lines schedule.now (W.contents w.old) (W.contents w.new)) }
+    ensures err { IfErr result (IsTellingFault (W.contents w.old) (W.contents w.new)) }
+{
+    let explainer = explainer_for(alloc, plan, schedule.len() as u32)?;
+    match write_explained(explainer, names, schedule, lines, w) {
+        Ok(report) => Ok(report),
+        Err(_) => Err(ToolFault::WriteFailed),
+    }
+}
+
+/// An explainer of the plan's agents, with the room for so many moves.
+pub(crate) fn explainer_for(alloc: Global, plan: Plan, moves: u32) -> Result<Explainer, AllocError>
+    requires { moves ≤ 2 ^ 20 }
+    ensures plan { IfOk result (λ explainer. explainer.plan ≡ plan) }
+    ensures moves { IfOk result (λ explainer. explainer.moves ≡ []) }
+    ensures journal { IfOk result (λ explainer. explainer.journal ≡ []) }
+    ensures reserved { IfOk result (λ explainer. moves ≤ explainer.reserved) }
+{
+    let mut explainer = Explainer::new(alloc, plan)?;
+    explainer.reserve(moves)?;
+    Ok(explainer)
+}

@@ -1,0 +1,21 @@
+//! How a report is told.
+
+use sab_text::Lines;
+
+/// The formats of a report.
+#[derive(Clone, Copy, Debug, PartialEq, Eq, Hash)]
+pub enum Format {
+    /// A line for each entry, block and agent.
+    Plain,
+    /// The same, and behind it in words what happened.
+    Explained,
+}
+
+/// How a report is told.
+#[derive(Clone, Copy, Debug, PartialEq, Eq, Hash)]
+pub struct Telling {
+    /// Its format.
+    pub format: Format,
+    /// Which entries have a line.
+    pub lines: Lines,
+}

@@ -1,0 +1,16 @@
+//! From a script to its report, in any format.
+#![tactic(auto)]
+
+mod ended;
+mod explaining;
+mod format;
+mod names;
+mod racing;
+mod replaying;
+mod telling;
+
+pub use ended::Ended;
+pub use format::{Format, Telling};
+pub use racing::{Race, race_as};
+pub use replaying::replay_as;
+pub use sab_text::Lines;

@@ -1,0 +1,129 @@
+//! From a script to the report of a race.
+
+ghost use Rattle.std.specs.Prelude.{◌≤◌, IfOk, IfErr};
+ghost use Rattle.std.specs.Io.KnownBytes.{Appends};
+ghost use Rattle.sab_text.specs.Text.{text_by};
+ghost use Rattle.sab_tool.specs.Racing.{IsRaceOf, IsRaceFault};
+ghost use Rattle.sab_report.specs.Racing.{TellsRace, IsTellingRaceFault};
+ghost use Rattle.sab_report.specs.Reporting.{RacesAs};
+
+use crate::ended::Ended;
+use crate::format::{Format, Telling};
+use crate::names::names_of;
+use crate::telling::tell_moves;
+use sab_fact_text::Name;
+use sab_sim::{Plan, Report};
+use sab_text::{Lines, write_report};
+use sab_tool::{MAX_SPINS, Share, ToolFault, race_plan, setup_of};
+use std::alloc::Global;
+use std::io::Write;
+use std::sync::Wait;
+use std::thread::Threads;
+
+/// How agents are raced.
+#[derive(Clone, Copy, Debug, PartialEq, Eq, Hash)]
+pub struct Race {
+    /// How they share one simulator.
+    pub share: Share,
+    /// How often an agent steps at each wait before the wait's time is up.
+    pub spins: u32,
+    /// The seed that the threads are mixed by; 0 leaves them as they come.
+    pub seed: u64,
+}
+
+/// Runs the agents of a script in threads, writes the report as it is to be told, and answers how it ended; it doesn't
+/// flush.
+///
+/// The script's schedule is read and checked and then not used: the report's is the order in which the moves took
+/// effect. WriteFailed where a write failed; nothing is said then of how much was written. Every other fault is a
+/// refusal of the script, agents with more than 2^20 moves in all (TooManyMoves), want of memory, or a thread that
+/// couldn't be started (NoThread), and nothing was written.
+#[tactic(auto, using(sab_tool::proofs::ReplaySteps::keeps_same))]
+pub fn race_as<R: Threads + Wait + Sync, W: Write>(
+    rt: &R,
+    alloc: Global,
+    script: &[u8],
+    race: Race,
+    telling: Telling,
+    w: &mut W,
+) -> Result<Ended, ToolFault>
+    requires { race.spins ≤ MAX_SPINS }
+    ensures ok { IfOk result (RacesAs telling (W.contents w.old) (W.contents w.new) script.now race.spins) }
+    ensures err { IfErr result (IsRaceFault (W.contents w.old) (W.contents w.new) script.now race.spins) }
+{
+    let setup = setup_of(alloc, script)?;
+    let names = names_of(alloc, &setup)?;
+    let (plan, _) = setup.into_parts();
+    let report = tell_race(rt, alloc, plan, &names, race, telling, w)?;
+    Ok(Ended::of(&report))
+}
+
+/// Runs the agents of a plan in threads, and writes the report.
+#[tactic(auto, using(crate::proofs::Formats::raced_plainly))]
+fn tell_race<R: Threads + Wait + Sync, W: Write>(
+    rt: &R,
+    alloc: Global,
+    plan: Plan,
+    names: &[Name],
+    race: Race,
+    telling: Telling,
+    w: &mut W,
+) -> Result<Report, ToolFault>
+    requires { race.spins ≤ MAX_SPINS }
+    ensures ok { IfOk result (TellsRace telling names.now plan race.spins (W.contents w.old) (W.contents w.new)) }
+    ensures err { IfErr result (IsTellingRaceFault plan race.spins (W.contents w.old) (W.contents w.new)) }
+{
+    match telling.format {
+        Format::Plain => race_plainly(rt, alloc, plan, race, telling.lines, w),
+        Format::Explained => race_and_replay(rt, alloc, plan, names, race, telling, w),
+    }
+}
+
+/// Runs them, and writes the plain text of the report.
+#[tactic(auto, using(sab_tool::proofs::ReplaySteps::keeps_same))]
+fn race_plainly<R: Threads + Wait + Sync, W: Write>(
+    rt: &R,
+    alloc: Global,
+    plan: Plan,
+    race: Race,
+    lines: Lines,
+    w: &mut W,
+) -> Result<Report, ToolFault>
+    requires { race.spins ≤ MAX_SPINS }
+    ensures race { IfOk result (IsRaceOf plan race.spins) }
+    ensures written { IfOk result (λ report. Appends (W.contents w.old) (W.contents w.new) (text_by lines report)) }
+    ensures err { IfErr result (IsTellingRaceFault plan race.spins (W.contents w.old) (W.contents w.new)) }
+{
+    let report = race_plan(rt, alloc, plan, race.share, race.spins, race.seed)?;
+    match write_report(&report, lines, w) {
+        Ok(()) => Ok(report),
+        Err(_) => Err(ToolFault::WriteFailed),
+    }
+}
+
+/// Runs them, and then makes the moves of the race once more, to tell what each of them found.
+#[tactic(auto, using(sab_tool::proofs::ReplaySteps::keeps_same, crate::proofs::Formats::told_again))]
+fn race_and_replay<R: Threads + Wait + Sync, W: Write>(
+    rt: &R,
+    alloc: Global,
+    plan: Plan,
+    names: &[Name],
+    race: Race,
+    telling: Telling,
+    w: &mut W,
+) -> Result<Report, ToolFault>
+    requires { race.spins ≤ MAX_SPINS }
+    ensures ok { IfOk result (TellsRace telling names.now plan race.spins (W.contents w.old) (W.contents w.new)) }
+    ensures err { IfErr result (IsTellingRaceFault plan race.spins (W.contents w.old) (W.contents w.new)) }
+{
+    let same_plan = plan.copy(alloc)?;
+    let report = race_plan(rt, alloc, plan, race.share, race.spins, race.seed)?;
+    tell_moves(
+        alloc,
+        same_plan,
+        names,
+        report.schedule.as_slice(),
+        telling,
+        w,
+    )
+}

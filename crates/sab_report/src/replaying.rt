@@ -1,0 +1,34 @@
+//! From a script to its report.
+
+ghost use Rattle.std.specs.Prelude.{IfOk, IfErr};
+ghost use Rattle.sab_tool.specs.Replay.{IsReplayFault};
+ghost use Rattle.sab_report.specs.Reporting.{ReplaysAs};
+
+use crate::ended::Ended;
+use crate::format::Telling;
+use crate::names::names_of;
+use crate::telling::tell_moves;
+use sab_tool::{ToolFault, setup_of};
+use std::alloc::Global;
+use std::io::Write;
+
+/// Runs a script, writes its report as it is to be told, and answers how it ended; it doesn't flush.
+///
+/// WriteFailed where a write failed; nothing is said then of how much was written. Every other fault is a refusal of
+/// the script, or want of memory, and nothing was written.
+#[tactic(auto, using(sab_tool::proofs::ReplaySteps::keeps_same))]
+pub fn replay_as<W: Write>(
+    alloc: Global,
+    script: &[u8],
+    telling: Telling,
+    w: &mut W,
+) -> Result<Ended, ToolFault>
+    ensures ok { IfOk result (ReplaysAs telling (W.contents w.old) (W.contents w.new) script.now) }
+    ensures err { IfErr result (IsReplayFault (W.contents w.old) (W.contents w.new) script.now) }
+{
+    let setup = setup_of(alloc, script)?;
+    let names = names_of(alloc, &setup)?;
+    let (plan, schedule) = setup.into_parts();
+    let report = tell_moves(alloc, plan, &names, schedule.as_slice(), telling, w)?;
+    Ok(Ended::of(&report))
+}

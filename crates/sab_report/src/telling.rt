@@ -1,0 +1,61 @@
+//! From moves to their report.
+
+ghost use Rattle.std.specs.Prelude.{◌^◌, ◌<◌, ◌≤◌, length, All, IfOk, IfErr};
+ghost use Rattle.std.specs.Io.KnownBytes.{Appends};
+ghost use Rattle.sab_sim.specs.Schedule.{agent_of};
+ghost use Rattle.sab_text.specs.Text.{text_by};
+ghost use Rattle.sab_tool.specs.Replay.{IsReplayOf};
+ghost use Rattle.sab_report.specs.Telling.{TellsMoves, IsTellingFault};
+
+use crate::explaining::explain;
+use crate::format::{Format, Telling};
+use sab_fact_text::Name;
+use sab_sim::{Move, Plan, Report};
+use sab_text::{Lines, write_report};
+use sab_tool::{ToolFault, replay_moves};
+use std::alloc::Global;
+use std::io::Write;
+
+/// Makes the moves of a schedule, and writes their report; it doesn't flush.
+#[tactic(auto, using(crate::proofs::Formats::told_plainly, crate::proofs::Formats::told_explained))]
+pub(crate) fn tell_moves<W: Write>(
+    alloc: Global,
+    plan: Plan,
+    names: &[Name],
+    schedule: &[Move],
+    telling: Telling,
+    w: &mut W,
+) -> Result<Report, ToolFault>
+    requires few { length schedule.now ≤ 2 ^ 20 }
+    requires named { All (λ m. agent_of m < length plan.scripts) schedule.now }
+    ensures ok { IfOk result (TellsMoves telling names.now plan schedule.now (W.contents w.old) (W.contents w.new)) }
+    ensures err { IfErr result (IsTellingFault (W.contents w.old) (W.contents w.new)) }
+{
+    let lines = telling.lines;
+    match telling.format {
+        Format::Plain => tell_plainly(alloc, plan, schedule, lines, w),
+        Format::Explained => explain(alloc, plan, names, schedule, lines, w),
+    }
+}
+
+/// Makes them, and writes the plain text of their report.
+#[tactic(auto, using(sab_tool::proofs::ReplaySteps::keeps_same))]
+fn tell_plainly<W: Write>(
+    alloc: Global,
+    plan: Plan,
+    schedule: &[Move],
+    lines: Lines,
+    w: &mut W,
+) -> Result<Report, ToolFault>
+    requires few { length schedule.now ≤ 2 ^ 20 }
+    requires named { All (λ m. agent_of m < length plan.scripts) schedule.now }
+    ensures replay { IfOk result (IsReplayOf plan schedule.now) }
+    ensures written { IfOk result (λ report. Appends (W.contents w.old) (W.contents w.new) (text_by lines report)) }
+    ensures err { IfErr result (IsTellingFault (W.contents w.old) (W.contents w.new)) }
+{
+    let report = replay_moves(alloc, plan, schedule)?;
+    match write_report(&report, lines, w) {
+        Ok(()) => Ok(report),
+        Err(_) => Err(ToolFault::WriteFailed),
+    }
+}
