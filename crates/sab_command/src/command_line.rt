@@ -15,7 +15,7 @@ use std::convert::AsStr;
 static SHARES: [&str; 2] = ["lock", "ring"];
 
 /// What `--format` takes.
-static FORMATS: [&str; 2] = ["plain", "explained"];
+static FORMATS: [&str; 3] = ["plain", "explained", "json"];
 
 /// What the program is asked for.
 #[derive(Clone, Copy, Debug, PartialEq, Eq)]
@@ -139,9 +139,11 @@ fn format_of(matches: &ArgMatches<'_>) -> Format
     ensures plain { first_value (found_of matches.now) (codes "format") ≡ Some (codes "plain") → result ≡ Format.Plain }
     ensures explained { first_value (found_of matches.now) (codes "format") ≡ Some (codes "explained")
         → result ≡ Format.Explained }
+    ensures json { first_value (found_of matches.now) (codes "format") ≡ Some (codes "json") → result ≡ Format.Json }
 {
     match matches.get_str("format") {
         Some("explained") => Format::Explained,
+        Some("json") => Format::Json,
         _ => Format::Plain,
     }
 }

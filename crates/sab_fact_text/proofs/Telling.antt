@@ -34,10 +34,10 @@ sinces_after-push sinces k (f ∷ journal) e =
     sinces_after-push (noted sinces k f) (k + 1) journal e
     ∙ ap (λ (n : ℕ). noted (sinces_after (noted sinces k f) (k + 1) journal) n e) z
 
-AreFacts-none : (plan : PlanParts) → AreFacts plan [] []
+pub AreFacts-none : (plan : PlanParts) → AreFacts plan [] []
 AreFacts-none plan = record { count = refl; each = λ k e fact e_is f_is. absurd (cc) }
 
-AreFacts-push : (plan : PlanParts) (journal : List Entry) (facts : List Fact) (e : Entry) (fact : Fact)
+pub AreFacts-push : (plan : PlanParts) (journal : List Entry) (facts : List Fact) (e : Entry) (fact : Fact)
     → AreFacts plan journal facts → IsTheFact plan journal e fact
     → AreFacts plan (journal ++ e ∷ []) (facts ++ fact ∷ [])
 AreFacts-push plan journal facts e fact all here = record {
@@ -78,7 +78,7 @@ lines-push names plan lines sinces k (f ∷ journal) (g ∷ facts) e fact h =
     (explained_lines names plan lines (noted sinces k f) (k + 1) journal facts)
     (line_at names plan lines (sinces_after (noted sinces k f) (k + 1) journal) (k + length (f ∷ journal)) e fact))
 
-appends_none : (a : Option (List ℕ)) → Appends a a []
+pub appends_none : (a : Option (List ℕ)) → Appends a a []
 appends_none None = tt
 appends_none (Some x) = sym (append-nil x)
 
@@ -140,7 +140,7 @@ pub told_out : {T E : Type 0} (r : Result T E) (x b c : Option (List ℕ)) (chun
     → Appends x (append_known b chunk) text → OnOk r (Appends b c chunk) → OnOk r (Appends x c text)
 told_out r x b c chunk text p q = on_ok_weaker r (out x b c chunk text p) q
 
-from_empty : (a b : Option (List ℕ)) (chunk text : List ℕ) → chunk ≡ [] → Appends (append_known a chunk) b text
+pub from_empty : (a b : Option (List ℕ)) (chunk text : List ℕ) → chunk ≡ [] → Appends (append_known a chunk) b text
     → Appends a b text
 from_empty None b chunk text e p = tt
 from_empty (Some x) None chunk text e p = p

@@ -65,7 +65,7 @@ pub(crate) fn push_stand(names: &[Name], call: Call, since: Option<u32>, chunk: 
 }
 
 /// Puts the name of a view last, and nothing where it has none.
-pub(crate) fn push_name(names: &[Name], view: u32, chunk: &mut Chunk)
+pub fn push_name(names: &[Name], view: u32, chunk: &mut Chunk)
     requires { length chunk.old + Name.MAX_LEN ≤ Chunk.ROOM }
     ensures bytes { chunk.new ≡ chunk.old ++ name_of names.now view }
     ensures len { length chunk.new ≤ length chunk.old + Name.MAX_LEN }

@@ -12,7 +12,9 @@ mod standing;
 mod standings;
 mod waiting_text;
 
+pub use call_text::push_name;
 pub use explained::push_explained;
 pub use explaining::write_explained;
 pub use name::Name;
 pub use standing::push_standing;
+pub use standings::{standing_at, standings_of};

@@ -13,7 +13,7 @@ use std::io;
 use std::io::Write;
 
 /// Where each agent stands of whose calls some haven't returned.
-pub(crate) fn standings_of(explainer: &Explainer) -> [Option<Standing>; 16]
+pub fn standings_of(explainer: &Explainer) -> [Option<Standing>; 16]
     ensures { AreStandings explainer.now.plan explainer.now.journal result }
 {
     let mut standings = [None; 16];
@@ -46,7 +46,7 @@ pub(crate) fn write_standings<W: Write>(
 }
 
 /// Where an agent stands, if it is known.
-fn standing_at(standings: &[Option<Standing>], a: usize) -> Option<Standing>
+pub fn standing_at(standings: &[Option<Standing>], a: usize) -> Option<Standing>
     ensures { result ≡ slice_index_or standings.now a None }
 {
     if a < standings.len() {

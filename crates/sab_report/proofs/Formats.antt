@@ -1,16 +1,18 @@
 -- The formats of a report, each as its writer tells of it.
-use Rattle.std.proofs.Common.{◌≡◌, ℕ, List, Option, refl, subst}
+use Rattle.std.proofs.Common.{◌≡◌, ℕ, List, Option, refl}
 use Rattle.std.specs.Io.KnownBytes.{Appends}
 use Rattle.sab_sim.specs.declared.schedule.Move.{Move}
 use Rattle.sab_sim.specs.Plan.{PlanParts}
 use Rattle.sab_sim.specs.Report.{ReportParts}
 use Rattle.sab_text.specs.Text.{text_by}
 use Rattle.sab_fact_text.specs.Explained.{Explains, explained_text}
+use Rattle.sab_fact_json.specs.FactJson.{ExplainsAsJson}
+use Rattle.sab_fact_json.specs.Lines.{json_text}
 use Rattle.sab_tool.specs.Replay.{IsReplayOf}
 use Rattle.sab_tool.specs.Racing.{IsRaceOf}
-use Rattle.sab_report.specs.declared.format.Format.TheVariants.{Plain, Explained}
+use Rattle.sab_report.specs.declared.format.Format.TheVariants.{Plain, Explained, Json}
 use Rattle.sab_report.specs.declared.format.Telling.{Telling}
-use Rattle.sab_report.specs.Telling.{IsTextIn, Tells, TellsMoves}
+use Rattle.sab_report.specs.Telling.{Tells, TellsMoves}
 use Rattle.sab_report.specs.Racing.{TellsRace}
 
 -- a plain text that was written is a telling
@@ -48,6 +50,27 @@ told_explained telling names plan moves report old new is x = record {
       standings_are = x.standings_are;
       is_its = refl;
     });
+    written = x.written;
+  };
+}
+
+pub told_as_json : (telling : Telling) (names : List (List ℕ)) (plan : PlanParts) (moves : List Move)
+    (report : ReportParts) (old new : Option (List ℕ)) → telling.format ≡ Json
+    → ExplainsAsJson names telling.lines plan moves old new report → TellsMoves telling names plan moves old new report
+told_as_json telling names plan moves report old new is x = record {
+  is_its = record { fits = x.fits; schedule = x.schedule; one = x.one };
+  told = record {
+    text = json_text names telling.lines report x.facts x.standings;
+    text_is = rw is (
+      record {
+        facts = x.facts;
+        facts_are = x.facts_are;
+        standings = x.standings;
+        standings_are = x.standings_are;
+        is_its = refl;
+      },
+      x.read_back,
+    );
     written = x.written;
   };
 }

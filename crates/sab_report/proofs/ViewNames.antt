@@ -1,5 +1,5 @@
 -- The names of views: they are the keys of a map, and a script spells short ones.
-use Rattle.std.proofs.Common.{◌≡◌, ℕ, ◌≤◌, List, [], ◌∷◌, ◌++◌, length, map, All, refl, ap}
+use Rattle.std.proofs.Common.{◌≡◌, ℕ, ◌≤◌, List, [], ◌∷◌, ◌++◌, length, map, All, IsTrue, refl, ap}
 use Rattle.std.specs.Prelude.{String, string_bytes}
 use Rattle.std.specs.declared.alloc.Global.{Global}
 use Rattle.std.specs.Map.{keys_of}
@@ -10,6 +10,7 @@ use Rattle.sab_script.specs.declared.view_spec.ViewSpec.{ViewSpec}
 use Rattle.sab_script.specs.Reading.{SpellsEach}
 use Rattle.sab_script.specs.Views.{SpellsView, named_views, view_names}
 use Rattle.sab_script.specs.Setup.{SetupParts, Spells}
+use Rattle.sab_fact_json.specs.CallData.{AreNames, is_name_byte}
 use Rattle.sab_fact_text.specs.declared.name.TheConstants.Name.{MAX_LEN}
 
 -- a name that has room in a `Name`
@@ -33,18 +34,24 @@ pub holds_next : {X : Type 0} (P : X → Type 0) (xs : List X) (y : X) (ys : Lis
 holds_next P [] y ys h = All-head P y ys h
 holds_next P (x ∷ xs) y ys h = holds_next P xs y ys (All-tail P x (xs ++ y ∷ ys) h)
 
--- where each view that is spelled has a short name, all names are short
-each_short : (S : Data → List ℕ × ViewSpec → Type 0)
-    → ((d : Data) (v : List ℕ × ViewSpec) → S d v → length v.0 ≤ MAX_LEN)
-    → (ds : Items) (vs : List (List ℕ × ViewSpec)) → SpellsEach S ds vs → All IsShort (view_names vs)
-each_short S short no_items [] h = All-nil IsShort
-each_short S short no_items (v ∷ vs) h = absurd h
-each_short S short (item d ds) [] h = absurd h
-each_short S short (item d ds) (v ∷ vs) h =
-    All-cons IsShort v.0 (view_names vs) (short d v h.0) (each_short S short ds vs h.1)
+-- where each view that is spelled has a name of a kind, all names are of it
+each_named : (P : List ℕ → Type 0) (S : Data → List ℕ × ViewSpec → Type 0)
+    → ((d : Data) (v : List ℕ × ViewSpec) → S d v → P v.0)
+    → (ds : Items) (vs : List (List ℕ × ViewSpec)) → SpellsEach S ds vs → All P (view_names vs)
+each_named P S named no_items [] h = All-nil P
+each_named P S named no_items (v ∷ vs) h = absurd h
+each_named P S named (item d ds) [] h = absurd h
+each_named P S named (item d ds) (v ∷ vs) h =
+    All-cons P v.0 (view_names vs) (named d v h.0) (each_named P S named ds vs h.1)
 
 -- the names of a setup that is spelled have room in a `Name`
 pub spelled_short : (d : Data) (setup : SetupParts) → Spells d setup → All IsShort (view_names setup.views)
 spelled_short d setup spelled =
-    each_short (SpellsView spelled.form setup.plan.lens) (λ d v h. h.description.name.short) spelled.view_trees
+    each_named IsShort (SpellsView spelled.form setup.plan.lens) (λ d v h. h.description.name.short) spelled.view_trees
     setup.views spelled.views.each
+
+-- they have letters, digits and `_` alone
+pub spelled_plain : (d : Data) (setup : SetupParts) → Spells d setup → AreNames (view_names setup.views)
+spelled_plain d setup spelled =
+    each_named (λ name. All (λ b. IsTrue (is_name_byte b)) name) (SpellsView spelled.form setup.plan.lens)
+    (λ d v h. h.description.name.bytes) spelled.view_trees setup.views spelled.views.each

@@ -1,5 +1,5 @@
 -- How a run ended.
-use Rattle.std.specs.Prelude.{ℕ, ◌==◌, Bool, if◌then◌else◌}
+use Rattle.std.specs.Prelude.{◌==◌, Bool, if◌then◌else◌}
 use Rattle.std.specs.List.{list_all}
 use Rattle.sab_sim.specs.declared.progress.Progress.{Progress}
 use Rattle.sab_sim.specs.Report.{ReportParts}

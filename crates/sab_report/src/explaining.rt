@@ -1,11 +1,14 @@
-//! From moves to the explained text of their report.
+//! From moves to a report that tells their facts.
 
 ghost use Rattle.std.specs.Prelude.{◌≡◌, ◌^◌, ◌<◌, ◌≤◌, [], length, All, IfOk, IfErr};
 ghost use Rattle.sab_sim.specs.Schedule.{agent_of};
 ghost use Rattle.sab_fact_text.specs.Explained.{Explains};
+ghost use Rattle.sab_fact_json.specs.CallData.{AreNames};
+ghost use Rattle.sab_fact_json.specs.FactJson.{ExplainsAsJson};
 ghost use Rattle.sab_report.specs.Telling.{IsTellingFault};
 
 use sab_explain::Explainer;
+use sab_fact_json::write_json;
 use sab_fact_text::{Name, write_explained};
 use sab_sim::{Move, Plan, Report};
 use sab_text::Lines;
@@ -35,8 +38,31 @@ pub(crate) fn explain<W: Write>(
     }
 }
 
+/// Makes the moves of a schedule, and writes their report as JSON.
+#[tactic(auto, using(sab_tool::proofs::ReplaySteps::keeps_same))]
+pub(crate) fn explain_as_json<W: Write>(
+    alloc: Global,
+    plan: Plan,
+    names: &[Name],
+    schedule: &[Move],
+    lines: Lines,
+    w: &mut W,
+) -> Result<Report, ToolFault>
+    requires names { AreNames names.now }
+    requires few { length schedule.now ≤ 2 ^ 20 }
+    requires named { All (λ m. agent_of m < length plan.scripts) schedule.now }
+    ensures ok { IfOk result (ExplainsAsJson names.now lines plan schedule.now (W.contents w.old) (W.contents w.new)) }
+    ensures err { IfErr result (IsTellingFault (W.contents w.old) (W.contents w.new)) }
+{
+    let explainer = explainer_for(alloc, plan, schedule.len() as u32)?;
+    match write_json(explainer, names, schedule, lines, w) {
+        Ok(report) => Ok(report),
+        Err(_) => Err(ToolFault::WriteFailed),
+    }
+}
+
 /// An explainer of the plan's agents, with the room for so many moves.
-pub(crate) fn explainer_for(alloc: Global, plan: Plan, moves: u32) -> Result<Explainer, AllocError>
+fn explainer_for(alloc: Global, plan: Plan, moves: u32) -> Result<Explainer, AllocError>
     requires { moves ≤ 2 ^ 20 }
     ensures plan { IfOk result (λ explainer. explainer.plan ≡ plan) }
     ensures moves { IfOk result (λ explainer. explainer.moves ≡ []) }

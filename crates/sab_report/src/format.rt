@@ -9,6 +9,8 @@ pub enum Format {
     Plain,
     /// The same, and behind it in words what happened.
     Explained,
+    /// An object of JSON on each line, with what happened.
+    Json,
 }
 
 /// How a report is told.

@@ -3,6 +3,7 @@
 ghost use Rattle.std.specs.Prelude.{◌≤◌, IfOk, IfErr};
 ghost use Rattle.std.specs.Io.KnownBytes.{Appends};
 ghost use Rattle.sab_text.specs.Text.{text_by};
+ghost use Rattle.sab_fact_json.specs.CallData.{AreNames};
 ghost use Rattle.sab_tool.specs.Racing.{IsRaceOf, IsRaceFault};
 ghost use Rattle.sab_report.specs.Racing.{TellsRace, IsTellingRaceFault};
 ghost use Rattle.sab_report.specs.Reporting.{RacesAs};
@@ -69,13 +70,16 @@ fn tell_race<R: Threads + Wait + Sync, W: Write>(
     telling: Telling,
     w: &mut W,
 ) -> Result<Report, ToolFault>
-    requires { race.spins ≤ MAX_SPINS }
+    requires spins { race.spins ≤ MAX_SPINS }
+    requires names { AreNames names.now }
     ensures ok { IfOk result (TellsRace telling names.now plan race.spins (W.contents w.old) (W.contents w.new)) }
     ensures err { IfErr result (IsTellingRaceFault plan race.spins (W.contents w.old) (W.contents w.new)) }
 {
     match telling.format {
         Format::Plain => race_plainly(rt, alloc, plan, race, telling.lines, w),
-        Format::Explained => race_and_replay(rt, alloc, plan, names, race, telling, w),
+        Format::Explained | Format::Json => {
+            race_and_replay(rt, alloc, plan, names, race, telling, w)
+        }
     }
 }
 
@@ -112,7 +116,8 @@ fn race_and_replay<R: Threads + Wait + Sync, W: Write>(
     telling: Telling,
     w: &mut W,
 ) -> Result<Report, ToolFault>
-    requires { race.spins ≤ MAX_SPINS }
+    requires spins { race.spins ≤ MAX_SPINS }
+    requires names { AreNames names.now }
     ensures ok { IfOk result (TellsRace telling names.now plan race.spins (W.contents w.old) (W.contents w.new)) }
     ensures err { IfErr result (IsTellingRaceFault plan race.spins (W.contents w.old) (W.contents w.new)) }
 {

@@ -4,10 +4,11 @@ ghost use Rattle.std.specs.Prelude.{◌^◌, ◌<◌, ◌≤◌, length, All, If
 ghost use Rattle.std.specs.Io.KnownBytes.{Appends};
 ghost use Rattle.sab_sim.specs.Schedule.{agent_of};
 ghost use Rattle.sab_text.specs.Text.{text_by};
+ghost use Rattle.sab_fact_json.specs.CallData.{AreNames};
 ghost use Rattle.sab_tool.specs.Replay.{IsReplayOf};
 ghost use Rattle.sab_report.specs.Telling.{TellsMoves, IsTellingFault};
 
-use crate::explaining::explain;
+use crate::explaining::{explain, explain_as_json};
 use crate::format::{Format, Telling};
 use sab_fact_text::Name;
 use sab_sim::{Move, Plan, Report};
@@ -17,7 +18,7 @@ use std::alloc::Global;
 use std::io::Write;
 
 /// Makes the moves of a schedule, and writes their report; it doesn't flush.
-#[tactic(auto, using(crate::proofs::Formats::told_plainly, crate::proofs::Formats::told_explained))]
+#[tactic(auto, using(crate::proofs::Formats::told_plainly, crate::proofs::Formats::told_explained, crate::proofs::Formats::told_as_json))]
 pub(crate) fn tell_moves<W: Write>(
     alloc: Global,
     plan: Plan,
@@ -26,6 +27,7 @@ pub(crate) fn tell_moves<W: Write>(
     telling: Telling,
     w: &mut W,
 ) -> Result<Report, ToolFault>
+    requires names { AreNames names.now }
     requires few { length schedule.now ≤ 2 ^ 20 }
     requires named { All (λ m. agent_of m < length plan.scripts) schedule.now }
     ensures ok { IfOk result (TellsMoves telling names.now plan schedule.now (W.contents w.old) (W.contents w.new)) }
@@ -35,6 +37,7 @@ pub(crate) fn tell_moves<W: Write>(
     match telling.format {
         Format::Plain => tell_plainly(alloc, plan, schedule, lines, w),
         Format::Explained => explain(alloc, plan, names, schedule, lines, w),
+        Format::Json => explain_as_json(alloc, plan, names, schedule, lines, w),
     }
 }
 

@@ -11,4 +11,4 @@ pub use chunk::Chunk;
 pub use entry_line::prepend_entry;
 pub use line::Line;
 pub use lines::Lines;
-pub use report::{prepend_agent, write_blocks, write_report};
+pub use report::{prepend_agent, write_blocks, write_hex, write_report};

@@ -1,6 +1,10 @@
--- The names that a script spells are short.
-use Rattle.sab_report.proofs.ViewNames.{spelled_short}
+-- The names that a script spells are short, of letters, digits and `_`.
+use Rattle.sab_report.proofs.ViewNames.{spelled_short, spelled_plain}
 use Rattle.sab_report.proofs.racing.race_as.Goals as goal
 
 pub names_of-requires : goal.names_of-requires
 names_of-requires g c = spelled_short _ _ c.in_ok-setup.ensures.ok.spelled
+
+pub tell_race-requires-clause-names : goal.tell_race-requires-clause-names
+tell_race-requires-clause-names g c = λ _ _.
+    rw (c.deref.ensures.value, c.in_ok-names.ensures) (spelled_plain _ _ c.in_ok-setup.ensures.ok.spelled)

@@ -1,10 +1,14 @@
 -- The names that a script spells are short, and its moves are its agents'.
 use Rattle.sab_tool.proofs.ReplaySteps.{spelled_moves}
-use Rattle.sab_report.proofs.ViewNames.{spelled_short}
+use Rattle.sab_report.proofs.ViewNames.{spelled_short, spelled_plain}
 use Rattle.sab_report.proofs.replaying.replay_as.Goals as goal
 
 pub names_of-requires : goal.names_of-requires
 names_of-requires g c = spelled_short _ _ c.in_ok-setup.ensures.ok.spelled
+
+pub tell_moves-requires-clause-names : goal.tell_moves-requires-clause-names
+tell_moves-requires-clause-names g c =
+    rw (c.deref.ensures.value, c.in_ok-names.ensures) (spelled_plain _ _ c.in_ok-setup.ensures.ok.spelled)
 
 pub tell_moves-requires-clause-named : goal.tell_moves-requires-clause-named
 tell_moves-requires-clause-named g c =

@@ -1,0 +1,59 @@
+-- Calls as JSON, as a script spells them.
+use Rattle.std.specs.Prelude.{ℕ, ◌||◌, ◌==◌, Bool, true, false, List, Option, Some, None, ℤ, All, IsTrue}
+use Rattle.std.specs.Char.{is_ascii_alphanumeric}
+use Rattle.std.specs.Fmt.{signed_decimal}
+use Rattle.serde_json.specs.Data.{Data, unsigned, number, string, array, Items, no_items, item}
+use Rattle.serde_json.specs.Find.{of_integer}
+use Rattle.sab_block.specs.declared.operand.Operand.{Operand}
+use Rattle.sab_block.specs.Operand.{is_bigint, whole_of}
+use Rattle.sab_block.specs.declared.access.Access.{Access}
+use Rattle.sab_block.specs.declared.access.Access.TheVariants.{Load, Store, Rmw, CompareExchange}
+use Rattle.sab_sim.specs.declared.call.Call.{Call}
+use Rattle.sab_sim.specs.declared.call.Call.TheVariants as C
+use Rattle.sab_sim.specs.Call.{view_of, index_of}
+use Rattle.sab_fact_text.specs.CallText.{name_of, function_of}
+
+-- an ASCII letter, a digit or `_`
+abbrev pub is_name_byte : ℕ → Bool
+is_name_byte b = is_ascii_alphanumeric b || b == 95
+
+-- each byte of each name is one
+abbrev pub AreNames : List (List ℕ) → Type 0
+AreNames names = All (λ name. All (λ b. IsTrue (is_name_byte b)) name) names
+
+abbrev pub natural : ℕ → Data
+natural n = number (unsigned n)
+
+abbrev pub whole : ℤ → Data
+whole z = number (of_integer z)
+
+-- a Number as a number, a BigInt as a string of its decimal digits
+abbrev pub whole_data : Bool → ℤ → Data
+whole_data false z = whole z
+whole_data true z = string (signed_decimal z)
+
+unfoldable pub operand_data : Operand → Data
+operand_data x = whole_data (is_bigint x) (whole_of x)
+
+-- a timeout or a count, where it is there
+abbrev pub limit_items : Option ℤ → Items
+limit_items None = no_items
+limit_items (Some n) = item (whole n) no_items
+
+abbrev pub operand_items : Access → Items
+operand_items (Load index) = no_items
+operand_items (Store index x) = item (operand_data x) no_items
+operand_items (Rmw op index x) = item (operand_data x) no_items
+operand_items (CompareExchange index x y) = item (operand_data x) (item (operand_data y) no_items)
+
+-- what a call takes besides a view and an index
+abbrev pub more_items : Call → Items
+more_items (C.Access view access) = operand_items access
+more_items (C.Wait view index x timeout) = item (operand_data x) (limit_items timeout)
+more_items (C.Notify view index count) = limit_items count
+
+-- a call, as ["load","m",0]
+unfoldable pub call_data : List (List ℕ) → Call → Data
+call_data names call =
+    array (item (string (function_of call)) (item (string (name_of names (view_of call)))
+    (item (whole (index_of call)) (more_items call))))

@@ -1,0 +1,7 @@
+pub mod Members
+pub mod CallData
+pub mod FactData
+pub mod StandingData
+pub mod Lines
+pub mod ReadsBack
+pub mod FactJson

@@ -1,0 +1,11 @@
+//! A report as JSON: a line for each entry with its fact, for each block and for each agent.
+#![tactic(auto)]
+
+mod blocks;
+mod call;
+mod entry;
+mod found;
+mod standing;
+mod writing;
+
+pub use writing::write_json;
