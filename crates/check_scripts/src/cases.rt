@@ -33,6 +33,7 @@ pub struct Case {
     script: bool,
     report: bool,
     explained: bool,
+    jsonl: bool,
     fault: bool,
     changes: bool,
     located: bool,
@@ -46,6 +47,7 @@ impl Case {
             "json" => self.script = true,
             "report" => self.report = true,
             "explained" => self.explained = true,
+            "jsonl" => self.jsonl = true,
             "fault" => self.fault = true,
             "changes" => self.changes = true,
             "located" => self.located = true,
@@ -56,7 +58,7 @@ impl Case {
     /// The one partner of the script.
     ///
     /// An error where the files are no case: there is no script, no partner or a second one, a report that isn't
-    /// explained, changes of a script that has no report, a line of a check without a fault, or a file of another
+    /// there in each format, changes of a script that has no report, a line of a check without a fault, or a file of another
     /// ending.
     pub fn partner(self) -> Result<Partner> {
         if self.other {
@@ -67,8 +69,8 @@ impl Case {
         if !self.script {
             bail!("there is no script");
         }
-        if self.explained != self.report {
-            bail!("of a report and an explained report there is one alone");
+        if self.explained != self.report || self.jsonl != self.report {
+            bail!("of a report in three formats one is missing");
         }
         if self.changes && !self.report {
             bail!("there are changes without a report");

@@ -1,4 +1,4 @@
-//! Goes over cases: each is a script that lies beside its report, plain and explained, or beside the fault that it is
+//! Goes over cases: each is a script that lies beside its report in each format, or beside the fault that it is
 //! refused with. Beside a report there may be a table of changes of the script, each with the fault that it leads to.
 //!
 //! Its argument is a folder that has a folder of cases for each subject; without one it is the folder where it runs. It
@@ -37,6 +37,22 @@ fn part<R: Files + AllocGlobal>(rt: &R, folder: &str, name: &str, ending: &str) 
     Ok(fs::read(rt, path.as_str())?)
 }
 
+/// Checks that a script's report is told in each format as it lies beside the script.
+fn check_formats<R: Files + AllocGlobal>(
+    rt: &R,
+    folder: &str,
+    name: &str,
+    script: &[u8],
+    plain: &[u8],
+) -> Result<()> {
+    let alloc = rt.alloc();
+    let explained = part(rt, folder, name, "explained")?;
+    let json = part(rt, folder, name, "jsonl")?;
+    check_told(alloc, script, Format::Plain, plain)?;
+    check_told(alloc, script, Format::Explained, explained.as_slice())?;
+    check_told(alloc, script, Format::Json, json.as_slice())
+}
+
 /// Checks a case of a folder, and answers what it adds to a tally.
 fn check<R: Files + AllocGlobal + Threads + Wait + Sync>(
     rt: &R,
@@ -51,11 +67,7 @@ fn check<R: Files + AllocGlobal + Threads + Wait + Sync>(
     match partner {
         Partner::Report => {
             check_accepted(alloc, script.as_slice())?;
-            let explained = part(rt, folder, name, "explained")?;
-            for (format, text) in [(Format::Plain, &expected), (Format::Explained, &explained)] {
-                let text = std::str::from_utf8(text.as_slice())?;
-                check_told(alloc, script.as_slice(), format, text)?;
-            }
+            check_formats(rt, folder, name, script.as_slice(), expected.as_slice())?;
             let cuts = check_report(rt, alloc, script.as_slice(), expected.as_slice())?;
             let changes = if case.has_changes() {
                 let table = part(rt, folder, name, "changes")?;

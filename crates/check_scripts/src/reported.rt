@@ -9,8 +9,8 @@ use std::alloc::Global;
 use std::sync::Wait;
 use std::thread::Threads;
 
-/// Checks that a script's replay gives just this report, that the schedule of each of its races replays to the text of
-/// that race, and that each of its cuts is refused; answers how many cuts there are.
+/// Checks that a script's replay gives just this report, that the script that keeps a race of it replays to the text
+/// of that race, and that each of its cuts is refused; answers how many cuts there are.
 pub fn check_report<R: Threads + Wait + Sync>(
     rt: &R,
     alloc: Global,

@@ -6,7 +6,8 @@ use std::alloc::Global;
 
 /// Checks that a script's report is told just so in a format, and without the lines of begin and return where these are
 /// to be left out.
-pub fn check_told(alloc: Global, script: &[u8], format: Format, expected: &str) -> Result<()> {
+pub fn check_told(alloc: Global, script: &[u8], format: Format, expected: &[u8]) -> Result<()> {
+    let expected = std::str::from_utf8(expected)?;
     let whole = told(alloc, script, format, Lines::All)?;
     ensure!(
         whole.as_slice() == expected.as_bytes(),
@@ -32,7 +33,9 @@ fn told(alloc: Global, script: &[u8], format: Format, lines: Lines) -> Result<Ve
     Ok(text)
 }
 
-/// Whether a line is of a call that begins or returns: then that is its fourth word.
+/// Whether a line is of a call that begins or returns: that is its fourth word, or a member of its object.
 fn begins_or_returns(line: &str) -> bool {
     matches!(line.split(' ').nth(3), Some("begin" | "return"))
+        || line.ends_with(r#""what":"begin"}"#)
+        || line.ends_with(r#""what":"return"}"#)
 }

@@ -23,11 +23,16 @@ pub enum Case {
     RunRings,
     RaceBytesLock,
     RaceBytesRing,
+    ReplayInWords,
+    ReplayAsJson,
+    ReplayAsScript,
+    RaceInWords,
+    RaceAsScript,
 }
 
 impl Case {
     /// All cases, in the order in which they are run.
-    pub const ALL: [Case; 18] = [
+    pub const ALL: [Case; 23] = [
         Case::Block,
         Case::PlanCopy,
         Case::SimNew,
@@ -46,6 +51,11 @@ impl Case {
         Case::RunRings,
         Case::RaceBytesLock,
         Case::RaceBytesRing,
+        Case::ReplayInWords,
+        Case::ReplayAsJson,
+        Case::ReplayAsScript,
+        Case::RaceInWords,
+        Case::RaceAsScript,
     ];
 
     /// The case of this name.
@@ -74,6 +84,11 @@ impl Case {
             Case::RunRings => "run-rings",
             Case::RaceBytesLock => "race-bytes-lock",
             Case::RaceBytesRing => "race-bytes-ring",
+            Case::ReplayInWords => "replay-in-words",
+            Case::ReplayAsJson => "replay-as-json",
+            Case::ReplayAsScript => "replay-as-script",
+            Case::RaceInWords => "race-in-words",
+            Case::RaceAsScript => "race-as-script",
         }
     }
 
@@ -96,6 +111,9 @@ impl Case {
             Case::RunLocked | Case::RunRings =>
                 "bytes 90010000, 1200 entries, each agent 100 of 100",
             Case::RaceBytesLock | Case::RaceBytesRing => "the text of its report",
+            Case::ReplayInWords | Case::RaceInWords => "its report in words",
+            Case::ReplayAsJson => "its report as JSON",
+            Case::ReplayAsScript | Case::RaceAsScript => "the script that keeps it",
         }
     }
 }

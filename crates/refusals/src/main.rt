@@ -15,6 +15,7 @@ mod races;
 mod replays;
 mod scripts;
 mod simulators;
+mod told;
 
 use anyhow::Result;
 use case::Case;
@@ -26,6 +27,7 @@ use std::rt::Env;
 use std::sync::Wait;
 use std::thread::Threads;
 use std::{env, io};
+use told::Told;
 
 /// Makes the call of a case. It also tells whether a further allocation was refused, where the case asks for that.
 fn find<R: Threads + Wait + Sync>(
@@ -52,6 +54,11 @@ fn find<R: Threads + Wait + Sync>(
         Case::RunRings => races::run(rt, alloc, Share::Ring)?,
         Case::RaceBytesLock => scripts::raced(rt, alloc, Share::Lock),
         Case::RaceBytesRing => scripts::raced(rt, alloc, Share::Ring),
+        Case::ReplayInWords => told::told(rt, alloc, Told::InWords),
+        Case::ReplayAsJson => told::told(rt, alloc, Told::AsJson),
+        Case::ReplayAsScript => told::told(rt, alloc, Told::AsScript),
+        Case::RaceInWords => told::told(rt, alloc, Told::RaceInWords),
+        Case::RaceAsScript => told::told(rt, alloc, Told::RaceAsScript),
     };
     Ok((found, false))
 }

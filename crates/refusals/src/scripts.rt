@@ -76,7 +76,7 @@ warning: agents[0].calls[1]: wait on a always throws RangeError: there is no ind
 ";
 
 /// An agent that stores a value in a byte and loads it.
-const STORE_AND_LOAD: &str = r#"{"blocks":[1],
+pub const STORE_AND_LOAD: &str = r#"{"blocks":[1],
   "views":[{"name":"a","kind":"Uint8","block":0,"offset":0,"length":null}],
   "agents":[{"block":true,"calls":[["store","a",0,300],["load","a",0]]}],
   "schedule":[0,0,0,0,0,0]}"#;
@@ -94,10 +94,10 @@ agent 0 2 of 2
 ";
 
 /// How many bytes a report can have.
-const ROOM: usize = 1_024;
+pub const ROOM: usize = 2_048;
 
 /// Of a fault: OutOfMemory or NoThread, told by its number, with nothing written.
-fn refused(fault: ToolFault, is_unwritten: bool) -> Found {
+pub fn refused(fault: ToolFault, is_unwritten: bool) -> Found {
     match fault.number() {
         5 => Found::refused(Refusal::OutOfMemory, is_unwritten),
         9 => Found::refused(Refusal::NoThread, is_unwritten),
@@ -182,7 +182,7 @@ fn replay(alloc: Global) -> Found {
 }
 
 /// Whether an array of which so many bytes are left begins with a text and was left as it was behind it.
-fn is_text(room: &[u8], left: usize, text: &str) -> bool {
+pub fn is_text(room: &[u8], left: usize, text: &str) -> bool {
     match room.strip_prefix(text.as_bytes()) {
         Some(behind) => behind.len() == left && behind.iter().all(|byte| *byte == 0),
         None => false,
@@ -190,7 +190,7 @@ fn is_text(room: &[u8], left: usize, text: &str) -> bool {
 }
 
 /// Whether nothing was written into an array of which so many bytes are left.
-fn is_unwritten(room: &[u8], left: usize) -> bool {
+pub fn is_unwritten(room: &[u8], left: usize) -> bool {
     is_text(room, left, "")
 }
 

@@ -4,11 +4,11 @@ use Rattle.std.specs.Cmp.{booleans_Decides}
 use Rattle.std.specs.Option.{option_eq}
 use borrow.Author.Tests.{eqb-true}
 use denote.Enum.Bare.{same_true}
-use Rattle.std.proofs.lemmas.Bool.{and_parts}
+use Rattle.std.proofs.lemmas.Bool.{and_parts, false≢true}
 use Rattle.sab_tool.proofs.Equality.{same_share, same_tool_fault}
 use Rattle.sab_report.proofs.Equality.{same_telling}
 use Rattle.sab_command.specs.declared.command_line.Job.{Job}
-use Rattle.sab_command.specs.declared.command_line.Job.TheVariants.{Replay, Check, Race}
+use Rattle.sab_command.specs.declared.command_line.Job.TheVariants.{Replay, ReplayAsScript, Check, Race, RaceAsScript}
 use Rattle.sab_command.specs.declared.ending.Ending.{Ending}
 use Rattle.sab_command.specs.declared.ending.Ending.TheVariants.{Done, Refused, ScriptRefused, Unfinished, Failed}
 use Rattle.sab_command.specs.declared.fault_line.FaultLine.{FaultLine}
@@ -31,6 +31,8 @@ same_job (Replay t f) (Replay u g) e =
     let telling = same_telling t u parts.0 in
     let finish = (booleans_Decides f g).0 parts.1 in
     λ i. Replay (telling i) (finish i)
+same_job (ReplayAsScript f) (ReplayAsScript g) e =
+    let finish = (booleans_Decides f g).0 e in λ i. ReplayAsScript (finish i)
 same_job Check Check e = refl
 same_job (Race s n x t f) (Race r k y u g) e =
     let shares = and_parts _ _ e in
@@ -43,7 +45,16 @@ same_job (Race s n x t f) (Race r k y u g) e =
     let telling = same_telling t u tellings.0 in
     let finish = (booleans_Decides f g).0 tellings.1 in
     λ i. Race (share i) (spins i) (mix i) (telling i) (finish i)
-same_job _ _ e = absurd (cc)
+same_job (RaceAsScript s n x f) (RaceAsScript r k y g) e =
+    let shares = and_parts _ _ e in
+    let counts = and_parts _ _ shares.1 in
+    let mixes = and_parts _ _ counts.1 in
+    let share = same_share s r shares.0 in
+    let spins = eqb-true n k counts.0 in
+    let mix = same_seed x y mixes.0 in
+    let finish = (booleans_Decides f g).0 mixes.1 in
+    λ i. RaceAsScript (share i) (spins i) (mix i) (finish i)
+same_job _ _ e = absurd (false≢true e)
 
 same_ending : (x y : Ending) → (ending.ghosts).eq x y ≡ true → x ≡ y
 same_ending Done Done e = refl

@@ -3,6 +3,8 @@ use Rattle.std.proofs.Common.{ℕ, List, Option, Some, None, ◌∙◌}
 use Rattle.std.specs.Io.KnownBytes.{Appends, Keeps}
 use Rattle.sab_sim.specs.Plan.{PlanParts}
 use Rattle.sab_sim.specs.Report.{ReportParts}
+use Rattle.sab_script.specs.Setup.{SetupParts}
+use Rattle.sab_kept.specs.Keeping.{KeepsRun}
 use Rattle.sab_report.specs.declared.ended.Ended.{Ended}
 use Rattle.sab_report.specs.declared.format.Telling.{Telling}
 use Rattle.sab_report.specs.Telling.{Tells}
@@ -42,3 +44,7 @@ flushed_race telling old mid new script spins ended r k = record {
   told = told_kept telling _ r.setup.plan r.report old mid new r.told k;
   ended_is = r.ended_is;
 }
+
+pub flushed_kept : (IsRun : SetupParts → ReportParts → Type 0) (old mid new : Option (List ℕ)) (script : List ℕ)
+    (report : ReportParts) → KeepsRun IsRun old mid script report → Keeps mid new → KeepsRun IsRun old new script report
+flushed_kept IsRun old mid new script report r k = (r.0, r.1, appends_kept old mid new (r.0) (r.2) k)

@@ -1,11 +1,13 @@
 -- What the program is asked for.
 use Rattle.std.specs.Prelude.{◌≤◌, ⊤}
 use Rattle.sab_command.specs.declared.command_line.Job.{Job}
-use Rattle.sab_command.specs.declared.command_line.Job.TheVariants.{Replay, Check, Race}
+use Rattle.sab_command.specs.declared.command_line.Job.TheVariants.{Replay, ReplayAsScript, Check, Race, RaceAsScript}
 use Rattle.sab_tool.specs.Racing.{MAX_SPINS}
 
 -- a race is asked for with at most so many steps at a wait
 abbrev pub IsWithinLimits : Job → Type 0
 IsWithinLimits (Replay telling finish) = ⊤
+IsWithinLimits (ReplayAsScript finish) = ⊤
 IsWithinLimits Check = ⊤
 IsWithinLimits (Race share spins mix telling finish) = spins ≤ MAX_SPINS
+IsWithinLimits (RaceAsScript share spins mix finish) = spins ≤ MAX_SPINS

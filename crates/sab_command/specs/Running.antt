@@ -5,13 +5,17 @@ use Rattle.sab_tool.specs.declared.input.TheConstants.{MAX_INPUT}
 use Rattle.sab_tool.specs.declared.tool_fault.ToolFault.{ToolFault}
 use Rattle.sab_tool.specs.declared.tool_fault.ToolFault.TheVariants.{OutOfMemory, WriteFailed}
 use Rattle.sab_tool.specs.Input.{IsInputFault}
-use Rattle.sab_tool.specs.Replay.{IsReplayFault}
+use Rattle.sab_sim.specs.Report.{ReportParts}
+use Rattle.sab_script.specs.Setup.{SetupParts}
+use Rattle.sab_tool.specs.Replay.{IsReportOf, IsReplayFault}
 use Rattle.sab_tool.specs.Racing.{IsRaceFault}
 use Rattle.sab_report.specs.declared.ended.Ended.{Ended}
+use Rattle.sab_report.specs.Ended.{ended_of}
 use Rattle.sab_report.specs.Reporting.{ReplaysAs, RacesAs}
+use Rattle.sab_kept.specs.Keeping.{KeepsRun, IsRaceIn, IsReplayUnkept, IsRaceUnkept, IsKeepFault}
 use Rattle.sab_check.specs.Checked.{IsAccepted, IsRefused}
 use Rattle.sab_command.specs.declared.command_line.Job.{Job}
-use Rattle.sab_command.specs.declared.command_line.Job.TheVariants.{Replay, Check, Race}
+use Rattle.sab_command.specs.declared.command_line.Job.TheVariants.{Replay, ReplayAsScript, Check, Race, RaceAsScript}
 use Rattle.sab_command.specs.declared.outcome.Outcome.{Outcome}
 use Rattle.sab_command.specs.declared.outcome.Outcome.TheVariants.{Done, Refused, Unfinished}
 use Rattle.sab_command.specs.Outcome.{outcome_of}
@@ -22,14 +26,23 @@ Checks Done old new script = (text : List ℕ) × IsAccepted script text × Appe
 Checks Refused old new script = (text : List ℕ) × IsRefused script text × Appends old new text
 Checks Unfinished old new script = ⊥
 
--- just the job's report came behind what the writer held, of a replay, or of a race with the job's steps, and the outcome
--- is by how it ended; or what a check says
+-- such a run of the script was kept as a script, and ended so
+abbrev pub KeepsAs : (SetupParts → ReportParts → Type 0) → Option (List ℕ) → Option (List ℕ) → List ℕ → Ended → Type 0
+KeepsAs IsRun old new script ended =
+    (report : ReportParts) × KeepsRun IsRun old new script report × (ended ≡ ended_of report)
+
+-- just the job's report, or the script that keeps the run, came behind what the writer held, of a replay, or of a race
+-- with the job's steps, and the outcome is by how it ended; or what a check says
 abbrev pub Runs : Job → Outcome → Option (List ℕ) → Option (List ℕ) → List ℕ → Type 0
 Runs Check outcome old new script = Checks outcome old new script
 Runs (Replay telling finish) outcome old new script =
     (ended : Ended) × ReplaysAs telling old new script ended × (outcome ≡ outcome_of ended finish)
 Runs (Race share spins mix telling finish) outcome old new script =
     (ended : Ended) × RacesAs telling old new script spins ended × (outcome ≡ outcome_of ended finish)
+Runs (ReplayAsScript finish) outcome old new script =
+    (ended : Ended) × KeepsAs IsReportOf old new script ended × (outcome ≡ outcome_of ended finish)
+Runs (RaceAsScript share spins mix finish) outcome old new script =
+    (ended : Ended) × KeepsAs (IsRaceIn spins) old new script ended × (outcome ≡ outcome_of ended finish)
 
 -- want of memory, before anything was written, or a write that failed
 abbrev pub IsCheckFault : Option (List ℕ) → Option (List ℕ) → ToolFault → Type 0
@@ -40,6 +53,9 @@ abbrev pub IsFaultOf : Job → Option (List ℕ) → Option (List ℕ) → List 
 IsFaultOf (Replay telling finish) old new script fault = IsReplayFault old new script fault
 IsFaultOf Check old new script fault = IsCheckFault old new fault
 IsFaultOf (Race share spins mix telling finish) old new script fault = IsRaceFault old new script spins fault
+IsFaultOf (ReplayAsScript finish) old new script fault = IsKeepFault IsReplayUnkept old new script fault
+IsFaultOf (RaceAsScript share spins mix finish) old new script fault =
+    IsKeepFault (IsRaceUnkept spins) old new script fault
 
 -- the script isn't too long, and the job came to this
 abbrev pub RunsGiven : Job → Outcome → Option (List ℕ) → Option (List ℕ) → List ℕ → Type 0

@@ -15,7 +15,7 @@ use std::convert::AsStr;
 static SHARES: [&str; 2] = ["lock", "ring"];
 
 /// What `--format` takes.
-static FORMATS: [&str; 3] = ["plain", "explained", "json"];
+static FORMATS: [&str; 4] = ["plain", "explained", "json", "script"];
 
 /// What the program is asked for.
 #[derive(Clone, Copy, Debug, PartialEq, Eq)]
@@ -24,6 +24,11 @@ pub enum Job {
     Replay {
         /// How the report is told.
         telling: Telling,
+        /// Whether it is an answer of its own that some calls haven't returned.
+        finish: bool,
+    },
+    /// To replay it, and to write it as a script.
+    ReplayAsScript {
         /// Whether it is an answer of its own that some calls haven't returned.
         finish: bool,
     },
@@ -39,6 +44,17 @@ pub enum Job {
         mix: Option<u64>,
         /// How the report is told.
         telling: Telling,
+        /// Whether it is an answer of its own that some calls haven't returned.
+        finish: bool,
+    },
+    /// To run them in threads, and to write the script with the schedule that came about.
+    RaceAsScript {
+        /// How they share the simulator.
+        share: Share,
+        /// How often an agent steps at a wait before its time is up, at most [`MAX_SPINS`].
+        spins: u32,
+        /// The seed that the threads are mixed by, or none where each run takes another one.
+        mix: Option<u64>,
         /// Whether it is an answer of its own that some calls haven't returned.
         finish: bool,
     },
@@ -176,6 +192,51 @@ fn finish_of(matches: &ArgMatches<'_>) -> bool
     matches.get_flag("finish")
 }
 
+/// Whether a script is to be written, and not a report.
+fn is_script(matches: &ArgMatches<'_>) -> bool
+    ensures yes { first_value (found_of matches.now) (codes "format") ≡ Some (codes "script") → result ≡ true }
+{
+    matches.get_str("format") == Some("script")
+}
+
+/// The replay that is asked for.
+fn replay_job(matches: &ArgMatches<'_>) -> Job
+    ensures { IsWithinLimits result }
+{
+    let finish = finish_of(matches);
+    if is_script(matches) {
+        return Job::ReplayAsScript { finish };
+    }
+    let telling = telling_of(matches);
+    Job::Replay { telling, finish }
+}
+
+/// The race that is asked for.
+fn race_job(matches: &ArgMatches<'_>) -> Job
+    ensures { IsWithinLimits result }
+{
+    let share = share_of(matches);
+    let spins = spins_of(matches);
+    let mix = mix_of(matches);
+    let finish = finish_of(matches);
+    if is_script(matches) {
+        return Job::RaceAsScript {
+            share,
+            spins,
+            mix,
+            finish,
+        };
+    }
+    let telling = telling_of(matches);
+    Job::Race {
+        share,
+        spins,
+        mix,
+        telling,
+        finish,
+    }
+}
+
 /// What the words ask for, of which the first is the program's name.
 ///
 /// An error is a request for help too, and OutOfMemory where memory ran out while the command line was built or read.
@@ -185,17 +246,8 @@ pub fn job_of<'a, S: AsStr>(alloc: Global, words: &'a [S]) -> Result<Job, Error>
     let command: Command<'a> = command(alloc)?;
     let matches = command.try_get_matches_from(words)?;
     match matches.subcommand() {
-        Some(("race", matches)) => Ok(Job::Race {
-            share: share_of(matches),
-            spins: spins_of(matches),
-            mix: mix_of(matches),
-            telling: telling_of(matches),
-            finish: finish_of(matches),
-        }),
-        Some(("replay", matches)) => Ok(Job::Replay {
-            telling: telling_of(matches),
-            finish: finish_of(matches),
-        }),
+        Some(("race", matches)) => Ok(race_job(matches)),
+        Some(("replay", matches)) => Ok(replay_job(matches)),
         _ => Ok(Job::Check),
     }
 }

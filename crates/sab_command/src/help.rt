@@ -60,7 +60,9 @@ block its bytes in hexadecimal, and for each agent how many of its calls returne
 
 With --format explained there stand behind the lines, from column 20 on, words for people: what
 a call changed, who waits where and behind whom, whom a notify woke and who woke a waiter, why
-a call threw, and at the end where each agent is stuck. With --acts begin and return have no line.
+a call threw, and at the end where each agent stands whose calls haven't all returned. With
+--format json each line is an object with the same facts. With --acts begin and return have no
+line. With --format script the script itself is written, in one canonical text.
 
 Example:
   echo '{"blocks":[1],"views":[{"name":"a","kind":"Uint8","block":0,"offset":0,"length":null}],
@@ -160,8 +162,9 @@ may differ.
 
 The lines of the report, from the first on, tell that order: `leave timed-out`, `stuck
 not-waiting` and `stuck endless` are of a move {"timeout":AGENT}, and every other line is of
-a step of its agent. With these moves as the script's schedule, `sabsim replay` writes the
-same report, as long as they are no more than a schedule can have.
+a step of its agent. With --format script, in place of the report the script is written with
+these moves as its schedule: `sabsim replay` gives the same report for it. A race of more moves
+than a schedule can have is refused then (3 TooMany).
 
 Example:
   echo '{"blocks":[4],"views":[{"name":"a","kind":"Int32","block":0,"offset":0,"length":null}],

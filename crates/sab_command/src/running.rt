@@ -8,7 +8,8 @@ ghost use Rattle.sab_command.specs.Running.{RunsGiven, IsRunFault, IsUnwritten};
 use crate::command_line::Job;
 use crate::outcome::Outcome;
 use sab_check::{Checked, check_script};
-use sab_report::{Race, Telling, race_as, replay_as};
+use sab_kept::{keep_race, keep_replay};
+use sab_report::{Ended, Race, Telling, race_as, replay_as};
 use sab_tool::{MAX_SPINS, ToolFault, read_input};
 use std::alloc::Global;
 use std::io::{Read, Write};
@@ -38,6 +39,7 @@ pub fn run<T: Threads + Wait + Sync + AllocGlobal + RandomSource, R: Read, W: Wr
 {
     match job {
         Job::Replay { telling, finish } => replay(rt.alloc(), telling, finish, input, output),
+        Job::ReplayAsScript { finish } => keep(rt.alloc(), finish, input, output),
         Job::Check => check(rt.alloc(), input, output),
         Job::Race {
             share,
@@ -49,6 +51,15 @@ pub fn run<T: Threads + Wait + Sync + AllocGlobal + RandomSource, R: Read, W: Wr
             let seed = seed_of(rt, mix);
             let how = Race { share, spins, seed };
             race(rt, how, telling, finish, input, output)
+        }
+        Job::RaceAsScript {
+            share,
+            spins,
+            mix,
+            finish,
+        } => {
+            let seed = seed_of(rt, mix);
+            keep_raced(rt, Race { share, spins, seed }, finish, input, output)
         }
     }
 }
@@ -73,6 +84,27 @@ fn replay<R: Read, W: Write>(
     let ended = replay_as(alloc, script.as_slice(), telling, output)?;
     output.flush().map_err(|_| ToolFault::WriteFailed)?;
     Ok(Outcome::of_run(ended, finish))
+}
+
+/// Replays it, and writes it as a script.
+#[tactic(auto, using(crate::proofs::Flushed::flushed_kept))]
+fn keep<R: Read, W: Write>(
+    alloc: Global,
+    finish: bool,
+    input: &mut R,
+    output: &mut W,
+) -> Result<Outcome, ToolFault>
+    ensures ok { IfOk result (λ outcome. IfSome (R.remaining input.old)
+        (RunsGiven (Job.ReplayAsScript finish) outcome (W.contents output.old) (W.contents output.new))) }
+    ensures end { OnOk result (IsAtEnd (R.remaining input.new)) }
+    ensures err { IfErr result (IsRunFault (R.remaining input.old) (Job.ReplayAsScript finish)
+        (W.contents output.old) (W.contents output.new)) }
+    ensures unwritten { IfErr result (IsUnwritten (W.contents output.old) (W.contents output.new)) }
+{
+    let script = read_input(alloc, input)?;
+    let report = keep_replay(alloc, script.as_slice(), output)?;
+    output.flush().map_err(|_| ToolFault::WriteFailed)?;
+    Ok(Outcome::of_run(Ended::of(&report), finish))
 }
 
 /// Checks the script that a reader gives.
@@ -152,4 +184,37 @@ fn race<T: Threads + Wait + Sync + AllocGlobal, R: Read, W: Write>(
     let ended = race_as(rt, alloc, script.as_slice(), how, telling, output)?;
     output.flush().map_err(|_| ToolFault::WriteFailed)?;
     Ok(Outcome::of_run(ended, finish))
+}
+
+/// Runs them, and writes the script with the schedule that came about.
+fn keep_raced<T: Threads + Wait + Sync + AllocGlobal, R: Read, W: Write>(
+    rt: &T,
+    how: Race,
+    finish: bool,
+    input: &mut R,
+    output: &mut W,
+) -> Result<Outcome, ToolFault>
+    requires { how.spins ≤ MAX_SPINS }
+    ensures ok { IfOk result (λ outcome. IfSome (R.remaining input.old) (RunsGiven
+        (Job.RaceAsScript how.share how.spins (Some how.seed) finish) outcome
+        (W.contents output.old) (W.contents output.new))) }
+    ensures end { OnOk result (IsAtEnd (R.remaining input.new)) }
+    ensures err { IfErr result (IsRunFault (R.remaining input.old)
+        (Job.RaceAsScript how.share how.spins (Some how.seed) finish)
+        (W.contents output.old) (W.contents output.new)) }
+    ensures unwritten { IfErr result (IsUnwritten (W.contents output.old) (W.contents output.new)) }
+{
+    let alloc = rt.alloc();
+    let script = read_input(alloc, input)?;
+    let report = keep_race(
+        rt,
+        alloc,
+        script.as_slice(),
+        how.share,
+        how.spins,
+        how.seed,
+        output,
+    )?;
+    output.flush().map_err(|_| ToolFault::WriteFailed)?;
+    Ok(Outcome::of_run(Ended::of(&report), finish))
 }

@@ -124,7 +124,8 @@ entry_json names k e fact =
     let from_entry = member (codes "entry") (natural k) (member_if (codes "found") found from_place) in
     let from_call = member (codes "call") (natural e.call) (member_if (codes "does") does from_entry) in
     let end = codes "\n" in
-    ap (λ (s : List ℕ). codes "{\"agent\":" ++ s) (text_then (decimal e.agent) (codes "answer") answer from_call end refl
+    ap (λ (s : List ℕ). codes "{\"agent\":" ++ s)
+    (text_then (decimal e.agent) (codes "answer") answer from_call end refl
     ∙ ap (λ (s : List ℕ). decimal e.agent ++ (member_text_if (codes "answer") answer ++ (codes ",\"call\":" ++ s)))
     (text_then (decimal e.call) (codes "does") does from_entry end refl
     ∙ ap (λ (s : List ℕ). decimal e.call ++ (member_text_if (codes "does") does ++ (codes ",\"entry\":" ++ s)))
@@ -192,7 +193,8 @@ pub agent_json : (names : List (List ℕ)) (a : ℕ) (p : Progress) (s : Option 
 unfolding agent_data escape_byte
 agent_json names a p s =
     let standing = option_map (standing_data names) s in
-    let from_returned = member (codes "returned") (natural p.returned) (member_if (codes "standing") standing no_members)
+    let from_standing = member_if (codes "standing") standing no_members in
+    let from_returned = member (codes "returned") (natural p.returned) from_standing
     in
     let from_of = member (codes "of") (natural p.total) from_returned in
     ap (λ (t : List ℕ). codes "{\"agent\":" ++ t) (append_assoc (decimal a) (members_text true from_of) (codes "\n")

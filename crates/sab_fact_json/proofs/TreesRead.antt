@@ -133,7 +133,9 @@ entry_in_order : (n : ℕ) (names : List (List ℕ)) (k : ℕ) (e : Entry) (fact
     → IsInOrder (suc (suc (suc n))) (entry_data names k e fact)
 unfolding entry_data
 entry_in_order n names k e fact =
-    let m = suc (suc n) in (
+    let m = suc (suc n) in
+    let found = found_in_order n fact.found in
+    let why = follow_if m (codes "what") (codes "why") (why_in e.what) no_members refl (why_in_order m e.what) tt in (
       tt,
       follow_if m (codes "agent") (codes "answer") (answer_in e.what) _ refl (answered_in_order m e.what) (
         refl,
@@ -144,13 +146,13 @@ entry_in_order n names k e fact =
                 refl,
                 (
                   tt,
-                  follow_if m (codes "entry") (codes "found") (found_data fact.found) _ refl (found_in_order n fact.found)
+                  follow_if m (codes "entry") (codes "found") (found_data fact.found) _ refl found
                       (follow_if m (codes "found") (codes "place") (option_map place_data fact.place) _ refl
                       (place_in_order (suc n) fact.place)
                       (follow_if m (codes "place") (codes "since") (option_map natural fact.since) _ refl
                       (since_in_order m fact.since) (
                         refl,
-                        (tt, follow_if m (codes "what") (codes "why") (why_in e.what) no_members refl (why_in_order m e.what) tt),
+                        (tt, why),
                       ))),
                 ),
               ),
@@ -181,7 +183,11 @@ waker_in_order n S.Answered = tt
 standing_in_order : (n : ℕ) (names : List (List ℕ)) (s : Standing) → IsInOrder (suc (suc n)) (standing_data names s)
 unfolding standing_data
 standing_in_order n names s =
-    let m = suc n in (
+    let m = suc n in
+    let since = since_in_order m s.since in
+    let woken = waker_in_order m s.at in
+    let waker = follow_if m (codes "since") (codes "woken_by") (waker_in s.at) no_members refl woken tt
+    in (
       tt,
       (
         refl,
@@ -190,8 +196,8 @@ standing_in_order n names s =
           follow_if m (codes "does") (codes "notified") (notified_in s.at) _ refl (notified_in_order m s.at)
               (follow_if m (codes "notified") (codes "place") (option_map place_data s.place) _ refl
               (place_in_order n s.place)
-              (follow_if m (codes "place") (codes "since") (option_map natural s.since) _ refl (since_in_order m s.since)
-              (follow_if m (codes "since") (codes "woken_by") (waker_in s.at) no_members refl (waker_in_order m s.at) tt))),
+              (follow_if m (codes "place") (codes "since") (option_map natural s.since) _ refl since
+              waker)),
         ),
       ),
     )

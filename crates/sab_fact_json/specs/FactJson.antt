@@ -19,8 +19,8 @@ pub record TellsAsJson (names : List (List ℕ)) (lines : Lines) (plan : PlanPar
   pub are : AreFacts plan journal facts
   pub written : Appends old new (entry_lines names lines 0 journal facts)
 
--- the one report of the moves fits, its text as JSON came behind what the writer held, and the lines of such a text read
--- back
+-- the one report of the moves fits, its text as JSON came behind what the writer held, and the lines of such texts are
+-- read as their trees
 pub record ExplainsAsJson (names : List (List ℕ)) (lines : Lines) (plan : PlanParts) (moves : List Move)
     (old new : Option (List ℕ)) (report : ReportParts) : Type 0 where
   pub fits : Fits plan report

@@ -11,6 +11,7 @@ ghost use Rattle.sab_fact_json.specs.Lines.{line};
 
 use crate::call::{CALL_LEN, OPERAND_LEN, push_call, push_operand};
 use crate::found::{push_found, push_place, push_since};
+use crate::small::push_small;
 use sab_block::Thrown;
 use sab_explain::Fact;
 use sab_fact_text::Name;
@@ -49,7 +50,7 @@ fn push_entry(names: &[Name], k: usize, entry: &Entry, fact: &Fact, chunk: &mut 
     ensures { chunk.new ≡ chunk.old ++ line (entry_data names.now k entry.now fact.now) }
 {
     chunk.push(b"{\"agent\":");
-    chunk.push_number(u64::from(entry.agent));
+    push_small(entry.agent, chunk);
     push_answer_in(entry.what, chunk);
     chunk.push(b",\"call\":");
     chunk.push_number(u64::from(entry.call));
@@ -93,7 +94,7 @@ fn push_answer(answer: Answer, chunk: &mut Chunk)
         Answer::TimedOut => chunk.push(b",\"answer\":\"timed-out\""),
         Answer::Count(n) => {
             chunk.push(b",\"answer\":");
-            chunk.push_number(u64::from(n));
+            push_small(n, chunk);
         }
         Answer::Threw(Thrown::TypeError) => chunk.push(b",\"answer\":\"TypeError\""),
         Answer::Threw(Thrown::RangeError) => chunk.push(b",\"answer\":\"RangeError\""),

@@ -9,6 +9,7 @@ ghost use Rattle.sab_fact_json.specs.FactData.{agent_items, place_data, found_da
 ghost use Rattle.sab_explain.specs.declared.fact.Found.TheVariants as F;
 
 use crate::call::{OPERAND_LEN, push_operand};
+use crate::small::push_small;
 use sab_block::Operand;
 use sab_explain::{Check, Found};
 use sab_sim::Place;
@@ -121,7 +122,7 @@ fn push_notified(woken: &[u32], waiting: u32, chunk: &mut Chunk)
     ensures len { length chunk.new ≤ length chunk.old + FOUND_LEN }
 {
     chunk.push(b",\"found\":{\"waited\":");
-    chunk.push_number(u64::from(waiting));
+    push_small(waiting, chunk);
     chunk.push(b",\"woken\":");
     push_agents(woken, chunk);
     chunk.push(b"}");
@@ -165,7 +166,7 @@ fn push_agents(agents: &[u32], chunk: &mut Chunk)
         return;
     };
     chunk.push(b"[");
-    chunk.push_number(u64::from(*first));
+    push_small(*first, chunk);
     push_next_agents(others, chunk);
 }
 
@@ -177,7 +178,7 @@ fn push_next_agents(agents: &[u32], chunk: &mut Chunk)
 {
     for agent in agents {
         chunk.push(b",");
-        chunk.push_number(u64::from(*agent));
+        push_small(*agent, chunk);
     }
     chunk.push(b"]");
 }
@@ -191,7 +192,7 @@ pub(crate) fn push_place(place: Option<Place>, chunk: &mut Chunk)
 {
     if let Some(place) = place {
         chunk.push(b",\"place\":{\"block\":");
-        chunk.push_number(u64::from(place.block));
+        push_small(place.block, chunk);
         chunk.push(b",\"byte\":");
         chunk.push_number(u64::from(place.byte));
         chunk.push(b"}");

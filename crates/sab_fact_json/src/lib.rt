@@ -5,6 +5,7 @@ mod blocks;
 mod call;
 mod entry;
 mod found;
+mod small;
 mod standing;
 mod writing;
 

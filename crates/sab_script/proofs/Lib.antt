@@ -2,6 +2,7 @@ pub mod BigText
 pub mod CallParts
 pub mod Described
 pub mod Each
+pub mod Forms
 pub mod Lengths
 pub mod ManyLens
 pub mod OneView

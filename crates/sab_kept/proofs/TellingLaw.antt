@@ -1,0 +1,46 @@
+-- A journal determines its schedule.
+use Rattle.std.proofs.Common.{◌≡◌, ℕ, suc, true, cond, List, [], ◌∷◌, length, slice_get, Some, refl, sym, ◌∙◌, arith}
+use Rattle.sab_sim.specs.declared.answer.Answer.TheVariants.{TimedOut}
+use Rattle.sab_sim.specs.declared.entry.Why.TheVariants.{NotWaiting, Endless}
+use Rattle.sab_sim.specs.declared.entry.What.{What}
+use Rattle.sab_sim.specs.declared.entry.What.TheVariants.{Left, Stuck}
+use Rattle.sab_sim.specs.declared.entry.Entry.{Entry}
+use Rattle.sab_sim.specs.declared.schedule.Move.{Move}
+use Rattle.sab_sim.specs.declared.schedule.Move.TheVariants.{Step, TimeUp}
+use Rattle.sab_sim.specs.Schedule.{agent_of}
+use Rattle.sab_sim.specs.Journal.{answers_move, Answers}
+use Rattle.sab_kept.specs.Telling.{is_time_up, move_of, schedule_of, JournalTells}
+
+-- the kind of a move that an entry answers
+kind_told : (m : Move) (w : What) → answers_move m w ≡ true
+    → m ≡ cond (is_time_up w) (TimeUp (agent_of m)) (Step (agent_of m))
+kind_told (TimeUp a) (Left TimedOut) h = refl
+kind_told (TimeUp a) (Stuck NotWaiting) h = refl
+kind_told (TimeUp a) (Stuck Endless) h = refl
+kind_told (TimeUp a) _ h = cc
+kind_told (Step a) (Left TimedOut) h = cc
+kind_told (Step a) (Stuck NotWaiting) h = cc
+kind_told (Step a) (Stuck Endless) h = cc
+kind_told (Step a) _ h = refl
+
+-- the move that an entry answers is the one that it tells of
+move_told : (before : List Entry) (m : Move) (e : Entry) → Answers before m e → m ≡ move_of e
+move_told before m e h =
+    kind_told m e.what h.kind ∙ (λ i. cond (is_time_up e.what) (TimeUp (sym h.agent i)) (Step (sym h.agent i)))
+
+-- moves that their entries tell of, one each
+moves_told : (ms : List Move) (es : List Entry) → length es ≡ length ms
+    → ((k : ℕ) (m : Move) (e : Entry) → slice_get ms k ≡ Some m → slice_get es k ≡ Some e → m ≡ move_of e)
+    → ms ≡ schedule_of es
+moves_told [] [] n h = refl
+moves_told [] (e ∷ es) n h = absurd (omega arith)
+moves_told (m ∷ ms) [] n h = absurd (omega arith)
+moves_told (m ∷ ms) (e ∷ es) n h =
+    let one : m ≡ move_of e = h 0 m e refl refl in
+    let rest = moves_told ms es (omega (arith, n)) (λ k x y p q. h (suc k) x y p q) in
+    λ i. one i ∷ rest i
+
+pub journal_tells : JournalTells
+journal_tells plan report fits =
+    moves_told report.schedule report.journal fits.moves.one_each
+    (λ k m e p q. move_told _ m e (fits.moves.answers k m e p q))

@@ -1,0 +1,4 @@
+pub mod Telling
+pub mod Canonical
+pub mod Rescheduled
+pub mod Keeping
