@@ -37,7 +37,8 @@ agent 0 2 of 2
 ";
 
 /// What is told as JSON.
-const AS_JSON: &str = r#"{"agent":0,"call":0,"does":["store","a",0,300],"entry":0,"place":{"block":0,"byte":0},"what":"begin"}
+const AS_JSON: &str =
+    r#"{"agent":0,"call":0,"does":["store","a",0,300],"entry":0,"place":{"block":0,"byte":0},"what":"begin"}
 {"agent":0,"answer":300,"call":0,"does":["store","a",0,300],"entry":1,"found":{"after":44,"before":0},"place":{"block":0,"byte":0},"since":0,"what":"act"}
 {"agent":0,"answer":300,"call":0,"does":["store","a",0,300],"entry":2,"place":{"block":0,"byte":0},"since":1,"what":"return"}
 {"agent":0,"call":1,"does":["load","a",0],"entry":3,"place":{"block":0,"byte":0},"since":2,"what":"begin"}
@@ -48,7 +49,8 @@ const AS_JSON: &str = r#"{"agent":0,"call":0,"does":["store","a",0,300],"entry":
 "#;
 
 /// The script that keeps it.
-const AS_SCRIPT: &str = r#"{"agents":[{"block":true,"calls":[["store","a",0,300],["load","a",0]]}],"blocks":[1],"schedule":[0,0,0,0,0,0],"views":[{"block":0,"kind":"Uint8","length":null,"name":"a","offset":0}]}
+const AS_SCRIPT: &str =
+    r#"{"agents":[{"block":true,"calls":[["store","a",0,300],["load","a",0]]}],"blocks":[1],"schedule":[0,0,0,0,0,0],"views":[{"block":0,"kind":"Uint8","length":null,"name":"a","offset":0}]}
 "#;
 
 impl Told {
