@@ -48,7 +48,7 @@ function existing(module) {
 }
 
 /**
- * Keeps a failing run: its script, its report, and where sabsim has one its explained report.
+ * Keeps a failing run: its script, its report, and where sabsim is used its explained report.
  * @param {Keeper} keeper
  * @param {import("./lib/group.mjs").Outcome} outcome
  * @param {string | undefined} program the path of sabsim, where it is used

@@ -44,12 +44,30 @@ test("where some fail, the status is 1, and the first is kept in --out", withSab
   assert.deepEqual([status, stderr], [1, ""]);
   const [, seed] = /^first failing seed: (\d+), deadlock\n  agent \d waits at byte 4 /m.exec(stdout);
   assert.match(stdout, /^100 runs: \d+ finished, \d+ deadlock\n/);
-  assert.match(stdout, new RegExp(`^kept in ${out}: seed-${seed}\\.json, seed-${seed}\\.report`, "m"));
+  const kept = ["json", "report", "explained"].map((ending) => `seed-${seed}.${ending}`);
+  assert.ok(stdout.endsWith(`\nkept in ${out}: ${kept.join(", ")}\n`), stdout);
   const script = readFileSync(join(out, `seed-${seed}.json`));
   const replayed = spawnSync(SABSIM, ["replay"], { input: script, encoding: "utf8" });
   assert.equal(replayed.stdout, readFileSync(join(out, `seed-${seed}.report`), "utf8"));
-  const names = readdirSync(out).filter((name) => !name.endsWith(".explained"));
-  assert.deepEqual(names.sort(), [`seed-${seed}.json`, `seed-${seed}.report`]);
+  const explained = spawnSync(SABSIM, ["replay", "--format", "explained"], { input: script, encoding: "utf8" });
+  assert.equal(explained.stdout, readFileSync(join(out, `seed-${seed}.explained`), "utf8"));
+  assert.deepEqual(readdirSync(out).sort(), kept.sort());
+});
+
+test("the explained report that is kept ends with the agents that wait", withSabsim, (context) => {
+  const out = temporaryFolder(context);
+  const { stdout } = run([agentsPath("naive-mutex"), "--seeds", "93", "--out", out, ...sabsim]);
+  const waiting = [...stdout.matchAll(/^  agent (\d) waits at byte 4 of block 0: its call (\d+), /gm)];
+  assert.deepEqual(waiting.map(([, agent, call]) => [agent, call]), [["1", "3"], ["0", "8"]]);
+  const lines = readFileSync(join(out, "seed-93.explained"), "utf8").split("\n");
+  assert.deepEqual(lines.slice(-6), [
+    "90 0 8 wait         wait(Int32, 1, 0) waits at Int32[1] behind agent 1",
+    "block 0 000000000000000004000000",
+    "agent 0 8 of 9      waits at Int32[1] since 90, in wait(Int32, 1, 0); nobody has notified Int32[1] since",
+    "agent 1 3 of 4      waits at Int32[1] since 88, in wait(Int32, 1, 0); nobody has notified Int32[1] since",
+    "agent 2 17 of 17",
+    "",
+  ]);
 });
 
 test("nothing is written outside of --out, and without it nothing at all", withSabsim, (context) => {
