@@ -2,8 +2,15 @@
 
 use clap::error::ErrorKind;
 use sab_command::{Job, job_of};
+use sab_report::{Format, Lines, Telling};
 use sab_tool::Share;
 use std::alloc::Global;
+
+/// A whole plain report.
+const PLAIN: Telling = Telling {
+    format: Format::Plain,
+    lines: Lines::All,
+};
 
 /// Whether the words ask for just this job.
 fn asks(alloc: Global, words: &[&str], job: Job) -> bool {
@@ -15,9 +22,34 @@ fn asks(alloc: Global, words: &[&str], job: Job) -> bool {
 
 #[test]
 fn a_command_line_is_read(rt: HostRuntime) {
-    let race = |share, spins, mix| Job::Race { share, spins, mix };
-    let table: [(&[&str], Job); 9] = [
-        (&["sabsim", "replay"], Job::Replay),
+    let replay = |format, lines, finish| Job::Replay {
+        telling: Telling { format, lines },
+        finish,
+    };
+    let race = |share, spins, mix| Job::Race {
+        share,
+        spins,
+        mix,
+        telling: PLAIN,
+        finish: false,
+    };
+    let table: [(&[&str], Job); 12] = [
+        (
+            &["sabsim", "replay"],
+            replay(Format::Plain, Lines::All, false),
+        ),
+        (
+            &["sabsim", "replay", "--acts", "--format", "explained"],
+            replay(Format::Explained, Lines::Acts, false),
+        ),
+        (
+            &["sabsim", "replay", "--format=json", "--finish"],
+            replay(Format::Json, Lines::All, true),
+        ),
+        (
+            &["sabsim", "replay", "--format", "script"],
+            Job::ReplayAsScript { finish: false },
+        ),
         (&["sabsim", "check"], Job::Check),
         (
             &["sabsim", "race", "--share", "lock"],

@@ -4,6 +4,7 @@ ghost use Rattle.sab_command.specs.Job.{IsWithinLimits};
 
 use crate::scripts::{STORE_AND_LOAD, report_of};
 use sab_command::{Job, Outcome, run};
+use sab_report::{Format, Lines, Telling};
 use sab_tool::{Share, ToolFault};
 use std::io;
 use std::io::Write;
@@ -11,6 +12,12 @@ use std::random::RandomSource;
 use std::sync::Wait;
 use std::test::Fail;
 use std::thread::Threads;
+
+/// A whole plain report.
+const PLAIN: Telling = Telling {
+    format: Format::Plain,
+    lines: Lines::All,
+};
 
 /// Takes all that is written, and knows whether it was flushed since; a flush can be made to fail.
 #[derive(Drop)]
@@ -63,16 +70,23 @@ fn reports_to<R: AllocGlobal + Threads + Wait + Sync + RandomSource>(
 #[test]
 fn a_job_flushes_its_report(rt: HostRuntime) -> Result<(), Fail> {
     let jobs = [
-        Job::Replay,
+        Job::Replay {
+            telling: PLAIN,
+            finish: true,
+        },
         Job::Race {
             share: Share::Lock,
             spins: 0,
             mix: None,
+            telling: PLAIN,
+            finish: false,
         },
         Job::Race {
             share: Share::Ring,
             spins: 0,
             mix: Some(7),
+            telling: PLAIN,
+            finish: true,
         },
     ];
     for job in jobs {

@@ -14,6 +14,8 @@ mod faults;
 #[cfg(test)]
 mod jobs;
 #[cfg(test)]
+mod keeping;
+#[cfg(test)]
 mod parts;
 #[cfg(test)]
 mod racing;

@@ -1,0 +1,150 @@
+//! Runs that are kept as scripts.
+
+use sab_kept::{keep_race, keep_replay, move_told_by};
+use sab_sim::Progress;
+use sab_tool::{Share, ToolFault, replay_bytes, write_report};
+use std::alloc::{AllocError, Global};
+use std::sync::Wait;
+use std::test::Fail;
+use std::thread::Threads;
+
+/// An agent that waits with a timeout, in the older form; its members and its spaces are as they come.
+const TIMED: &str =
+    r#"{ "views": [{"offset": 0, "name": "\u0061", "length": null, "kind": "Int32"}],
+  "schedule": [0, 0, 0, {"timeout": 0}], "bytes": 4,
+  "agents": [{"calls": [["wait", "a", 0, 0, 5]], "block": true}] }"#;
+
+/// The same in the canonical text.
+const TIMED_TEXT: &str = concat!(
+    r#"{"agents":[{"block":true,"calls":[["wait","a",0,0,5]]}],"bytes":4,"#,
+    r#""schedule":[0,0,0,{"timeout":0}],"#,
+    r#""views":[{"kind":"Int32","length":null,"name":"a","offset":0}]}"#,
+    "\n"
+);
+
+/// What a race of it writes, where the agent makes one step at its wait.
+const TIMED_RACE: &str = concat!(
+    r#"{"agents":[{"block":true,"calls":[["wait","a",0,0,5]]}],"bytes":4,"#,
+    r#""schedule":[0,0,0,{"timeout":0},0,0],"#,
+    r#""views":[{"kind":"Int32","length":null,"name":"a","offset":0}]}"#,
+    "\n"
+);
+
+/// Two agents on two blocks, one of which waits without a timeout.
+const TWO_AGENTS: &str = r#"{"blocks":[4,8],
+  "views":[
+    {"name":"a","kind":"Int32","offset":0,"length":null,"block":0},
+    {"name":"b","kind":"BigInt64","offset":0,"length":1,"block":1}],
+  "agents":[
+    {"block":true,"calls":[["wait","a",0,0]]},
+    {"block":false,"calls":[["store","b",0,"-7"],["store","a",0,1],["notify","a",0,1]]}],
+  "schedule":[]}"#;
+
+/// The script that a replay is kept as.
+fn kept(alloc: Global, script: &str) -> Result<Vec<u8>, ToolFault> {
+    let mut text = Vec::new(alloc);
+    keep_replay(alloc, script.as_bytes(), &mut text)?;
+    Ok(text)
+}
+
+#[test]
+fn a_replay_is_kept_in_the_canonical_text(rt: HostRuntime) -> Result<(), Fail> {
+    for script in [TIMED, TIMED_TEXT] {
+        let text = kept(rt.alloc(), script)?;
+        assert!(rt; text.as_slice() == TIMED_TEXT.as_bytes());
+    }
+    Ok(())
+}
+
+#[test]
+fn a_replay_answers_its_report(rt: HostRuntime) -> Result<(), Fail> {
+    let mut text = Vec::new(rt.alloc());
+    let report = keep_replay(rt.alloc(), TIMED.as_bytes(), &mut text)?;
+    let unfinished = Progress {
+        returned: 0,
+        total: 1,
+    };
+    assert!(rt; report.agents.as_slice() == [unfinished].as_slice());
+    Ok(())
+}
+
+#[test]
+fn a_race_is_kept_with_its_moves(rt: HostRuntime) -> Result<(), Fail> {
+    for share in [Share::Lock, Share::Ring] {
+        let mut text = Vec::new(rt.alloc());
+        keep_race(&rt, rt.alloc(), TIMED.as_bytes(), share, 1, 7, &mut text)?;
+        assert!(rt; text.as_slice() == TIMED_RACE.as_bytes());
+    }
+    Ok(())
+}
+
+/// Whether the script that a race is kept as replays to the report that the race answers, and whether
+/// the report's journal tells its moves.
+fn comes_back<R: Threads + Wait + Sync>(
+    rt: &R,
+    alloc: Global,
+    share: Share,
+    seed: u64,
+) -> Result<bool, ToolFault> {
+    let mut script = Vec::new(alloc);
+    let report = keep_race(
+        rt,
+        alloc,
+        TWO_AGENTS.as_bytes(),
+        share,
+        3,
+        seed,
+        &mut script,
+    )?;
+    let mut raced = Vec::new(alloc);
+    write_report(&report, &mut raced)?;
+    let mut replayed = Vec::new(alloc);
+    replay_bytes(alloc, &script, &mut replayed)?;
+    let told = report.journal.iter().map(|entry| move_told_by(*entry));
+    let is_told = told.eq(report.schedule.iter().copied());
+    Ok(raced == replayed && is_told)
+}
+
+#[test]
+fn a_race_that_is_kept_comes_back(rt: HostRuntime) -> Result<(), Fail> {
+    for share in [Share::Lock, Share::Ring] {
+        for seed in 0..20 {
+            assert!(rt; comes_back(&rt, rt.alloc(), share, seed)?);
+        }
+    }
+    Ok(())
+}
+
+/// A script of 16 agents, each of which has 1,000 calls like this one.
+fn crowd(alloc: Global, call: &str) -> Result<String, AllocError> {
+    let calls = [call].repeat(alloc, 1_000)?.join(alloc, ",")?;
+    let agent = format!(in alloc; r#"{{"block":true,"calls":[{calls}]}}"#)?;
+    let agents = [agent.as_str()].repeat(alloc, 16)?.join(alloc, ",")?;
+    format!(in alloc;
+        r#"{{"bytes":4,
+  "views":[{{"name":"a","kind":"Int32","offset":0,"length":null}}],
+  "agents":[{agents}],"schedule":[0]}}"#
+    )
+}
+
+#[test]
+fn a_race_of_too_many_moves_is_not_kept(rt: HostRuntime) -> Result<(), Fail> {
+    let script = crowd(rt.alloc(), r#"["wait","a",0,1]"#)?;
+    for share in [Share::Lock, Share::Ring] {
+        let mut text = Vec::new(rt.alloc());
+        let answer = keep_race(&rt, rt.alloc(), script.as_bytes(), share, 2, 0, &mut text);
+        assert!(rt; matches!(answer, Err(ToolFault::TooMany)) && text.is_empty());
+    }
+    Ok(())
+}
+
+#[test]
+fn a_text_that_is_too_long_is_not_kept(rt: HostRuntime) -> Result<(), Fail> {
+    let far = "9007199254740991";
+    let call = format!(in rt.alloc(); r#"["compareExchange","a",{far},{far},{far}]"#)?;
+    let script = crowd(rt.alloc(), call.as_str())?;
+    let mut text = Vec::new(rt.alloc());
+    let answer = keep_replay(rt.alloc(), script.as_bytes(), &mut text);
+    assert!(rt; matches!(answer, Err(ToolFault::TooMany)) && text.is_empty());
+    Ok(())
+}
