@@ -57,13 +57,13 @@ impl Case {
 
     /// The one partner of the script.
     ///
-    /// An error where the files are no case: there is no script, no partner or a second one, a report that isn't
-    /// there in each format, changes of a script that has no report, a line of a check without a fault, or a file of another
+    /// An error where the files are no case: there is no script, no partner or a second one, a report that isn't there
+    /// in each format, changes of a script that has no report, a line of a check without a fault, or a file of another
     /// ending.
     pub fn partner(self) -> Result<Partner> {
         if self.other {
             bail!(
-                "a file's name ends in none of .json, .report, .explained, .fault, .changes and .located"
+                "a file's name ends in none of .json, .report, .explained, .jsonl, .fault, .changes, .located"
             );
         }
         if !self.script {

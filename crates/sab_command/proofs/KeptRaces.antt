@@ -20,8 +20,10 @@ pub kept_race : (known old mid new : Option (List ℕ)) (input script : List ℕ
     → KeepsRun (IsRaceIn spins) old mid script report → Keeps mid new → ended ≡ ended_of report
     → outcome ≡ outcome_of ended finish
     → IfSome known (RunsGiven (RaceAsScript share spins (Some seed) finish) outcome old new)
-kept_race None old mid new input script share spins seed finish report ended outcome said all few kept flushed e o = tt
-kept_race (Some bytes) old mid new input script share spins seed finish report ended outcome said all few kept flushed e o =
+kept_race None old mid new input script share spins seed finish report ended outcome said all few kept flushed e o =
+    tt
+kept_race (Some bytes) old mid new input script share spins seed finish report ended outcome said all few kept flushed
+    e o =
     subst (λ (s : List ℕ). RunsGiven (RaceAsScript share spins (Some seed) finish) outcome old new s) said (
       few,
       (

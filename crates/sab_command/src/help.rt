@@ -124,7 +124,7 @@ pub(crate) const RACE: &str =
 
 /// What `--format` chooses.
 pub(crate) const FORMAT: &str =
-    "How the report is told: plain, or explained in words behind each line";
+    "How the run is told: plain, explained in words, as JSON, or as the script that replays it";
 
 /// What `--acts` leaves out.
 pub(crate) const ACTS: &str = "Leave out the lines of begin and return";

@@ -16,8 +16,8 @@ use Rattle.sab_report.specs.Telling.{Tells, TellsMoves}
 use Rattle.sab_report.specs.Racing.{TellsRace}
 
 -- a plain text that was written is a telling
-plain : (telling : Telling) (names : List (List ℕ)) (plan : PlanParts) (report : ReportParts) (old new : Option (List ℕ))
-    → telling.format ≡ Plain → Appends old new (text_by telling.lines report) → Tells telling names plan report old new
+plain : (telling : Telling) (names : List (List ℕ)) (plan : PlanParts) (report : ReportParts)
+    (old new : Option (List ℕ)) → telling.format ≡ Plain → Appends old new (text_by telling.lines report) → Tells telling names plan report old new
 plain telling names plan report old new is w = record {
   text = text_by telling.lines report;
   text_is = rw is refl;

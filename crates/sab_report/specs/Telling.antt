@@ -32,7 +32,8 @@ abbrev pub IsTextIn : Format → Lines → List (List ℕ) → PlanParts → Rep
 IsTextIn Plain lines names plan report text = text ≡ text_by lines report
 IsTextIn Explained lines names plan report text =
     IsByFacts (explained_text names plan lines report) plan report text
-IsTextIn Json lines names plan report text = IsByFacts (json_text names lines report) plan report text × LinesReadBack names
+IsTextIn Json lines names plan report text =
+    IsByFacts (json_text names lines report) plan report text × LinesReadBack names
 
 -- just the text of the report came behind what the writer held
 pub record Tells (telling : Telling) (names : List (List ℕ)) (plan : PlanParts) (report : ReportParts)
