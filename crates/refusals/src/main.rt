@@ -54,11 +54,11 @@ fn find<R: Threads + Wait + Sync>(
         Case::RunRings => races::run(rt, alloc, Share::Ring)?,
         Case::RaceBytesLock => scripts::raced(rt, alloc, Share::Lock),
         Case::RaceBytesRing => scripts::raced(rt, alloc, Share::Ring),
-        Case::ReplayInWords => told::told(rt, alloc, Told::InWords),
-        Case::ReplayAsJson => told::told(rt, alloc, Told::AsJson),
-        Case::ReplayAsScript => told::told(rt, alloc, Told::AsScript),
-        Case::RaceInWords => told::told(rt, alloc, Told::RaceInWords),
-        Case::RaceAsScript => told::told(rt, alloc, Told::RaceAsScript),
+        Case::ReplayInWords => told::run_and_tell(rt, alloc, Told::InWords),
+        Case::ReplayAsJson => told::run_and_tell(rt, alloc, Told::AsJson),
+        Case::ReplayAsScript => told::run_and_tell(rt, alloc, Told::AsScript),
+        Case::RaceInWords => told::run_and_tell(rt, alloc, Told::RaceInWords),
+        Case::RaceAsScript => told::run_and_tell(rt, alloc, Told::RaceAsScript),
     };
     Ok((found, false))
 }

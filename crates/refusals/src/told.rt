@@ -104,7 +104,7 @@ fn tell<R: Threads + Wait + Sync>(
 }
 
 /// The run is told into an array.
-pub fn told<R: Threads + Wait + Sync>(rt: &R, alloc: Global, told: Told) -> Found {
+pub fn run_and_tell<R: Threads + Wait + Sync>(rt: &R, alloc: Global, told: Told) -> Found {
     let first = tell_once(rt, alloc, told);
     if first.is_refused() {
         return first.and_once_more(tell_once(rt, alloc, told));
