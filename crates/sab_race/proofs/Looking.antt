@@ -2,7 +2,7 @@
 use Rattle.std.proofs.Common.{◌≡◌, ℕ, ◌+◌, ◌-◌, ◌%◌, ◌<◌, inl, inr, arith, ap, ◌∙◌}
 use Rattle.std.proofs.lemmas.Bool.{cases_lt}
 use Rattle.std.proofs.Math.Nat.{mod-eq_of_lt, add-mod_right}
-use Rattle.sab_race.specs.Mixing.{ring_of, ComesToEach}
+use Rattle.sab_race.specs.Mixing.{ComesToEach}
 
 pub comes_to_each : (first rings : ℕ) → first < rings → ComesToEach first rings
 comes_to_each first rings inside ring below =

@@ -17,6 +17,14 @@ use std::thread::Threads;
 /// How many rounds in a row the owner of the rings goes without a move before it waits for the threads to end.
 const PATIENCE: u32 = 1_000_000;
 
+/// After how many of 16 later moves the thread that made them yields, where threads are mixed that share one lock: so
+/// many that another one often takes it, and not so many that a race takes half as long again.
+const LOCK_RATE: u32 = 6;
+
+/// After how many of 16 later moves the owner of the rings yields, where threads are mixed that send it their moves. It
+/// needs to yield seldom, since it draws from the seed whose move comes next.
+const RING_RATE: u32 = 2;
+
 /// Runs the agents of a script in threads, and writes the text of the report; it doesn't flush.
 ///
 /// The script's schedule is read and checked and then not used: the report's is the order in which the moves took
@@ -39,8 +47,8 @@ pub fn race_bytes<R: Threads + Wait + Sync, W: Write>(
     race_mixed(rt, alloc, script, share, spins, 0, w)
 }
 
-/// The same, with the threads mixed by a seed: each yields 0 to 3 times before each of its moves, and the owner of the
-/// rings begins at one that is drawn when it looks for its next move.
+/// The same, with the threads mixed by a seed: they yield as [`Mix`] says, and the owner of the rings begins at one that
+/// is drawn when it looks for its next move.
 ///
 /// By the seed 0 none yields, and the owner goes round.
 pub fn race_mixed<R: Threads + Wait + Sync, W: Write>(
@@ -93,7 +101,7 @@ fn run_by_lock<R: Threads + Wait + Sync>(
     ensures race { IfOk result (IsRaceOf plan spins) }
     ensures err { IfErr result (IsUnraced plan spins) }
 {
-    let Ok(gate) = Arc::new(alloc, Mix::new(seed)) else {
+    let Ok(gate) = Arc::new(alloc, Mix::new(seed, LOCK_RATE)) else {
         return Err(ToolFault::OutOfMemory);
     };
     Ok(run_locked(rt, alloc, plan, spins, gate)?)
@@ -111,7 +119,7 @@ fn run_by_rings<R: Threads>(
     ensures race { IfOk result (IsRaceOf plan spins) }
     ensures err { IfErr result (IsUnraced plan spins) }
 {
-    let Ok(gate) = Arc::new(alloc, Mix::new(seed)) else {
+    let Ok(gate) = Arc::new(alloc, Mix::new(seed, RING_RATE)) else {
         return Err(ToolFault::OutOfMemory);
     };
     Ok(run_rings_mixed(rt, alloc, plan, spins, PATIENCE, gate, seed)?)

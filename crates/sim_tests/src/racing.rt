@@ -7,6 +7,7 @@ mod calls;
 mod feeding;
 mod joining;
 mod meeting;
+mod mixed;
 mod order;
 mod refusals;
 mod rounds;

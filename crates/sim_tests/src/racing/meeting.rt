@@ -63,10 +63,11 @@ impl Hold for Meeting {
 }
 
 /// Before they ask for the lock, after they gave it back, and before they push.
-const PLACES: [(Way, Side); 3] = [
+const PLACES: [(Way, Side); 4] = [
     (Way::Lock, Side::Before),
     (Way::Lock, Side::After),
     (Way::PATIENT, Side::Before),
+    (Way::MIXED, Side::Before),
 ];
 
 #[test]

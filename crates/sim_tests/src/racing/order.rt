@@ -90,7 +90,7 @@ fn check<R: Threads + Wait + Sync>(
         blocks: &[&[5, 0, 0, 0]],
         progress: &[(2, 2), (1, 1)],
     };
-    for way in [Way::Lock, Way::PATIENT] {
+    for way in Way::FORCIBLE {
         let order = moves.map(|(m, _)| m.agent()).to_vec(alloc)?;
         expect(is_raced(rt, alloc, way, &run, order)?, "another report")?;
     }
@@ -186,7 +186,7 @@ fn sixteen_agents_come_as_their_threads_do(rt: HostRuntime) -> Result<(), Fail> 
         &[Pass::Up(1), Pass::Down(1), Pass::Up(1)],
     ];
     for passes in orders {
-        for way in [Way::Lock, Way::PATIENT] {
+        for way in Way::FORCIBLE {
             let order = order_of(rt.alloc(), passes)?;
             let (report, order) = race_adders(&rt, rt.alloc(), way, &[1; 16], order)?;
             expect(order.is_of(&report.schedule), "another order")?;

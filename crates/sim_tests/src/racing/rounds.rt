@@ -40,9 +40,15 @@ fn an_owner_without_patience_goes_round_full_rings(rt: HostRuntime) -> Result<()
         agent: None,
         turns: 50,
     };
-    let way = Way::Rings { patience: 0 };
-    let (report, _) = race_adders(&rt, rt.alloc(), way, &COUNTS, slow)?;
-    expect(order.is_of(&report.schedule), "another order")
+    let by_seed_0 = Way::Mixed {
+        seed: 0,
+        patience: 0,
+    };
+    for way in [Way::Rings { patience: 0 }, by_seed_0] {
+        let (report, _) = race_adders(&rt, rt.alloc(), way, &COUNTS, slow)?;
+        expect(order.is_of(&report.schedule), "another order")?;
+    }
+    Ok(())
 }
 
 /// Holds the owner back once it made the first move, until each ring has all its moves but the last. The last ones come one

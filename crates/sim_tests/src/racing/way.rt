@@ -1,10 +1,10 @@
-//! The two ways in which agents run in threads, and the plans that they run.
+//! The ways in which agents run in threads, and the plans that they run.
 
 ghost use Rattle.std.specs.Prelude.{◌≤◌};
 
 use crate::run::{number, plan, whole};
 use sab_block::{Access, Kind, RmwOp};
-use sab_race::{Gate, MAX_SPINS, RaceFault, run_locked, run_rings};
+use sab_race::{Gate, MAX_SPINS, RaceFault, run_locked, run_rings, run_rings_mixed};
 use sab_sim::{Call, Plan, PlanView, Report};
 use std::alloc::Global;
 use std::sync::{Arc, Wait};
@@ -16,6 +16,8 @@ use std::thread::Threads;
 pub enum Way {
     Lock,
     Rings { patience: u32 },
+    /// By rings, whose owner looks where a seed says.
+    Mixed { seed: u64, patience: u32 },
 }
 
 impl Way {
@@ -32,8 +34,26 @@ impl Way {
         patience: 4_000_000_000,
     };
 
-    /// By the lock, and by rings with no patience, little, that of a program, and one that lasts until all moves came.
-    pub const ALL: [Way; 6] = [
+    /// By rings, whose owner looks where a seed says until all moves came.
+    pub const MIXED: Way = Way::Mixed {
+        seed: 1,
+        patience: 4_000_000_000,
+    };
+
+    /// Those in which gates can force an order: by the lock, and by rings until all moves came.
+    pub const FORCIBLE: [Way; 4] = [
+        Way::Lock,
+        Way::PATIENT,
+        Way::MIXED,
+        Way::Mixed {
+            seed: u64::MAX,
+            patience: 4_000_000_000,
+        },
+    ];
+
+    /// By the lock, and by rings with no patience, little, that of a program, and one that lasts until all moves came;
+    /// mixed too, with little and much.
+    pub const ALL: [Way; 8] = [
         Way::Lock,
         Way::Rings { patience: 0 },
         Way::Rings { patience: 1 },
@@ -42,6 +62,14 @@ impl Way {
             patience: 1_000_000,
         },
         Way::PATIENT,
+        Way::Mixed {
+            seed: 7,
+            patience: 1,
+        },
+        Way::Mixed {
+            seed: 7,
+            patience: 1_000_000,
+        },
     ];
 
     /// Runs the agents of a plan. `spins` is at most [`MAX_SPINS`].
@@ -58,6 +86,9 @@ impl Way {
         match self {
             Way::Lock => run_locked(rt, alloc, plan, spins, gate),
             Way::Rings { patience } => run_rings(rt, alloc, plan, spins, patience, gate),
+            Way::Mixed { seed, patience } => {
+                run_rings_mixed(rt, alloc, plan, spins, patience, gate, seed)
+            }
         }
     }
 }
