@@ -15,17 +15,17 @@ use sab_text::Chunk;
 const ARGUMENT_LEN: usize = 43;
 
 /// The most bytes of a call: its function, a name, an index and two arguments more.
-pub(crate) const CALL_LEN: usize = 180;
+pub const CALL_LEN: usize = 180;
 
 /// The most bytes of an element: a name and an index.
-pub(crate) const ELEMENT_LEN: usize = 74;
+pub const ELEMENT_LEN: usize = 74;
 
 /// The most bytes of where an agent stands in line, and since when.
 pub(crate) const STAND_LEN: usize = 105;
 
 /// Puts a call last, as `load(m, 0)`.
 #[tactic(auto, unfolding(crate::specs::CallText::call_text))]
-pub(crate) fn push_call(names: &[Name], call: Call, chunk: &mut Chunk)
+pub fn push_call(names: &[Name], call: Call, chunk: &mut Chunk)
     requires { length chunk.old + CALL_LEN ≤ Chunk.ROOM }
     ensures bytes { chunk.new ≡ chunk.old ++ call_text names.now call }
     ensures len { length chunk.new ≤ length chunk.old + CALL_LEN }
@@ -41,7 +41,7 @@ pub(crate) fn push_call(names: &[Name], call: Call, chunk: &mut Chunk)
 
 /// Puts the element that a call names last, as `m[0]`.
 #[tactic(auto, unfolding(crate::specs::CallText::element_text))]
-pub(crate) fn push_element(names: &[Name], call: Call, chunk: &mut Chunk)
+pub fn push_element(names: &[Name], call: Call, chunk: &mut Chunk)
     requires { length chunk.old + ELEMENT_LEN ≤ Chunk.ROOM }
     ensures bytes { chunk.new ≡ chunk.old ++ element_text names.now call }
     ensures len { length chunk.new ≤ length chunk.old + ELEMENT_LEN }

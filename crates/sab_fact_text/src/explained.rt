@@ -20,7 +20,7 @@ const WAIT_LEN: usize = 205;
 const STUCK_LEN: usize = 320;
 
 /// The most bytes of the words of an entry: a call, and what came of it.
-const WORDS_LEN: usize = 1_150;
+pub const WORDS_LEN: usize = 1_150;
 
 /// As many spaces as there are columns before the words.
 const SPACES: &[u8; 20] = b"                    ";
@@ -77,7 +77,9 @@ pub(crate) fn push_spaced(plain: &[u8], chunk: &mut Chunk)
 }
 
 /// Puts the words of an entry last.
-fn push_words(
+///
+/// `sinces` has for each agent the position of its last entry before this one that had an effect.
+pub fn push_words(
     names: &[Name],
     plan: &Plan,
     sinces: &[Option<u32>],

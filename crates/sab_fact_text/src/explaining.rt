@@ -97,7 +97,7 @@ fn write_moves<W: Write>(
 }
 
 /// Notes the position of an agent's entry, where it had an effect.
-fn note(sinces: &mut [Option<u32>; 16], k: u32, entry: Entry)
+pub fn note(sinces: &mut [Option<u32>; 16], k: u32, entry: Entry)
     ensures { sinces.new ≡ noted sinces.old k entry }
 {
     if matches!(entry.what, What::Stuck(_)) {

@@ -12,9 +12,10 @@ mod standing;
 mod standings;
 mod waiting_text;
 
-pub use call_text::push_name;
-pub use explained::push_explained;
-pub use explaining::write_explained;
+pub use call_text::{CALL_LEN, ELEMENT_LEN, push_call, push_element, push_name};
+pub use explained::{WORDS_LEN, push_explained, push_words};
+pub use explaining::{note, write_explained};
 pub use name::Name;
-pub use standing::push_standing;
+pub use outcome_text::is_same;
+pub use standing::{STANDING_LEN, push_standing, push_standing_words};
 pub use standings::{standing_at, standings_of};

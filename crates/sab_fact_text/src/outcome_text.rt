@@ -166,7 +166,7 @@ fn push_element_is(names: &[Name], call: Call, value: Operand, chunk: &mut Chunk
 }
 
 /// Whether two operands are one number.
-fn is_same(before: Operand, after: Operand) -> bool
+pub fn is_same(before: Operand, after: Operand) -> bool
     ensures { result ≡ is_same before after }
 {
     before.whole() == after.whole()

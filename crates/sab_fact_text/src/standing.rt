@@ -15,7 +15,7 @@ use sab_text::{Chunk, Line, prepend_agent};
 const PASSED_LEN: usize = 120;
 
 /// The most bytes of where an agent stands.
-const STANDING_LEN: usize = 420;
+pub const STANDING_LEN: usize = 420;
 
 /// Puts the line of agent `a` last, with words behind it where some of its calls haven't returned.
 pub fn push_standing(
@@ -34,14 +34,14 @@ pub fn push_standing(
         None => chunk.push(line.bytes()),
         Some(standing) => {
             push_spaced(line.bytes(), chunk);
-            push_words(names, standing, chunk);
+            push_standing_words(names, standing, chunk);
         }
     }
     chunk.push(b"\n");
 }
 
-/// Puts last where an agent stands.
-fn push_words(names: &[Name], standing: Standing, chunk: &mut Chunk)
+/// Puts last where an agent stands, in words.
+pub fn push_standing_words(names: &[Name], standing: Standing, chunk: &mut Chunk)
     requires { length chunk.old + STANDING_LEN ≤ Chunk.ROOM }
     ensures bytes { chunk.new ≡ chunk.old ++ standing_words names.now standing }
     ensures len { length chunk.new ≤ length chunk.old + STANDING_LEN }

@@ -11,7 +11,7 @@ use sab_block::{Operand, Thrown};
 use sab_sim::{Answer, Entry, What, Why};
 
 /// The most bytes of an answer: a sign, 39 digits and `n`.
-const ANSWER_LEN: usize = 41;
+pub const ANSWER_LEN: usize = 41;
 
 /// The most bytes of what a move did: `return `, and an answer.
 const WHAT_LEN: usize = 48;
@@ -73,7 +73,7 @@ fn prepend_what(what: What, line: &mut Line)
 }
 
 /// Puts an answer first.
-fn prepend_answer(answer: Answer, line: &mut Line)
+pub fn prepend_answer(answer: Answer, line: &mut Line)
     requires { length line.old + ANSWER_LEN ≤ Line.ROOM }
     ensures bytes { line.new ≡ answer_text answer ++ line.old }
     ensures len { length line.new ≤ length line.old + ANSWER_LEN }
@@ -102,7 +102,7 @@ fn prepend_operand(operand: Operand, line: &mut Line)
 }
 
 /// Puts first why a move had no effect.
-fn prepend_why(why: Why, line: &mut Line)
+pub fn prepend_why(why: Why, line: &mut Line)
     requires { length line.old + 11 ≤ Line.ROOM }
     ensures bytes { line.new ≡ why_text why ++ line.old }
     ensures len { length line.new ≤ length line.old + 11 }

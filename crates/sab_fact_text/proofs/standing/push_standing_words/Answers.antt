@@ -1,6 +1,6 @@
 -- The pieces, one behind the other.
 use Rattle.sab_fact_text.proofs.Pieces.{two}
-use Rattle.sab_fact_text.proofs.standing.push_words.Goals as goal
+use Rattle.sab_fact_text.proofs.standing.push_standing_words.Goals as goal
 
 pub returns-in-Ready-clause-bytes : goal.returns-in-Ready-clause-bytes
 returns-in-Ready-clause-bytes c = rw c.in-Ready.is (two _ _ _ _ _ c.push.ensures c.push_call.ensures.bytes)

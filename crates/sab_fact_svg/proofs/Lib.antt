@@ -1,0 +1,9 @@
+pub mod Behind
+pub mod Texts
+pub mod Drawn
+pub mod FrameTexts
+pub mod EndTexts
+pub mod Writing
+pub mod Greatest
+pub mod Named
+pub mod Telling

@@ -1,0 +1,4 @@
+pub mod Texts
+pub mod Runs
+pub mod WellFormed
+pub mod Names
