@@ -34,6 +34,7 @@ pub struct Case {
     report: bool,
     explained: bool,
     jsonl: bool,
+    svg: bool,
     fault: bool,
     changes: bool,
     located: bool,
@@ -48,6 +49,7 @@ impl Case {
             "report" => self.report = true,
             "explained" => self.explained = true,
             "jsonl" => self.jsonl = true,
+            "svg" => self.svg = true,
             "fault" => self.fault = true,
             "changes" => self.changes = true,
             "located" => self.located = true,
@@ -58,12 +60,12 @@ impl Case {
     /// The one partner of the script.
     ///
     /// An error where the files are no case: there is no script, no partner or a second one, a report that isn't there
-    /// in each format, changes of a script that has no report, a line of a check without a fault, or a file of another
-    /// ending.
+    /// in each format of lines, a picture or changes of a script that has no report, a line of a check without a fault,
+    /// or a file of another ending.
     pub fn partner(self) -> Result<Partner> {
         if self.other {
             bail!(
-                "a file's name ends in none of .json, .report, .explained, .jsonl, .fault, .changes, .located"
+                "a file's name ends in none of .json, .report, .explained, .jsonl, .svg, .fault, .changes, .located"
             );
         }
         if !self.script {
@@ -71,6 +73,9 @@ impl Case {
         }
         if self.explained != self.report || self.jsonl != self.report {
             bail!("of a report in three formats one is missing");
+        }
+        if self.svg && !self.report {
+            bail!("there is a picture without a report");
         }
         if self.changes && !self.report {
             bail!("there are changes without a report");
@@ -89,6 +94,11 @@ impl Case {
     /// Whether the line that a check says lies beside the script.
     pub fn has_line(self) -> bool {
         self.located
+    }
+
+    /// Whether a picture lies beside the script.
+    pub fn has_picture(self) -> bool {
+        self.svg
     }
 
     /// Whether a table of changes lies beside the script.

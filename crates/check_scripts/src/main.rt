@@ -68,6 +68,10 @@ fn check<R: Files + AllocGlobal + Threads + Wait + Sync>(
         Partner::Report => {
             check_accepted(alloc, script.as_slice())?;
             check_formats(rt, folder, name, script.as_slice(), expected.as_slice())?;
+            if case.has_picture() {
+                let picture = part(rt, folder, name, "svg")?;
+                check_told(alloc, script.as_slice(), Format::Svg, picture.as_slice())?;
+            }
             let cuts = check_report(rt, alloc, script.as_slice(), expected.as_slice())?;
             let changes = if case.has_changes() {
                 let table = part(rt, folder, name, "changes")?;

@@ -1,23 +1,14 @@
--- Equality of jobs, endings and fault lines: values that a derived `==` finds equal are the same.
-use Rattle.std.proofs.Common.{◌≡◌, ℕ, Option, Some, None, true, nat_eq, refl, ap, rules}
+-- Equality of jobs: those that the derived `==` finds equal are the same.
+use Rattle.std.proofs.Common.{◌≡◌, ℕ, Option, Some, None, true, nat_eq, refl, ap}
 use Rattle.std.specs.Cmp.{booleans_Decides}
 use Rattle.std.specs.Option.{option_eq}
 use borrow.Author.Tests.{eqb-true}
-use denote.Enum.Bare.{same_true}
 use Rattle.std.proofs.lemmas.Bool.{and_parts, false≢true}
-use Rattle.sab_tool.proofs.Equality.{same_share, same_tool_fault}
+use Rattle.sab_tool.proofs.Equality.{same_share}
 use Rattle.sab_report.proofs.Equality.{same_telling}
 use Rattle.sab_command.specs.declared.command_line.Job.{Job}
 use Rattle.sab_command.specs.declared.command_line.Job.TheVariants.{Replay, ReplayAsScript, Check, Race, RaceAsScript}
-use Rattle.sab_command.specs.declared.ending.Ending.{Ending}
-use Rattle.sab_command.specs.declared.ending.Ending.TheVariants.{Done, Refused, ScriptRefused, Unfinished, Failed}
-use Rattle.sab_command.specs.declared.fault_line.FaultLine.{FaultLine}
 use Rattle.sab_command.specs.contracts.command_line.JobPartialEq.TheImpl as job
-use Rattle.sab_command.specs.contracts.ending.EndingPartialEq.TheImpl as ending
-use Rattle.sab_command.specs.declared.outcome.Outcome.{Outcome}
-use Rattle.sab_command.specs.contracts.outcome.Outcome.{the_type as outcome_type}
-use Rattle.sab_command.specs.contracts.outcome.OutcomePartialEq.TheImpl as outcome
-use Rattle.sab_command.specs.contracts.fault_line.FaultLinePartialEq.TheImpl as fault_line
 
 same_seed : (x y : Option ℕ) → option_eq nat_eq x y ≡ true → x ≡ y
 same_seed None None e = refl
@@ -55,17 +46,3 @@ same_job (RaceAsScript s n x f) (RaceAsScript r k y g) e =
     let finish = (booleans_Decides f g).0 mixes.1 in
     λ i. RaceAsScript (share i) (spins i) (mix i) (finish i)
 same_job _ _ e = absurd (false≢true e)
-
-same_ending : (x y : Ending) → (ending.ghosts).eq x y ≡ true → x ≡ y
-same_ending Done Done e = refl
-same_ending Refused Refused e = refl
-same_ending ScriptRefused ScriptRefused e = refl
-same_ending Unfinished Unfinished e = refl
-same_ending (Failed f) (Failed g) e = ap Failed (same_tool_fault f g e)
-same_ending _ _ e = absurd (cc)
-
-same_fault_line : (x y : FaultLine) → (fault_line.ghosts).eq x y ≡ true → x ≡ y
-same_fault_line x y e = let fault = same_tool_fault (x.0) (y.0) e in λ i. record { 0 = fault i }
-
-same_outcome : (x y : Outcome) → (outcome.ghosts).eq x y ≡ true → x ≡ y
-same_outcome = same_true outcome_type (search rules)

@@ -1,5 +1,2 @@
-pub mod Flushed
 pub mod Spelled
-pub mod Checks
-pub mod KeptRaces
 mod Equality

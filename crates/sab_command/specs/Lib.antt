@@ -1,6 +1,1 @@
 pub mod Job
-pub mod Status
-pub mod Outcome
-pub mod FaultLine
-pub mod Ending
-pub mod Running

@@ -15,7 +15,7 @@ use std::convert::AsStr;
 static SHARES: [&str; 2] = ["lock", "ring"];
 
 /// What `--format` takes.
-static FORMATS: [&str; 4] = ["plain", "explained", "json", "script"];
+static FORMATS: [&str; 5] = ["plain", "explained", "json", "svg", "script"];
 
 /// What the program is asked for.
 #[derive(Clone, Copy, Debug, PartialEq, Eq)]
@@ -156,10 +156,12 @@ fn format_of(matches: &ArgMatches<'_>) -> Format
     ensures explained { first_value (found_of matches.now) (codes "format") ≡ Some (codes "explained")
         → result ≡ Format.Explained }
     ensures json { first_value (found_of matches.now) (codes "format") ≡ Some (codes "json") → result ≡ Format.Json }
+    ensures svg { first_value (found_of matches.now) (codes "format") ≡ Some (codes "svg") → result ≡ Format.Svg }
 {
     match matches.get_str("format") {
         Some("explained") => Format::Explained,
         Some("json") => Format::Json,
+        Some("svg") => Format::Svg,
         _ => Format::Plain,
     }
 }

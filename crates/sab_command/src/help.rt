@@ -62,7 +62,11 @@ With --format explained there stand behind the lines, from column 20 on, words f
 a call changed, who waits where and behind whom, whom a notify woke and who woke a waiter, why
 a call threw, and at the end where each agent stands whose calls haven't all returned. With
 --format json each line is an object with the same facts. With --acts begin and return have no
-line. With --format script the script itself is written, in one canonical text.
+line.
+
+With --format svg a picture is written, for a browser: time goes down, and each agent has a lane.
+With --format script the script itself is written, in one canonical text. Both are of all moves,
+with --acts too.
 
 Example:
   echo '{"blocks":[1],"views":[{"name":"a","kind":"Uint8","block":0,"offset":0,"length":null}],
@@ -124,7 +128,7 @@ pub(crate) const RACE: &str =
 
 /// What `--format` chooses.
 pub(crate) const FORMAT: &str =
-    "How the run is told: plain, explained in words, as JSON, or as the script that replays it";
+    "How the run is told: plain, explained in words, as JSON, as a picture, or as the script that replays it";
 
 /// What `--acts` leaves out.
 pub(crate) const ACTS: &str = "Leave out the lines of begin and return";
@@ -155,10 +159,11 @@ An agent's steps at a wait are counted. Where nobody wakes it within them and th
 timeout, the moves for its later calls are used up too, and it is left in the middle of a call.
 So a script may come out unfinished without any lost wake-up; a greater N makes that rarer.
 
-By a SEED other than 0 a thread yields 0 to 3 times before each of its moves, and the owner of
-the rings begins to look for its next move at one of them. How often, and at which, is drawn
-from the SEED. The threads take their turns freely all the same, so that two runs of one SEED
-may differ.
+By a SEED other than 0 a thread yields 0 to 31 times before each of its first 16 moves. After
+some of the later ones whoever made it yields, the thread itself or the owner of the rings, who
+also begins to look for its next move at one of them. How often, and at which, is drawn from
+the SEED. The threads take their turns freely all the same, so that two runs of one SEED may
+differ.
 
 The lines of the report, from the first on, tell that order: `leave timed-out`, `stuck
 not-waiting` and `stuck endless` are of a move {"timeout":AGENT}, and every other line is of

@@ -8,9 +8,10 @@ use Rattle.sab_text.specs.Text.{text_by}
 use Rattle.sab_fact_text.specs.Explained.{Explains, explained_text}
 use Rattle.sab_fact_json.specs.FactJson.{ExplainsAsJson}
 use Rattle.sab_fact_json.specs.Lines.{json_text}
+use Rattle.sab_fact_svg.specs.Picture.{Draws, svg_text}
 use Rattle.sab_tool.specs.Replay.{IsReplayOf}
 use Rattle.sab_tool.specs.Racing.{IsRaceOf}
-use Rattle.sab_report.specs.declared.format.Format.TheVariants.{Plain, Explained, Json}
+use Rattle.sab_report.specs.declared.format.Format.TheVariants.{Plain, Explained, Json, Svg}
 use Rattle.sab_report.specs.declared.format.Telling.{Telling}
 use Rattle.sab_report.specs.Telling.{Tells, TellsMoves}
 use Rattle.sab_report.specs.Racing.{TellsRace}
@@ -70,6 +71,27 @@ told_as_json telling names plan moves report old new is x = record {
         is_its = refl;
       },
       x.read_back,
+    );
+    written = x.written;
+  };
+}
+
+pub told_as_picture : (telling : Telling) (names : List (List ℕ)) (plan : PlanParts) (moves : List Move)
+    (report : ReportParts) (old new : Option (List ℕ)) → telling.format ≡ Svg → Draws names plan moves old new report
+    → TellsMoves telling names plan moves old new report
+told_as_picture telling names plan moves report old new is x = record {
+  is_its = record { fits = x.fits; schedule = x.schedule; one = x.one };
+  told = record {
+    text = svg_text names plan report x.facts x.standings;
+    text_is = rw is (
+      record {
+        facts = x.facts;
+        facts_are = x.facts_are;
+        standings = x.standings;
+        standings_are = x.standings_are;
+        is_its = refl;
+      },
+      x.well_formed,
     );
     written = x.written;
   };

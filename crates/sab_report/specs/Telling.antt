@@ -11,11 +11,13 @@ use Rattle.sab_text.specs.Text.{text_by}
 use Rattle.sab_fact_text.specs.Explained.{AreFacts, AreStandings, explained_text}
 use Rattle.sab_fact_json.specs.Lines.{json_text}
 use Rattle.sab_fact_json.specs.ReadsBack.{LinesReadBack}
+use Rattle.sab_xml.specs.WellFormed.{IsDocument}
+use Rattle.sab_fact_svg.specs.Picture.{svg_text}
 use Rattle.sab_tool.specs.declared.tool_fault.ToolFault.{ToolFault}
 use Rattle.sab_tool.specs.declared.tool_fault.ToolFault.TheVariants.{OutOfMemory, WriteFailed}
 use Rattle.sab_tool.specs.Replay.{IsReplayOf}
 use Rattle.sab_report.specs.declared.format.Format.{Format}
-use Rattle.sab_report.specs.declared.format.Format.TheVariants.{Plain, Explained, Json}
+use Rattle.sab_report.specs.declared.format.Format.TheVariants.{Plain, Explained, Json, Svg}
 use Rattle.sab_report.specs.declared.format.Telling.{Telling}
 
 -- the facts of the report's entries and where its agents stand in the end make this text
@@ -27,13 +29,15 @@ pub record IsByFacts (text_of : List Fact → List (Option Standing) → List �
   pub standings_are : AreStandings plan report.journal standings
   pub is_its : text ≡ text_of facts standings
 
--- the text of a report in a format, by the names of the plan's views; each line of JSON reads back as its tree
+-- the text of a report in a format, by the names of the plan's views; each line of JSON reads back as its tree, and a
+-- picture is a document of XML
 abbrev pub IsTextIn : Format → Lines → List (List ℕ) → PlanParts → ReportParts → List ℕ → Type 0
 IsTextIn Plain lines names plan report text = text ≡ text_by lines report
 IsTextIn Explained lines names plan report text =
     IsByFacts (explained_text names plan lines report) plan report text
 IsTextIn Json lines names plan report text =
     IsByFacts (json_text names lines report) plan report text × LinesReadBack names
+IsTextIn Svg lines names plan report text = IsByFacts (svg_text names plan report) plan report text × IsDocument text
 
 -- just the text of the report came behind what the writer held
 pub record Tells (telling : Telling) (names : List (List ℕ)) (plan : PlanParts) (report : ReportParts)

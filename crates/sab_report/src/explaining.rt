@@ -5,10 +5,12 @@ ghost use Rattle.sab_sim.specs.Schedule.{agent_of};
 ghost use Rattle.sab_fact_text.specs.Explained.{Explains};
 ghost use Rattle.sab_fact_json.specs.CallData.{AreNames};
 ghost use Rattle.sab_fact_json.specs.FactJson.{ExplainsAsJson};
+ghost use Rattle.sab_fact_svg.specs.Picture.{Draws};
 ghost use Rattle.sab_report.specs.Telling.{IsTellingFault};
 
 use sab_explain::Explainer;
 use sab_fact_json::write_json;
+use sab_fact_svg::write_svg;
 use sab_fact_text::{Name, write_explained};
 use sab_sim::{Move, Plan, Report};
 use sab_text::Lines;
@@ -56,6 +58,27 @@ pub(crate) fn explain_as_json<W: Write>(
 {
     let explainer = explainer_for(alloc, plan, schedule.len() as u32)?;
     match write_json(explainer, names, schedule, lines, w) {
+        Ok(report) => Ok(report),
+        Err(_) => Err(ToolFault::WriteFailed),
+    }
+}
+
+/// Makes the moves of a schedule, and writes the picture of their report.
+#[tactic(auto, using(sab_tool::proofs::ReplaySteps::keeps_same))]
+pub(crate) fn draw<W: Write>(
+    alloc: Global,
+    plan: Plan,
+    names: &[Name],
+    schedule: &[Move],
+    w: &mut W,
+) -> Result<Report, ToolFault>
+    requires few { length schedule.now ≤ 2 ^ 20 }
+    requires named { All (λ m. agent_of m < length plan.scripts) schedule.now }
+    ensures ok { IfOk result (Draws names.now plan schedule.now (W.contents w.old) (W.contents w.new)) }
+    ensures err { IfErr result (IsTellingFault (W.contents w.old) (W.contents w.new)) }
+{
+    let explainer = explainer_for(alloc, plan, schedule.len() as u32)?;
+    match write_svg(explainer, names, schedule, w) {
         Ok(report) => Ok(report),
         Err(_) => Err(ToolFault::WriteFailed),
     }

@@ -11,6 +11,8 @@ pub enum Format {
     Explained,
     /// An object of JSON on each line, with what happened.
     Json,
+    /// A picture, of all lines whichever are asked for.
+    Svg,
 }
 
 /// How a report is told.

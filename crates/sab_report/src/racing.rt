@@ -77,7 +77,7 @@ fn tell_race<R: Threads + Wait + Sync, W: Write>(
 {
     match telling.format {
         Format::Plain => race_plainly(rt, alloc, plan, race, telling.lines, w),
-        Format::Explained | Format::Json => {
+        Format::Explained | Format::Json | Format::Svg => {
             race_and_replay(rt, alloc, plan, names, race, telling, w)
         }
     }

@@ -8,7 +8,7 @@ ghost use Rattle.sab_fact_json.specs.CallData.{AreNames};
 ghost use Rattle.sab_tool.specs.Replay.{IsReplayOf};
 ghost use Rattle.sab_report.specs.Telling.{TellsMoves, IsTellingFault};
 
-use crate::explaining::{explain, explain_as_json};
+use crate::explaining::{draw, explain, explain_as_json};
 use crate::format::{Format, Telling};
 use sab_fact_text::Name;
 use sab_sim::{Move, Plan, Report};
@@ -18,7 +18,7 @@ use std::alloc::Global;
 use std::io::Write;
 
 /// Makes the moves of a schedule, and writes their report; it doesn't flush.
-#[tactic(auto, using(crate::proofs::Formats::told_plainly, crate::proofs::Formats::told_explained, crate::proofs::Formats::told_as_json))]
+#[tactic(auto, using(crate::proofs::Formats::told_plainly, crate::proofs::Formats::told_explained, crate::proofs::Formats::told_as_json, crate::proofs::Formats::told_as_picture))]
 pub(crate) fn tell_moves<W: Write>(
     alloc: Global,
     plan: Plan,
@@ -38,6 +38,7 @@ pub(crate) fn tell_moves<W: Write>(
         Format::Plain => tell_plainly(alloc, plan, schedule, lines, w),
         Format::Explained => explain(alloc, plan, names, schedule, lines, w),
         Format::Json => explain_as_json(alloc, plan, names, schedule, lines, w),
+        Format::Svg => draw(alloc, plan, names, schedule, w),
     }
 }
 

@@ -1,7 +1,9 @@
 //! Runs scripts of agents that share blocks of bytes, by their schedule or in threads.
 #![tactic(auto)]
 
-use sab_command::{Ending, FaultLine, job_of, run, without_job, without_words};
+use sab_command::job_of;
+use sab_ending::{Ending, FaultLine, without_job, without_words};
+use sab_run::run;
 use std::io;
 use std::process::ExitCode;
 use std::random::RandomSource;

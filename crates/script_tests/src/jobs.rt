@@ -3,8 +3,10 @@
 ghost use Rattle.sab_command.specs.Job.{IsWithinLimits};
 
 use crate::scripts::{STORE_AND_LOAD, report_of};
-use sab_command::{Job, Outcome, run};
+use sab_command::Job;
+use sab_ending::Outcome;
 use sab_report::{Format, Lines, Telling};
+use sab_run::run;
 use sab_tool::{Share, ToolFault};
 use std::io;
 use std::io::Write;

@@ -1,7 +1,7 @@
 use Rattle.std.proofs.Common.{rules}
 use Rattle.std.specs.Prelude.{string_bytes}
-use Rattle.sab_command.proofs.Checks.{checked_refused}
-use Rattle.sab_command.proofs.running.check.Goals as goal
+use Rattle.sab_run.proofs.Checks.{checked_refused}
+use Rattle.sab_run.proofs.running.check.Goals as goal
 
 pub returns-clause-ok : goal.returns-clause-ok
 returns-clause-ok g c =

@@ -4,8 +4,8 @@ use Rattle.std.specs.Io.KnownBytes.{Appends}
 use Rattle.sab_tool.specs.declared.input.TheConstants.{MAX_INPUT}
 use Rattle.sab_check.specs.Checked.{IsRefused}
 use Rattle.sab_command.specs.declared.command_line.Job.TheVariants.{Check}
-use Rattle.sab_command.specs.declared.outcome.Outcome.TheVariants.{Refused}
-use Rattle.sab_command.specs.Running.{RunsGiven}
+use Rattle.sab_ending.specs.declared.outcome.Outcome.TheVariants.{Refused}
+use Rattle.sab_run.specs.Running.{RunsGiven}
 
 pub checked_refused : (known old new : Option (List ℕ)) (input script text said : List ℕ)
     → IfSome known (λ bytes. input ≡ bytes) → script ≡ input

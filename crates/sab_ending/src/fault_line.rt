@@ -11,7 +11,7 @@ pub struct FaultLine(pub ToolFault);
 
 impl fmt::Display for FaultLine {
     ghost use Rattle.std.specs.Prelude.{Some};
-    ghost use Rattle.sab_command.specs.FaultLine.{text_of};
+    ghost use Rattle.sab_ending.specs.FaultLine.{text_of};
 
     ghost output = { λ line. Some (text_of line.0) };
 

@@ -1,7 +1,7 @@
 -- A race that was kept.
 use Rattle.std.proofs.Common.{rules}
-use Rattle.sab_command.proofs.KeptRaces.{kept_race}
-use Rattle.sab_command.proofs.running.keep_raced.Goals as goal
+use Rattle.sab_run.proofs.KeptRaces.{kept_race}
+use Rattle.sab_run.proofs.running.keep_raced.Goals as goal
 
 pub returns-clause-ok : goal.returns-clause-ok
 returns-clause-ok g c =

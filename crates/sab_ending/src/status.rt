@@ -1,7 +1,7 @@
 //! Exit statuses.
 
 ghost use Rattle.std.specs.Prelude.{◌≡◌};
-ghost use Rattle.sab_command.specs.Status.{status_after};
+ghost use Rattle.sab_ending.specs.Status.{status_after};
 
 use sab_tool::ToolFault;
 

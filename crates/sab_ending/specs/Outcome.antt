@@ -2,8 +2,8 @@
 use Rattle.std.specs.Prelude.{Bool, true, false}
 use Rattle.sab_report.specs.declared.ended.Ended.{Ended}
 use Rattle.sab_report.specs.declared.ended.Ended.TheVariants as E
-use Rattle.sab_command.specs.declared.outcome.Outcome.{Outcome}
-use Rattle.sab_command.specs.declared.outcome.Outcome.TheVariants.{Done, Unfinished}
+use Rattle.sab_ending.specs.declared.outcome.Outcome.{Outcome}
+use Rattle.sab_ending.specs.declared.outcome.Outcome.TheVariants.{Done, Unfinished}
 
 -- a run that ended so, where all calls were to return or not
 abbrev pub outcome_of : Ended → Bool → Outcome

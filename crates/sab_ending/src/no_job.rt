@@ -2,7 +2,7 @@
 
 ghost use Rattle.std.specs.Prelude.{◌≡◌, Bool};
 ghost use Rattle.clap.specs.Words.{kind_of};
-ghost use Rattle.sab_command.specs.Ending.{after_no_job};
+ghost use Rattle.sab_ending.specs.Ending.{after_no_job};
 
 use crate::ending::Ending;
 use clap::Error;

@@ -4,11 +4,11 @@ use Rattle.clap.specs.declared.error.kind.ErrorKind.{ErrorKind}
 use Rattle.clap.specs.declared.error.kind.ErrorKind.TheVariants as kind
 use Rattle.sab_tool.specs.declared.tool_fault.ToolFault.{ToolFault}
 use Rattle.sab_tool.specs.declared.tool_fault.ToolFault.TheVariants.{OutOfMemory, WriteFailed}
-use Rattle.sab_command.specs.declared.ending.Ending.{Ending}
-use Rattle.sab_command.specs.declared.ending.Ending.TheVariants.{Done, Refused, ScriptRefused, Unfinished, Failed}
-use Rattle.sab_command.specs.declared.outcome.Outcome.{Outcome}
-use Rattle.sab_command.specs.declared.outcome.Outcome.TheVariants as O
-use Rattle.sab_command.specs.Status.{status_after}
+use Rattle.sab_ending.specs.declared.ending.Ending.{Ending}
+use Rattle.sab_ending.specs.declared.ending.Ending.TheVariants.{Done, Refused, ScriptRefused, Unfinished, Failed}
+use Rattle.sab_ending.specs.declared.outcome.Outcome.{Outcome}
+use Rattle.sab_ending.specs.declared.outcome.Outcome.TheVariants as O
+use Rattle.sab_ending.specs.Status.{status_after}
 
 -- the table of statuses
 abbrev pub status_at : Ending → ℕ

@@ -16,9 +16,9 @@ use Rattle.sab_kept.specs.Keeping.{KeepsRun, IsRaceIn, IsReplayUnkept, IsRaceUnk
 use Rattle.sab_check.specs.Checked.{IsAccepted, IsRefused}
 use Rattle.sab_command.specs.declared.command_line.Job.{Job}
 use Rattle.sab_command.specs.declared.command_line.Job.TheVariants.{Replay, ReplayAsScript, Check, Race, RaceAsScript}
-use Rattle.sab_command.specs.declared.outcome.Outcome.{Outcome}
-use Rattle.sab_command.specs.declared.outcome.Outcome.TheVariants.{Done, Refused, Unfinished}
-use Rattle.sab_command.specs.Outcome.{outcome_of}
+use Rattle.sab_ending.specs.declared.outcome.Outcome.{Outcome}
+use Rattle.sab_ending.specs.declared.outcome.Outcome.TheVariants.{Done, Refused, Unfinished}
+use Rattle.sab_ending.specs.Outcome.{outcome_of}
 
 -- just what a check says came behind what the writer held: of a script that isn't refused, or of one that is
 abbrev pub Checks : Outcome → Option (List ℕ) → Option (List ℕ) → List ℕ → Type 0

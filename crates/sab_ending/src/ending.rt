@@ -1,7 +1,7 @@
 //! How the program ends.
 
 ghost use Rattle.std.specs.Prelude.{◌≡◌};
-ghost use Rattle.sab_command.specs.Ending.{status_at, after_job};
+ghost use Rattle.sab_ending.specs.Ending.{status_at, after_job};
 
 use crate::outcome::Outcome;
 use crate::status::status_of;

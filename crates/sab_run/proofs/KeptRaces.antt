@@ -8,10 +8,10 @@ use Rattle.sab_report.specs.declared.ended.Ended.{Ended}
 use Rattle.sab_report.specs.Ended.{ended_of}
 use Rattle.sab_kept.specs.Keeping.{KeepsRun, IsRaceIn}
 use Rattle.sab_command.specs.declared.command_line.Job.TheVariants.{RaceAsScript}
-use Rattle.sab_command.specs.declared.outcome.Outcome.{Outcome}
-use Rattle.sab_command.specs.Outcome.{outcome_of}
-use Rattle.sab_command.specs.Running.{RunsGiven}
-use Rattle.sab_command.proofs.Flushed.{flushed_kept}
+use Rattle.sab_ending.specs.declared.outcome.Outcome.{Outcome}
+use Rattle.sab_ending.specs.Outcome.{outcome_of}
+use Rattle.sab_run.specs.Running.{RunsGiven}
+use Rattle.sab_run.proofs.Flushed.{flushed_kept}
 
 -- its outcome is by how it ended
 pub kept_race : (known old mid new : Option (List ℕ)) (input script : List ℕ) (share : Share) (spins seed : ℕ)

@@ -3,11 +3,11 @@
 ghost use Rattle.std.specs.Prelude.{◌≡◌, ◌≤◌, Some, IfOk, IfErr, IfSome, OnOk};
 ghost use Rattle.std.specs.Io.KnownBytes.{Appends, IsAtEnd};
 ghost use Rattle.sab_command.specs.Job.{IsWithinLimits};
-ghost use Rattle.sab_command.specs.Running.{RunsGiven, IsRunFault, IsUnwritten};
+ghost use Rattle.sab_run.specs.Running.{RunsGiven, IsRunFault, IsUnwritten};
 
-use crate::command_line::Job;
-use crate::outcome::Outcome;
 use sab_check::{Checked, check_script};
+use sab_command::Job;
+use sab_ending::Outcome;
 use sab_kept::{keep_race, keep_replay};
 use sab_report::{Ended, Race, Telling, race_as, replay_as};
 use sab_tool::{MAX_SPINS, ToolFault, read_input};

@@ -1,7 +1,7 @@
 //! What a job came to.
 
 ghost use Rattle.std.specs.Prelude.{◌≡◌};
-ghost use Rattle.sab_command.specs.Outcome.{outcome_of};
+ghost use Rattle.sab_ending.specs.Outcome.{outcome_of};
 
 use sab_report::Ended;
 
@@ -18,7 +18,7 @@ pub enum Outcome {
 
 impl Outcome {
     /// What a run came to that ended so, and in which all calls were to return or not.
-    pub(crate) fn of_run(ended: Ended, finish: bool) -> Outcome
+    pub fn of_run(ended: Ended, finish: bool) -> Outcome
         ensures { result ≡ outcome_of ended finish }
     {
         match ended {

@@ -1,0 +1,4 @@
+pub mod Status
+pub mod Outcome
+pub mod FaultLine
+pub mod Ending

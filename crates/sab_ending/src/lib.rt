@@ -1,0 +1,15 @@
+//! How `sabsim` ends: what a job came to, the exit status, and the line that tells of a fault.
+#![tactic(auto)]
+
+mod ending;
+mod fault_line;
+mod no_job;
+mod no_words;
+mod outcome;
+mod status;
+
+pub use ending::Ending;
+pub use fault_line::FaultLine;
+pub use no_job::without_job;
+pub use no_words::without_words;
+pub use outcome::Outcome;
