@@ -48,7 +48,7 @@ function existing(module) {
 }
 
 /**
- * Keeps a failing run: its script, its report, and where sabsim is used its explained report.
+ * Keeps a failing run: its script, its report, and where sabsim is used its explained report and its picture.
  * @param {Keeper} keeper
  * @param {import("./lib/group.mjs").Outcome} outcome
  * @param {string | undefined} program the path of sabsim, where it is used
@@ -57,8 +57,10 @@ function keepRun(keeper, { seed, script, report }, program) {
   keeper.keep(`seed-${seed}.json`, script);
   keeper.keep(`seed-${seed}.report`, report);
   if (program === undefined) return;
-  const { status, output } = sabsim(program, ["replay", "--format", "explained"], script);
-  if (status === 0) keeper.keep(`seed-${seed}.explained`, output);
+  for (const format of ["explained", "svg"]) {
+    const { status, output } = sabsim(program, ["replay", "--format", format], script);
+    if (status === 0) keeper.keep(`seed-${seed}.${format}`, output);
+  }
 }
 
 /**

@@ -44,13 +44,15 @@ test("where some fail, the status is 1, and the first is kept in --out", withSab
   assert.deepEqual([status, stderr], [1, ""]);
   const [, seed] = /^first failing seed: (\d+), deadlock\n  agent \d waits at byte 4 /m.exec(stdout);
   assert.match(stdout, /^100 runs: \d+ finished, \d+ deadlock\n/);
-  const kept = ["json", "report", "explained"].map((ending) => `seed-${seed}.${ending}`);
+  const kept = ["json", "report", "explained", "svg"].map((ending) => `seed-${seed}.${ending}`);
   assert.ok(stdout.endsWith(`\nkept in ${out}: ${kept.join(", ")}\n`), stdout);
   const script = readFileSync(join(out, `seed-${seed}.json`));
   const replayed = spawnSync(SABSIM, ["replay"], { input: script, encoding: "utf8" });
   assert.equal(replayed.stdout, readFileSync(join(out, `seed-${seed}.report`), "utf8"));
-  const explained = spawnSync(SABSIM, ["replay", "--format", "explained"], { input: script, encoding: "utf8" });
-  assert.equal(explained.stdout, readFileSync(join(out, `seed-${seed}.explained`), "utf8"));
+  for (const format of ["explained", "svg"]) {
+    const told = spawnSync(SABSIM, ["replay", "--format", format], { input: script, encoding: "utf8" });
+    assert.equal(told.stdout, readFileSync(join(out, `seed-${seed}.${format}`), "utf8"));
+  }
   assert.deepEqual(readdirSync(out).sort(), kept.sort());
 });
 

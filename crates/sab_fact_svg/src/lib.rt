@@ -16,4 +16,3 @@ mod pieces;
 mod shape;
 
 pub use drawing::write_svg;
-pub use shape::Shape;

@@ -30,7 +30,7 @@ impl Shape {
     /// The measures of the picture of so many moves, on views of these names.
     ///
     /// Each call's text is made once, and measured.
-    pub fn of(names: &[Name], plan: &Plan, rows: u32) -> Shape
+    pub(crate) fn of(names: &[Name], plan: &Plan, rows: u32) -> Shape
         ensures { result ≡ shape_of names.now plan.now rows }
     {
         let value = value_chars(plan);

@@ -29,18 +29,18 @@ const MORE_ROWS: u64 = 5;
 const MIN_WIDTH: u64 = 760;
 
 /// The measures of a picture: widths in pixels, and how many agents, blocks and rows it has.
-#[derive(Clone, Copy, Debug, PartialEq, Eq)]
-pub struct Shape {
+#[derive(Clone, Copy)]
+pub(crate) struct Shape {
     /// The width of an agent's lane.
-    pub lane: u32,
+    pub(crate) lane: u32,
     /// The width of the changes at the right.
-    pub change: u32,
+    pub(crate) change: u32,
     /// How many agents there are.
-    pub agents: u32,
+    pub(crate) agents: u32,
     /// How many blocks there are.
-    pub blocks: u32,
+    pub(crate) blocks: u32,
     /// How many rows there are: one for each move.
-    pub rows: u32,
+    pub(crate) rows: u32,
 }
 
 impl Shape {
