@@ -1,6 +1,6 @@
 //! What is known of an agent before its move, and what its entry then found.
 
-ghost use Rattle.std.specs.Prelude.{◌≡◌, IfSome};
+ghost use Rattle.std.specs.Prelude.{◌≡◌, ℕ, List, IfSome};
 ghost use Rattle.sab_sim.specs.Plan.{PlanParts};
 ghost use Rattle.sab_explain.specs.Explainer as explaining;
 ghost use Rattle.sab_explain.specs.Explainer.{IsReadable, IsBefore, failed_of, found, concluded};
@@ -70,40 +70,43 @@ fn found_by(sight: Sight, what: What, after: Operand) -> Found
         expected,
         mut waiters,
     } = sight;
-    match (call, what) {
-        (
-            Call::Access {
-                access: Access::Load { .. },
-                ..
-            },
-            What::Acted(Answer::Value(_)),
-        ) => { Found::Read { value } }
-        (
-            Call::Access {
-                access: Access::CompareExchange { .. },
-                ..
-            },
-            What::Acted(Answer::Value(_)),
-        ) => Found::Compared {
-            before: value,
-            after,
-            exchanged: expected,
+    match call {
+        Call::Access { access, .. } => match what {
+            What::Acted(Answer::Value(_)) => found_by_access(access, value, after, expected),
+            _ => Found::Nothing,
         },
-        (Call::Access { .. }, What::Acted(Answer::Value(_))) => Found::Wrote {
-            before: value,
-            after,
-        },
-        (Call::Notify { .. }, What::Acted(Answer::Count(n))) => {
-            let waiting = waiters.agents().len() as u32;
-            waiters.truncate(n as usize);
-            Found::Notified {
-                woken: waiters,
-                waiting,
+        Call::Notify { .. } => match what {
+            What::Acted(Answer::Count(n)) => {
+                let waiting = waiters.agents().len() as u32;
+                waiters.truncate(n as usize);
+                Found::Notified {
+                    woken: waiters,
+                    waiting,
+                }
             }
-        }
-        (Call::Wait { .. }, What::Acted(Answer::NotEqual)) => Found::Differs { value },
-        (Call::Wait { .. }, What::Enlisted) => Found::Joined { ahead: waiters },
-        _ => Found::Nothing,
+            _ => Found::Nothing,
+        },
+        Call::Wait { .. } => match what {
+            What::Acted(Answer::NotEqual) => Found::Differs { value },
+            What::Enlisted => Found::Joined { ahead: waiters },
+            _ => Found::Nothing,
+        },
+    }
+}
+
+/// What was found by an access that answered a value: of the element before and after, and of whether it was expected.
+fn found_by_access(access: Access, before: Operand, after: Operand, exchanged: bool) -> Found
+    ensures { (view : ℕ) (x : Operand) (line : List ℕ)
+        → result ≡ facts.found_by (What.Acted (Answer.Value x)) (Call.Access view access) before after exchanged line }
+{
+    match access {
+        Access::Load { .. } => Found::Read { value: before },
+        Access::CompareExchange { .. } => Found::Compared {
+            before,
+            after,
+            exchanged,
+        },
+        Access::Store { .. } | Access::Rmw { .. } => Found::Wrote { before, after },
     }
 }
 
