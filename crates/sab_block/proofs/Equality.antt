@@ -3,7 +3,7 @@ use Rattle.std.proofs.Common.{◌&&◌, ◌≡◌, ◌+◌, ◌*◌, ◌≤◌, 
 use Rattle.std.proofs.Props.{props}
 use Rattle.std.specs.Cmp.{signed_Decides}
 use Rattle.std.specs.Ordering.{int_eq}
-use Rattle.std.proofs.lemmas.Bool.{and_parts}
+use Rattle.std.proofs.lemmas.Bool.{false≢true, and_parts}
 use borrow.Author.Tests.{eqb-true}
 use denote.Enum.Bare.{same_true}
 use mathlib.Core.HLevel.{is_prop→PathP}
@@ -72,4 +72,4 @@ same_access (A.Rmw op i x) (A.Rmw other j y) e =
 same_access (A.CompareExchange i x y) (A.CompareExchange j z w) e =
     ap (λ p. A.CompareExchange p.0 p.1.0 p.1.1)
     (same_pair (same_int i j) (same_pair (same_operand x z) (same_operand y w)) e)
-same_access _ _ e = absurd (cc)
+same_access _ _ e = absurd (false≢true e)

@@ -12,8 +12,8 @@ use Rattle.sab_command.specs.contracts.command_line.JobPartialEq.TheImpl as job
 
 same_seed : (x y : Option ℕ) → option_eq nat_eq x y ≡ true → x ≡ y
 same_seed None None e = refl
-same_seed None (Some m) e = absurd (cc)
-same_seed (Some n) None e = absurd (cc)
+same_seed None (Some m) e = absurd (false≢true e)
+same_seed (Some n) None e = absurd (false≢true e)
 same_seed (Some n) (Some m) e = ap Some (eqb-true n m e)
 
 same_job : (x y : Job) → (job.ghosts).eq x y ≡ true → x ≡ y

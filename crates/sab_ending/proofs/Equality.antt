@@ -1,6 +1,7 @@
 -- Equality of endings, fault lines and outcomes: values that a derived `==` finds equal are the same.
 use Rattle.std.proofs.Common.{◌≡◌, true, refl, ap, rules}
 use denote.Enum.Bare.{same_true}
+use Rattle.std.proofs.lemmas.Bool.{false≢true}
 use Rattle.sab_tool.proofs.Equality.{same_tool_fault}
 use Rattle.sab_ending.specs.declared.ending.Ending.{Ending}
 use Rattle.sab_ending.specs.declared.ending.Ending.TheVariants.{Done, Refused, ScriptRefused, Unfinished, Failed}
@@ -17,7 +18,7 @@ same_ending Refused Refused e = refl
 same_ending ScriptRefused ScriptRefused e = refl
 same_ending Unfinished Unfinished e = refl
 same_ending (Failed f) (Failed g) e = ap Failed (same_tool_fault f g e)
-same_ending _ _ e = absurd (cc)
+same_ending _ _ e = absurd (false≢true e)
 
 same_fault_line : (x y : FaultLine) → (fault_line.ghosts).eq x y ≡ true → x ≡ y
 same_fault_line x y e = let fault = same_tool_fault (x.0) (y.0) e in λ i. record { 0 = fault i }

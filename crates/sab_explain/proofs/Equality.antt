@@ -1,7 +1,7 @@
 -- Checks and standings that the derived `==` finds equal are the same.
 use Rattle.std.proofs.Common.{◌≡◌, Bool, true, false, Option, Some, None, refl, ap, rules}
 use Rattle.std.specs.Option.{option_eq}
-use Rattle.std.proofs.lemmas.Bool.{and_parts}
+use Rattle.std.proofs.lemmas.Bool.{false≢true, and_parts}
 use borrow.Author.Tests.{eqb-true}
 use denote.Enum.Bare.{same_true}
 use Rattle.sab_sim.specs.declared.place.Place.{Place}
@@ -22,8 +22,8 @@ same_check = same_true check_type (search rules)
 same_option : {X : Type 0} {E : X → X → Bool} → ((x y : X) → E x y ≡ true → x ≡ y) → (t u : Option X)
     → option_eq E t u ≡ true → t ≡ u
 same_option same None None e = refl
-same_option same None (Some y) e = absurd (cc)
-same_option same (Some x) None e = absurd (cc)
+same_option same None (Some y) e = absurd (false≢true e)
+same_option same (Some x) None e = absurd (false≢true e)
 same_option same (Some x) (Some y) e = ap (λ z. Some z) (same x y e)
 
 same_place : (p q : Place) → (place.ghosts).eq p q ≡ true → p ≡ q
@@ -35,8 +35,8 @@ same_place p q e =
 
 same_bool : (x y : Bool) → (at.ghosts).eq (T.Waits x) (T.Waits y) ≡ true → x ≡ y
 same_bool true true e = refl
-same_bool true false e = absurd (cc)
-same_bool false true e = absurd (cc)
+same_bool true false e = absurd (false≢true e)
+same_bool false true e = absurd (false≢true e)
 same_bool false false e = refl
 
 same_at : (x y : At) → (at.ghosts).eq x y ≡ true → x ≡ y
@@ -45,7 +45,7 @@ same_at T.Begun T.Begun e = refl
 same_at (T.Waits x) (T.Waits y) e = ap T.Waits (same_bool x y e)
 same_at (T.Woken n) (T.Woken m) e = ap T.Woken (eqb-true n m e)
 same_at T.Answered T.Answered e = refl
-same_at _ _ e = absurd (cc)
+same_at _ _ e = absurd (false≢true e)
 
 same_standing : (s t : Standing) → (standing.ghosts).eq s t ≡ true → s ≡ t
 same_standing s t e =

@@ -47,8 +47,8 @@ use Rattle.sab_script.specs.contracts.why.WhyPartialEq.TheImpl as why
 
 same_length : (t u : Option ℤ) → option_eq int_eq t u ≡ true → t ≡ u
 same_length None None e = refl
-same_length None (Some y) e = absurd (cc)
-same_length (Some x) None e = absurd (cc)
+same_length None (Some y) e = absurd (false≢true e)
+same_length (Some x) None e = absurd (false≢true e)
 same_length (Some x) (Some y) e = ap Some (same_int x y e)
 
 same_view_spec : (x y : ViewSpec) → (view_spec.ghosts).eq x y ≡ true → x ≡ y

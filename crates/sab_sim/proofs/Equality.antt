@@ -6,7 +6,7 @@ use Rattle.std.proofs.lemmas.Bool.Decides.{Decides-at}
 use Rattle.std.proofs.lemmas.Slice.Eq.{slice_eq-Decides}
 use Rattle.std.specs.Ordering.{int_eq}
 use Rattle.std.specs.Option.{option_eq}
-use Rattle.std.proofs.lemmas.Bool.{and_parts}
+use Rattle.std.proofs.lemmas.Bool.{false≢true, and_parts}
 use borrow.Author.Tests.{eqb-true}
 use Rattle.sab_block.proofs.Equality.{same_int, same_pair, same_operand, same_view, same_access}
 use Rattle.sab_sim.specs.declared.call.Call.{Call}
@@ -30,8 +30,8 @@ decides_same {X} {E} laws same a b = (same a b, λ p. subst (λ x. E a x ≡ tru
 
 same_option : (t u : Option ℤ) → option_eq int_eq t u ≡ true → t ≡ u
 same_option None None e = refl
-same_option None (Some y) e = absurd (cc)
-same_option (Some x) None e = absurd (cc)
+same_option None (Some y) e = absurd (false≢true e)
+same_option (Some x) None e = absurd (false≢true e)
 same_option (Some x) (Some y) e = ap Some (same_int x y e)
 
 same_plan_view : (a b : PlanView) → (plan_view.ghosts).eq a b ≡ true → a ≡ b
@@ -49,7 +49,7 @@ same_call (C.Wait n i x t) (C.Wait m j y u) e =
     (same_pair (eqb-true n m) (same_pair (same_int i j) (same_pair (same_operand x y) (same_option t u))) e)
 same_call (C.Notify n i t) (C.Notify m j u) e =
     ap (λ p. C.Notify p.0 p.1.0 p.1.1) (same_pair (eqb-true n m) (same_pair (same_int i j) (same_option t u)) e)
-same_call _ _ e = absurd (cc)
+same_call _ _ e = absurd (false≢true e)
 
 pub decides_calls : (xs ys : List Call) (r : Bool) → r ≡ pointwise (call.ghosts).eq xs ys → Decides r (xs ≡ ys)
 decides_calls = slice_eq-Decides (decides_same call_laws.laws-law same_call)
