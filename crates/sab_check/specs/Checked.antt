@@ -1,8 +1,9 @@
 -- What a check says of a script.
 use Rattle.std.specs.Prelude.{◌≡◌, ℕ, List, ◌++◌, codes, string_bytes}
-use Rattle.sab_script.specs.declared.refusal.Refusal.{Refusal}
+use Rattle.sab_refusal.specs.declared.refusal.Refusal.{Refusal}
 use Rattle.sab_script.specs.Setup.{SetupParts}
-use Rattle.sab_script.specs.Script.{IsScriptOf, IsRefusedBy, IsMemory, refusal_text}
+use Rattle.sab_refusal.specs.Refusal.{IsMemory, refusal_text}
+use Rattle.sab_script.specs.Script.{IsScriptOf, IsRefusedBy}
 use Rattle.sab_check.specs.declared.check.Checked.{Checked}
 use Rattle.sab_check.specs.declared.check.Checked.TheVariants.{Accepted, Refused}
 use Rattle.sab_check.specs.Text.{accepted_text}

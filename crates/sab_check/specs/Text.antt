@@ -6,9 +6,9 @@ use Rattle.sab_sim.specs.declared.call.Call.{Call}
 use Rattle.sab_sim.specs.declared.plan_view.PlanView.{PlanView}
 use Rattle.sab_sim.specs.Call.{view_of}
 use Rattle.sab_sim.specs.Script.{ScriptParts}
-use Rattle.sab_script.specs.declared.location.Location.TheVariants as at
-use Rattle.sab_script.specs.declared.member.Member.TheVariants.{Agents, Calls}
-use Rattle.sab_script.specs.Location.{location_text}
+use Rattle.sab_refusal.specs.declared.location.Location.TheVariants as at
+use Rattle.sab_refusal.specs.declared.member.Member.TheVariants.{Agents, Calls}
+use Rattle.sab_refusal.specs.Location.{location_text}
 use Rattle.sab_script.specs.Views.{kind_name, view_names}
 use Rattle.sab_script.specs.Calls.{spelling_of}
 use Rattle.sab_script.specs.Setup.{SetupParts}

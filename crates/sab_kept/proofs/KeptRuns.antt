@@ -4,8 +4,8 @@ use Rattle.std.proofs.lemmas.Result.{err_from_is_err_and}
 use Rattle.std.specs.Prelude.{Result, IfErr, IsErrAnd}
 use Rattle.serde_json.specs.Data.{Data}
 use Rattle.sab_sim.specs.Report.{ReportParts, Fits, IsOnly}
-use Rattle.sab_script.specs.declared.read_fault.ReadFault.{ReadFault}
-use Rattle.sab_script.specs.declared.read_fault.ReadFault.TheVariants.{TooMany, OutOfMemory, BadShape, BadName, BadNumber, BadCall, BadView, BadAgent, NoBlock}
+use Rattle.sab_refusal.specs.declared.read_fault.ReadFault.{ReadFault}
+use Rattle.sab_refusal.specs.declared.read_fault.ReadFault.TheVariants.{TooMany, OutOfMemory, BadShape, BadName, BadNumber, BadCall, BadView, BadAgent, NoBlock}
 use Rattle.sab_script.specs.Reading.{Refuses}
 use Rattle.sab_script.specs.Setup.{SetupParts, Spells}
 use Rattle.sab_script.specs.Script.{ReadsAs, IsScriptOf}

@@ -11,7 +11,6 @@ pub mod Parts
 pub mod Places
 pub mod Refusing
 pub mod Scripts
-pub mod Starts
 pub mod WholeCall
 pub mod WholeScript
 pub mod SameSpec

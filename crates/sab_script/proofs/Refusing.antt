@@ -2,12 +2,12 @@
 use Rattle.std.proofs.Common.{◌≡◌, Result, Ok, Err}
 use Rattle.std.specs.Prelude.{IsErrAnd}
 use Rattle.std.proofs.lemmas.Result.{err_from_is_err_and}
-use Rattle.sab_script.specs.declared.read_fault.ReadFault.{ReadFault}
-use Rattle.sab_script.specs.declared.read_fault.ReadFault.TheVariants.{TooMany, OutOfMemory, BadShape, BadName, BadNumber, BadCall, BadView, BadAgent, NoBlock}
+use Rattle.sab_refusal.specs.declared.read_fault.ReadFault.{ReadFault}
+use Rattle.sab_refusal.specs.declared.read_fault.ReadFault.TheVariants.{TooMany, OutOfMemory, BadShape, BadName, BadNumber, BadCall, BadView, BadAgent, NoBlock}
 use Rattle.sab_script.specs.Reading.{Refuses, Finds}
-use Rattle.sab_script.specs.declared.located.Located.{Located}
-use Rattle.sab_script.specs.declared.why.Why.TheVariants.{Memory}
-use Rattle.sab_script.specs.Why.{fault_of}
+use Rattle.sab_refusal.specs.declared.located.Located.{Located}
+use Rattle.sab_refusal.specs.declared.why.Why.TheVariants.{Memory}
+use Rattle.sab_refusal.specs.Why.{fault_of}
 
 pub refuses_more : {Y Z : Type 0} (P : Y → Type 0) (Q : Z → Type 0) (e : ReadFault) → ((z : Z) → Q z → (y : Y) × P y)
     → Refuses P e → Refuses Q e

@@ -1,8 +1,3 @@
-pub mod ReadFault
-pub mod Excerpt
-pub mod Location
-pub mod Why
-pub mod Located
 pub mod Reading
 pub mod Numbers
 pub mod Blocks

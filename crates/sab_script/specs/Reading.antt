@@ -1,10 +1,10 @@
 -- What a reader of a part of a script answers.
 use Rattle.std.specs.Prelude.{ℕ, ◌≤◌, List, [], ◌∷◌, length, Result, Ok, Err}
 use Rattle.serde_json.specs.Data.{Data, Items, no_items, item}
-use Rattle.sab_script.specs.declared.read_fault.ReadFault.{ReadFault}
-use Rattle.sab_script.specs.declared.read_fault.ReadFault.TheVariants.{OutOfMemory}
-use Rattle.sab_script.specs.declared.located.Located.{Located}
-use Rattle.sab_script.specs.Why.{fault_of}
+use Rattle.sab_refusal.specs.declared.read_fault.ReadFault.{ReadFault}
+use Rattle.sab_refusal.specs.declared.read_fault.ReadFault.TheVariants.{OutOfMemory}
+use Rattle.sab_refusal.specs.declared.located.Located.{Located}
+use Rattle.sab_refusal.specs.Why.{fault_of}
 
 -- a refusal: nothing is spelled, or memory ran out
 abbrev pub Refuses : {Y : Type 0} → (Y → Type 0) → ReadFault → Type 0

@@ -1,13 +1,12 @@
 -- Scripts as bytes.
-use Rattle.std.specs.Prelude.{◌≡◌, ℕ, Bool, true, false, List, ◌++◌, Some, codes, decimal, IsUtf8}
+use Rattle.std.specs.Prelude.{◌≡◌, ℕ, List, Some, IsUtf8}
 use Rattle.serde_json.specs.Data.{Data}
 use Rattle.serde_json.specs.Read.{read}
-use Rattle.sab_script.specs.declared.read_fault.ReadFault.{ReadFault}
-use Rattle.sab_script.specs.declared.read_fault.ReadFault.TheVariants.{OutOfMemory}
-use Rattle.sab_script.specs.declared.refusal.Refusal.{Refusal}
-use Rattle.sab_script.specs.declared.refusal.Refusal.TheVariants.{NotJson, Tree}
-use Rattle.sab_script.specs.Why.{fault_of}
-use Rattle.sab_script.specs.Located.{located_text}
+use Rattle.sab_refusal.specs.declared.read_fault.ReadFault.{ReadFault}
+use Rattle.sab_refusal.specs.declared.read_fault.ReadFault.TheVariants.{OutOfMemory}
+use Rattle.sab_refusal.specs.declared.refusal.Refusal.{Refusal}
+use Rattle.sab_refusal.specs.declared.refusal.Refusal.TheVariants.{NotJson, Tree}
+use Rattle.sab_refusal.specs.Why.{fault_of}
 use Rattle.sab_script.specs.Setup.{SetupParts, Spells, IsOnlySetup}
 
 -- the bytes are a JSON text in UTF-8, which reads as the tree
@@ -36,19 +35,3 @@ IsTreeFault script _ = SpellsNone script
 abbrev pub IsRefusedBy : List ℕ → Refusal → Type 0
 IsRefusedBy script (NotJson line column is_cut) = (tree : Data) → ReadsAs script tree → ⊥
 IsRefusedBy script (Tree e) = IsTreeFault script (fault_of e.why)
-
--- memory ran out
-abbrev pub IsMemory : Refusal → Type 0
-IsMemory (NotJson line column is_cut) = ⊥
-IsMemory (Tree e) = fault_of e.why ≡ OutOfMemory
-
--- what is wrong with a text
-abbrev pub amiss_text : Bool → List ℕ
-amiss_text true = codes ": 16 NotJson: the text ends too early"
-amiss_text false = codes ": 16 NotJson: no JSON text in UTF-8"
-
--- where, what, and why
-abbrev pub refusal_text : Refusal → List ℕ
-refusal_text (NotJson line column is_cut) =
-    codes "line " ++ (decimal line ++ (codes ", column " ++ (decimal column ++ amiss_text is_cut)))
-refusal_text (Tree e) = located_text e

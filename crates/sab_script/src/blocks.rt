@@ -7,10 +7,8 @@ ghost use Rattle.sab_script.specs.Blocks.{SpellsLen, SpellsLens};
 
 use crate::elements::{Reader, read_each};
 use crate::form::Form;
-use crate::located::Located;
-use crate::location::Location;
 use crate::tree::{items, whole};
-use crate::why::{Unit, Wanted, Why};
+use sab_refusal::{Located, Location, Unit, Wanted, Why};
 use sab_sim::Plan;
 use serde_json::Value;
 use std::alloc::Global;

@@ -7,14 +7,11 @@ ghost use Rattle.sab_script.specs.Views.{view_names};
 ghost use Rattle.sab_script.specs.Calls.{op_name, spelling_of, SpellsParts, SpellsCall, SpellsCalls};
 
 use crate::elements::{Reader, read_each};
-use crate::excerpt::Excerpt;
-use crate::located::Located;
-use crate::location::Location;
 use crate::operands::{no_operand, one_operand, optional_limit, timed_operand, two_operands};
 use crate::tree::{items, text, whole};
 use crate::views::{Views, view_of};
-use crate::why::{Unit, Wanted, Why};
 use sab_block::{Access, RmwOp};
+use sab_refusal::{Excerpt, Located, Location, Unit, Wanted, Why};
 use sab_sim::{Call, Plan};
 use serde_json::Value;
 use std::alloc::Global;

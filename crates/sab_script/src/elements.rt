@@ -4,9 +4,7 @@ ghost use Rattle.serde_json.specs.Data.{Data};
 ghost use Rattle.serde_json.specs.View.{view, items_view};
 ghost use Rattle.sab_script.specs.Reading.{Finds, SpellsUpTo};
 
-use crate::located::Located;
-use crate::location::Location;
-use crate::why::{Unit, Why};
+use sab_refusal::{Located, Location, Unit, Why};
 use serde_json::Value;
 use std::alloc::Global;
 

@@ -1,6 +1,6 @@
 //! The two forms of a script.
 
-use crate::member::Member;
+use sab_refusal::Member;
 
 /// How a script tells of its blocks.
 #[derive(Clone, Copy, Debug, PartialEq, Eq)]
@@ -14,7 +14,7 @@ pub(crate) enum Form {
 impl Form {
     ghost use Rattle.std.specs.Prelude.{◌≡◌};
     ghost use Rattle.sab_script.specs.Blocks.{lens_name};
-    ghost use Rattle.sab_script.specs.Location.{member_name};
+    ghost use Rattle.sab_refusal.specs.Location.{member_name};
 
     /// The member of a script that tells of its blocks.
     pub(crate) fn lens_member(self) -> Member

@@ -1,14 +1,10 @@
 //! Why a view doesn't fit its block.
 
 ghost use Rattle.std.specs.Prelude.{◌≡◌};
-ghost use Rattle.sab_script.specs.Why.{fault_of};
+ghost use Rattle.sab_refusal.specs.Why.{fault_of};
 
-use crate::located::Located;
-use crate::location::Location;
-use crate::member::Member;
-use crate::read_fault::ReadFault;
 use crate::view_spec::ViewSpec;
-use crate::why::{Misfit, Why};
+use sab_refusal::{Located, Location, Member, Misfit, ReadFault, Why};
 
 /// The refusal of a view, which stands there, that can't be made on its block of so many bytes: of its offset or of its
 /// length.

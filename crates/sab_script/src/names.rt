@@ -3,14 +3,10 @@
 ghost use Rattle.std.specs.Prelude.{◌≡◌, IfErr, ◌↔◌, ◌<◌, ◌≤◌, IsTrue};
 ghost use Rattle.sab_script.specs.Reading.{Finds};
 ghost use Rattle.sab_script.specs.Views.{kind_name, IsName};
-ghost use Rattle.sab_script.specs.Why.{fault_of};
+ghost use Rattle.sab_refusal.specs.Why.{fault_of};
 
-use crate::excerpt::Excerpt;
-use crate::located::Located;
-use crate::location::Location;
-use crate::read_fault::ReadFault;
-use crate::why::Why;
 use sab_block::Kind;
+use sab_refusal::{Excerpt, Located, Location, ReadFault, Why};
 
 /// The kind of a name.
 pub(crate) fn kind(at: Location, name: &str) -> Result<Kind, Located>

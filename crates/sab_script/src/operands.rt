@@ -5,15 +5,11 @@ ghost use Rattle.serde_json.specs.View.{view, items_view};
 ghost use Rattle.sab_script.specs.Reading.{Finds};
 ghost use Rattle.sab_script.specs.Numbers.{SpellsBig, SpellsOperand};
 ghost use Rattle.sab_script.specs.Calls.{value, optional, SpellsArguments};
-ghost use Rattle.sab_script.specs.Why.{fault_of};
+ghost use Rattle.sab_refusal.specs.Why.{fault_of};
 
-use crate::excerpt::Excerpt;
-use crate::located::Located;
-use crate::location::Location;
-use crate::read_fault::ReadFault;
 use crate::tree::whole;
-use crate::why::{Wanted, Why};
 use sab_block::Operand;
+use sab_refusal::{Excerpt, Located, Location, ReadFault, Wanted, Why};
 use serde_json::Value;
 
 /// Where in a call what stands behind its index begins.

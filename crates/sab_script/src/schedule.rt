@@ -6,11 +6,8 @@ ghost use Rattle.sab_script.specs.Reading.{Finds};
 ghost use Rattle.sab_script.specs.Schedule.{SpellsMove, SpellsSchedule};
 
 use crate::elements::{Reader, read_each};
-use crate::located::Located;
-use crate::location::Location;
-use crate::member::Member;
 use crate::tree::{end, member, members, position};
-use crate::why::{Counted, Unit, Wanted};
+use sab_refusal::{Counted, Located, Location, Member, Unit, Wanted};
 use sab_sim::Move;
 use serde_json::Value;
 use std::alloc::Global;

@@ -3,11 +3,8 @@
 ghost use Rattle.std.specs.Prelude.{IfOk, IfErr};
 ghost use Rattle.sab_script.specs.Script.{IsScriptOf, IsRefusedBy};
 
-use crate::located::Located;
-use crate::location::Location;
-use crate::refusal::Refusal;
 use crate::setup::{Setup, locate_setup};
-use crate::why::Why;
+use sab_refusal::{Located, Location, Refusal, Why};
 use serde_json::Value;
 use std::alloc::Global;
 

@@ -4,17 +4,12 @@ ghost use Rattle.std.specs.Prelude.{◌≡◌, ◌⊎◌, IfOk, IfErr, OnOk, OnE
 ghost use Rattle.serde_json.specs.Data.{Data, Members as MemberList, string, boolean, array, object, no_members, member as member_then};
 ghost use Rattle.serde_json.specs.View.{view, items_view, members_view};
 ghost use Rattle.sab_script.specs.Reading.{Finds};
-ghost use Rattle.sab_script.specs.Location.{member_name};
+ghost use Rattle.sab_refusal.specs.Location.{member_name};
 ghost use Rattle.sab_script.specs.Numbers.{SpellsWhole, SpellsOptional, SpellsPosition};
-ghost use Rattle.sab_script.specs.Why.{fault_of, fault_beyond};
+ghost use Rattle.sab_refusal.specs.Why.{fault_of, fault_beyond};
 
-use crate::excerpt::Excerpt;
-use crate::located::Located;
-use crate::location::Location;
-use crate::member::Member;
-use crate::read_fault::ReadFault;
-use crate::why::{Counted, Wanted, Why};
 use sab_block::Operand;
+use sab_refusal::{Counted, Excerpt, Located, Location, Member, ReadFault, Wanted, Why};
 use serde_json::Value;
 use std::collections::btree_map::Iter;
 

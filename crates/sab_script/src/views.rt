@@ -5,13 +5,10 @@ ghost use Rattle.serde_json.specs.View.{view};
 ghost use Rattle.sab_script.specs.Reading.{Finds};
 ghost use Rattle.sab_script.specs.Views.{named_views, view_names, AreViews, SpellsName};
 
-use crate::excerpt::Excerpt;
-use crate::located::Located;
-use crate::location::Location;
 use crate::tree::text;
 use crate::view_spec::ViewSpec;
-use crate::why::Why;
 use indexmap::IndexMap;
+use sab_refusal::{Excerpt, Located, Location, Why};
 use sab_sim::Plan;
 use serde_json::Value;
 use std::alloc::{AllocError, Global};

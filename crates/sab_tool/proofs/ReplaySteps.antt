@@ -10,14 +10,14 @@ use Rattle.sab_sim.specs.declared.sim_fault.SimFault.TheVariants as F
 use Rattle.sab_sim.specs.Schedule.{agent_of}
 use Rattle.sab_sim.specs.Plan.{PlanParts}
 use Rattle.sab_sim.specs.Report.{IsRefusal, first_refusal}
-use Rattle.sab_script.specs.declared.read_fault.ReadFault.{ReadFault}
-use Rattle.sab_script.specs.declared.read_fault.ReadFault.TheVariants.{TooMany, OutOfMemory, BadShape, BadName, BadNumber, BadCall, BadView, BadAgent, NoBlock}
-use Rattle.sab_script.specs.declared.refusal.Refusal.{Refusal}
-use Rattle.sab_script.specs.declared.refusal.Refusal.TheVariants.{NotJson, Tree}
+use Rattle.sab_refusal.specs.declared.read_fault.ReadFault.{ReadFault}
+use Rattle.sab_refusal.specs.declared.read_fault.ReadFault.TheVariants.{TooMany, OutOfMemory, BadShape, BadName, BadNumber, BadCall, BadView, BadAgent, NoBlock}
+use Rattle.sab_refusal.specs.declared.refusal.Refusal.{Refusal}
+use Rattle.sab_refusal.specs.declared.refusal.Refusal.TheVariants.{NotJson, Tree}
 use Rattle.sab_script.specs.Reading.{SpellsEach}
 use Rattle.sab_script.specs.Schedule.{SpellsMove}
 use Rattle.sab_script.specs.Script.{IsTreeFault, IsRefusedBy}
-use Rattle.sab_script.specs.Why.{fault_of}
+use Rattle.sab_refusal.specs.Why.{fault_of}
 use Rattle.sab_tool.specs.Replay.{IsRefused, as_tool_fault, script_as_tool_fault}
 
 pub keeps_same : (o : Option (List ℕ)) → Keeps o o

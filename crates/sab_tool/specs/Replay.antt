@@ -5,11 +5,11 @@ use Rattle.serde_json.specs.Data.{Data}
 use Rattle.sab_sim.specs.declared.schedule.Move.{Move}
 use Rattle.sab_sim.specs.Plan.{PlanParts}
 use Rattle.sab_sim.specs.Report.{ReportParts, Fits, IsOnly}
-use Rattle.sab_script.specs.declared.read_fault.ReadFault.{ReadFault}
-use Rattle.sab_script.specs.declared.read_fault.ReadFault.TheVariants as R
-use Rattle.sab_script.specs.declared.refusal.Refusal.{Refusal}
-use Rattle.sab_script.specs.declared.refusal.Refusal.TheVariants as S
-use Rattle.sab_script.specs.Why.{fault_of}
+use Rattle.sab_refusal.specs.declared.read_fault.ReadFault.{ReadFault}
+use Rattle.sab_refusal.specs.declared.read_fault.ReadFault.TheVariants as R
+use Rattle.sab_refusal.specs.declared.refusal.Refusal.{Refusal}
+use Rattle.sab_refusal.specs.declared.refusal.Refusal.TheVariants as S
+use Rattle.sab_refusal.specs.Why.{fault_of}
 use Rattle.sab_tool.specs.declared.tool_fault.ToolFault.{ToolFault}
 use Rattle.sab_tool.specs.declared.tool_fault.ToolFault.TheVariants.{TooMany, OutOfMemory, BadShape, BadName, BadNumber, BadCall, BadView, BadAgent, NoBlock, NotJson, WriteFailed}
 use Rattle.sab_script.specs.Setup.{SetupParts}

@@ -23,7 +23,7 @@ pub enum Refusal {
 
 impl Refusal {
     ghost use Rattle.std.specs.Prelude.{◌≡◌, ◌↔◌, IsTrue};
-    ghost use Rattle.sab_script.specs.Script.{IsMemory};
+    ghost use Rattle.sab_refusal.specs.Refusal.{IsMemory};
 
     /// Whether it is for want of memory alone.
     pub fn is_memory(self) -> bool
@@ -38,7 +38,7 @@ impl Refusal {
 
 impl fmt::Display for Refusal {
     ghost use Rattle.std.specs.Prelude.{Some};
-    ghost use Rattle.sab_script.specs.Script.{refusal_text};
+    ghost use Rattle.sab_refusal.specs.Refusal.{refusal_text};
 
     ghost output = { λ refusal. Some (refusal_text refusal) };
 

@@ -20,7 +20,7 @@ pub struct Located {
 
 impl Located {
     ghost use Rattle.std.specs.Prelude.{◌≡◌};
-    ghost use Rattle.sab_script.specs.Why.{fault_of};
+    ghost use Rattle.sab_refusal.specs.Why.{fault_of};
 
     /// The fault that it is.
     pub fn fault(self) -> ReadFault
@@ -32,7 +32,7 @@ impl Located {
 
 impl fmt::Display for Located {
     ghost use Rattle.std.specs.Prelude.{Some};
-    ghost use Rattle.sab_script.specs.Located.{located_text};
+    ghost use Rattle.sab_refusal.specs.Located.{located_text};
 
     ghost output = { λ refusal. Some (located_text refusal) };
 
@@ -49,7 +49,7 @@ impl Error for Located {}
 
 impl From<AllocError> for Located {
     ghost use Rattle.std.specs.Prelude.{◌≡◌};
-    ghost use Rattle.sab_script.specs.declared.why.Why.TheVariants.{Memory};
+    ghost use Rattle.sab_refusal.specs.declared.why.Why.TheVariants.{Memory};
 
     ghost from_gives = { λ _ refusal. refusal.why ≡ Memory };
 

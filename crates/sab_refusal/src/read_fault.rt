@@ -31,7 +31,7 @@ pub enum ReadFault {
 
 impl ReadFault {
     ghost use Rattle.std.specs.Prelude.{◌≡◌};
-    ghost use Rattle.sab_script.specs.ReadFault.{number_of, name_of};
+    ghost use Rattle.sab_refusal.specs.ReadFault.{number_of, name_of};
 
     /// The number that it is told by.
     pub fn number(self) -> u32
@@ -70,7 +70,7 @@ impl ReadFault {
 
 impl fmt::Display for ReadFault {
     ghost use Rattle.std.specs.Prelude.{Some};
-    ghost use Rattle.sab_script.specs.ReadFault.{text_of};
+    ghost use Rattle.sab_refusal.specs.ReadFault.{text_of};
 
     ghost output = { λ fault. Some (text_of fault) };
 
@@ -95,7 +95,7 @@ impl Error for ReadFault {}
 
 impl From<AllocError> for ReadFault {
     ghost use Rattle.std.specs.Prelude.{◌≡◌};
-    ghost use Rattle.sab_script.specs.declared.read_fault.ReadFault.TheVariants.{OutOfMemory};
+    ghost use Rattle.sab_refusal.specs.declared.read_fault.ReadFault.TheVariants.{OutOfMemory};
 
     ghost from_gives = { λ _ fault. fault ≡ OutOfMemory };
 

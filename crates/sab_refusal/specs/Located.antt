@@ -1,10 +1,10 @@
 -- Refusals with their place.
 use Rattle.std.specs.Prelude.{ℕ, List, ◌++◌, codes, decimal}
-use Rattle.sab_script.specs.declared.located.Located.{Located}
-use Rattle.sab_script.specs.declared.read_fault.ReadFault.{ReadFault}
-use Rattle.sab_script.specs.ReadFault.{number_of, name_of}
-use Rattle.sab_script.specs.Location.{location_text}
-use Rattle.sab_script.specs.Why.{fault_of, why_text}
+use Rattle.sab_refusal.specs.declared.located.Located.{Located}
+use Rattle.sab_refusal.specs.declared.read_fault.ReadFault.{ReadFault}
+use Rattle.sab_refusal.specs.ReadFault.{number_of, name_of}
+use Rattle.sab_refusal.specs.Location.{location_text}
+use Rattle.sab_refusal.specs.Why.{fault_of, why_text}
 
 -- a fault's number and name
 abbrev pub label_text : ReadFault → List ℕ

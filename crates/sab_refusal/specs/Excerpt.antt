@@ -2,7 +2,7 @@
 use Rattle.std.specs.Prelude.{ℕ, ◌/◌, ◌%◌, ◌==◌, ◌&&◌, ◌||◌, not, Bool, false, List, [], ◌∷◌, ◌++◌, take, flat_map, codes, if◌then◌else◌}
 use Rattle.std.specs.Char.{is_ascii_graphic}
 use Rattle.std.specs.Fmt.{digits}
-use Rattle.sab_script.specs.declared.excerpt.Excerpt.{Excerpt}
+use Rattle.sab_refusal.specs.declared.excerpt.Excerpt.{Excerpt}
 
 -- the bytes that an excerpt has
 abbrev pub bytes_of : Excerpt → List ℕ

@@ -1,20 +1,20 @@
 -- What is wrong with a value of a script: the texts, and the faults.
 use Rattle.std.specs.Prelude.{ℕ, List, ◌++◌, codes, decimal}
 use Rattle.std.specs.Fmt.{signed_decimal}
-use Rattle.sab_script.specs.declared.why.Wanted.{Wanted}
-use Rattle.sab_script.specs.declared.why.Wanted.TheVariants as wanted
-use Rattle.sab_script.specs.declared.why.Unit.{Unit as Units}
-use Rattle.sab_script.specs.declared.why.Unit.TheVariants as unit
-use Rattle.sab_script.specs.declared.why.Counted.{Counted}
-use Rattle.sab_script.specs.declared.why.Counted.TheVariants.{Agent, Block}
-use Rattle.sab_script.specs.declared.why.Misfit.{Misfit}
-use Rattle.sab_script.specs.declared.why.Misfit.TheVariants as misfit
-use Rattle.sab_script.specs.declared.why.Why.{Why}
-use Rattle.sab_script.specs.declared.why.Why.TheVariants as why
-use Rattle.sab_script.specs.declared.read_fault.ReadFault.{ReadFault}
-use Rattle.sab_script.specs.declared.read_fault.ReadFault.TheVariants.{TooMany, BadShape, BadName, BadNumber, BadCall, BadView, BadAgent, NoBlock, OutOfMemory}
-use Rattle.sab_script.specs.Excerpt.{excerpt_text}
-use Rattle.sab_script.specs.Location.{member_name}
+use Rattle.sab_refusal.specs.declared.why.Wanted.{Wanted}
+use Rattle.sab_refusal.specs.declared.why.Wanted.TheVariants as wanted
+use Rattle.sab_refusal.specs.declared.why.Unit.{Unit as Units}
+use Rattle.sab_refusal.specs.declared.why.Unit.TheVariants as unit
+use Rattle.sab_refusal.specs.declared.why.Counted.{Counted}
+use Rattle.sab_refusal.specs.declared.why.Counted.TheVariants.{Agent, Block}
+use Rattle.sab_refusal.specs.declared.why.Misfit.{Misfit}
+use Rattle.sab_refusal.specs.declared.why.Misfit.TheVariants as misfit
+use Rattle.sab_refusal.specs.declared.why.Why.{Why}
+use Rattle.sab_refusal.specs.declared.why.Why.TheVariants as why
+use Rattle.sab_refusal.specs.declared.read_fault.ReadFault.{ReadFault}
+use Rattle.sab_refusal.specs.declared.read_fault.ReadFault.TheVariants.{TooMany, BadShape, BadName, BadNumber, BadCall, BadView, BadAgent, NoBlock, OutOfMemory}
+use Rattle.sab_refusal.specs.Excerpt.{excerpt_text}
+use Rattle.sab_refusal.specs.Location.{member_name}
 
 -- the fault of a number that is no position
 abbrev pub fault_beyond : Counted → ReadFault

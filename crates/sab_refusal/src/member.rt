@@ -33,7 +33,7 @@ pub enum Member {
 
 impl Member {
     ghost use Rattle.std.specs.Prelude.{◌≡◌};
-    ghost use Rattle.sab_script.specs.Location.{member_name};
+    ghost use Rattle.sab_refusal.specs.Location.{member_name};
 
     /// What it is called.
     pub fn name(self) -> &'static str
@@ -58,7 +58,7 @@ impl Member {
 
 impl fmt::Display for Member {
     ghost use Rattle.std.specs.Prelude.{Some};
-    ghost use Rattle.sab_script.specs.Location.{member_name};
+    ghost use Rattle.sab_refusal.specs.Location.{member_name};
 
     ghost output = { λ member. Some (member_name member) };
 

@@ -112,7 +112,7 @@ pub enum Why {
 
 impl Why {
     ghost use Rattle.std.specs.Prelude.{◌≡◌};
-    ghost use Rattle.sab_script.specs.Why.{fault_of};
+    ghost use Rattle.sab_refusal.specs.Why.{fault_of};
 
     /// The fault that this is.
     pub fn fault(self) -> ReadFault
@@ -135,7 +135,7 @@ impl Why {
 
 impl fmt::Display for Wanted {
     ghost use Rattle.std.specs.Prelude.{Some};
-    ghost use Rattle.sab_script.specs.Why.{wanted_text};
+    ghost use Rattle.sab_refusal.specs.Why.{wanted_text};
 
     ghost output = { λ wanted. Some (wanted_text wanted) };
 
@@ -155,7 +155,7 @@ impl fmt::Display for Wanted {
 
 impl fmt::Display for Unit {
     ghost use Rattle.std.specs.Prelude.{Some};
-    ghost use Rattle.sab_script.specs.Why.{unit_text};
+    ghost use Rattle.sab_refusal.specs.Why.{unit_text};
 
     ghost output = { λ unit. Some (unit_text unit) };
 
@@ -173,7 +173,7 @@ impl fmt::Display for Unit {
 
 impl fmt::Display for Counted {
     ghost use Rattle.std.specs.Prelude.{Some};
-    ghost use Rattle.sab_script.specs.Why.{counted_text};
+    ghost use Rattle.sab_refusal.specs.Why.{counted_text};
 
     ghost output = { λ counted. Some (counted_text counted) };
 
@@ -187,7 +187,7 @@ impl fmt::Display for Counted {
 
 impl fmt::Display for Misfit {
     ghost use Rattle.std.specs.Prelude.{Some};
-    ghost use Rattle.sab_script.specs.Why.{misfit_text};
+    ghost use Rattle.sab_refusal.specs.Why.{misfit_text};
 
     ghost output = { λ misfit. Some (misfit_text misfit) };
 
@@ -209,7 +209,7 @@ impl fmt::Display for Misfit {
 
 impl fmt::Display for Why {
     ghost use Rattle.std.specs.Prelude.{Some};
-    ghost use Rattle.sab_script.specs.Why.{why_text};
+    ghost use Rattle.sab_refusal.specs.Why.{why_text};
 
     ghost output = { λ why. Some (why_text why) };
 

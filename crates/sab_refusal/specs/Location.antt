@@ -1,9 +1,9 @@
 -- Where in a script a value stands.
 use Rattle.std.specs.Prelude.{ℕ, List, ◌++◌, codes, decimal}
-use Rattle.sab_script.specs.declared.location.Location.{Location}
-use Rattle.sab_script.specs.declared.location.Location.TheVariants as at
-use Rattle.sab_script.specs.declared.member.Member.{Member}
-use Rattle.sab_script.specs.declared.member.Member.TheVariants as M
+use Rattle.sab_refusal.specs.declared.location.Location.{Location}
+use Rattle.sab_refusal.specs.declared.location.Location.TheVariants as at
+use Rattle.sab_refusal.specs.declared.member.Member.{Member}
+use Rattle.sab_refusal.specs.declared.member.Member.TheVariants as M
 
 -- the table of members
 abbrev pub member_name : Member → List ℕ

@@ -1,7 +1,7 @@
 use Rattle.std.proofs.Common.{◌++◌, take, flat_map, codes}
 use Rattle.std.specs.Fmt.{HasWritten, IsPlainFormatter}
-use Rattle.sab_script.specs.Excerpt.{shown, bytes_of}
-use Rattle.sab_script.proofs.excerpt.ExcerptDisplay.fmt.Given as goal
+use Rattle.sab_refusal.specs.Excerpt.{shown, bytes_of}
+use Rattle.sab_refusal.proofs.excerpt.ExcerptDisplay.fmt.Given as goal
 
 abbrev pub invariant-loop-byte : goal.invariant-loop-byte
 invariant-loop-byte g l =

@@ -1,6 +1,6 @@
 use Rattle.std.proofs.Common.{rules}
-use Rattle.sab_script.proofs.Starts.{copied_start}
-use Rattle.sab_script.proofs.excerpt.Excerpt.of.Goals as goal
+use Rattle.sab_refusal.proofs.Starts.{copied_start}
+use Rattle.sab_refusal.proofs.excerpt.Excerpt.of.Goals as goal
 
 pub returns-clause-bytes : goal.returns-clause-bytes
 returns-clause-bytes c =

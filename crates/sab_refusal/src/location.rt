@@ -22,7 +22,7 @@ pub enum Location {
 
 impl Location {
     ghost use Rattle.std.specs.Prelude.{◌≡◌};
-    ghost use Rattle.sab_script.specs.Location.{member_at, item_at};
+    ghost use Rattle.sab_refusal.specs.Location.{member_at, item_at};
 
     /// The member of the object that stands here; where no object of a script can stand, the same location.
     pub fn member(self, member: Member) -> Location
@@ -50,7 +50,7 @@ impl Location {
 
 impl fmt::Display for Location {
     ghost use Rattle.std.specs.Prelude.{Some};
-    ghost use Rattle.sab_script.specs.Location.{location_text};
+    ghost use Rattle.sab_refusal.specs.Location.{location_text};
 
     ghost output = { λ location. Some (location_text location) };
 

@@ -1,7 +1,7 @@
 -- The texts, numbers and names of a script's refusals.
 use Rattle.std.specs.Prelude.{ℕ, List, codes}
-use Rattle.sab_script.specs.declared.read_fault.ReadFault.{ReadFault}
-use Rattle.sab_script.specs.declared.read_fault.ReadFault.TheVariants.{TooMany, BadShape, BadName, BadNumber, BadCall, BadView, BadAgent, NoBlock, OutOfMemory}
+use Rattle.sab_refusal.specs.declared.read_fault.ReadFault.{ReadFault}
+use Rattle.sab_refusal.specs.declared.read_fault.ReadFault.TheVariants.{TooMany, BadShape, BadName, BadNumber, BadCall, BadView, BadAgent, NoBlock, OutOfMemory}
 
 -- the table of texts
 abbrev pub text_of : ReadFault → List ℕ

@@ -15,7 +15,7 @@ pub struct Excerpt {
 
 impl Excerpt {
     ghost use Rattle.std.specs.Prelude.{◌≡◌, ◌<◌, ◌↔◌, take, length, IsTrue};
-    ghost use Rattle.sab_script.specs.Excerpt.{bytes_of, is_cut_of};
+    ghost use Rattle.sab_refusal.specs.Excerpt.{bytes_of, is_cut_of};
 
     /// How many bytes it can have.
     pub const ROOM: usize = 32;
@@ -36,7 +36,7 @@ impl Excerpt {
 
 impl fmt::Display for Excerpt {
     ghost use Rattle.std.specs.Prelude.{Some};
-    ghost use Rattle.sab_script.specs.Excerpt.{excerpt_text};
+    ghost use Rattle.sab_refusal.specs.Excerpt.{excerpt_text};
 
     ghost output = { λ excerpt. Some (excerpt_text excerpt) };
 
@@ -55,7 +55,7 @@ struct Shown(u8);
 
 impl fmt::Display for Shown {
     ghost use Rattle.std.specs.Prelude.{Some};
-    ghost use Rattle.sab_script.specs.Excerpt.{shown};
+    ghost use Rattle.sab_refusal.specs.Excerpt.{shown};
 
     ghost output = { λ byte. Some (shown byte.0) };
 
