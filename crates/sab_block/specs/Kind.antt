@@ -1,5 +1,5 @@
 -- The kind table.
-use Rattle.std.specs.Prelude.{ℕ, ◌*◌, ◌^◌, Bool, true, false}
+use Rattle.std.specs.Prelude.{ℕ, ◌*◌, ◌^◌, List, Bool, true, false, codes}
 use Rattle.sab_block.specs.declared.kind.Kind.{Kind}
 use Rattle.sab_block.specs.declared.kind.Kind.TheVariants.{Int8, Uint8, Uint8Clamped, Int16, Uint16, Int32, Uint32, Float32, Float64, BigInt64, BigUint64}
 
@@ -48,6 +48,20 @@ is_atomic kind = (properties kind).atomic
 
 abbrev pub is_waitable : Kind → Bool
 is_waitable kind = (properties kind).waitable
+
+-- the name of its constructor, without `Array` (table "The TypedArray Constructors")
+abbrev pub kind_name : Kind → List ℕ
+kind_name Int8 = codes "Int8"
+kind_name Uint8 = codes "Uint8"
+kind_name Uint8Clamped = codes "Uint8Clamped"
+kind_name Int16 = codes "Int16"
+kind_name Uint16 = codes "Uint16"
+kind_name Int32 = codes "Int32"
+kind_name Uint32 = codes "Uint32"
+kind_name Float32 = codes "Float32"
+kind_name Float64 = codes "Float64"
+kind_name BigInt64 = codes "BigInt64"
+kind_name BigUint64 = codes "BigUint64"
 
 -- how many raw elements there are
 abbrev pub raw_count : Kind → ℕ

@@ -170,6 +170,3 @@ fn write_at(bytes: &mut [u8], place: usize, size: u32, raw: u64)
         _ => LittleEndian::write_u64(element, raw),
     }
 }
-
-#[cfg(test)]
-mod tests;

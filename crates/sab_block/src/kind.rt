@@ -1,7 +1,9 @@
 //! The kinds of elements.
 
-ghost use Rattle.std.specs.Prelude.{◌≡◌, ◌+◌, ◌-◌, ◌*◌, ◌^◌, ◌<◌, ◌≤◌};
-ghost use Rattle.sab_block.specs.Kind.{element_size, is_signed, is_big, is_atomic, is_waitable, raw_count};
+ghost use Rattle.std.specs.Prelude.{◌≡◌, ◌+◌, ◌-◌, ◌*◌, ◌^◌, ◌<◌, ◌≤◌, length};
+ghost use Rattle.sab_block.specs.Kind.{element_size, is_signed, is_big, is_atomic, is_waitable, kind_name, raw_count};
+
+use std::fmt;
 
 /// The kind of a typed array's elements: an element type of the standard's table "The TypedArray Constructors".
 #[derive(Clone, Copy, Debug, PartialEq, Eq, Hash)]
@@ -66,6 +68,26 @@ impl Kind {
         matches!(self, Kind::Int32 | Kind::BigInt64)
     }
 
+    /// The name of its typed array's constructor, without `Array` (table "The TypedArray Constructors").
+    pub fn name(self) -> &'static str
+        ensures name { result.now ≡ kind_name self }
+        ensures len { length result.now ≤ 12 }
+    {
+        match self {
+            Kind::Int8 => "Int8",
+            Kind::Uint8 => "Uint8",
+            Kind::Uint8Clamped => "Uint8Clamped",
+            Kind::Int16 => "Int16",
+            Kind::Uint16 => "Uint16",
+            Kind::Int32 => "Int32",
+            Kind::Uint32 => "Uint32",
+            Kind::Float32 => "Float32",
+            Kind::Float64 => "Float64",
+            Kind::BigInt64 => "BigInt64",
+            Kind::BigUint64 => "BigUint64",
+        }
+    }
+
     /// The greatest raw element, whose bits are all ones.
     pub(crate) fn max_raw(self) -> u64
         ensures { result + 1 ≡ raw_count self }
@@ -79,5 +101,14 @@ impl Kind {
     }
 }
 
-#[cfg(test)]
-mod tests;
+/// Its text is its name.
+impl fmt::Display for Kind {
+    ghost use Rattle.std.specs.Prelude.{Some};
+    ghost use Rattle.sab_block.specs.Kind.{kind_name};
+
+    ghost output = { λ kind. Some (kind_name kind) };
+
+    fn fmt<W: fmt::Write>(&self, f: &mut fmt::Formatter<W>) -> fmt::Result {
+        f.write_str(self.name())
+    }
+}

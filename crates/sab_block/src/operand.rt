@@ -129,6 +129,3 @@ fn unwrapped(kind: Kind, raw: u64) -> i128
     }
     whole
 }
-
-#[cfg(test)]
-mod tests;

@@ -28,6 +28,3 @@ impl fmt::Display for Thrown {
 }
 
 impl Error for Thrown {}
-
-#[cfg(test)]
-mod tests;

@@ -102,6 +102,3 @@ impl View {
         Ok(self.offset + index as u32 * self.kind.size())
     }
 }
-
-#[cfg(test)]
-mod tests;

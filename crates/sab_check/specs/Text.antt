@@ -1,6 +1,7 @@
 -- The text of a check.
 use Rattle.std.specs.Prelude.{ℕ, ◌+◌, ◌==◌, suc, Bool, List, [], ◌∷◌, ◌++◌, length, Option, Some, None, codes, decimal, slice_get, if◌then◌else◌}
 use Rattle.std.specs.Fmt.{signed_decimal}
+use Rattle.sab_block.specs.Kind.{kind_name}
 use Rattle.sab_block.specs.Thrown.{name_of}
 use Rattle.sab_sim.specs.declared.call.Call.{Call}
 use Rattle.sab_sim.specs.declared.plan_view.PlanView.{PlanView}
@@ -9,7 +10,7 @@ use Rattle.sab_sim.specs.Script.{ScriptParts}
 use Rattle.sab_refusal.specs.declared.location.Location.TheVariants as at
 use Rattle.sab_refusal.specs.declared.member.Member.TheVariants.{Agents, Calls}
 use Rattle.sab_refusal.specs.Location.{location_text}
-use Rattle.sab_script.specs.Views.{kind_name, view_names}
+use Rattle.sab_script.specs.Views.{view_names}
 use Rattle.sab_script.specs.Calls.{spelling_of}
 use Rattle.sab_script.specs.Setup.{SetupParts}
 use Rattle.sab_check.specs.declared.cause.Reason.{Reason}

@@ -1,6 +1,5 @@
 //! Why a call throws whenever it acts.
 
-use crate::words::kind_word;
 use sab_block::{Kind, Thrown};
 use std::fmt;
 
@@ -38,25 +37,13 @@ impl fmt::Display for Reason {
 
     fn fmt<W: fmt::Write>(&self, f: &mut fmt::Formatter<W>) -> fmt::Result {
         match self {
-            Reason::NotAtomic(kind) => {
-                let kind = kind_word(*kind);
-                write!(f, "Atomics doesn't take {kind}")
-            }
-            Reason::NotWaitable(kind) => {
-                let kind = kind_word(*kind);
-                write!(f, "{kind} isn't waitable")
-            }
+            Reason::NotAtomic(kind) => write!(f, "Atomics doesn't take {kind}"),
+            Reason::NotWaitable(kind) => write!(f, "{kind} isn't waitable"),
             Reason::NoElement(index, len) => {
                 write!(f, "there is no index {index}: the length is {len}")
             }
-            Reason::NotNumber(kind) => {
-                let kind = kind_word(*kind);
-                write!(f, "{kind} takes Numbers and no BigInts")
-            }
-            Reason::NotBigInt(kind) => {
-                let kind = kind_word(*kind);
-                write!(f, "{kind} takes BigInts and no Numbers")
-            }
+            Reason::NotNumber(kind) => write!(f, "{kind} takes Numbers and no BigInts"),
+            Reason::NotBigInt(kind) => write!(f, "{kind} takes BigInts and no Numbers"),
             Reason::CannotBlock => f.write_str("the agent can't block"),
         }
     }

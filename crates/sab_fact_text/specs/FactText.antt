@@ -1,10 +1,8 @@
 -- The words of a fact.
 use Rattle.std.specs.Prelude.{ℕ, ◌+◌, ◌-◌, ◌==◌, Bool, true, false, if◌then◌else◌, List, [], ◌∷◌, ◌++◌, length, flat_map, Option, Some, None, codes, decimal, slice_get, slice_index_or}
 use Rattle.std.specs.Ordering.{int_eq}
-use Rattle.sab_block.specs.declared.kind.Kind.{Kind}
-use Rattle.sab_block.specs.declared.kind.Kind.TheVariants as K
 use Rattle.sab_block.specs.declared.operand.Operand.{Operand}
-use Rattle.sab_block.specs.Kind.{is_big}
+use Rattle.sab_block.specs.Kind.{is_big, kind_name}
 use Rattle.sab_block.specs.Operand.{whole_of}
 use Rattle.sab_block.specs.View.{kind_of, len_of}
 use Rattle.sab_sim.specs.declared.answer.Answer.{Answer}
@@ -101,19 +99,6 @@ abbrev pub notified_text : List ℕ → List (Option ℕ) → List ℕ → ℕ �
 notified_text element sinces [] waiting = nobody_text element waiting
 notified_text element sinces (a ∷ agents) waiting = some_text element sinces a agents waiting
 
-abbrev pub kind_text : Kind → List ℕ
-kind_text K.Int8 = codes "Int8"
-kind_text K.Uint8 = codes "Uint8"
-kind_text K.Uint8Clamped = codes "Uint8Clamped"
-kind_text K.Int16 = codes "Int16"
-kind_text K.Uint16 = codes "Uint16"
-kind_text K.Int32 = codes "Int32"
-kind_text K.Uint32 = codes "Uint32"
-kind_text K.Float32 = codes "Float32"
-kind_text K.Float64 = codes "Float64"
-kind_text K.BigInt64 = codes "BigInt64"
-kind_text K.BigUint64 = codes "BigUint64"
-
 -- what is wrong with a kind that a call doesn't take
 abbrev pub unfit_text : Call → List ℕ
 unfit_text (C.Access n access) = codes ", which Atomics doesn't take"
@@ -122,7 +107,7 @@ unfit_text (C.Notify n index count) = codes ", not Int32 or BigInt64"
 
 -- what a view is or has for which a call on it fails a check
 abbrev pub view_reason : Call → PlanView → Check → List ℕ
-view_reason call v X.Kind = codes " is " ++ kind_text (kind_of v.view) ++ unfit_text call
+view_reason call v X.Kind = codes " is " ++ kind_name (kind_of v.view) ++ unfit_text call
 view_reason call v X.Index = codes " has " ++ counted (len_of v.view) (codes " element") (codes " elements")
 view_reason call v X.Operand = codes " takes " ++ (if is_big (kind_of v.view) then codes "BigInts" else codes "Numbers")
 view_reason call v X.CanBlock = []

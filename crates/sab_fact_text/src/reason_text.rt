@@ -1,12 +1,11 @@
 //! Why calls throw.
 
 ghost use Rattle.std.specs.Prelude.{◌≡◌, ◌+◌, ◌≤◌, ◌++◌, length};
-ghost use Rattle.sab_fact_text.specs.FactText.{kind_text, unfit_text, view_reason, reason_text};
+ghost use Rattle.sab_fact_text.specs.FactText.{unfit_text, view_reason, reason_text};
 
 use crate::call_text::push_name;
 use crate::counts::push_counted;
 use crate::name::Name;
-use sab_block::Kind;
 use sab_explain::Check;
 use sab_sim::{Call, Plan, PlanView};
 use sab_text::Chunk;
@@ -52,7 +51,7 @@ fn push_view_reason(call: Call, view: PlanView, check: Check, chunk: &mut Chunk)
     match check {
         Check::Kind => {
             chunk.push(b" is ");
-            chunk.push(kind_text(kind).as_bytes());
+            chunk.push(kind.name().as_bytes());
             chunk.push(unfit_text(call).as_bytes());
         }
         Check::Index => {
@@ -68,26 +67,6 @@ fn push_view_reason(call: Call, view: PlanView, check: Check, chunk: &mut Chunk)
             });
         }
         Check::CanBlock => {}
-    }
-}
-
-/// What a kind is called.
-fn kind_text(kind: Kind) -> &'static str
-    ensures text { result.now ≡ kind_text kind }
-    ensures len { length result.now ≤ 17 }
-{
-    match kind {
-        Kind::Int8 => "Int8",
-        Kind::Uint8 => "Uint8",
-        Kind::Uint8Clamped => "Uint8Clamped",
-        Kind::Int16 => "Int16",
-        Kind::Uint16 => "Uint16",
-        Kind::Int32 => "Int32",
-        Kind::Uint32 => "Uint32",
-        Kind::Float32 => "Float32",
-        Kind::Float64 => "Float64",
-        Kind::BigInt64 => "BigInt64",
-        Kind::BigUint64 => "BigUint64",
     }
 }
 

@@ -1,5 +1,5 @@
 -- A race that was kept, of a script that a reader gave.
-use Rattle.std.proofs.Common.{◌≡◌, ℕ, ◌≤◌, Bool, List, length, Option, Some, None, IfSome, refl, subst}
+use Rattle.std.proofs.Common.{◌≡◌, ℕ, ◌≤◌, Bool, List, length, Option, Some, None, IfSome, subst}
 use Rattle.std.specs.Io.KnownBytes.{Keeps}
 use Rattle.sab_sim.specs.Report.{ReportParts}
 use Rattle.sab_tool.specs.declared.share.Share.{Share}

@@ -4,7 +4,7 @@ use Rattle.std.specs.Prelude.{IsTrue, slice_get}
 use Rattle.std.proofs.Props.{props}
 use mathlib.Core.HLevel.{is_prop→PathP}
 use Rattle.serde_json.specs.Data.{Data, string, object, Members}
-use Rattle.sab_block.specs.Kind.{element_size}
+use Rattle.sab_block.specs.Kind.{element_size, kind_name}
 use Rattle.sab_block.specs.View.{count}
 use Rattle.sab_sim.specs.declared.plan_view.PlanView.{PlanView}
 use Rattle.sab_script.specs.declared.form.Form.{Form}
@@ -12,7 +12,7 @@ use Rattle.sab_script.specs.declared.form.Form.TheVariants.{Bytes, Blocks}
 use Rattle.sab_script.specs.declared.view_spec.ViewSpec.{ViewSpec}
 use Rattle.sab_script.specs.Blocks.{with_block, IsBlockIn}
 use Rattle.sab_script.specs.Numbers.{whole, whole_or_null}
-use Rattle.sab_script.specs.Views.{kind_name, description_of, count_on, SpellsDescription, SpellsView, IsDescribed, AreDescribed}
+use Rattle.sab_script.specs.Views.{description_of, count_on, SpellsDescription, SpellsView, IsDescribed, AreDescribed}
 use Rattle.sab_script.proofs.SameSpec.{same_kind, same_optional}
 use Rattle.sab_script.proofs.WholeCall.{same_whole}
 

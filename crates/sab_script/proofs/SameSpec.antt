@@ -4,8 +4,8 @@ use Rattle.std.specs.Prelude.{if◌then◌else◌}
 use Rattle.std.specs.Str.{bytes_eq}
 use Rattle.sab_block.specs.declared.kind.Kind.{Kind}
 use Rattle.sab_block.specs.declared.kind.Kind.TheVariants.{Int8, Uint8, Uint8Clamped, Int16, Uint16, Int32, Uint32, Float32, Float64, BigInt64, BigUint64}
+use Rattle.sab_block.specs.Kind.{kind_name}
 use Rattle.sab_script.specs.Numbers.{whole_or_null}
-use Rattle.sab_script.specs.Views.{kind_name}
 use Rattle.sab_script.proofs.WholeCall.{same_whole}
 
 first_kind : List Kind → List ℕ → Option Kind

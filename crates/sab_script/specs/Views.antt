@@ -6,8 +6,7 @@ use Rattle.std.specs.Str.{bytes_eq}
 use Rattle.std.specs.declared.alloc.Global.{Global}
 use Rattle.indexmap.specs.IndexMap.{IndexMap}
 use Rattle.serde_json.specs.Data.{Data, string, object, Items, Members, no_members, member}
-use Rattle.sab_block.specs.declared.kind.Kind.{Kind}
-use Rattle.sab_block.specs.declared.kind.Kind.TheVariants.{Int8, Uint8, Uint8Clamped, Int16, Uint16, Int32, Uint32, Float32, Float64, BigInt64, BigUint64}
+use Rattle.sab_block.specs.Kind.{kind_name}
 use Rattle.sab_block.specs.Operand.{IsSafeInteger}
 use Rattle.sab_block.specs.View.{count, IsViewOf}
 use Rattle.sab_sim.specs.declared.plan.TheConstants.Plan.{MAX_VIEWS}
@@ -18,19 +17,6 @@ use Rattle.sab_script.specs.declared.view_spec.ViewSpec.{ViewSpec}
 use Rattle.sab_script.specs.Blocks.{with_block, IsBlockIn}
 use Rattle.sab_script.specs.Numbers.{whole, whole_or_null, IsSafeOrNone}
 use Rattle.sab_script.specs.Reading.{SpellsEach}
-
-abbrev pub kind_name : Kind → List ℕ
-kind_name Int8 = codes "Int8"
-kind_name Uint8 = codes "Uint8"
-kind_name Uint8Clamped = codes "Uint8Clamped"
-kind_name Int16 = codes "Int16"
-kind_name Uint16 = codes "Uint16"
-kind_name Int32 = codes "Int32"
-kind_name Uint32 = codes "Uint32"
-kind_name Float32 = codes "Float32"
-kind_name Float64 = codes "Float64"
-kind_name BigInt64 = codes "BigInt64"
-kind_name BigUint64 = codes "BigUint64"
 
 -- an ASCII letter, a digit or `_`
 abbrev pub is_name_byte : ℕ → Bool

@@ -1,9 +1,10 @@
 //! The names of views and of kinds.
 
 ghost use Rattle.std.specs.Prelude.{◌≡◌, IfErr, ◌↔◌, ◌<◌, ◌≤◌, IsTrue};
-ghost use Rattle.sab_script.specs.Reading.{Finds};
-ghost use Rattle.sab_script.specs.Views.{kind_name, IsName};
+ghost use Rattle.sab_block.specs.Kind.{kind_name};
 ghost use Rattle.sab_refusal.specs.Why.{fault_of};
+ghost use Rattle.sab_script.specs.Reading.{Finds};
+ghost use Rattle.sab_script.specs.Views.{IsName};
 
 use sab_block::Kind;
 use sab_refusal::{Excerpt, Located, Location, ReadFault, Why};

@@ -1,6 +1,8 @@
-//! Worked examples of plans, replays and races, as tests.
+//! Worked examples of blocks, plans, replays and races, as tests.
 #![tactic(auto)]
 
+#[cfg(test)]
+mod blocks;
 #[cfg(test)]
 mod expecting;
 #[cfg(test)]

@@ -2,7 +2,7 @@
 
 use crate::expecting::expect;
 use crate::run::{acted, notify, whole};
-use sab_block::Kind;
+use sab_block::{Access, Kind, Operand, RmwOp, Thrown, View};
 use sab_race::RaceFault;
 use sab_sim::Answer::Count;
 use sab_sim::{Move, PlanFault, Progress, SimFault};
@@ -21,7 +21,42 @@ fn is_shown<T: fmt::Debug + Clone + PartialEq>(
 }
 
 #[test]
-fn values_show_their_parts_and_have_copies(rt: HostRuntime) -> Result<(), Fail> {
+fn an_error_prints_its_name(rt: HostRuntime) -> Result<(), Fail> {
+    let alloc = rt.alloc();
+    assert_eq!(rt; Thrown::TypeError.to_string(alloc)?.as_str(), "TypeError");
+    assert_eq!(rt; Thrown::RangeError.to_string(alloc)?.as_str(), "RangeError");
+    Ok(())
+}
+
+#[test]
+fn values_of_blocks_show_their_parts_and_have_copies(rt: HostRuntime) -> Result<(), Fail> {
+    let alloc = rt.alloc();
+    let view = View::new(Kind::BigInt64, 24, 8, Some(1))?;
+    let shown = "View { kind: BigInt64, block_len: 24, offset: 8, len: 1 }";
+    expect(is_shown(alloc, &view, shown)?, "another view")?;
+    let kind = Kind::Uint8Clamped;
+    expect(is_shown(alloc, &kind, "Uint8Clamped")?, "another kind")?;
+    let thrown = Thrown::RangeError;
+    expect(is_shown(alloc, &thrown, "RangeError")?, "another error")?;
+    let operation = RmwOp::Exchange;
+    expect(
+        is_shown(alloc, &operation, "Exchange")?,
+        "another operation",
+    )?;
+    let load = Access::Load { index: -1 };
+    expect(
+        is_shown(alloc, &load, "Load { index: -1 }")?,
+        "another access",
+    )?;
+    let shown = "Operand { big: true, whole: -1 }";
+    expect(
+        is_shown(alloc, &Operand::big(-1), shown)?,
+        "another operand",
+    )
+}
+
+#[test]
+fn values_of_plans_and_races_show_their_parts_and_have_copies(rt: HostRuntime) -> Result<(), Fail> {
     let alloc = rt.alloc();
     let view = whole(Kind::Int8, 2, 4)?;
     let shown = "PlanView { block: 2, view: View { kind: Int8, block_len: 4, offset: 0, len: 4 } }";

@@ -1,12 +1,7 @@
 //! Bytes of a block, and accesses in order on a fresh block.
 
-use super::Block;
-use crate::access::Access;
-use crate::kind::Kind;
-use crate::operand::Operand;
-use crate::rmw_op::RmwOp;
-use crate::thrown::Thrown;
-use crate::view::View;
+use crate::run::number;
+use sab_block::{Access, Block, Kind, Operand, RmwOp, Thrown, View};
 use std::alloc::Global;
 use std::process::Abort;
 use std::test::Fail;
@@ -17,10 +12,6 @@ type Step = (View, Access, Result<Operand, Thrown>);
 const TYPE: Result<Operand, Thrown> = Err(Thrown::TypeError);
 
 const RANGE: Result<Operand, Thrown> = Err(Thrown::RangeError);
-
-fn number(v: i64) -> Result<Operand, Fail> {
-    Ok(Operand::number(v).ok_or("no safe integer")?)
-}
 
 fn load(index: i64) -> Access {
     Access::Load { index }

@@ -1,13 +1,6 @@
 //! Views that are made or refused, and the places of their elements.
 
-use super::View;
-use crate::access::Access;
-use crate::kind::Kind;
-use crate::operand::Operand;
-use crate::rmw_op::RmwOp;
-use crate::thrown::Thrown;
-use std::alloc::{AllocError, Global};
-use std::fmt;
+use sab_block::{Kind, Thrown, View};
 use std::test::Fail;
 
 #[test]
@@ -61,29 +54,5 @@ fn an_index_has_a_place_or_none(rt: HostRuntime) -> Result<(), Fail> {
     for (view, index, place) in table {
         assert_eq!(rt; view.place(index), place, "{index} in {view:?}");
     }
-    Ok(())
-}
-
-/// Whether a value shows this, and its copy is the same.
-fn is_shown<T: fmt::Debug + Clone + PartialEq>(
-    alloc: Global,
-    value: &T,
-    text: &str,
-) -> Result<bool, AllocError> {
-    let shown = format!(in alloc; "{value:?}")?;
-    Ok(shown.as_str() == text && value.clone()? == *value)
-}
-
-#[test]
-fn values_show_their_parts_and_have_copies(rt: HostRuntime) -> Result<(), Fail> {
-    let alloc = rt.alloc();
-    let view = View::new(Kind::BigInt64, 24, 8, Some(1))?;
-    let shown = "View { kind: BigInt64, block_len: 24, offset: 8, len: 1 }";
-    assert!(rt; is_shown(alloc, &view, shown)?);
-    assert!(rt; is_shown(alloc, &Kind::Uint8Clamped, "Uint8Clamped")?);
-    assert!(rt; is_shown(alloc, &Thrown::RangeError, "RangeError")?);
-    assert!(rt; is_shown(alloc, &RmwOp::Exchange, "Exchange")?);
-    assert!(rt; is_shown(alloc, &Access::Load { index: -1 }, "Load { index: -1 }")?);
-    assert!(rt; is_shown(alloc, &Operand::big(-1), "Operand { big: true, whole: -1 }")?);
     Ok(())
 }

@@ -1,13 +1,8 @@
 //! Numbers and BigInts, and the raw elements between them.
 
-use super::{Operand, from_raw, to_raw};
-use crate::kind::Kind;
-use crate::thrown::Thrown;
+use crate::run::number;
+use sab_block::{Kind, Operand, Thrown, from_raw, to_raw};
 use std::test::Fail;
-
-fn number(v: i64) -> Result<Operand, Fail> {
-    Ok(Operand::number(v).ok_or("no safe integer")?)
-}
 
 #[test]
 fn a_number_is_a_safe_integer(rt: HostRuntime) {
@@ -89,8 +84,9 @@ fn a_raw_element_is_read_by_the_sign_of_its_kind(rt: HostRuntime) -> Result<(), 
     ];
     for (kind, raw, operand) in table {
         assert!(rt; kind.is_atomic());
-        assert!(rt; raw <= kind.max_raw());
-        assert_eq!(rt; from_raw(kind, raw), operand, "{raw} as {kind:?}");
+        let written = to_raw(kind, operand)?;
+        assert_eq!(rt; written, raw, "{operand:?} as {kind:?}");
+        assert_eq!(rt; from_raw(kind, written), operand, "{raw} as {kind:?}");
     }
     Ok(())
 }
