@@ -1,5 +1,5 @@
 -- Access calls: the checks that they make in order, and what they do.
-use Rattle.std.specs.Prelude.{◌≡◌, ◌≢◌, ℕ, ◌*◌, Bool, if◌then◌else◌, is_some, ℤ, List, [], ◌∷◌, map, Option, Some, None}
+use Rattle.std.specs.Prelude.{◌≡◌, ◌≢◌, ℕ, ◌*◌, Bool, if◌then◌else◌, is_some, ℤ, List, [], ◌∷◌, map, Option, Some, None, codes}
 use Rattle.sab_block.specs.declared.thrown.Thrown.{Thrown}
 use Rattle.sab_block.specs.declared.thrown.Thrown.TheVariants.{TypeError, RangeError}
 use Rattle.sab_block.specs.declared.operand.Operand.{Operand}
@@ -10,7 +10,14 @@ use Rattle.sab_block.specs.Kind.{element_size, is_atomic}
 use Rattle.sab_block.specs.Operand.{whole_of, agrees, raw, operand}
 use Rattle.sab_block.specs.View.{kind_of, place}
 use Rattle.sab_block.specs.Block.{number, put}
-use Rattle.sab_block.specs.RmwOp.{combined}
+use Rattle.sab_block.specs.RmwOp.{combined, function_of_op}
+
+-- the function of Atomics that it is a call of
+abbrev pub function_of_access : Access → List ℕ
+function_of_access (Load index) = codes "load"
+function_of_access (Store index x) = codes "store"
+function_of_access (Rmw op index x) = function_of_op op
+function_of_access (CompareExchange index x y) = codes "compareExchange"
 
 -- the index that an access names
 abbrev pub index_of : Access → ℤ

@@ -1,8 +1,8 @@
 //! Read-modify-write operations.
 
-ghost use Rattle.std.specs.Prelude.{◌≡◌, ◌*◌, ◌<◌};
+ghost use Rattle.std.specs.Prelude.{◌≡◌, ◌*◌, ◌<◌, ◌≤◌, length};
 ghost use Rattle.sab_block.specs.Kind.{element_size, raw_count};
-ghost use Rattle.sab_block.specs.RmwOp.{combined};
+ghost use Rattle.sab_block.specs.RmwOp.{combined, function_of_op};
 
 use crate::kind::Kind;
 
@@ -24,6 +24,21 @@ pub enum RmwOp {
 }
 
 impl RmwOp {
+    /// The name of its function of `Atomics`.
+    pub fn function(self) -> &'static str
+        ensures name { result.now ≡ function_of_op self }
+        ensures len { length result.now ≤ 8 }
+    {
+        match self {
+            RmwOp::Exchange => "exchange",
+            RmwOp::Add => "add",
+            RmwOp::Sub => "sub",
+            RmwOp::And => "and",
+            RmwOp::Or => "or",
+            RmwOp::Xor => "xor",
+        }
+    }
+
     /// The new raw element, of an old one and the operand's.
     #[tactic(auto, using(crate::proofs::Combining::combining))]
     pub(crate) fn combine(self, kind: Kind, old: u64, operand: u64) -> u64

@@ -5,13 +5,12 @@ use Rattle.sab_block.specs.Kind.{kind_name}
 use Rattle.sab_block.specs.Thrown.{name_of}
 use Rattle.sab_sim.specs.declared.call.Call.{Call}
 use Rattle.sab_sim.specs.declared.plan_view.PlanView.{PlanView}
-use Rattle.sab_sim.specs.Call.{view_of}
+use Rattle.sab_sim.specs.Call.{function_of, view_of}
 use Rattle.sab_sim.specs.Script.{ScriptParts}
 use Rattle.sab_refusal.specs.declared.location.Location.TheVariants as at
 use Rattle.sab_refusal.specs.declared.member.Member.TheVariants.{Agents, Calls}
 use Rattle.sab_refusal.specs.Location.{location_text}
 use Rattle.sab_script.specs.Views.{view_names}
-use Rattle.sab_script.specs.Calls.{spelling_of}
 use Rattle.sab_script.specs.Setup.{SetupParts}
 use Rattle.sab_check.specs.declared.cause.Reason.{Reason}
 use Rattle.sab_check.specs.declared.cause.Reason.TheVariants.{NotAtomic, NotWaitable, NoElement, NotNumber, NotBigInt, CannotBlock}
@@ -53,7 +52,7 @@ line_of agent call word view (Some cause) = warning_text agent call word view ca
 -- a call's
 abbrev pub call_lines : SetupParts → Bool → ℕ → ℕ → Call → List ℕ
 call_lines setup can_block agent call c =
-    line_of agent call (spelling_of c).name (name_in (slice_get (view_names setup.views) (view_of c)))
+    line_of agent call (function_of c) (name_in (slice_get (view_names setup.views) (view_of c)))
     (cause_on can_block (slice_get setup.plan.views (view_of c)) c)
 
 -- those of an agent's calls from the given one on

@@ -8,6 +8,5 @@ mod judging;
 mod ok_line;
 mod warning;
 mod warnings;
-mod words;
 
 pub use check::{Checked, check_script};

@@ -7,7 +7,6 @@ ghost use Rattle.sab_check.specs.Text.{name_in, call_lines, calls_lines, agents_
 
 use crate::judging::cause_of;
 use crate::warning::Warning;
-use crate::words::call_word;
 use sab_script::Setup;
 use sab_sim::{Call, Script};
 use std::alloc::AllocError;
@@ -53,7 +52,7 @@ fn push_call(
     let warning = Warning {
         agent,
         call,
-        word: call_word(what),
+        word: what.function(),
         view: view_name(setup, position),
         cause,
     };

@@ -12,7 +12,7 @@ use Rattle.sab_block.specs.declared.rmw_op.RmwOp.TheVariants.{Exchange, Add, Sub
 use Rattle.sab_block.specs.declared.access.Access.TheVariants.{Load, Store, Rmw, CompareExchange}
 use Rattle.sab_sim.specs.declared.call.Call.{Call}
 use Rattle.sab_sim.specs.declared.call.Call.TheVariants as C
-use Rattle.sab_sim.specs.Call.{view_of, index_of}
+use Rattle.sab_sim.specs.Call.{function_of, view_of, index_of}
 use Rattle.sab_sim.specs.declared.progress.Progress.{Progress}
 use Rattle.sab_sim.specs.declared.entry.Entry.{Entry}
 use Rattle.sab_explain.specs.declared.fact.Fact.{Fact}
@@ -20,7 +20,7 @@ use Rattle.sab_explain.specs.declared.standing.At.{At}
 use Rattle.sab_explain.specs.declared.standing.At.TheVariants as S
 use Rattle.sab_explain.specs.declared.standing.Standing.{Standing}
 use Rattle.sab_text.specs.Text.{hex_byte}
-use Rattle.sab_fact_text.specs.CallText.{name_of, function_of}
+use Rattle.sab_fact_text.specs.CallText.{name_of}
 use Rattle.sab_fact_json.specs.Members.{member_if, member_text_if}
 use Rattle.sab_fact_json.specs.CallData.{AreNames, natural, whole_data, operand_data, more_items, call_data}
 use Rattle.sab_fact_json.specs.FactData.{answer_in, what_name, why_in, place_data, found_data, entry_data}

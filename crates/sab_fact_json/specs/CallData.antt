@@ -10,8 +10,8 @@ use Rattle.sab_block.specs.declared.access.Access.{Access}
 use Rattle.sab_block.specs.declared.access.Access.TheVariants.{Load, Store, Rmw, CompareExchange}
 use Rattle.sab_sim.specs.declared.call.Call.{Call}
 use Rattle.sab_sim.specs.declared.call.Call.TheVariants as C
-use Rattle.sab_sim.specs.Call.{view_of, index_of}
-use Rattle.sab_fact_text.specs.CallText.{name_of, function_of}
+use Rattle.sab_sim.specs.Call.{function_of, view_of, index_of}
+use Rattle.sab_fact_text.specs.CallText.{name_of}
 
 -- an ASCII letter, a digit or `_`
 abbrev pub is_name_byte : ℕ → Bool

@@ -2,10 +2,10 @@
 
 ghost use Rattle.std.specs.Prelude.{◌≡◌, ◌+◌, ◌*◌, ◌≤◌, ◌++◌, true, length, codes};
 ghost use Rattle.serde_json.specs.Written.{compact_text, items_text};
-ghost use Rattle.sab_fact_text.specs.CallText.{function_of};
+ghost use Rattle.sab_sim.specs.Call.{function_of};
 ghost use Rattle.sab_fact_json.specs.CallData.{AreNames, operand_data, limit_items, operand_items, more_items, call_data};
 
-use sab_block::{Access, Operand, RmwOp};
+use sab_block::{Access, Operand};
 use sab_fact_text::{Name, push_name};
 use sab_sim::Call;
 use sab_text::Chunk;
@@ -19,6 +19,9 @@ const ITEM_LEN: usize = 43;
 /// The most bytes of what a call takes besides a view and an index: two operands and a bracket.
 const MORE_LEN: usize = 87;
 
+/// The most bytes of a bracket and a function of `Atomics`, in quotes, and of what stands between it and the name.
+const FUNCTION_LEN: usize = 20;
+
 /// The most bytes of a call: its function, a name, an index and what else it takes.
 pub(crate) const CALL_LEN: usize = 190;
 
@@ -29,7 +32,7 @@ pub(crate) fn push_call(names: &[Name], call: Call, chunk: &mut Chunk)
     ensures bytes { chunk.new ≡ chunk.old ++ compact_text (call_data names.now call) }
     ensures len { length chunk.new ≤ length chunk.old + CALL_LEN }
 {
-    chunk.push(head_of(call));
+    push_function(call, chunk);
     push_name(names, call.view(), chunk);
     chunk.push(b"\",");
     chunk.push_whole(i128::from(call.index()));
@@ -52,28 +55,15 @@ pub(crate) fn push_operand(operand: Operand, chunk: &mut Chunk)
     }
 }
 
-/// What stands before the name of a call's view.
-fn head_of(call: Call) -> &'static [u8]
-    ensures text { result.now ≡ codes "[\"" ++ (function_of call ++ codes "\",\"") }
-    ensures len { length result.now ≤ 20 }
+/// Puts last what stands before the name of a call's view.
+fn push_function(call: Call, chunk: &mut Chunk)
+    requires { length chunk.old + FUNCTION_LEN ≤ Chunk.ROOM }
+    ensures bytes { chunk.new ≡ chunk.old ++ (codes "[\"" ++ (function_of call ++ codes "\",\"")) }
+    ensures len { length chunk.new ≤ length chunk.old + FUNCTION_LEN }
 {
-    match call {
-        Call::Access { access, .. } => match access {
-            Access::Load { .. } => b"[\"load\",\"",
-            Access::Store { .. } => b"[\"store\",\"",
-            Access::Rmw { op, .. } => match op {
-                RmwOp::Exchange => b"[\"exchange\",\"",
-                RmwOp::Add => b"[\"add\",\"",
-                RmwOp::Sub => b"[\"sub\",\"",
-                RmwOp::And => b"[\"and\",\"",
-                RmwOp::Or => b"[\"or\",\"",
-                RmwOp::Xor => b"[\"xor\",\"",
-            },
-            Access::CompareExchange { .. } => b"[\"compareExchange\",\"",
-        },
-        Call::Wait { .. } => b"[\"wait\",\"",
-        Call::Notify { .. } => b"[\"notify\",\"",
-    }
+    chunk.push(b"[\"");
+    chunk.push(call.function().as_bytes());
+    chunk.push(b"\",\"");
 }
 
 /// Puts last what a call takes besides a view and an index, and closes its array.

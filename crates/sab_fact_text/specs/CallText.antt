@@ -1,38 +1,16 @@
 -- Calls as JavaScript writes them, and the elements that they name.
 use Rattle.std.specs.Prelude.{ℕ, ℤ, List, [], ◌++◌, Option, Some, None, codes, slice_index_or}
 use Rattle.std.specs.Fmt.{signed_decimal}
-use Rattle.sab_block.specs.declared.rmw_op.RmwOp.{RmwOp}
-use Rattle.sab_block.specs.declared.rmw_op.RmwOp.TheVariants.{Exchange, Add, Sub, And, Or, Xor}
 use Rattle.sab_block.specs.declared.access.Access.{Access}
 use Rattle.sab_block.specs.declared.access.Access.TheVariants.{Load, Store, Rmw, CompareExchange}
 use Rattle.sab_sim.specs.declared.call.Call.{Call}
 use Rattle.sab_sim.specs.declared.call.Call.TheVariants as C
-use Rattle.sab_sim.specs.Call.{view_of, index_of}
+use Rattle.sab_sim.specs.Call.{function_of, view_of, index_of}
 use Rattle.sab_text.specs.Text.{operand_text}
 
 -- the name of a view, or nothing where it has none
 abbrev pub name_of : List (List ℕ) → ℕ → List ℕ
 name_of names view = slice_index_or names view []
-
--- the function of Atomics that makes a read-modify-write, an access or any call
-abbrev pub function_of_op : RmwOp → List ℕ
-function_of_op Exchange = codes "exchange"
-function_of_op Add = codes "add"
-function_of_op Sub = codes "sub"
-function_of_op And = codes "and"
-function_of_op Or = codes "or"
-function_of_op Xor = codes "xor"
-
-abbrev pub function_of_access : Access → List ℕ
-function_of_access (Load index) = codes "load"
-function_of_access (Store index x) = codes "store"
-function_of_access (Rmw op index x) = function_of_op op
-function_of_access (CompareExchange index x y) = codes "compareExchange"
-
-abbrev pub function_of : Call → List ℕ
-function_of (C.Access view access) = function_of_access access
-function_of (C.Wait view index x timeout) = codes "wait"
-function_of (C.Notify view index count) = codes "notify"
 
 -- one more argument
 abbrev pub argument : List ℕ → List ℕ

@@ -2,12 +2,12 @@
 
 ghost use Rattle.std.specs.Prelude.{◌≡◌, ◌+◌, ◌*◌, ◌≤◌, ◌++◌, length};
 ghost use Rattle.sab_text.specs.Text.{operand_text};
-ghost use Rattle.sab_fact_text.specs.CallText.{name_of, function_of, argument, optional, operand_arguments, more_arguments, call_text, element_text};
+ghost use Rattle.sab_fact_text.specs.CallText.{name_of, argument, optional, operand_arguments, more_arguments, call_text, element_text};
 ghost use Rattle.sab_fact_text.specs.FactText.{stand_text};
 
 use crate::counts::push_since;
 use crate::name::Name;
-use sab_block::{Access, Operand, RmwOp};
+use sab_block::{Access, Operand};
 use sab_sim::Call;
 use sab_text::Chunk;
 
@@ -30,7 +30,7 @@ pub fn push_call(names: &[Name], call: Call, chunk: &mut Chunk)
     ensures bytes { chunk.new ≡ chunk.old ++ call_text names.now call }
     ensures len { length chunk.new ≤ length chunk.old + CALL_LEN }
 {
-    chunk.push(function_of(call).as_bytes());
+    chunk.push(call.function().as_bytes());
     chunk.push(b"(");
     push_name(names, call.view(), chunk);
     chunk.push(b", ");
@@ -72,30 +72,6 @@ pub fn push_name(names: &[Name], view: u32, chunk: &mut Chunk)
 {
     if let Some(name) = names.get(view as usize) {
         chunk.push(name.bytes());
-    }
-}
-
-/// The function of `Atomics` that a call is of.
-fn function_of(call: Call) -> &'static str
-    ensures text { result.now ≡ function_of call }
-    ensures len { length result.now ≤ 15 }
-{
-    match call {
-        Call::Access { access, .. } => match access {
-            Access::Load { .. } => "load",
-            Access::Store { .. } => "store",
-            Access::Rmw { op, .. } => match op {
-                RmwOp::Exchange => "exchange",
-                RmwOp::Add => "add",
-                RmwOp::Sub => "sub",
-                RmwOp::And => "and",
-                RmwOp::Or => "or",
-                RmwOp::Xor => "xor",
-            },
-            Access::CompareExchange { .. } => "compareExchange",
-        },
-        Call::Wait { .. } => "wait",
-        Call::Notify { .. } => "notify",
     }
 }
 

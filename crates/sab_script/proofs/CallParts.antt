@@ -7,10 +7,11 @@ use Rattle.sab_block.specs.declared.operand.Operand.{Operand}
 use Rattle.sab_block.specs.declared.rmw_op.RmwOp.{RmwOp}
 use Rattle.sab_block.specs.declared.rmw_op.RmwOp.TheVariants.{Exchange, Add, Sub, And, Or, Xor}
 use Rattle.sab_block.specs.declared.access.Access.TheVariants.{Load, Store, Rmw, CompareExchange}
+use Rattle.sab_block.specs.RmwOp.{function_of_op}
 use Rattle.sab_sim.specs.declared.call.Call.{Call}
 use Rattle.sab_sim.specs.declared.call.Call.TheVariants.{Access as ToAccess, Wait, Notify}
 use Rattle.sab_sim.specs.Call.{view_of}
-use Rattle.sab_script.specs.Calls.{value, optional, op_name, spelling_of, SpellsArguments, SpellsParts}
+use Rattle.sab_script.specs.Calls.{value, optional, spelling_of, SpellsArguments, SpellsParts}
 
 -- what a call does, as its name says
 pub data Verb : Type 0 where
@@ -39,7 +40,7 @@ verb_of word =
     else if bytes_eq (codes "notify") word then notify
     else rmw (op_of word)
 
-pub op_verb : (op : RmwOp) → verb_of (op_name op) ≡ rmw op
+pub op_verb : (op : RmwOp) → verb_of (function_of_op op) ≡ rmw op
 op_verb Exchange = refl
 op_verb Add = refl
 op_verb Sub = refl

@@ -2,10 +2,9 @@
 use Rattle.std.specs.Prelude.{◌≡◌, ℕ, ℤ, List, [], ◌∷◌, Option, Some, None, codes}
 use Rattle.serde_json.specs.Data.{Data, string, array, Items, item}
 use Rattle.sab_block.specs.declared.operand.Operand.{Operand}
-use Rattle.sab_block.specs.declared.rmw_op.RmwOp.{RmwOp}
-use Rattle.sab_block.specs.declared.rmw_op.RmwOp.TheVariants.{Exchange, Add, Sub, And, Or, Xor}
 use Rattle.sab_block.specs.declared.access.Access.TheVariants.{Load, Store, Rmw, CompareExchange}
 use Rattle.sab_block.specs.Operand.{IsSafeInteger}
+use Rattle.sab_block.specs.RmwOp.{function_of_op}
 use Rattle.sab_sim.specs.declared.call.Call.{Call}
 use Rattle.sab_sim.specs.declared.call.Call.TheVariants.{Access as ToAccess, Wait, Notify}
 use Rattle.sab_sim.specs.declared.plan.TheConstants.Plan.{MAX_CALLS}
@@ -34,20 +33,11 @@ pub record Spelling : Type 0 where
 abbrev pub spelling : List ℕ → ℕ → ℤ → List Argument → Spelling
 spelling name view index arguments = record { name = name; view = view; index = index; arguments = arguments }
 
--- the name of a read-modify-write operation
-abbrev pub op_name : RmwOp → List ℕ
-op_name Exchange = codes "exchange"
-op_name Add = codes "add"
-op_name Sub = codes "sub"
-op_name And = codes "and"
-op_name Or = codes "or"
-op_name Xor = codes "xor"
-
 -- the table of calls
 abbrev pub spelling_of : Call → Spelling
 spelling_of (ToAccess v (Load i)) = spelling (codes "load") v i []
 spelling_of (ToAccess v (Store i x)) = spelling (codes "store") v i (value x ∷ [])
-spelling_of (ToAccess v (Rmw op i x)) = spelling (op_name op) v i (value x ∷ [])
+spelling_of (ToAccess v (Rmw op i x)) = spelling (function_of_op op) v i (value x ∷ [])
 spelling_of (ToAccess v (CompareExchange i x y)) = spelling (codes "compareExchange") v i (value x ∷ value y ∷ [])
 spelling_of (Wait v i x t) = spelling (codes "wait") v i (value x ∷ optional t)
 spelling_of (Notify v i n) = spelling (codes "notify") v i (optional n)

@@ -2,9 +2,10 @@
 
 ghost use Rattle.std.specs.Prelude.{◌≡◌};
 ghost use Rattle.serde_json.specs.View.{view, items_view};
+ghost use Rattle.sab_block.specs.RmwOp.{function_of_op};
 ghost use Rattle.sab_script.specs.Reading.{Finds};
 ghost use Rattle.sab_script.specs.Views.{view_names};
-ghost use Rattle.sab_script.specs.Calls.{op_name, spelling_of, SpellsParts, SpellsCall, SpellsCalls};
+ghost use Rattle.sab_script.specs.Calls.{spelling_of, SpellsParts, SpellsCall, SpellsCalls};
 
 use crate::elements::{Reader, read_each};
 use crate::operands::{no_operand, one_operand, optional_limit, timed_operand, two_operands};
@@ -18,7 +19,7 @@ use std::alloc::Global;
 
 /// The read-modify-write operation of a call's name.
 fn rmw_op(at: Location, name: &str) -> Result<RmwOp, Located>
-    ensures { Finds (λ op. op) (λ op. name.now ≡ op_name op) result }
+    ensures { Finds (λ op. op) (λ op. name.now ≡ function_of_op op) result }
 {
     match name {
         "exchange" => Ok(RmwOp::Exchange),
@@ -44,7 +45,7 @@ fn rmw_of(
     operands: &[Value],
 ) -> Result<Call, Located>
     ensures { Finds (λ c. c)
-        (λ c. SpellsParts (op_name op) view index (items_view operands.now) (spelling_of c)) result }
+        (λ c. SpellsParts (function_of_op op) view index (items_view operands.now) (spelling_of c)) result }
 {
     let value = one_operand(at, operands)?;
     let access = Access::Rmw { op, index, value };

@@ -1,8 +1,14 @@
 -- Calls.
-use Rattle.std.specs.Prelude.{ℕ, ℤ}
+use Rattle.std.specs.Prelude.{ℕ, ℤ, List, codes}
 use Rattle.sab_block.specs.Access as accesses
 use Rattle.sab_sim.specs.declared.call.Call.{Call}
 use Rattle.sab_sim.specs.declared.call.Call.TheVariants as C
+
+-- the function of Atomics that it is a call of
+abbrev pub function_of : Call → List ℕ
+function_of (C.Access view access) = accesses.function_of_access access
+function_of (C.Wait view index x timeout) = codes "wait"
+function_of (C.Notify view index count) = codes "notify"
 
 -- the position of the view that a call names
 abbrev pub view_of : Call → ℕ

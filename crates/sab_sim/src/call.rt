@@ -1,7 +1,7 @@
 //! Calls of an agent.
 
-ghost use Rattle.std.specs.Prelude.{◌≡◌};
-ghost use Rattle.sab_sim.specs.Call.{view_of, index_of};
+ghost use Rattle.std.specs.Prelude.{◌≡◌, ◌≤◌, length};
+ghost use Rattle.sab_sim.specs.Call.{function_of, view_of, index_of};
 
 use sab_block::{Access, Operand};
 
@@ -31,6 +31,18 @@ pub enum Call {
 }
 
 impl Call {
+    /// The name of the function of `Atomics` that it is a call of.
+    pub fn function(self) -> &'static str
+        ensures name { result.now ≡ function_of self }
+        ensures len { length result.now ≤ 15 }
+    {
+        match self {
+            Call::Access { access, .. } => access.function(),
+            Call::Wait { .. } => "wait",
+            Call::Notify { .. } => "notify",
+        }
+    }
+
     /// The position of the view that it names.
     pub fn view(self) -> u32
         ensures { result ≡ view_of self }

@@ -6,6 +6,8 @@ mod blocks;
 #[cfg(test)]
 mod expecting;
 #[cfg(test)]
+mod functions;
+#[cfg(test)]
 mod limits;
 #[cfg(test)]
 mod plans;

@@ -14,9 +14,9 @@ returns-clause-bytes c =
     let narrow : FitsSigned w64 c.index.result = search rules in
     let wide : FitsSigned w128 c.from.result = search rules in
     rw (call_json c.args.names.now c.args.call c.requires.names)
-    (behind_as _ _ _ _ _ _ c.head_of.ensures.text c.push.ensures
+    (behind _ _ _ _ _ c.push_function.ensures.bytes
     (behind_as _ _ _ _ _ _ (ap (name_of c.args.names.now) c.view.ensures) c.push_name.ensures.bytes
-    (behind _ _ _ _ _ c.push-2.ensures
+    (behind _ _ _ _ _ c.push.ensures
     (behind_as _ _ _ _ _ _ (ap signed_decimal (to_z-of_z w128 c.from.result wide
     ∙ (c.from.ensures ∙ (to_z-of_z w64 c.index.result narrow ∙ c.index.ensures)))) c.push_whole.ensures.bytes
     c.push_more.ensures.bytes))))
