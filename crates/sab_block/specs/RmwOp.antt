@@ -1,4 +1,4 @@
--- Combining: what a read-modify-write makes of two raw elements.
+-- Read-modify-writes: what each makes of two raw elements, and its function of Atomics.
 use Rattle.std.specs.Prelude.{ℕ, ◌+◌, ◌%◌, ◌^◌, List, codes, pos, ◌-ℤ◌, bit_and, bit_or, bit_xor}
 use Rattle.sab_block.specs.declared.rmw_op.RmwOp.{RmwOp}
 use Rattle.sab_block.specs.declared.rmw_op.RmwOp.TheVariants.{Exchange, Add, Sub, And, Or, Xor}

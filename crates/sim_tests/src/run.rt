@@ -1,6 +1,6 @@
 //! A run, and what is expected of it.
 
-use sab_block::{Kind, Operand, View};
+use sab_block::{Access, Kind, Operand, RmwOp, View};
 use sab_sim::{Answer, Call, Entry, Move, Plan, PlanFault, PlanView, Report, Script, What, Why};
 use std::alloc::{AllocError, Global};
 use std::test::Fail;
@@ -89,6 +89,26 @@ pub fn whole(kind: Kind, block: u32, block_len: u32) -> Result<PlanView, Fail> {
 
 pub fn number(v: i64) -> Result<Operand, Fail> {
     Ok(Operand::number(v).ok_or("no safe integer")?)
+}
+
+pub fn load(index: i64) -> Access {
+    Access::Load { index }
+}
+
+pub fn store(index: i64, value: Operand) -> Access {
+    Access::Store { index, value }
+}
+
+pub fn rmw(op: RmwOp, index: i64, value: Operand) -> Access {
+    Access::Rmw { op, index, value }
+}
+
+pub fn compare_exchange(index: i64, expected: Operand, replacement: Operand) -> Access {
+    Access::CompareExchange {
+        index,
+        expected,
+        replacement,
+    }
 }
 
 /// A wait at view 0.

@@ -1,6 +1,6 @@
 //! Bytes of a block, and accesses in order on a fresh block.
 
-use crate::run::number;
+use crate::run::{compare_exchange, load, number, rmw, store};
 use sab_block::{Access, Block, Kind, Operand, RmwOp, Thrown, View};
 use std::alloc::Global;
 use std::process::Abort;
@@ -12,26 +12,6 @@ type Step = (View, Access, Result<Operand, Thrown>);
 const TYPE: Result<Operand, Thrown> = Err(Thrown::TypeError);
 
 const RANGE: Result<Operand, Thrown> = Err(Thrown::RangeError);
-
-fn load(index: i64) -> Access {
-    Access::Load { index }
-}
-
-fn store(index: i64, value: Operand) -> Access {
-    Access::Store { index, value }
-}
-
-fn rmw(op: RmwOp, index: i64, value: Operand) -> Access {
-    Access::Rmw { op, index, value }
-}
-
-fn compare_exchange(index: i64, expected: Operand, replacement: Operand) -> Access {
-    Access::CompareExchange {
-        index,
-        expected,
-        replacement,
-    }
-}
 
 /// Makes the accesses on a fresh block, and compares each answer and then the bytes.
 fn compare(rt: &impl Abort, alloc: Global, steps: &[Step], bytes: &[u8]) -> Result<(), Fail> {
