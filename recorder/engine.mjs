@@ -11,7 +11,8 @@
 import { Crew, EngineFault } from "./engine/crew.mjs";
 import { replay } from "./engine/replay.mjs";
 import { reportText, summary } from "./engine/report.mjs";
-import { MOST, readScript, ScriptFault } from "./engine/script.mjs";
+import { readScript, ScriptFault } from "./engine/script.mjs";
+import { SCRIPT_LIMITS } from "./script/limits.mjs";
 
 const HELP = `\
 Makes a script's moves in real threads with this engine's own Atomics, and writes the report as sabsim replay does.
@@ -52,7 +53,7 @@ async function readInput() {
   for await (const part of process.stdin) {
     parts.push(part);
     length += part.length;
-    if (length > MOST.text) break;
+    if (length > SCRIPT_LIMITS.text) break;
   }
   return Buffer.concat(parts);
 }

@@ -3,38 +3,20 @@
 
 import { statSync } from "node:fs";
 import { fileURLToPath } from "node:url";
-import { Keeper } from "./lib/keep.mjs";
-import { USAGE, optionsOf } from "./lib/options.mjs";
-import { Refused } from "./lib/plan.mjs";
+import { endBy, Interrupted } from "./lib/command/interruption.mjs";
+import { NotKept } from "./lib/command/keep.mjs";
+import { USAGE, optionsOf } from "./lib/command/options.mjs";
+import { NotPrinted, print } from "./lib/command/print.mjs";
+import { Session } from "./lib/command/session.mjs";
+import { Refused } from "./lib/run/plan.mjs";
 import { moduleUrl } from "./lib/recorder.mjs";
-import { Difference, NoSabsim, sabsim } from "./lib/sabsim.mjs";
-import { recordSeeds } from "./lib/seeds.mjs";
-import { Summary } from "./lib/summary.mjs";
+import { Difference, NoSabsim } from "./lib/check/sabsim.mjs";
+import { LostJob } from "./lib/seeds/seeds.mjs";
 
-const STATUS = Object.freeze({ NONE_FAILED: 0, SOME_FAILED: 1, REFUSED: 2, NOT_CHECKED: 3 });
-const BETWEEN_LINES_MILLISECONDS = 100;
+const STATUS = Object.freeze({ NONE_FAILED: 0, SOME_FAILED: 1, REFUSED: 2, NOT_DONE: 3 });
 
-/** A line that tells how far it is, on a terminal only. */
-class Progress {
-  /** @param {number} runs how many there will be */
-  constructor(runs) {
-    this.runs = runs;
-    this.shown = process.stderr.isTTY ? 0 : Infinity;
-  }
-
-  /** @param {Summary} summary */
-  show(summary) {
-    const now = performance.now();
-    if (now - this.shown < BETWEEN_LINES_MILLISECONDS) return;
-    this.shown = now;
-    process.stderr.write(`\r${summary.runs} of ${this.runs} runs, ${summary.failed} failed`);
-  }
-
-  /** Takes the line away. */
-  clear() {
-    if (process.stderr.isTTY) process.stderr.write("\r\x1b[K");
-  }
-}
+/** What can go wrong without a defect of the recorder: a sentence says all of it. */
+const EXPECTED = [Refused, Difference, NoSabsim, LostJob, NotKept, NotPrinted];
 
 /** @param {string} module @returns {string} its URL */
 function existing(module) {
@@ -47,83 +29,39 @@ function existing(module) {
   throw new Refused(`there is no file ${module}`);
 }
 
-/**
- * Keeps a failing run: its script, its report, and where sabsim is used its explained report and its picture.
- * @param {Keeper} keeper
- * @param {import("./lib/group.mjs").Outcome} outcome
- * @param {string | undefined} program the path of sabsim, where it is used
- */
-function keepRun(keeper, { seed, script, report }, program) {
-  keeper.keep(`seed-${seed}.json`, script);
-  keeper.keep(`seed-${seed}.report`, report);
-  if (program === undefined) return;
-  for (const format of ["explained", "svg"]) {
-    const { status, output } = sabsim(program, ["replay", "--format", format], script);
-    if (status === 0) keeper.keep(`seed-${seed}.${format}`, output);
-  }
+/** @param {unknown} problem */
+function complain(problem) {
+  const expected = EXPECTED.some((kind) => problem instanceof kind);
+  process.stderr.write(`record: ${expected ? problem.message : problem?.stack ?? problem}\n`);
 }
 
 /**
- * Keeps what shows a difference.
- * @param {Keeper} keeper
- * @param {Difference} difference
+ * @param {string[]} words of the command line
+ * @returns {Promise<{ failed: boolean, problems: unknown[] }>}
  */
-function keepDifference(keeper, { outcome, replayed }) {
-  keeper.keep(`seed-${outcome.seed}.json`, outcome.script);
-  keeper.keep(`seed-${outcome.seed}.report`, outcome.report);
-  keeper.keep(`seed-${outcome.seed}.sabsim-report`, replayed);
-}
-
-/** @param {Keeper | undefined} keeper */
-function sayKept(keeper) {
-  if (keeper !== undefined && keeper.names.length > 0) {
-    process.stdout.write(`kept in ${keeper.folder}: ${keeper.names.join(", ")}\n`);
-  }
-}
-
-/**
- * @param {ReturnType<typeof optionsOf>} options
- * @returns {Promise<number>} the status
- */
-async function run(options) {
-  const module = existing(options.module);
-  const keeper = options.out === undefined ? undefined : new Keeper(options.out);
-  const summary = new Summary();
-  const progress = new Progress(options.last - options.first + 1);
-  let checked;
+async function run(words) {
   try {
-    ({ checked } = await recordSeeds({ ...options, module }, (outcome) => {
-      summary.add(outcome);
-      progress.show(summary);
-    }));
-  } catch (error) {
-    if (keeper !== undefined && error instanceof Difference) keepDifference(keeper, error);
-    throw error;
-  } finally {
-    progress.clear();
-    sayKept(keeper);
+    const options = optionsOf(words);
+    if (!options.help) return await new Session({ ...options, module: existing(options.module) }).run();
+    await print(USAGE);
+    return { failed: false, problems: [] };
+  } catch (problem) {
+    return { failed: false, problems: [problem] };
   }
-  process.stdout.write(summary.text(checked));
-  if (summary.failing === undefined) return STATUS.NONE_FAILED;
-  if (keeper !== undefined) keepRun(keeper, summary.failing, options.check === 0 ? undefined : options.sabsim);
-  sayKept(keeper);
-  return STATUS.SOME_FAILED;
 }
 
 /** @returns {Promise<number>} the status */
 async function main() {
-  try {
-    const options = optionsOf(process.argv.slice(2));
-    if (!options.help) return await run(options);
-    process.stdout.write(USAGE);
-    return STATUS.NONE_FAILED;
-  } catch (error) {
-    const expected = [Refused, Difference, NoSabsim].some((kind) => error instanceof kind);
-    process.stderr.write(`record: ${expected ? error.message : error.stack}\n`);
-    return error instanceof Refused ? STATUS.REFUSED : STATUS.NOT_CHECKED;
+  const { failed, problems } = await run(process.argv.slice(2));
+  const interrupted = problems.find((problem) => problem instanceof Interrupted);
+  for (const problem of problems) {
+    if (!(problem instanceof Interrupted)) complain(problem);
   }
+  if (interrupted !== undefined) await endBy(interrupted.by);
+  if (problems.length > 0) return problems[0] instanceof Refused ? STATUS.REFUSED : STATUS.NOT_DONE;
+  return failed ? STATUS.SOME_FAILED : STATUS.NONE_FAILED;
 }
 
-// A reader that is gone has seen enough.
-process.stdout.on("error", () => {});
+// Where nobody reads what went wrong, the status tells it.
+process.stderr.on("error", () => {});
 process.exitCode = await main();

@@ -20,8 +20,10 @@
 // for that lock of others looks as if it stood in a line.
 
 import { setTimeout as sleep } from "node:timers/promises";
+import { CONSTRUCTORS } from "../script/kinds.mjs";
+import { answerText } from "../script/report.mjs";
 import { EngineFault, PATIENCE, until } from "./crew.mjs";
-import { KINDS, ScriptFault } from "./script.mjs";
+import { ScriptFault } from "./script.mjs";
 import { Timeline } from "./timeline.mjs";
 
 /** @typedef {import("./crew.mjs").Hand} Hand */
@@ -30,10 +32,7 @@ import { Timeline } from "./timeline.mjs";
 /** @typedef {import("./script.mjs").Script} Script */
 /** @typedef {import("./script.mjs").Call} Call */
 
-/**
- * What a move did: `text` is the line without its position, agent and call.
- * @typedef {{ agent: number, call: number, text: string, isOfEngine: boolean }} Entry
- */
+/** @typedef {import("../script/report.mjs").Entry & { isOfEngine: boolean }} Entry what a move did, and who says so */
 
 /** @typedef {{ entries: Entry[], blocks: Uint8Array[], returned: number[] }} Outcome */
 
@@ -93,7 +92,7 @@ async function replayOnce(script, crew, trial) {
 
 function makeView({ name, kind, block, offset, length }, buffers) {
   try {
-    return new (KINDS.get(kind))(buffers[block], offset, length ?? undefined);
+    return new CONSTRUCTORS[kind](buffers[block], offset, length ?? undefined);
   } catch (error) {
     throw new ScriptFault(`view ${name} can't be made: ${error.message}`);
   }
@@ -282,7 +281,7 @@ const ownLine = (text) => ({ text, isOfEngine: false });
  * @param {Answer} answer
  */
 function textOf(answer) {
-  if (!("threw" in answer)) return typeof answer.answer === "bigint" ? `${answer.answer}n` : `${answer.answer}`;
+  if (!("threw" in answer)) return answerText(answer.answer);
   if (answer.threw === "TypeError" || answer.threw === "RangeError") return answer.threw;
   throw new EngineFault(`a call threw ${answer.threw}: ${answer.message}`);
 }

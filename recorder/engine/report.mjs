@@ -1,5 +1,7 @@
 // Writes what a script came to as `sabsim replay` does (docs/FORMATS.md), and tells whose answers its lines are.
 
+import { reportOf } from "../script/report.mjs";
+
 /** @typedef {import("./replay.mjs").Outcome} Outcome */
 
 /**
@@ -9,10 +11,8 @@
  * @returns {string}
  */
 export function reportText(script, { entries, blocks, returned }) {
-  const moves = entries.map(({ agent, call, text }, position) => `${position} ${agent} ${call} ${text}`);
-  const bytes = blocks.map((block, position) => `block ${position} ${hexadecimal(block) || "-"}`);
-  const agents = script.agents.map(({ calls }, agent) => `agent ${agent} ${returned[agent]} of ${calls.length}`);
-  return [...moves, ...bytes, ...agents].map((line) => `${line}\n`).join("");
+  const progress = script.agents.map(({ calls }, agent) => ({ returned: returned[agent], calls: calls.length }));
+  return reportOf(entries, blocks.map(hexadecimal), progress);
 }
 
 const hexadecimal = (block) => Buffer.from(block.buffer, block.byteOffset, block.byteLength).toString("hex");

@@ -1,8 +1,12 @@
 // Reads a script (docs/FORMATS.md) into the parts that the engine needs. What is read is checked as far as the engine
 // needs it: which fault a bad script has is for `sabsim replay` to say.
 
+import { CALLS, KINDS } from "../script/kinds.mjs";
+import { SCRIPT_LIMITS } from "../script/limits.mjs";
+import { isWhole, isWithin128Bits } from "../script/operands.mjs";
+
 /** @typedef {number | bigint} Operand a whole number, which is a Number, or a BigInt */
-/** @typedef {{ name: string, kind: string, block: number, offset: number, length: number | null }} View */
+/** @typedef {{ name: string, kind: number, block: number, offset: number, length: number | null }} View see `KINDS` */
 /** @typedef {{ method: string, view: number, operands: Operand[] }} Call `operands`: its index and what comes after */
 /** @typedef {{ canBlock: boolean, calls: Call[] }} Agent */
 /** @typedef {{ agent: number, isTimeUp: boolean }} Move a step of an agent, or that its wait's time is up */
@@ -11,26 +15,6 @@
 /** A script that isn't one. Its message says what is wrong, and where. */
 export class ScriptFault extends Error {}
 
-/** The most of each that a script can have. */
-export const MOST = { text: 1_048_576, blocks: 4, bytes: 65_536, views: 64, agents: 16, calls: 1_000, moves: 100_000 };
-
-/** How many operands each call takes after its index: at least, and at most. */
-const OPERANDS = new Map([
-  ["load", [0, 0]],
-  ...["store", "exchange", "add", "sub", "and", "or", "xor"].map((name) => [name, [1, 1]]),
-  ["compareExchange", [2, 2]],
-  ["wait", [1, 2]],
-  ["notify", [0, 1]],
-]);
-
-/** The constructor of each kind of view. */
-export const KINDS = new Map(
-  [
-    Int8Array, Uint8Array, Uint8ClampedArray, Int16Array, Uint16Array, Int32Array, Uint32Array, Float32Array,
-    Float64Array, BigInt64Array, BigUint64Array,
-  ].map((constructor) => [constructor.name.replace("Array", ""), constructor]),
-);
-
 /**
  * The script that a text in UTF-8 spells.
  * @param {Uint8Array} bytes
@@ -38,18 +22,19 @@ export const KINDS = new Map(
  * @throws {ScriptFault} where it spells none
  */
 export function readScript(bytes) {
-  demand(bytes.length <= MOST.text, `the script has more than ${MOST.text} bytes`);
+  const most = SCRIPT_LIMITS;
+  demand(bytes.length <= most.text, `the script has more than ${most.text} bytes`);
   const tree = parse(bytes);
   const isOld = Object.hasOwn(Object(tree), "bytes");
   demandMembers(tree, [isOld ? "bytes" : "blocks", "views", "agents", "schedule"], "the script");
-  const blocks = isOld ? [tree.bytes] : list(tree.blocks, MOST.blocks, "blocks");
+  const blocks = isOld ? [tree.bytes] : list(tree.blocks, most.blocks, "blocks");
   demand(blocks.length > 0, "blocks is empty");
-  blocks.forEach((length, block) => demandBetween(length, 0, MOST.bytes, `the length of block ${block}`));
-  const views = list(tree.views, MOST.views, "views").map((view, at) => readView(view, isOld, blocks.length, at));
+  blocks.forEach((length, block) => demandBetween(length, 0, most.bytes, `the length of block ${block}`));
+  const views = list(tree.views, most.views, "views").map((view, at) => readView(view, isOld, blocks.length, at));
   const positions = new Map(views.map((view, position) => [view.name, position]));
   demand(positions.size === views.length, "two views have one name");
-  const agents = list(tree.agents, MOST.agents, "agents").map((agent, at) => readAgent(agent, positions, at));
-  const moves = list(tree.schedule, MOST.moves, "schedule");
+  const agents = list(tree.agents, most.agents, "agents").map((agent, at) => readAgent(agent, positions, at));
+  const moves = list(tree.schedule, most.moves, "schedule");
   return { blocks, views, agents, schedule: moves.map((move, at) => readMove(move, agents.length, at)) };
 }
 
@@ -68,45 +53,44 @@ function readView(tree, isOld, blockCount, at) {
   demandMembers(tree, ["name", "kind", ...(isOld ? [] : ["block"]), "offset", "length"], where);
   const { name, kind, block = 0, offset, length } = tree;
   demand(typeof name === "string" && /^[A-Za-z0-9_]{1,32}$/.test(name), `${where} has no name of the right form`);
-  demand(KINDS.has(kind), `${where} is of a kind that isn't there`);
+  demand(KINDS.includes(kind), `${where} is of a kind that isn't there`);
   demandBetween(block, 0, blockCount - 1, `the block of ${where}`);
   demandWhole(offset, `the offset of ${where}`);
   if (length !== null) demandWhole(length, `the length of ${where}`);
-  return { name, kind, block, offset, length };
+  return { name, kind: KINDS.indexOf(kind), block, offset, length };
 }
 
 /** @returns {Agent} */
 function readAgent(tree, positions, at) {
   demandMembers(tree, ["block", "calls"], `agent ${at}`);
   demand(typeof tree.block === "boolean", `agent ${at} doesn't say whether it can block`);
-  const calls = list(tree.calls, MOST.calls, `the calls of agent ${at}`);
+  const calls = list(tree.calls, SCRIPT_LIMITS.calls, `the calls of agent ${at}`);
   return { canBlock: tree.block, calls: calls.map((call, k) => readCall(call, positions, `call ${k} of agent ${at}`)) };
 }
 
 /** @returns {Call} */
 function readCall(tree, positions, where) {
   const [method, name, index, ...rest] = list(tree, 5, where);
-  demand(OPERANDS.has(method), `${where} has a name that no call has`);
+  const taken = CALLS.find((call) => call.name === method);
+  demand(taken !== undefined, `${where} has a name that no call has`);
   demand(positions.has(name), `${where} names a view that isn't there`);
   demandWhole(index, `the index of ${where}`);
-  const [least, most] = OPERANDS.get(method);
-  demand(rest.length >= least && rest.length <= most, `${where} has a wrong number of elements`);
-  const operands = rest.map((value, position) => {
-    // A timeout and a count are Numbers; every other operand may be a BigInt too.
-    const isNumber = method === "notify" || (method === "wait" && position === 1);
-    return readOperand(value, isNumber, `an operand of ${where}`);
-  });
+  const most = taken.operands + (taken.takesLimit ? 1 : 0);
+  demand(rest.length >= taken.operands && rest.length <= most, `${where} has a wrong number of elements`);
+  // A limit is a Number; every operand before it may be a BigInt too.
+  const isLimit = (position) => position >= taken.operands;
+  const operands = rest.map((value, position) => readOperand(value, isLimit(position), `an operand of ${where}`));
   return { method, view: positions.get(name), operands: [index, ...operands] };
 }
 
 /** @returns {Operand} */
-function readOperand(value, isNumber, where) {
-  if (isNumber || typeof value !== "string") {
+function readOperand(value, isLimit, where) {
+  if (isLimit || typeof value !== "string") {
     demandWhole(value, where);
     return value;
   }
   const spelled = /^(0|-?[1-9][0-9]{0,38})$/.test(value) ? BigInt(value) : null;
-  demand(spelled !== null && BigInt.asIntN(128, spelled) === spelled, `${where} is a string that is no BigInt here`);
+  demand(spelled !== null && isWithin128Bits(spelled), `${where} is a string that is no BigInt here`);
   return spelled;
 }
 
@@ -140,7 +124,7 @@ function demandBetween(value, least, most, where) {
 }
 
 function demandWhole(value, where) {
-  demand(Number.isSafeInteger(value) && !Object.is(value, -0), `${where} is no whole number within 2^53 - 1`);
+  demand(isWhole(value) && !Object.is(value, -0), `${where} is no whole number within 2^53 - 1`);
 }
 
 function demand(holds, message) {

@@ -1,8 +1,11 @@
-// Turns, waiters and ends, in one thread: the board as its threads would use it.
+// Turns, waiters, who moves next, and ends, in one thread: the board as its threads would use it.
 
 import assert from "node:assert/strict";
 import { test } from "node:test";
-import { Board, JOIN, LEAVE, MAKE, PHASE, TIME_UP } from "../lib/board.mjs";
+import { Board } from "../lib/board/board.mjs";
+import { STEP } from "../lib/board/clock.mjs";
+import { JOIN, LEAVE, MAKE, TIME_UP } from "../lib/board/journal.mjs";
+import { ORDER, PHASE } from "../lib/board/layout.mjs";
 
 /**
  * A board whose agents have all been started, and are at a phase.
@@ -10,10 +13,10 @@ import { Board, JOIN, LEAVE, MAKE, PHASE, TIME_UP } from "../lib/board.mjs";
  * @param {object} [rules]
  */
 function boardAt(phases, rules = {}) {
-  const board = new Board(Board.memory(), { agents: phases.length, maxMoves: 100_000, ...rules });
+  const board = new Board(Board.memory(), { agents: phases.length, maxMoves: 100_000, timeouts: 0.05, ...rules });
   board.begin(rules.seed ?? 1);
   for (let agent = 0; agent < phases.length - 1; agent += 1) assert.equal(board.pass(agent), false);
-  phases.forEach((phase, agent) => board.become(agent, phase));
+  phases.forEach((phase, agent) => board.line.become(agent, phase));
   return board;
 }
 
@@ -23,20 +26,20 @@ function drawn(board, from, times) {
   let turn = from;
   for (let time = 0; time < times; time += 1) {
     board.pass(turn);
-    turn = board.lastMoved();
+    turn = board.strategy.lastMoved();
     turns.push(turn);
   }
   return turns;
 }
 
-const HERE = { block: 0, byte: 4 };
+const HERE = [0, 4];
 
 test("a notify wakes the oldest waiters of its place, as many as it is told", () => {
   const wake = (count) => {
     const board = boardAt([PHASE.RUNS, PHASE.RUNS, PHASE.RUNS, PHASE.RUNS]);
-    for (const agent of [2, 0, 1]) board.join(agent, HERE, false);
-    const woken = board.notify(HERE, count);
-    return [woken, ...[0, 1, 2].filter((agent) => board.phase(agent) === PHASE.WOKEN)];
+    for (const agent of [2, 0, 1]) board.line.join(agent, ...HERE, false);
+    const woken = board.line.notify(...HERE, count);
+    return [woken, ...[0, 1, 2].filter((agent) => board.line.phase(agent) === PHASE.WOKEN)];
   };
   assert.deepEqual(wake(1), [1, 2]);
   assert.deepEqual(wake(2), [2, 0, 2]);
@@ -48,16 +51,28 @@ test("a notify wakes the oldest waiters of its place, as many as it is told", ()
 
 test("places of equal bytes in different blocks, and of different bytes, have lines of their own", () => {
   const board = boardAt([PHASE.RUNS, PHASE.RUNS, PHASE.RUNS]);
-  board.join(0, { block: 1, byte: 4 }, false);
-  board.join(1, { block: 0, byte: 8 }, false);
-  assert.equal(board.notify(HERE, undefined), 0);
-  assert.equal(board.notify({ block: 0, byte: 8 }, undefined), 1);
-  assert.deepEqual(board.waiting(), [0]);
+  board.line.join(0, 1, 4, false);
+  board.line.join(1, 0, 8, false);
+  assert.equal(board.line.notify(...HERE, undefined), 0);
+  assert.equal(board.line.notify(0, 8, undefined), 1);
+  assert.deepEqual(board.line.waiting(), [0]);
 });
 
 test("agents move that ask, that were woken, or that wait with a timeout, and all of them in time", () => {
   const phases = [PHASE.ASKS, PHASE.WAITS, PHASE.WAITS_TIMED, PHASE.DONE, PHASE.WOKEN];
-  assert.deepEqual([...new Set(drawn(boardAt(phases), 4, 100))].sort(), [0, 2, 4]);
+  assert.deepEqual([...new Set(drawn(boardAt(phases), 4, 500))].sort(), [0, 2, 4]);
+});
+
+test("a time's end is offered in so many of the draws, and always where nothing else can move", () => {
+  const timesUp = (phases, timeouts) => {
+    return drawn(boardAt(phases, { timeouts }), 1, 4_000).filter((agent) => phases[agent] === PHASE.WAITS_TIMED).length;
+  };
+  const two = [PHASE.ASKS, PHASE.WAITS_TIMED];
+  // Where it is offered, it is one of two: 4,000 draws, times the share, times a half.
+  assert.equal(timesUp(two, 0), 0);
+  assert.ok(Math.abs(timesUp(two, 0.05) - 100) < 50, `${timesUp(two, 0.05)}`);
+  assert.ok(Math.abs(timesUp(two, 1) - 2_000) < 200, `${timesUp(two, 1)}`);
+  assert.equal(timesUp([PHASE.WAITS, PHASE.WAITS_TIMED], 0), 4_000);
 });
 
 test("with --switch 0 an agent goes on as long as it can, and with 1 never if another can", () => {
@@ -72,41 +87,71 @@ test("a run in which nobody can move has finished, or is a deadlock where somebo
   const end = (phases, rules) => {
     const board = boardAt(phases, rules);
     board.pass(0);
-    return board.ended().ending;
+    return board.end.told().ending;
   };
   assert.equal(end([PHASE.DONE, PHASE.DONE]), "finished");
   assert.equal(end([PHASE.DONE, PHASE.WAITS]), "deadlock");
   assert.equal(end([PHASE.ASKS, PHASE.WAITS], { maxMoves: 2 }), "bound");
 });
 
-test("moves and calls are counted as a script has them", () => {
+test("moves and calls are counted as a script has them, and time goes on by them", () => {
   const board = boardAt([PHASE.RUNS, PHASE.RUNS]);
   for (const [agent, event] of [[0, MAKE], [1, JOIN], [0, MAKE], [1, LEAVE], [1, JOIN], [1, TIME_UP], [0, JOIN]]) {
-    board.log(agent, event);
+    board.did(agent, event);
   }
-  assert.equal(board.moves(), 3 + 2 + 3 + 2 + 2 + 2 + 2);
-  assert.deepEqual(board.progress(0), { returned: 2, calls: 3 });
-  assert.deepEqual(board.progress(1), { returned: 2, calls: 2 });
-  assert.deepEqual(board.journal().slice(0, 2), [{ event: MAKE, agent: 0 }, { event: JOIN, agent: 1 }]);
+  const moves = 3 + 2 + 3 + 2 + 2 + 2 + 2;
+  assert.equal(board.journal.moves(), moves);
+  assert.deepEqual(board.journal.progress(0), { returned: 2, calls: 3 });
+  assert.deepEqual(board.journal.progress(1), { returned: 2, calls: 2 });
+  const passed = board.clock.look();
+  assert.ok(Math.abs(passed - (moves + 1) * STEP) < STEP / 100, `${passed}`);
+});
+
+test("the time goes on to the end of a wait whose time is up, and never back", () => {
+  const { clock } = boardAt([PHASE.RUNS, PHASE.RUNS]);
+  clock.setDeadline(0, 50);
+  clock.setDeadline(1, -3);
+  clock.reachDeadline(0);
+  const passed = clock.look();
+  assert.ok(passed >= 50 && passed < 51, `${passed}`);
+  clock.reachDeadline(1);
+  assert.ok(clock.look() > passed);
 });
 
 test("an agent whose worker died ends the run when it has the turn, and only then", () => {
+  const { turn, end } = boardAt([PHASE.ASKS, PHASE.ASKS]);
+  turn.leave(1);
+  turn.die(0, "one");
+  assert.equal(turn.enter(1), true);
+  turn.leave(1);
+  turn.die(1, "two");
+  assert.deepEqual(end.told(), { ending: "failed", detail: "agent 1's worker died: two" });
+  assert.equal(turn.enter(1), false);
+  assert.equal(turn.isBack(1, 0), false);
+});
+
+test("an agent that died before it gets the turn is told of with what it died of", () => {
+  const board = boardAt([PHASE.ASKS, PHASE.DONE]);
+  board.turn.die(0, "out of memory");
+  board.pass(1);
+  assert.deepEqual(board.end.told(), { ending: "failed", detail: "agent 0's worker died: out of memory" });
+});
+
+test("what is left of a run starts nobody: an agent begins once for each order", () => {
   const board = boardAt([PHASE.ASKS, PHASE.ASKS]);
-  board.leave(1);
-  board.die(0, "one");
-  assert.equal(board.enter(1), true);
-  board.leave(1);
-  board.die(1, "two");
-  assert.deepEqual(board.ended(), { ending: "failed", detail: "agent 1's worker died: two" });
-  assert.equal(board.enter(1), false);
-  assert.equal(board.isBack(1, 0), false);
+  const first = board.turn.awaitStart(0, 0);
+  board.turn.wake(0);
+  board.order(ORDER.CHECK);
+  const second = board.turn.awaitStart(0, first);
+  assert.notEqual(second, first);
+  assert.equal(board.ordered(), ORDER.CHECK);
 });
 
 test("a script has room for 64 views, and for so much text", () => {
   const board = boardAt([PHASE.RUNS]);
-  for (let key = 0; key < 64; key += 1) assert.equal(board.registers(key), true);
-  assert.equal(board.registers(64), false);
-  assert.equal(board.registers(63), true);
-  assert.equal(board.takesText(1_000_000), true);
-  assert.equal(board.takesText(1_000_000), false);
+  for (let key = 0; key < 64; key += 1) assert.equal(board.journal.registers(key), true);
+  assert.equal(board.journal.registers(64), false);
+  assert.equal(board.journal.registers(63), true);
+  assert.equal(board.journal.takesText(1_000_000), true);
+  assert.equal(board.journal.takesText(1_000_000), false);
 });

@@ -5,7 +5,7 @@ import { tmpdir } from "node:os";
 import { join } from "node:path";
 import { fileURLToPath } from "node:url";
 import { record } from "../recorder.mjs";
-import { DEFAULT_SABSIM } from "../lib/sabsim.mjs";
+import { DEFAULT_SABSIM } from "../lib/check/sabsim.mjs";
 
 /** The built program that checks are made with. */
 export const SABSIM = process.env.SABSIM ?? DEFAULT_SABSIM;

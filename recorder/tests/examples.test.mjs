@@ -7,7 +7,7 @@ import { tmpdir } from "node:os";
 import { join } from "node:path";
 import { after, describe, test } from "node:test";
 import { pathToFileURL } from "node:url";
-import { recordSeeds } from "../lib/seeds.mjs";
+import { recordSeeds } from "../lib/seeds/seeds.mjs";
 import { Opinions } from "./opinions.mjs";
 import { pathOf, SABSIM, withSabsim } from "./programs.mjs";
 

@@ -3,11 +3,11 @@
 import assert from "node:assert/strict";
 import { execFile, spawn, spawnSync } from "node:child_process";
 import { randomUUID } from "node:crypto";
-import { existsSync, mkdirSync, readFileSync, readdirSync, writeFileSync } from "node:fs";
+import { closeSync, existsSync, mkdirSync, openSync, readFileSync, readdirSync, writeFileSync } from "node:fs";
 import { join } from "node:path";
 import { test } from "node:test";
-import { optionsOf } from "../lib/options.mjs";
-import { Refused } from "../lib/plan.mjs";
+import { optionsOf, USAGE } from "../lib/command/options.mjs";
+import { Refused } from "../lib/run/plan.mjs";
 import { RECORD, SABSIM, agentsOf, agentsPath, temporaryFolder, withSabsim } from "./common.mjs";
 
 /**
@@ -31,6 +31,8 @@ test("where no run fails, the status is 0", withSabsim, () => {
       "1 final state: how it ended, and the bytes",
       "  20 runs finished, seed 1 the first: 030000000300000000000000",
       "2 runs checked: sabsim says the same",
+      // Two agents add three times each.
+      "20 runs made 120 calls of Atomics, and no ordinary read or write",
       "",
     ].join("\n"),
     stderr: "",
@@ -43,8 +45,8 @@ test("where some fail, the status is 1, and the first is kept in --out", withSab
   const { status, stdout, stderr } = run([agentsPath("naive-mutex"), "--seeds", "1..100", "--out", out, ...sabsim]);
   assert.deepEqual([status, stderr], [1, ""]);
   const [, seed] = /^first failing seed: (\d+), deadlock\n  agent \d waits at byte 4 /m.exec(stdout);
-  assert.match(stdout, /^100 runs: \d+ finished, \d+ deadlock\n/);
-  const kept = ["json", "report", "explained", "svg"].map((ending) => `seed-${seed}.${ending}`);
+  assert.match(stdout, /^\d+ of 100 runs failed: \d+ deadlock; \d+ finished\n/);
+  const kept = ["json", "report", "trace.jsonl", "explained", "svg"].map((ending) => `seed-${seed}.${ending}`);
   assert.ok(stdout.endsWith(`\nkept in ${out}: ${kept.join(", ")}\n`), stdout);
   const script = readFileSync(join(out, `seed-${seed}.json`));
   const replayed = spawnSync(SABSIM, ["replay"], { input: script, encoding: "utf8" });
@@ -110,6 +112,16 @@ test("each wrong option is refused, with one line that names it", () => {
     [["m.mjs", "--seconds", "0"], /--seconds/],
     [["m.mjs", "--wrong"], /--wrong/],
     [["m.mjs", "--fresh=yes"], /--fresh/],
+    [["m.mjs", "--ordinary", "see"], /^--ordinary must be watch, store or refuse, but is "see"$/],
+    [["m.mjs", "--ordinary"], /--ordinary/],
+    [["m.mjs", "--ordinary", ""], /^--ordinary must be watch, store or refuse, but is ""$/],
+    [["m.mjs", "--races", "ignore"], /^--races must be fail or allow, but is "ignore"$/],
+    [["m.mjs", "--bounds", "Allow"], /^--bounds must be fail or allow, but is "Allow"$/],
+    [["m.mjs", "--clock", "toString"], /^--clock must be run or real, but is "toString"$/],
+    [["m.mjs", "--timeouts", "1.01"], /^--timeouts must be a number from 0 to 1, but is "1.01"$/],
+    [["m.mjs", "--timeouts", "-0"], /--timeouts/],
+    [["m.mjs", "--fail-fast=1"], /--fail-fast/],
+    [["m.mjs", "--out", ""], /--out/],
   ];
   for (const [words, why] of wrong) {
     assert.throws(() => optionsOf(words), (error) => {
@@ -124,8 +136,38 @@ test("what the command line leaves out has its default", () => {
   const { first, last, jobs, check, maxMoves, seconds, fresh, args, noBlock, switching, out } = optionsOf(["m.mjs"]);
   assert.deepEqual([first, last, jobs, check, maxMoves, seconds], [1, 100, 1, 10, 100_000, 10]);
   assert.deepEqual([fresh, args, noBlock, switching, out], [false, [], [], undefined, undefined]);
+  const { ordinary, races, bounds, clock, timeouts, failFast } = optionsOf(["m.mjs"]);
+  assert.deepEqual([ordinary, races, bounds, clock], ["watch", "fail", "fail", "run"]);
+  assert.deepEqual([timeouts, failFast], [0.05, false]);
   assert.equal(optionsOf(["m.mjs", "--seeds", "8"]).last, 8);
 });
+
+test("what the command line says is taken", () => {
+  const words = ["--ordinary=store", "--races", "allow", "--bounds=allow", "--clock", "real", "--timeouts", "0.25"];
+  const { ordinary, races, bounds, clock, timeouts, failFast } = optionsOf(["m.mjs", ...words, "--fail-fast"]);
+  assert.deepEqual([ordinary, races, bounds, clock], ["store", "allow", "allow", "real"]);
+  assert.deepEqual([timeouts, failFast], [0.25, true]);
+});
+
+test("help names each option that there is", () => {
+  const refused = (word) => /^Unknown option/.test(thrownBy(() => optionsOf(["m.mjs", `${word}=x`]))?.message ?? "");
+  const named = [...USAGE.matchAll(/^ {2}(--[a-z-]+)/gm)].map(([, word]) => word);
+  assert.deepEqual(named.filter(refused), []);
+  for (const option of ["ordinary", "races", "bounds", "clock", "timeouts", "fail-fast", "out", "jobs", "help"]) {
+    assert.ok(named.includes(`--${option}`), option);
+  }
+  assert.ok(USAGE.split("\n").every((line) => line.length <= 120));
+});
+
+/** What a function throws. @param {() => void} act */
+function thrownBy(act) {
+  try {
+    act();
+    return undefined;
+  } catch (error) {
+    return error;
+  }
+}
 
 test("a wrong command line is refused with status 2 and one line", async (context) => {
   const folder = temporaryFolder(context);
@@ -165,6 +207,34 @@ test("help is on standard output, with status 0", () => {
   const { status, stdout, stderr } = run(["--help"]);
   assert.deepEqual([status, stderr], [0, ""]);
   assert.match(stdout, /^usage: node recorder\/record\.mjs AGENTS\.mjs /);
+});
+
+test("where standard output fails, the status is 3, and a line on standard error says so", async (context) => {
+  const full = openSync("/dev/full", "w");
+  context.after(() => closeSync(full));
+  const stdio = ["ignore", full, "pipe"];
+  for (const words of [cases("addition", "--seeds", "1..3", "--check", "0"), ["--help"]]) {
+    const { status, stderr } = spawnSync(process.execPath, [RECORD, ...words], { encoding: "utf8", stdio });
+    assert.equal(status, 3, words.join(" "));
+    assert.match(stderr, /^record: standard output can't be written: [^\n]+\n$/);
+  }
+});
+
+test("where nobody reads standard output, the status is 3, and what failed is kept", async (context) => {
+  const out = temporaryFolder(context);
+  const words = cases("waitsForEver", "--seeds", "1..3", "--check", "0", "--out", out);
+  const child = spawn(process.execPath, [RECORD, ...words], { stdio: ["ignore", "pipe", "pipe"] });
+  child.stdout.destroy();
+  let stderr = "";
+  child.stderr.setEncoding("utf8").on("data", (text) => {
+    stderr += text;
+  });
+  const status = await new Promise((done) => {
+    child.on("close", done);
+  });
+  assert.equal(status, 3);
+  assert.match(stderr, /^record: standard output can't be written: [^\n]+\n$/);
+  assert.ok(readdirSync(out).includes("seed-1.json"));
 });
 
 test("without sabsim the status is 3, and with --check 0 it isn't needed", () => {
@@ -214,6 +284,23 @@ test("a module that can't be loaded is refused with status 2", (context) => {
   const { status, stderr } = run([join(folder, "bad.mjs"), "--agents", "1", "--bytes", "4", "--check", "0"]);
   assert.equal(status, 2);
   assert.match(stderr, /^record: .*bad\.mjs can't be loaded: .*no function as its default export/);
+});
+
+test("what a worker dies of while its module is loaded is told", (context) => {
+  const folder = temporaryFolder(context);
+  const deaths = {
+    "Error: too late": 'setTimeout(() => { throw new Error("too late"); }); await new Promise(() => {});',
+    "RangeError: at once": 'throw new RangeError("at once");',
+    "exit code 5": "process.exit(5);",
+  };
+  for (const [why, code] of Object.entries(deaths)) {
+    const module = join(folder, "dies.mjs");
+    writeFileSync(module, `${code}\nexport default () => {};\n`);
+    const { status, stderr } = run([module, "--agents", "1", "--bytes", "4", "--check", "0"]);
+    assert.equal(status, 2, why);
+    assert.match(stderr, /^record: .*dies\.mjs can't be loaded: /);
+    assert.ok(stderr.includes(why), stderr);
+  }
 });
 
 /** The processes whose environment has a word, which all children of a process inherit. */

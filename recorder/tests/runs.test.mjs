@@ -4,7 +4,7 @@ import assert from "node:assert/strict";
 import { writeFileSync } from "node:fs";
 import { test } from "node:test";
 import { Difference, NoSabsim, Refused, record } from "../recorder.mjs";
-import { Group } from "../lib/group.mjs";
+import { Group } from "../lib/run/group.mjs";
 import { NAMES } from "./agents/refused.mjs";
 import { SABSIM, agentsOf, agentsPath, recordCase, temporaryFolder, withSabsim } from "./common.mjs";
 
@@ -53,9 +53,10 @@ test("a run in which all agents come to their end has finished", withSabsim, asy
   assert.deepEqual(agents[1].calls, Array(3).fill(["add", "Int32", 1, 1]));
 });
 
-test("agents that never call Atomics finish, with a script without calls", withSabsim, async () => {
+test("a run in which no agent calls Atomics is no pass, and its script has no calls", withSabsim, async () => {
   const outcome = await recordCase("nothing", { check: true });
-  assert.equal(outcome.ending, "finished");
+  assert.equal(outcome.ending, "failed");
+  assert.match(outcome.detail, /^no agent has made a call of Atomics on the recorded buffers/);
   assert.deepEqual(JSON.parse(outcome.script).agents.map((agent) => agent.calls), [[], []]);
 });
 
@@ -93,7 +94,7 @@ test("an agent that answers a promise fails the run", async () => {
 test("an agent that spins for ever comes to the bound of calls, or of moves", withSabsim, async () => {
   const calls = await recordCase("spins", { check: true });
   assert.equal(calls.ending, "bound");
-  assert.match(calls.detail, /^agent [01] has made 1000 calls, and goes on$/);
+  assert.match(calls.detail, /^agent [01] spins at cases\.mjs:\d+:\d+: it has made 1000 calls, and goes on$/);
   assert.equal(Math.max(...calls.progress.map((agent) => agent.calls)), 1_000);
   const moves = await recordCase("spins", { check: true, maxMoves: 100 });
   assert.deepEqual([moves.ending, moves.detail, moves.moves], ["bound", "more than 100 moves would be made", 99]);
@@ -116,12 +117,12 @@ test("a script that would be too long is a bound", withSabsim, async () => {
   assert.ok(outcome.script.length > 900_000 && outcome.script.length <= 1_048_576, `${outcome.script.length} bytes`);
 });
 
-test("bytes that change without a call are found, with the agent and the place", withSabsim, async () => {
-  const outcome = await recordCase("writesPlainly", { check: true });
+test("where ordinary writes are refused they are found, with the agent and the place", withSabsim, async () => {
+  const outcome = await recordCase("writesPlainly", { check: true, ordinary: "refuse" });
   assert.equal(outcome.ending, "failed");
   assert.equal(outcome.detail, "agent 1 changed byte 6 of block 0 from 0 to 5 without a call of Atomics,"
     + ' after its call 0, ["add", "Int32", 0, 1]');
-  const atTheEnd = await recordCase("writesPlainlyAtTheEnd", { count: 1 });
+  const atTheEnd = await recordCase("writesPlainlyAtTheEnd", { count: 1, ordinary: "refuse" });
   assert.equal(atTheEnd.detail, "agent 0 changed byte 8 of block 0 from 0 to 1 without a call of Atomics,"
     + " before its first call");
 });
@@ -161,7 +162,6 @@ test("each call outside of the profile is refused by name, even where the agent 
   assert.match(told("fraction"), /Atomics\.store: the value 1\.5 isn't a whole number/);
   assert.match(told("object"), /Atomics\.add: the value an object is no Number or BigInt/);
   assert.match(told("waitAsync"), /Atomics\.waitAsync: no script can have this function/);
-  assert.match(told("unshared"), /Atomics\.load: the typed array isn't on one of the agent's buffers/);
   assert.match(told("replacement"), /Atomics\.compareExchange: the replacement undefined/);
 });
 
@@ -206,8 +206,6 @@ test("a module that can't be loaded is refused", async (context) => {
   await assert.rejects(load(new URL("data:text/javascript,process.exit(3)")), /exit code 3/);
   const endless = { module: "data:text/javascript,for (;;);", args: [], count: 1, buffers: [4], loadSeconds: 1 };
   await assert.rejects(Group.open(endless), /wasn't loaded within 1 s/);
-  const early = "Atomics.load(new Int32Array(new SharedArrayBuffer(4)), 0); export default () => {};";
-  await assert.rejects(load(new URL(`data:text/javascript,${early}`)), /only being loaded|isn't on one/);
 });
 
 test("a missing sabsim is told of before anything is run", async () => {

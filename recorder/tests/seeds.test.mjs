@@ -2,8 +2,9 @@
 
 import assert from "node:assert/strict";
 import { test } from "node:test";
-import { recordSeeds } from "../lib/seeds.mjs";
+import { optionsOf } from "../lib/command/options.mjs";
 import { moduleUrl } from "../lib/recorder.mjs";
+import { recordSeeds } from "../lib/seeds/seeds.mjs";
 import { SABSIM, agentsPath, recordCase, withSabsim } from "./common.mjs";
 
 /**
@@ -14,14 +15,17 @@ import { SABSIM, agentsPath, recordCase, withSabsim } from "./common.mjs";
 async function outcomesOf(name, options) {
   const outcomes = [];
   const all = {
-    module: moduleUrl(agentsPath(name)), args: [], first: 1, last: 40, jobs: 1, check: 0, sabsim: SABSIM,
-    maxMoves: 100_000, seconds: 5, fresh: false, ...options,
+    ...optionsOf([agentsPath(name)]), module: moduleUrl(agentsPath(name)), last: 40, check: 0, sabsim: SABSIM,
+    seconds: 5, ...options,
   };
   const { checked } = await recordSeeds(all, (outcome) => outcomes.push(outcome));
   outcomes.sort((one, other) => one.seed - other.seed);
   assert.deepEqual(outcomes.map((outcome) => outcome.seed), outcomes.map((_, at) => all.first + at));
   return { outcomes, checked };
 }
+
+/** The first digits of the first buffer at the end of each run. */
+const bytesOf = (outcomes) => outcomes.map((outcome) => outcome.state.shown[0]);
 
 const endingsOf = (outcomes) => new Set(outcomes.map((outcome) => outcome.ending));
 
@@ -39,7 +43,7 @@ test("the lost wake-up of a naive mutex is found within 200 seeds, and sabsim ag
 test("the mutex of three states comes to its end under 200 seeds, each checked", withSabsim, async () => {
   const { outcomes, checked } = await outcomesOf("three-state-mutex", { last: 200, check: 1, jobs: 2 });
   assert.deepEqual([...endingsOf(outcomes)], ["finished"]);
-  assert.deepEqual([...new Set(outcomes.map((outcome) => outcome.bytes[0]))], ["0000000009000000"]);
+  assert.deepEqual([...new Set(bytesOf(outcomes))], ["0000000009000000"]);
   assert.equal(checked, 200);
 });
 
@@ -60,7 +64,9 @@ test("the same seeds give the same scripts byte for byte, whatever the jobs", wi
   const again = await outcomesOf("naive-mutex", { check: 1, jobs: 1 });
   const four = await outcomesOf("naive-mutex", { check: 1, jobs: 4 });
   assert.deepEqual(again.outcomes, one.outcomes);
-  assert.deepEqual(four.outcomes, one.outcomes);
+  // Each job tells the trace of its own first failing run.
+  const untraced = ({ outcomes }) => outcomes.map((outcome) => ({ ...outcome, trace: undefined }));
+  assert.deepEqual(untraced(four), untraced(one));
   assert.ok(new Set(one.outcomes.map((outcome) => outcome.script)).size > 30);
 });
 
@@ -74,24 +80,25 @@ test("a run among others is the run that is recorded by itself, in fresh workers
 
 test("a value that is read and written gets lost under some seeds, and under others not", async () => {
   const { outcomes } = await outcomesOf("cases", { args: ["racy"], count: 3, buffers: [4], last: 200 });
-  const bytes = new Set(outcomes.map((outcome) => outcome.bytes[0]));
-  assert.deepEqual([...bytes].sort(), ["01000000", "02000000", "03000000"]);
+  assert.deepEqual([...new Set(bytesOf(outcomes))].sort(), ["01000000", "02000000", "03000000"]);
 });
 
 test("with --switch 0 each agent comes to its end before the next one goes on", async () => {
   const options = { args: ["racy"], count: 3, buffers: [4], last: 30, switching: 0 };
   const { outcomes } = await outcomesOf("cases", options);
-  assert.deepEqual([...new Set(outcomes.map((outcome) => outcome.bytes[0]))], ["03000000"]);
+  assert.deepEqual([...new Set(bytesOf(outcomes))], ["03000000"]);
 });
 
 test("state of a module stays from seed to seed, and with fresh workers it doesn't", async () => {
-  const last = (outcomes) => outcomes.at(-1).bytes[0];
+  const last = (outcomes) => bytesOf(outcomes).at(-1);
   const options = { args: ["countsSeeds"], count: 1, buffers: [4], last: 5 };
   assert.equal(last((await outcomesOf("cases", options)).outcomes), "05000000");
   assert.equal(last((await outcomesOf("cases", { ...options, fresh: true })).outcomes), "01000000");
   // An agent that is left waiting is sent home, and its worker stays too.
+  // A run that fails may be made once more for its lines of code, so five is the least.
   const waiting = { ...options, args: ["countsAndWaits"], buffers: [8] };
-  assert.equal(last((await outcomesOf("cases", waiting)).outcomes), "0500000000000000");
+  const count = Number.parseInt(last((await outcomesOf("cases", waiting)).outcomes).slice(0, 2), 16);
+  assert.ok(count >= 5 && count <= 10, `it counted ${count} runs`);
 });
 
 test("after an agent that has gone astray the next seeds are recorded all the same", withSabsim, async () => {

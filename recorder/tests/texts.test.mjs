@@ -1,13 +1,12 @@
-// Scripts, reports, names and summaries: what people and sabsim read.
+// Scripts, reports and names: what people and sabsim read.
 
 import assert from "node:assert/strict";
 import { readFileSync, readdirSync } from "node:fs";
 import { test } from "node:test";
-import { KINDS } from "../lib/kinds.mjs";
-import { firstDifference, reportText } from "../lib/report.mjs";
-import { scriptText } from "../lib/script.mjs";
-import { Summary } from "../lib/summary.mjs";
-import { callText, textRoom, viewKey, viewName } from "../lib/trace.mjs";
+import { KINDS } from "../script/kinds.mjs";
+import { firstDifference, reportText } from "../script/report.mjs";
+import { scriptText } from "../script/text.mjs";
+import { callText, textRoom, viewKey, viewName } from "../lib/run/spelling.mjs";
 
 const EXAMPLES = new URL("../../examples/", import.meta.url);
 const kind = (name) => KINDS.indexOf(name);
@@ -118,37 +117,4 @@ test("the first line that differs is shown with both sides", () => {
   assert.equal(firstDifference("a\nb\n", "a\nb\n"), undefined);
   assert.deepEqual(firstDifference("a\nb\n", "a\nc\n"), { line: 2, recorded: "b", replayed: "c" });
   assert.deepEqual(firstDifference("a\n", "a"), { line: 2, recorded: "", replayed: "(no line)" });
-});
-
-test("a summary is the same in whatever order the runs come", () => {
-  const outcomes = [
-    { seed: 1, ending: "finished", detail: "", bytes: ["01"] },
-    { seed: 2, ending: "deadlock", detail: "agent 0 waits\nagent 1 waits", bytes: ["01"] },
-    { seed: 3, ending: "finished", detail: "", bytes: ["02"] },
-    { seed: 4, ending: "deadlock", detail: "another", bytes: ["01"] },
-    { seed: 5, ending: "bound", detail: "too much", bytes: ["01"] },
-    { seed: 6, ending: "finished", detail: "", bytes: ["02"] },
-  ];
-  const told = (order) => {
-    const summary = new Summary();
-    for (const outcome of order) summary.add(outcome);
-    assert.equal(summary.failed, 3);
-    assert.equal(summary.failing.seed, 2);
-    return summary.text(3);
-  };
-  const text = told(outcomes);
-  assert.equal(told(outcomes.toReversed()), text);
-  assert.equal(text, [
-    "6 runs: 3 finished, 2 deadlock, 1 bound",
-    "4 final states: how it ended, and the bytes",
-    "  2 runs deadlock, seed 2 the first: 01",
-    "  2 runs finished, seed 3 the first: 02",
-    "  1 run finished, seed 1 the first: 01",
-    "  1 run bound, seed 5 the first: 01",
-    "3 runs checked: sabsim says the same",
-    "first failing seed: 2, deadlock",
-    "  agent 0 waits",
-    "  agent 1 waits",
-    "",
-  ].join("\n"));
 });

@@ -2,10 +2,10 @@
 
 import assert from "node:assert/strict";
 import { test } from "node:test";
-import { KINDS, kindOf } from "../lib/kinds.mjs";
-import { OutsideProfile, countOf, indexOf, operandOf, shown, timeoutOf } from "../lib/profile.mjs";
-import { Random } from "../lib/random.mjs";
-import { Records } from "../lib/records.mjs";
+import { CALLS, KINDS, kindOf } from "../script/kinds.mjs";
+import { OutsideProfile, countOf, indexOf, operandOf, shown, timeoutOf } from "../script/operands.mjs";
+import { Random } from "../lib/run/random.mjs";
+import { Records } from "../lib/run/records.mjs";
 
 test("each of the eleven typed arrays has its kind, and nothing else has one", () => {
   const names = KINDS.map((_, number) => KINDS[kindOf(new globalThis[`${KINDS[number]}Array`](1))]);
@@ -17,6 +17,15 @@ test("each of the eleven typed arrays has its kind, and nothing else has one", (
   for (const other of [...others, new DataView(new ArrayBuffer(4)), new SharedArrayBuffer(4)]) {
     assert.equal(kindOf(other), -1);
   }
+});
+
+test("a call takes as much as its function of Atomics does, and only waits and notifies take a limit", () => {
+  for (const { name, operands, takesLimit } of CALLS) {
+    // The view, the index, and what comes after them.
+    assert.equal(Atomics[name].length, 2 + operands + (takesLimit ? 1 : 0), name);
+    assert.equal(takesLimit, name === "wait" || name === "notify", name);
+  }
+  assert.equal(CALLS.length, 11);
 });
 
 test("operands are safe whole Numbers and BigInts of 128 bits", () => {

@@ -1,7 +1,7 @@
 // Agents that make random calls on views of all kinds, right ones and wrong ones. What they call depends on their
 // number and on what they were answered, so each schedule has calls of its own.
 
-import { CALLS } from "../../lib/kinds.mjs";
+import { CALLS } from "../../script/kinds.mjs";
 
 export const setup = { agents: 4, buffers: [32, 16], block: [true, true, false] };
 

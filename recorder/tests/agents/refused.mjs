@@ -15,10 +15,6 @@ const REFUSED = {
   countFraction: (words) => Atomics.notify(words, 0, 0.5),
   timeoutText: (words) => Atomics.wait(words, 0, 0, "5"),
   waitAsync: (words) => Atomics.waitAsync(words, 0, 0),
-  unshared: () => Atomics.load(new Int32Array(4), 0),
-  otherBuffer: () => Atomics.load(new Int32Array(new SharedArrayBuffer(4)), 0),
-  noArray: () => Atomics.load({}, 0),
-  dataView: (words) => Atomics.load(new DataView(words.buffer), 0),
 };
 
 export const NAMES = Object.keys(REFUSED);

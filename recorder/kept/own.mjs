@@ -1,0 +1,83 @@
+// Functions of the language as they were before any of the agents' code was loaded. Agents may replace what hangs on
+// Array.prototype, Reflect or Map.prototype; what runs beside them calls these.
+
+const { prototype: functions } = Function;
+const { bind, call } = functions;
+
+/**
+ * A method as a function that takes the receiver first: `uncurried(Map.prototype.get)(map, key)`.
+ * @param {Function} method
+ * @returns {(receiver: any, ...given: any[]) => any}
+ */
+export const uncurried = bind.bind(call);
+
+export const {
+  apply, construct, defineProperty, deleteProperty, get, getOwnPropertyDescriptor, getPrototypeOf, has, isExtensible,
+  ownKeys, preventExtensions, set, setPrototypeOf,
+} = Reflect;
+export const { create, freeze, is } = Object;
+export const { isArray } = Array;
+export const hasOwn = uncurried(Object.prototype.hasOwnProperty);
+
+/**
+ * What the getter of a property answers, as a function of the receiver.
+ * @param {object} owner
+ * @param {string | symbol} name
+ * @returns {(receiver: unknown) => any}
+ */
+export const slotOf = (owner, name) => uncurried(getOwnPropertyDescriptor(owner, name).get);
+
+/** What all eleven typed arrays inherit from, and the prototype of theirs. */
+export const TypedArray = getPrototypeOf(Int8Array);
+const { prototype: typedArrays } = TypedArray;
+
+// Of a typed array, by the engine's own slots: they throw for what is none, but for `tagOf`, which is undefined then.
+export const bufferOf = slotOf(typedArrays, "buffer");
+export const offsetOf = slotOf(typedArrays, "byteOffset");
+export const lengthOf = slotOf(typedArrays, "length");
+export const byteLengthOf = slotOf(typedArrays, "byteLength");
+export const tagOf = slotOf(typedArrays, Symbol.toStringTag);
+
+// Of a DataView and of a shared buffer, likewise.
+export const viewBufferOf = slotOf(DataView.prototype, "buffer");
+export const viewOffsetOf = slotOf(DataView.prototype, "byteOffset");
+export const viewLengthOf = slotOf(DataView.prototype, "byteLength");
+export const sharedLengthOf = slotOf(SharedArrayBuffer.prototype, "byteLength");
+
+export const mapGet = uncurried(Map.prototype.get);
+export const mapSet = uncurried(Map.prototype.set);
+export const mapHas = uncurried(Map.prototype.has);
+export const weakGet = uncurried(WeakMap.prototype.get);
+export const weakSet = uncurried(WeakMap.prototype.set);
+export const weakHas = uncurried(WeakMap.prototype.has);
+
+/**
+ * Puts a property that stands for the engine's own in an object, as such are: not to be listed.
+ * @param {object} owner
+ * @param {string | symbol} name
+ * @param {unknown} value
+ */
+export function put(owner, name, value) {
+  const descriptor = create(null);
+  descriptor.value = value;
+  descriptor.writable = true;
+  descriptor.enumerable = false;
+  descriptor.configurable = true;
+  defineProperty(owner, name, descriptor);
+}
+
+/**
+ * Gives a function the name and the length of the one that it stands for.
+ * @template {Function} Stand
+ * @param {Stand} stand
+ * @param {Function} engine
+ * @returns {Stand}
+ */
+export function likeEngine(stand, engine) {
+  const names = ["name", "length"];
+  for (let at = 0; at < names.length; at += 1) {
+    const found = getOwnPropertyDescriptor(engine, names[at]);
+    if (found !== undefined) defineProperty(stand, names[at], found);
+  }
+  return stand;
+}

@@ -1,0 +1,78 @@
+// The methods of typed arrays that answer an array, for watched ones. What they answer is private, unless the
+// receiver's species makes another one.
+
+import { TypedArray, uncurried } from "../../../kept/own.mjs";
+import { elementOf, needsComparator, needsFunction, positionOf, wholeOf } from "./numbers.mjs";
+import { answered, partOf } from "./species.mjs";
+import { copied, read, setElements, written } from "./stretches.mjs";
+import { ENGINE } from "./watched.mjs";
+
+const { RangeError: EngineRangeError } = globalThis;
+
+const call = uncurried(Function.prototype.call);
+const reverseElements = uncurried(TypedArray.prototype.reverse);
+const sortElements = uncurried(TypedArray.prototype.sort);
+
+/** An array of a species is filled one by one, as agents' code would: a watched one tells it. */
+function filled(array, values, count) {
+  for (let index = 0; index < count; index += 1) array[index] = values[index];
+  return array;
+}
+
+/** Methods that answer an array. */
+export const ANSWERING = {
+  map(watched, self, callback, thisArgument) {
+    needsFunction(callback);
+    const { length } = watched;
+    const made = answered(watched, self, length);
+    for (let index = 0; index < length; index += 1) {
+      made[index] = call(callback, thisArgument, read(watched, index), index, self);
+    }
+    return made;
+  },
+  filter(watched, self, callback, thisArgument) {
+    needsFunction(callback);
+    const { length } = watched;
+    const kept = new ENGINE[watched.kind](length);
+    let count = 0;
+    for (let index = 0; index < length; index += 1) {
+      const value = read(watched, index);
+      if (!call(callback, thisArgument, value, index, self)) continue;
+      kept[count] = value;
+      count += 1;
+    }
+    return filled(answered(watched, self, count), kept, count);
+  },
+  slice(watched, self, begin, end) {
+    const { length } = watched;
+    const from = positionOf(begin, length, 0);
+    const to = positionOf(end, length, length);
+    const count = from < to ? to - from : 0;
+    const made = answered(watched, self, count);
+    if (count > 0) written(made, copied(watched, from, to));
+    return made;
+  },
+  subarray(watched, self, begin, end) {
+    const { length, size, offset, buffer } = watched;
+    const from = positionOf(begin, length, 0);
+    const to = positionOf(end, length, length);
+    return partOf(watched, self, [buffer, offset + from * size, from < to ? to - from : 0]);
+  },
+  toReversed: (watched) => reverseElements(copied(watched, 0, watched.length)),
+  toSorted(watched, _self, comparator) {
+    needsComparator(comparator);
+    return sortElements(copied(watched, 0, watched.length), comparator);
+  },
+  with(watched, _self, position, value) {
+    const { length, kind, big } = watched;
+    const whole = wholeOf(position);
+    const index = whole < 0 ? length + whole : whole;
+    const element = elementOf(big, value);
+    if (!(index >= 0 && index < length)) throw new EngineRangeError("Invalid typed array index");
+    const made = new ENGINE[kind](length);
+    setElements(made, copied(watched, 0, index), 0);
+    made[index] = element;
+    setElements(made, copied(watched, index + 1, length), index + 1);
+    return made;
+  },
+};

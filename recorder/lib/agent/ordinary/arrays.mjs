@@ -1,0 +1,241 @@
+// The typed arrays of a watched realm: their constructors, methods and getters. Private arrays are the engine's own;
+// their elements cost nothing more.
+
+import { KINDS, kindOf } from "../../../script/kinds.mjs";
+import {
+  TypedArray, apply, bufferOf, byteLengthOf, construct, defineProperty, get, getOwnPropertyDescriptor,
+  getPrototypeOf, hasOwn, lengthOf, likeEngine, offsetOf, ownKeys, put, setPrototypeOf, tagOf, uncurried,
+} from "../../../kept/own.mjs";
+import { ANSWERING } from "./answering.mjs";
+import { blockNumber, refused } from "./context.mjs";
+import { last, wrapped } from "./elements.mjs";
+import { constructing, madePrivate } from "./guards.mjs";
+import { needsFunction } from "./numbers.mjs";
+import { forWatched, replace, replaceGetter } from "./patch.mjs";
+import { READING } from "./reading.mjs";
+import { arrayBy, standIns } from "./species.mjs";
+import { ENGINE, tellAll, watchedOf } from "./watched.mjs";
+import { WRITING, setFrom } from "./writing.mjs";
+
+const { TypeError: EngineTypeError } = globalThis;
+const { prototype: typedArrays } = TypedArray;
+const EngineArray = Array;
+const { from: arrayFrom } = EngineArray;
+const call = uncurried(Function.prototype.call);
+const { iterator, toStringTag } = Symbol;
+
+const BIG = [];
+for (let kind = 0; kind < KINDS.length; kind += 1) BIG[kind] = typeof new ENGINE[kind](1)[0] === "bigint";
+
+/**
+ * What a constructor makes of an object.
+ * @param {number} kind
+ * @param {object} first
+ * @param {unknown} second
+ * @param {unknown} third
+ * @param {Function} target whose prototype the array has
+ */
+function madeOf(kind, first, second, third, target) {
+  const source = watchedOf(first);
+  if (source === undefined) {
+    const Engine = ENGINE[kind];
+    const isOwn = target === Engine;
+    const made = isOwn ? new Engine(first, second, third) : construct(Engine, [first, second, third], target);
+    return wrapped(made, blockNumber(first));
+  }
+  if (source.big === BIG[kind]) tellAll(source, false);
+  return construct(ENGINE[kind], [source.real], target);
+}
+
+/**
+ * The constructor that agents get in place of an engine's one.
+ * @param {number} kind
+ */
+function standInOf(kind) {
+  const Engine = ENGINE[kind];
+  const { name } = Engine;
+  const StandIn = function (first, second, third) {
+    if (new.target === undefined) throw new EngineTypeError(`Constructor ${name} requires 'new'`);
+    if ((typeof first === "object" && first !== null) || typeof first === "function") {
+      return madeOf(kind, first, second, third, new.target === StandIn ? Engine : new.target);
+    }
+    return new.target === StandIn ? new Engine(first) : construct(Engine, [first], new.target);
+  };
+  likeEngine(StandIn, Engine);
+  setPrototypeOf(StandIn, TypedArray);
+  const keys = ownKeys(Engine);
+  for (let at = 0; at < keys.length; at += 1) {
+    const key = keys[at];
+    if (key !== "name" && key !== "length") defineProperty(StandIn, key, getOwnPropertyDescriptor(Engine, key));
+  }
+  return StandIn;
+}
+
+function isStandIn(value) {
+  for (let kind = 0; kind < standIns.length; kind += 1) {
+    if (standIns[kind] === value) return true;
+  }
+  return false;
+}
+
+/** `from` and `of` for a class of the agents', which may make watched arrays. */
+function filledBy(constructor, values, mapper, thisArgument) {
+  const made = arrayBy(constructor, [values.length]);
+  for (let index = 0; index < values.length; index += 1) {
+    made[index] = mapper === undefined ? values[index] : call(mapper, thisArgument, values[index], index);
+  }
+  return made;
+}
+
+/**
+ * A private array without its iterator: the engine takes its elements one by one, faster than by an iterator that isn't
+ * its own.
+ */
+function withoutIterator(source) {
+  const tag = tagOf(source);
+  if (tag === undefined || get(source, iterator) !== typedArrays[iterator]) return source;
+  const copy = new ENGINE[kindOf(source)](source);
+  put(copy, iterator, undefined);
+  return copy;
+}
+
+function replaceStatics() {
+  replace(TypedArray, "from", (engine) => ({
+    method(source, mapper, thisArgument) {
+      if (isStandIn(this)) return call(engine, this, withoutIterator(source), mapper, thisArgument);
+      if (typeof this !== "function") return apply(engine, this, arguments);
+      if (mapper !== undefined) needsFunction(mapper);
+      return filledBy(this, call(arrayFrom, EngineArray, source), mapper, thisArgument);
+    },
+  }).method);
+  replace(TypedArray, "of", (engine) => ({
+    method(...values) {
+      if (isStandIn(this) || typeof this !== "function") return apply(engine, this, values);
+      return filledBy(this, values, undefined, undefined);
+    },
+  }).method);
+}
+
+/**
+ * The getter of what an array has. That of a private array must be fast, and throws for a watched one; the one that was
+ * asked through its proxy just now is at hand.
+ * @param {(real: object) => unknown} slot
+ * @param {(watched: import("./watched.mjs").Watched) => unknown} kept
+ */
+const getterOf = (slot, kept) => () => ({
+  get asked() {
+    if (this === last.standIn) return kept(last);
+    try {
+      return slot(this);
+    } catch (error) {
+      const watched = watchedOf(this);
+      if (watched === undefined) throw error;
+      return kept(watched);
+    }
+  },
+});
+
+/** The length is asked for most often, so it has a getter that does nothing else. */
+const lengthGetter = () => ({
+  get asked() {
+    if (this === last.standIn) return last.length;
+    try {
+      return lengthOf(this);
+    } catch (error) {
+      const watched = watchedOf(this);
+      if (watched === undefined) throw error;
+      return watched.length;
+    }
+  },
+});
+
+function replaceGetters() {
+  replaceGetter(typedArrays, "buffer", getterOf(bufferOf, (watched) => watched.buffer));
+  replaceGetter(typedArrays, "byteOffset", getterOf(offsetOf, (watched) => watched.offset));
+  replaceGetter(typedArrays, "byteLength", getterOf(byteLengthOf, (watched) => watched.length * watched.size));
+  replaceGetter(typedArrays, "length", lengthGetter);
+  replaceGetter(typedArrays, toStringTag, () => ({
+    get asked() {
+      const tag = tagOf(this);
+      return tag === undefined ? tagOf(watchedOf(this)?.real) : tag;
+    },
+  }));
+}
+
+function replaceAll(methods) {
+  const names = ownKeys(methods);
+  for (let at = 0; at < names.length; at += 1) {
+    const name = names[at];
+    replace(typedArrays, name, (engine) => forWatched(engine, methods[name]));
+  }
+}
+
+/** What this engine has besides isn't known here. `toString` asks the array's own `join`. */
+function refuseOthers(owner) {
+  const names = ownKeys(owner);
+  for (let at = 0; at < names.length; at += 1) {
+    const name = names[at];
+    const isKnown = name === "constructor" || name === "toString" || name === "set" || name === iterator
+      || hasOwn(READING, name) || hasOwn(ANSWERING, name) || hasOwn(WRITING, name);
+    if (isKnown) continue;
+    replace(owner, name, (engine) => forWatched(engine, () => refused(`${engine.name} of a typed array was called`)));
+  }
+}
+
+function replaceMethods() {
+  replaceAll(READING);
+  replaceAll(ANSWERING);
+  replaceAll(WRITING);
+  replace(typedArrays, "set", (engine) => ({
+    method(source, offset) {
+      if (watchedOf(this) === undefined && watchedOf(source) === undefined) return apply(engine, this, arguments);
+      return setFrom(this, source, offset);
+    },
+  }).method);
+  put(typedArrays, iterator, typedArrays.values);
+  refuseOthers(typedArrays);
+}
+
+/** The typed arrays that this engine has besides the eleven kinds: there is no script for them. */
+function refuseOtherKinds() {
+  const names = ownKeys(globalThis);
+  for (let at = 0; at < names.length; at += 1) {
+    const name = names[at];
+    if (typeof name !== "string" || !/^[A-Z]\w*Array$/.test(name)) continue;
+    const Engine = globalThis[name];
+    if (typeof Engine !== "function" || getPrototypeOf(Engine) !== TypedArray || isStandIn(Engine)) continue;
+    const check = (given) => {
+      if (blockNumber(given[0]) >= 0) refused(`a ${name} was made on a recorded buffer`);
+      return given;
+    };
+    put(globalThis, name, constructing(Engine, (given) => madePrivate(check(given))));
+  }
+}
+
+/** The engine's own way to seal a typed array isn't what it asks of a proxy. */
+function replaceSeal() {
+  replace(Object, "seal", (engine) => ({
+    method(value) {
+      const watched = watchedOf(value);
+      if (watched === undefined) return engine(value);
+      engine(watched.real);
+      return value;
+    },
+  }).method);
+}
+
+/** Patches the typed arrays of this realm. */
+export function watchArrays() {
+  replaceStatics();
+  replaceGetters();
+  replaceMethods();
+  replaceSeal();
+  for (let kind = 0; kind < KINDS.length; kind += 1) {
+    const StandIn = standInOf(kind);
+    standIns[kind] = StandIn;
+    refuseOthers(ENGINE[kind].prototype);
+    put(ENGINE[kind].prototype, "constructor", StandIn);
+    put(globalThis, ENGINE[kind].name, StandIn);
+  }
+  refuseOtherKinds();
+}

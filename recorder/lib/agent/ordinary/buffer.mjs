@@ -1,0 +1,215 @@
+// Node's Buffer. A Buffer on a recorded buffer is watched as other arrays are; its methods that node has in the engine
+// are told by what they read and write.
+
+import { KINDS } from "../../../script/kinds.mjs";
+import { apply, bufferOf, lengthOf, offsetOf, put, setPrototypeOf, tagOf, uncurried } from "../../../kept/own.mjs";
+import { blockNumber, refused } from "./context.mjs";
+import { wrappedArray } from "./elements.mjs";
+import { constructing, copying, looking, madePrivate } from "./guards.mjs";
+import { wholeOf } from "./numbers.mjs";
+import { replace, replaceEach } from "./patch.mjs";
+import { privateView } from "./reach.mjs";
+import { standIns } from "./species.mjs";
+import { ENGINE, tell, tellAll, unwrapped, watchedOf } from "./watched.mjs";
+
+const EngineBytes = Uint8Array;
+const EngineBuffer = Buffer;
+const { prototype: buffers } = EngineBuffer;
+const { alloc } = EngineBuffer;
+const { trunc } = Math;
+const custom = Symbol.for("nodejs.util.inspect.custom");
+const setBytes = uncurried(EngineBytes.prototype.set);
+
+/** @typedef {import("./watched.mjs").Watched} Watched */
+
+const WORDS = ["ascii", "base64", "base64url", "latin1", "hex", "ucs2", "utf8"];
+
+const whole = (value) => (value === undefined ? 0 : wholeOf(value));
+
+/** A private Buffer of as many bytes, each zero. */
+const zeros = (count) => apply(alloc, EngineBuffer, [count]);
+
+/** The bytes of a stretch of the engine's array, as a view. */
+const bytesOf = (real, from, to) => new EngineBytes(bufferOf(real), offsetOf(real) + from, to - from);
+
+/** A private Buffer with a stretch of a watched one, told as read. */
+function copied(watched, from, to) {
+  const copy = zeros(to - from);
+  tell(watched, from, to, false);
+  setBytes(copy, bytesOf(watched.real, from, to));
+  return copy;
+}
+
+/**
+ * A method that goes another way where the receiver is watched. Such take any array's bytes; here its elements have to
+ * be bytes.
+ * @param {Function} engine
+ * @param {(engine: Function, watched: Watched, given: unknown[], self: object) => unknown} method
+ * @param {Function} [otherwise] what is called where it isn't
+ */
+const forBytes = (engine, method, otherwise = engine) => ({
+  method(...given) {
+    const watched = watchedOf(this);
+    if (watched === undefined) return apply(otherwise, this, given);
+    if (watched.size > 1) refused(`Buffer's ${engine.name} was called for an array of larger elements`);
+    return method(engine, watched, given, this);
+  },
+}).method;
+
+/** Writes a stretch of a private Buffer into a watched one, at the same place; told as written. */
+function written(watched, bytes, from, to) {
+  if (from >= to) return;
+  tell(watched, from, to, true);
+  setBytes(watched.real, bytesOf(bytes, from, to), from);
+}
+
+/** `toString`, whose range may be anything. */
+function textOf(engine, watched, given) {
+  const { length } = watched;
+  const encoding = given[0];
+  const start = given[1];
+  const end = given[2];
+  if (given.length === 0) return apply(engine, copied(watched, 0, length), []);
+  if (start >= length) return "";
+  const from = start <= 0 ? 0 : trunc(start) || 0;
+  const to = end === undefined || end > length ? length : trunc(end) || 0;
+  return to <= from ? "" : apply(engine, copied(watched, from, to), [encoding]);
+}
+
+/** The methods that make a text of a stretch. */
+function textSlice(engine, watched, given) {
+  const { length } = watched;
+  const from = whole(given[0]);
+  const to = given[1] === undefined ? length : wholeOf(given[1]);
+  // Where the range is wrong, node says so before it reads.
+  if (from < 0 || to > length || from > to) return apply(engine, zeros(length), given);
+  return apply(engine, copied(watched, from, to), []);
+}
+
+/** Those that write a text: how many bytes they will write is tried in a private Buffer. */
+function textWrite(engine, watched, given) {
+  const bytes = zeros(watched.length);
+  const count = apply(engine, bytes, given);
+  const from = typeof given[1] === "string" ? 0 : whole(given[1]);
+  written(watched, bytes, from, from + count);
+  return count;
+}
+
+function filled(engine, watched, given, self) {
+  const bytes = zeros(watched.length);
+  apply(engine, bytes, madePrivate(given));
+  const from = typeof given[1] === "number" ? given[1] >>> 0 : 0;
+  const to = typeof given[1] === "number" && typeof given[2] === "number" ? given[2] >>> 0 : watched.length;
+  written(watched, bytes, from, to);
+  return self;
+}
+
+/** An array as long as another one, to try in it what a method would do. */
+const likeness = (value) => {
+  const watched = watchedOf(value);
+  if (watched === undefined) return tagOf(value) === "Uint8Array" ? new EngineBytes(lengthOf(value)) : value;
+  return new ENGINE[watched.kind](watched.length);
+};
+
+/** `copy`, where one of the two is watched. */
+function copiedTo(engine, source, target, targetStart, sourceStart, sourceEnd) {
+  const to = whole(targetStart);
+  const from = whole(sourceStart);
+  const end = sourceEnd === undefined ? undefined : wholeOf(sourceEnd);
+  const count = apply(engine, likeness(source), [likeness(target), to, from, end]);
+  const read = watchedOf(source);
+  const write = watchedOf(target);
+  if (read !== undefined) tell(read, from, from + count, false);
+  if (write !== undefined) tell(write, to, to + count, true);
+  return apply(engine, unwrapped(source), [unwrapped(target), to, from, end]);
+}
+
+/** A method that only reads, of its receiver and of what it is given. */
+const reading = (engine) => ({
+  method(...given) {
+    if (watchedOf(this) === undefined) return apply(engine, this, madePrivate(given));
+    const all = [this];
+    for (let at = 0; at < given.length; at += 1) all[at + 1] = given[at];
+    const made = madePrivate(all);
+    for (let at = 0; at < given.length; at += 1) given[at] = made[at + 1];
+    return apply(engine, made[0], given);
+  },
+}).method;
+
+/** A method that answers another Buffer on the same memory. */
+const parting = (engine) => ({
+  method(...given) {
+    const answer = apply(engine, this, given);
+    return tagOf(answer) === undefined || watchedOf(this) === undefined ? answer : wrappedArray(answer);
+  },
+}).method;
+
+const swapping = (size) => (engine) => forBytes(engine, (_engine, watched, _given, self) => {
+  if (watched.length % size !== 0) return apply(engine, zeros(watched.length), []);
+  tellAll(watched, false);
+  tellAll(watched, true);
+  apply(engine, watched.real, []);
+  return self;
+});
+
+/** How node shows a Buffer: that of a private copy. */
+const shown = (engine, watched, given) => apply(engine, privateView(watched), given);
+
+const copyingTo = (engine) => ({
+  method(target, targetStart, sourceStart, sourceEnd) {
+    if (watchedOf(this) === undefined && watchedOf(target) === undefined) return apply(engine, this, arguments);
+    return copiedTo(engine, this, target, targetStart, sourceStart, sourceEnd);
+  },
+}).method;
+
+/** `fill` of a private Buffer may be given a watched one. */
+const filling = (engine) => forBytes(engine, filled, copying(engine));
+
+function replaceMethods() {
+  for (let at = 0; at < WORDS.length; at += 1) {
+    replace(buffers, `${WORDS[at]}Slice`, (engine) => forBytes(engine, textSlice));
+    replace(buffers, `${WORDS[at]}Write`, (engine) => forBytes(engine, textWrite));
+  }
+  replace(buffers, "write", (engine) => forBytes(engine, textWrite));
+  replace(buffers, "toString", (engine) => forBytes(engine, textOf));
+  put(buffers, "toLocaleString", buffers.toString);
+  replaceEach(buffers, ["equals", "compare", "indexOf", "lastIndexOf", "includes"], reading);
+  replaceEach(buffers, ["subarray", "slice"], parting);
+  replace(buffers, "swap16", swapping(2));
+  replace(buffers, "swap32", swapping(4));
+  replace(buffers, "swap64", swapping(8));
+  replaceEach(buffers, ["inspect", custom], (engine) => forBytes(engine, shown));
+  replace(buffers, "fill", filling);
+  replace(buffers, "copy", copyingTo);
+}
+
+/** @param {typeof import("node:buffer")} module */
+function replaceStatics(module) {
+  replace(EngineBuffer, "from", (engine) => ({
+    method(...given) {
+      const answer = apply(engine, this, blockNumber(given[0]) < 0 ? madePrivate(given) : given);
+      return wrappedArray(answer);
+    },
+  }).method);
+  replaceEach(EngineBuffer, ["alloc", "compare", "concat", "copyBytesFrom"], copying);
+  replace(EngineBuffer, "byteLength", looking);
+  replaceEach(module, ["transcode", "isUtf8", "isAscii"], copying);
+  setPrototypeOf(EngineBuffer, standIns[KINDS.indexOf("Uint8")]);
+}
+
+/**
+ * Patches node's Buffer.
+ * @param {typeof import("node:buffer")} module
+ */
+export function watchNodeBuffer(module) {
+  replaceMethods();
+  replaceStatics(module);
+  const Blobs = ["Blob", "File"];
+  for (let at = 0; at < Blobs.length; at += 1) {
+    const name = Blobs[at];
+    if (typeof module[name] !== "function") continue;
+    const StandIn = constructing(module[name], madePrivate);
+    put(module, name, StandIn);
+    if (name in globalThis) put(globalThis, name, StandIn);
+  }
+}

@@ -1,0 +1,128 @@
+// The DataView of a watched realm. One on a recorded buffer is an object without elements: its methods are the only way
+// to its bytes, so each of them tells what it reads or writes.
+
+import {
+  apply, construct, create, defineProperty, getOwnPropertyDescriptor, getPrototypeOf, likeEngine, ownKeys, put,
+  uncurried, viewBufferOf, viewLengthOf, viewOffsetOf,
+} from "../../../kept/own.mjs";
+import { blockNumber, refused } from "./context.mjs";
+import { byteIndexOf, elementOf } from "./numbers.mjs";
+import { replace, replaceGetter } from "./patch.mjs";
+import { keepView, tell, viewOn, watchedView } from "./watched.mjs";
+
+const { TypeError: EngineTypeError, RangeError: EngineRangeError } = globalThis;
+const EngineDataView = DataView;
+const { prototype: views } = EngineDataView;
+const startsWith = uncurried(String.prototype.startsWith);
+
+const OUTSIDE = "Offset is outside the bounds of the DataView";
+
+/** The bytes that each accessor's value has; others aren't known here. */
+const SIZES = {
+  Int8: 1, Uint8: 1, Int16: 2, Uint16: 2, Int32: 4, Uint32: 4, Float32: 4, Float64: 8, BigInt64: 8, BigUint64: 8,
+};
+
+/**
+ * What agents get for a DataView of the engine.
+ * @param {DataView} real
+ * @param {number} block of its buffer, or -1
+ */
+export function wrappedView(real, block) {
+  if (block < 0) return real;
+  const watched = viewOn(real, block);
+  const standIn = create(getPrototypeOf(real));
+  keepView(watched, standIn);
+  return standIn;
+}
+
+/** Where a value of a size stands that is asked for; it must be within the view. */
+function placeOf({ length }, at, size) {
+  if (at + size > length) throw new EngineRangeError(OUTSIDE);
+  return at;
+}
+
+const getterOf = (engine, size) => {
+  const read = uncurried(engine);
+  return {
+    method(offset, isLittle) {
+      const watched = watchedView(this);
+      if (watched === undefined) return read(this, offset, isLittle);
+      const at = placeOf(watched, byteIndexOf(offset, OUTSIDE), size);
+      tell(watched, at, at + size, false);
+      return read(watched.real, at, isLittle);
+    },
+  }.method;
+};
+
+const setterOf = (engine, size, big) => {
+  const write = uncurried(engine);
+  return {
+    method(offset, value, isLittle) {
+      const watched = watchedView(this);
+      if (watched === undefined) return write(this, offset, value, isLittle);
+      const index = byteIndexOf(offset, OUTSIDE);
+      const element = elementOf(big, value);
+      const at = placeOf(watched, index, size);
+      tell(watched, at, at + size, true);
+      return write(watched.real, at, element, isLittle);
+    },
+  }.method;
+};
+
+function replaceAccessors() {
+  const names = ownKeys(SIZES);
+  for (let at = 0; at < names.length; at += 1) {
+    const name = names[at];
+    replace(views, `get${name}`, (engine) => getterOf(engine, SIZES[name]));
+    replace(views, `set${name}`, (engine) => setterOf(engine, SIZES[name], startsWith(name, "Big")));
+  }
+}
+
+/**
+ * The getter of what a view has.
+ * @param {(real: DataView) => unknown} slot
+ * @param {"buffer" | "offset" | "length"} kept its name in what is known of a watched one
+ */
+const slotGetter = (slot, kept) => () => ({
+  get asked() {
+    const watched = watchedView(this);
+    return watched === undefined ? slot(this) : watched[kept];
+  },
+});
+
+function replaceSlots() {
+  replaceGetter(views, "buffer", slotGetter(viewBufferOf, "buffer"));
+  replaceGetter(views, "byteOffset", slotGetter(viewOffsetOf, "offset"));
+  replaceGetter(views, "byteLength", slotGetter(viewLengthOf, "length"));
+}
+
+/** Accessors that this engine has besides. */
+function refuseOthers() {
+  const names = ownKeys(views);
+  for (let at = 0; at < names.length; at += 1) {
+    const name = names[at];
+    if (typeof name !== "string" || !/^[gs]et/.test(name) || SIZES[name.slice(3)] !== undefined) continue;
+    replace(views, name, (engine) => ({
+      method() {
+        if (watchedView(this) !== undefined) refused(`${engine.name} of a DataView was called`);
+        return apply(engine, this, arguments);
+      },
+    }).method);
+  }
+}
+
+/** Patches the DataView of this realm. */
+export function watchDataView() {
+  replaceAccessors();
+  replaceSlots();
+  refuseOthers();
+  const StandIn = function (buffer, offset, length) {
+    if (new.target === undefined) throw new EngineTypeError("Constructor DataView requires 'new'");
+    const target = new.target === StandIn ? EngineDataView : new.target;
+    return wrappedView(construct(EngineDataView, [buffer, offset, length], target), blockNumber(buffer));
+  };
+  likeEngine(StandIn, EngineDataView);
+  defineProperty(StandIn, "prototype", getOwnPropertyDescriptor(EngineDataView, "prototype"));
+  put(views, "constructor", StandIn);
+  put(globalThis, "DataView", StandIn);
+}

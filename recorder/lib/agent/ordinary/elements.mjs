@@ -1,0 +1,129 @@
+// What agents hold in place of a typed array on a recorded buffer: a proxy that tells each read and write of an
+// element. All but the elements are the engine's own array, behind it.
+
+import {
+  bufferOf, defineProperty, get, getOwnPropertyDescriptor, hasOwn, set, setPrototypeOf,
+} from "../../../kept/own.mjs";
+import { blockNumber, watching } from "./context.mjs";
+import { elementOf, indexIn } from "./numbers.mjs";
+import { Watched, arrayOn, keepArray } from "./watched.mjs";
+
+const EngineProxy = Proxy;
+
+// The traps of a watched array are what is known of it. They are short, since each access comes through them.
+class Elements extends Watched {
+  // Without one that is written out the engine takes its arguments through the iterator of arrays.
+  constructor(real, place, size) {
+    super(real, place, size);
+  }
+
+  get(target, key, receiver) {
+    if (typeof key === "string") {
+      const index = indexIn(key, this.length);
+      if (index >= 0) {
+        const from = this.offset + index * this.size;
+        watching.seen(this.place, from, from + this.size, false);
+        return target[index];
+      }
+    }
+    last = this;
+    return get(target, key, receiver);
+  }
+
+  set(target, key, value, receiver) {
+    if (typeof key !== "string") return set(target, key, value, receiver);
+    const index = indexIn(key, this.length);
+    if (receiver !== this.standIn) return this.setElsewhere(target, key, value, receiver, index);
+    // Any other number as a key takes a value too, as the engine's array does, and stores it nowhere.
+    if (index < 0) return set(target, key, value, isNumeric(key) ? target : receiver);
+    const element = elementOf(this.big, value);
+    const from = this.offset + index * this.size;
+    watching.seen(this.place, from, from + this.size, true);
+    target[index] = element;
+    return true;
+  }
+
+  /** The write goes to another object, which may inherit from this one. */
+  setElsewhere(target, key, value, receiver, index) {
+    if (index >= 0) this.tellElement(index, false);
+    return set(target, key, value, receiver);
+  }
+
+  getOwnPropertyDescriptor(target, key) {
+    const index = typeof key === "string" ? indexIn(key, this.length) : -1;
+    if (index >= 0) this.tellElement(index, false);
+    return getOwnPropertyDescriptor(target, key);
+  }
+
+  defineProperty(target, key, descriptor) {
+    const index = typeof key === "string" ? indexIn(key, this.length) : -1;
+    if (index >= 0 && hasOwn(descriptor, "value") && isOfElement(descriptor)) {
+      descriptor.value = elementOf(this.big, descriptor.value);
+      this.tellElement(index, true);
+    }
+    return defineProperty(target, key, descriptor);
+  }
+
+  tellElement(index, writes) {
+    const from = this.offset + index * this.size;
+    watching.seen(this.place, from, from + this.size, writes);
+  }
+}
+// What agents add to Object.prototype is no trap.
+setPrototypeOf(Watched.prototype, null);
+
+/** Whose property was asked for last: the getters of what an array has look here first. @type {Watched} */
+export let last = new Watched({}, { block: -1, kind: -1, offset: 0, length: 0 }, 1);
+last.standIn = {};
+
+/** An element is neither hidden nor fixed; the engine refuses what would make it so, and writes nothing. */
+const isOfElement = (descriptor) => !(isFalse(descriptor, "configurable") || isFalse(descriptor, "enumerable")
+  || isFalse(descriptor, "writable"));
+const isFalse = (descriptor, name) => hasOwn(descriptor, name) && !descriptor[name];
+
+const { String: text } = globalThis;
+
+/** Whether a key is a number as it is printed: those are never properties of a typed array, but for its elements. */
+const isNumeric = (key) => key === "-0" || text(+key) === key;
+
+/**
+ * What agents get for an array of the engine: itself, or a watched one where it stands on a recorded buffer.
+ * @param {object} real one of the typed arrays
+ * @param {number} block of its buffer, or -1
+ */
+export function wrapped(real, block) {
+  if (block < 0) return real;
+  const watched = arrayOn(real, block, Elements);
+  const standIn = new EngineProxy(watched.real, watched);
+  keepArray(watched, standIn);
+  return standIn;
+}
+
+/** What agents get for an array, whatever its buffer is. @param {object} real */
+export const wrappedArray = (real) => wrapped(real, blockNumber(bufferOf(real)));
+
+/**
+ * The elements of a watched array alone, for the engine's iterators: its length is the array's own, whatever a class
+ * of the agents makes of it.
+ */
+class Listed {
+  constructor(watched) {
+    this.watched = watched;
+  }
+
+  get(target, key) {
+    const { watched } = this;
+    if (key === "length") return watched.length;
+    const index = indexIn(key, watched.length);
+    if (index < 0) return undefined;
+    watched.tellElement(index, false);
+    return target[index];
+  }
+}
+setPrototypeOf(Listed.prototype, null);
+
+/** @param {Watched} watched @returns {object} an array-like, for an iterator */
+export function listed(watched) {
+  if (watched.elements === undefined) watched.elements = new EngineProxy(watched.real, new Listed(watched));
+  return watched.elements;
+}

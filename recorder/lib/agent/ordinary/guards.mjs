@@ -1,0 +1,121 @@
+// Functions of node and the engine that see through no watched array: what is done where recorded memory is given them.
+
+import { apply, construct, isArray, put } from "../../../kept/own.mjs";
+import { refused } from "./context.mjs";
+import { SHALLOW, WHOLLY, mirrored, reaches } from "./reach.mjs";
+import { anyWatchedOf, tellAll, unwrapped } from "./watched.mjs";
+
+const EngineMap = Map;
+const EngineProxy = Proxy;
+
+/**
+ * Whether any of what is given is recorded memory, or has some in it.
+ * @param {unknown[]} given
+ * @param {number} depth
+ * @param {boolean} [suspicious]
+ */
+function anyReaches(given, depth, suspicious) {
+  for (let at = 0; at < given.length; at += 1) {
+    if (reaches(given[at], depth, suspicious)) return true;
+  }
+  return false;
+}
+
+/**
+ * Makes what is given private, in its place, and tells that it is read.
+ * @param {unknown[]} given
+ * @param {number} [depth] how many objects deep it is looked for
+ * @returns {unknown[]}
+ */
+export function madePrivate(given, depth = WHOLLY) {
+  if (!anyReaches(given, depth)) return given;
+  const made = new EngineMap();
+  for (let at = 0; at < given.length; at += 1) given[at] = mirrored(given[at], made);
+  return given;
+}
+
+/** Private copies are given, which are told as reads. @param {Function} engine */
+export const copying = (engine) => ({
+  method(...given) {
+    return apply(engine, this, madePrivate(given));
+  },
+}).method;
+
+/** Likewise of what is given itself, where that may be any object. @param {Function} engine */
+export const copyingGiven = (engine) => ({
+  method(...given) {
+    return apply(engine, this, madePrivate(given, 0));
+  },
+}).method;
+
+/** What a function writes: the engine's own array, told as written. A list has several. */
+function writable(value) {
+  const watched = anyWatchedOf(value);
+  if (watched === undefined) return value;
+  tellAll(watched, true);
+  return watched.real;
+}
+
+function eachWritable(list) {
+  const made = [];
+  for (let at = 0; at < list.length; at += 1) made[at] = writable(list[at]);
+  return made;
+}
+
+/** The engine's own array is given, which is told as written, or a list of such. @param {Function} engine */
+export const writing = (engine) => ({
+  method(...given) {
+    if (!anyReaches(given, SHALLOW)) return apply(engine, this, given);
+    const reals = [];
+    for (let at = 0; at < given.length; at += 1) {
+      reals[at] = isArray(given[at]) ? eachWritable(given[at]) : writable(given[at]);
+    }
+    const answer = apply(engine, this, reals);
+    // Agents get back what they gave.
+    for (let at = 0; at < given.length; at += 1) {
+      if (answer === reals[at]) return given[at];
+    }
+    return answer;
+  },
+}).method;
+
+/** The engine's own arrays are given, and nothing of them is read. @param {Function} engine */
+export const looking = (engine) => ({
+  method(...given) {
+    for (let at = 0; at < given.length; at += 1) given[at] = unwrapped(given[at]);
+    return apply(engine, this, given);
+  },
+}).method;
+
+/**
+ * Ends the run where recorded memory is given.
+ * @param {string} what the function is called
+ * @param {number} [depth]
+ * @param {boolean} [suspicious]
+ */
+export const refusing = (what, depth = SHALLOW, suspicious = false) => (engine) => ({
+  method(...given) {
+    if (anyReaches(given, depth, suspicious)) refused(`${what} was given recorded memory`);
+    return apply(engine, this, given);
+  },
+}).method;
+
+/**
+ * A class whose constructor is given something else, or nothing.
+ * @param {Function} engine
+ * @param {(given: unknown[]) => unknown[]} make what is given in the place of what was
+ */
+export const constructing = (engine, make) => {
+  const StandIn = new EngineProxy(engine, {
+    __proto__: null,
+    construct: (target, given, newTarget) => construct(target, make(given), newTarget === StandIn ? target : newTarget),
+  });
+  put(engine.prototype, "constructor", StandIn);
+  return StandIn;
+};
+
+/** For a constructor: ends the run where recorded memory is given. @param {string} what */
+export const refusingGiven = (what) => (given) => {
+  if (anyReaches(given, WHOLLY, true)) refused(`${what} was given recorded memory`);
+  return given;
+};

@@ -1,0 +1,207 @@
+// Functions of node and the engine that need an array of the engine's, by module: what is done where recorded memory is
+// given to them. What isn't named here can have no use of it, or ends the run.
+
+import assert from "node:assert";
+import childProcess from "node:child_process";
+import crypto from "node:crypto";
+import fs from "node:fs";
+import perfHooks from "node:perf_hooks";
+import stream from "node:stream";
+import stringDecoder from "node:string_decoder";
+import util from "node:util";
+import v8 from "node:v8";
+import zlib from "node:zlib";
+import { apply, is, ownKeys, put, tagOf, uncurried } from "../../../kept/own.mjs";
+import {
+  constructing, copying, copyingGiven, looking, madePrivate, refusing, refusingGiven, writing,
+} from "./guards.mjs";
+import { replace, replaceEach, replaceNeeded } from "./patch.mjs";
+import { WHOLLY } from "./reach.mjs";
+import { tell, unwrapped, watchedOf } from "./watched.mjs";
+
+const startsWith = uncurried(String.prototype.startsWith);
+const EngineBytes = Uint8Array;
+const setBytes = uncurried(EngineBytes.prototype.set);
+const subarray = uncurried(EngineBytes.prototype.subarray);
+
+// What these read, they read before they answer.
+const READING = {
+  fs: ["writeSync", "writevSync", "writeFileSync", "appendFileSync"],
+  crypto: [
+    "createHmac", "createCipheriv", "createDecipheriv", "createSecretKey", "createPrivateKey", "createPublicKey",
+    "sign", "verify", "pbkdf2Sync", "scryptSync", "hkdfSync", "timingSafeEqual", "publicEncrypt", "publicDecrypt",
+    "privateEncrypt", "privateDecrypt", "diffieHellman", "createDiffieHellman", "checkPrimeSync", "hash",
+  ],
+  zlib: [
+    "deflateSync", "inflateSync", "deflateRawSync", "inflateRawSync", "gzipSync", "gunzipSync", "unzipSync",
+    "brotliCompressSync", "brotliDecompressSync", "zstdCompressSync", "zstdDecompressSync", "crc32",
+  ],
+  v8: ["serialize", "deserialize"],
+  assert: [
+    "deepEqual", "deepStrictEqual", "notDeepEqual", "notDeepStrictEqual", "partialDeepStrictEqual", "throws",
+    "doesNotThrow", "ifError", "fail",
+  ],
+};
+
+// These write.
+const WRITING = {
+  fs: ["readSync", "readvSync"],
+  crypto: ["getRandomValues", "randomFillSync"],
+};
+
+/** What a module has under names that begin with a small letter, and isn't named in a list. */
+function otherFunctions(owner, lists) {
+  const names = [];
+  const keys = ownKeys(owner);
+  for (let at = 0; at < keys.length; at += 1) {
+    const key = keys[at];
+    if (typeof key !== "string" || !/^[a-z]/.test(key) || isIn(lists, key)) continue;
+    names[names.length] = key;
+  }
+  return names;
+}
+
+function isIn(lists, name) {
+  for (let at = 0; at < lists.length; at += 1) {
+    if (lists[at] !== undefined && lists[at].includes(name)) return true;
+  }
+  return false;
+}
+
+/** A module whose functions may go on after they have answered: those that aren't named end the run. */
+function guardModule(word, module) {
+  const lists = [READING[word], WRITING[word]];
+  replaceEach(module, otherFunctions(module, lists), (engine, name) => refusing(`${word}.${name}`)(engine));
+  if (READING[word] !== undefined) replaceEach(module, READING[word], copying);
+  if (WRITING[word] !== undefined) replaceEach(module, WRITING[word], writing);
+}
+
+/** The methods of classes that a module exports: what they are given is read at once. */
+function guardClasses(module) {
+  const names = Object.keys(module).filter((name) => /^[A-Z]/.test(name) && typeof module[name] === "function");
+  for (const name of names) {
+    const { prototype } = module[name];
+    replaceEach(module[name], otherFunctions(module[name], [["super_"]]), copying);
+    if (prototype !== undefined) replaceEach(prototype, otherFunctions(prototype, [["constructor"]]), copying);
+  }
+}
+
+function watchCrypto() {
+  guardModule("crypto", crypto);
+  guardClasses(crypto);
+  put(crypto, "X509Certificate", constructing(crypto.X509Certificate, madePrivate));
+  const { webcrypto } = crypto;
+  const { subtle } = webcrypto;
+  // Where the numbers are drawn from the seed, the object has a function of its own.
+  replace(webcrypto, "getRandomValues", writing);
+  replace(Object.getPrototypeOf(webcrypto), "getRandomValues", writing);
+  const prototype = Object.getPrototypeOf(subtle);
+  replaceEach(prototype, otherFunctions(prototype, []), (engine, name) => refusing(`crypto.subtle.${name}`)(engine));
+}
+
+function watchStreams() {
+  const { Writable, Duplex, Readable } = stream;
+  replaceEach(Writable.prototype, ["write", "end"], copyingGiven);
+  replaceEach(Duplex.prototype, ["write", "end"], copyingGiven);
+  replaceEach(Readable.prototype, ["push", "unshift"], copyingGiven);
+  replaceEach(stringDecoder.StringDecoder.prototype, ["write", "end"], copying);
+}
+
+/** Whether an assertion holds is known without a look at elements; one that fails shows them. */
+const HOLDS = {
+  equal: (one, other) => one == other || (one !== one && other !== other),
+  notEqual: (one, other) => !HOLDS.equal(one, other),
+  strictEqual: is,
+  notStrictEqual: (one, other) => !is(one, other),
+};
+
+function watchAssertions() {
+  put(assert, "AssertionError", constructing(assert.AssertionError, madePrivate));
+  put(assert.strict, "AssertionError", assert.AssertionError);
+  for (const module of [assert, assert.strict]) {
+    replaceEach(module, ownKeys(module).filter((name) => typeof name === "string"), (engine) => {
+      if (READING.assert.includes(engine.name)) return copying(engine);
+      const holds = HOLDS[engine.name];
+      if (holds === undefined) return engine;
+      return (...given) => {
+        if (given.length >= 2 && holds(given[0], given[1])) return undefined;
+        return apply(engine, undefined, madePrivate(given));
+      };
+    });
+  }
+}
+
+/** How many bytes a text takes is tried in a private array, so that those alone are told. */
+const encodingInto = (engine) => ({
+  method(text, target) {
+    const watched = watchedOf(target);
+    const isBytes = watched !== undefined && tagOf(watched.real) === "Uint8Array";
+    if (!isBytes) return apply(engine, this, [text, unwrapped(target)]);
+    const bytes = new EngineBytes(watched.length);
+    const answer = apply(engine, this, [text, bytes]);
+    const { written } = answer;
+    tell(watched, 0, written, true);
+    setBytes(watched.real, subarray(bytes, 0, written), 0);
+    return answer;
+  },
+}).method;
+
+function watchTexts() {
+  replaceNeeded(TextDecoder.prototype, "decode", copying);
+  replaceNeeded(TextEncoder.prototype, "encodeInto", encodingInto);
+}
+
+function watchWebAssembly() {
+  replaceEach(WebAssembly, ["validate", "compile", "instantiate"], copying);
+  put(WebAssembly, "Module", constructing(WebAssembly.Module, madePrivate));
+}
+
+function watchValues() {
+  guardModule("v8", v8);
+  replaceEach(v8.Serializer.prototype, ["writeValue", "writeRawBytes"], copying);
+  put(v8, "Deserializer", constructing(v8.Deserializer, madePrivate));
+  put(v8, "DefaultDeserializer", constructing(v8.DefaultDeserializer, madePrivate));
+  replace(util, "isDeepStrictEqual", copying);
+  replaceEach(util.types, ownKeys(util.types).filter((name) => startsWith(name, "is")), looking);
+}
+
+/** What marks a time may hold a clone of a value. */
+function watchMarks() {
+  const guarded = (engine, name) => refusing(`performance.${name}`, WHOLLY, true)(engine);
+  replaceEach(Object.getPrototypeOf(performance), ["mark", "measure"], guarded);
+  const StandIn = constructing(perfHooks.PerformanceMark, refusingGiven("a PerformanceMark"));
+  put(perfHooks, "PerformanceMark", StandIn);
+  put(globalThis, "PerformanceMark", StandIn);
+}
+
+/** Classes that are loaded when they are asked for. */
+function watchFetching() {
+  for (const name of ["Request", "Response", "WebSocket"]) {
+    const found = Object.getOwnPropertyDescriptor(globalThis, name);
+    if (found?.get === undefined) continue;
+    const { get } = found;
+    let made;
+    found.get = () => {
+      if (made === undefined) made = constructing(apply(get, globalThis, []), refusingGiven(`a ${name}`));
+      return made;
+    };
+    Object.defineProperty(globalThis, name, found);
+  }
+  replace(globalThis, "fetch", refusing("fetch"));
+}
+
+/** Patches the functions of node's modules and of the engine. */
+export function watchNatives() {
+  guardModule("fs", fs);
+  replaceEach(fs.promises, otherFunctions(fs.promises, []), (engine, name) => refusing(`fs.promises.${name}`)(engine));
+  guardModule("zlib", zlib);
+  guardModule("child_process", childProcess);
+  watchCrypto();
+  watchStreams();
+  watchAssertions();
+  watchTexts();
+  watchWebAssembly();
+  watchValues();
+  watchMarks();
+  watchFetching();
+}

@@ -1,0 +1,180 @@
+// Finds recorded memory in what a native function is given, and copies of it that are private.
+
+import {
+  create, defineProperty, getOwnPropertyDescriptor, getPrototypeOf, hasOwn, isArray, lengthOf, mapGet, mapSet, ownKeys,
+  setPrototypeOf, sharedLengthOf, tagOf, uncurried,
+} from "../../../kept/own.mjs";
+import { blockNumber, watching } from "./context.mjs";
+import { DATA_VIEW, ENGINE, WHOLE_BUFFER, anyWatchedOf, tellAll } from "./watched.mjs";
+
+const EngineMap = Map;
+const EngineSet = Set;
+const EngineShared = SharedArrayBuffer;
+const EngineView = DataView;
+const EngineBytes = Uint8Array;
+const { isView } = ArrayBuffer;
+const setElements = uncurried(EngineBytes.prototype.set);
+const mapEach = uncurried(EngineMap.prototype.forEach);
+const setEach = uncurried(EngineSet.prototype.forEach);
+const setAdd = uncurried(EngineSet.prototype.add);
+const setHas = uncurried(EngineSet.prototype.has);
+
+/** Deeper than any list of lists that a function takes. */
+export const SHALLOW = 2;
+export const WHOLLY = Infinity;
+
+const isObject = (value) => (typeof value === "object" && value !== null) || typeof value === "function";
+
+/** Whether a value is itself recorded memory. @param {unknown} value */
+export const isRecorded = (value) => anyWatchedOf(value) !== undefined || blockNumber(value) >= 0;
+
+/** Whether a value has nothing in it that a function would look at. */
+const isLeaf = (value) => !isObject(value) || tagOf(value) !== undefined || isView(value);
+
+/**
+ * What stands in an object, one after the other: the values of its own properties, and what a Map or Set has.
+ * @param {object} object
+ * @param {(inner: unknown) => void} visit
+ * @returns {boolean} false where a getter stands there, of which nobody knows what it would answer
+ */
+function eachWithin(object, visit) {
+  if (object instanceof EngineMap) {
+    mapEach(object, (value, key) => {
+      visit(key);
+      visit(value);
+    });
+  }
+  if (object instanceof EngineSet) setEach(object, visit);
+  const keys = ownKeys(object);
+  let isKnown = true;
+  for (let at = 0; at < keys.length; at += 1) {
+    const found = getOwnPropertyDescriptor(object, keys[at]);
+    if (found === undefined) continue;
+    if (hasOwn(found, "value")) visit(found.value);
+    else if (found.enumerable) isKnown = false;
+  }
+  return isKnown;
+}
+
+/**
+ * Whether recorded memory can be reached from a value.
+ * @param {unknown} value
+ * @param {number} depth how many objects deep is looked
+ * @param {boolean} [suspicious] whether a getter counts too
+ * @returns {boolean}
+ */
+export function reaches(value, depth, suspicious = false) {
+  if (isRecorded(value)) return true;
+  if (depth === 0 || isLeaf(value)) return false;
+  const met = new EngineSet();
+  const look = (inner, left) => {
+    if (isRecorded(inner)) return true;
+    if (left === 0 || isLeaf(inner) || typeof inner === "function" || setHas(met, inner)) return false;
+    setAdd(met, inner);
+    let found = false;
+    const isKnown = eachWithin(inner, (next) => {
+      found = found || look(next, left - 1);
+    });
+    return found || (suspicious && !isKnown);
+  };
+  return look(value, depth);
+}
+
+/** Tells that a whole recorded buffer is read. @param {object} buffer @param {number} block */
+export function tellBuffer(buffer, block) {
+  const length = sharedLengthOf(buffer);
+  if (length === 0) return;
+  watching.seen({ block, kind: WHOLE_BUFFER, offset: 0, length }, 0, length, false);
+}
+
+/** A private buffer as long as another one, with the bytes of a stretch of it, and else zeros. */
+function bytesOf(buffer, offset, length) {
+  const copy = new EngineShared(sharedLengthOf(buffer));
+  setElements(new EngineBytes(copy), new EngineBytes(buffer, offset, length), offset);
+  return copy;
+}
+
+/**
+ * A private copy of a recorded buffer. It tells that all of it is read.
+ * @param {object} buffer
+ */
+export function privateBuffer(buffer) {
+  tellBuffer(buffer, blockNumber(buffer));
+  return bytesOf(buffer, 0, sharedLengthOf(buffer));
+}
+
+/**
+ * A private copy of a watched array or view, which stands where that stands in its buffer. It tells that all of it is
+ * read.
+ * @param {import("./watched.mjs").Watched} watched
+ * @param {object} [buffer] another one than what is made
+ */
+export function privateView(watched, buffer) {
+  const { real, kind, offset, length, size, standIn } = watched;
+  if (buffer === undefined) tellAll(watched, false);
+  const bytes = buffer ?? bytesOf(watched.buffer, offset, length * size);
+  const copy = kind === DATA_VIEW ? new EngineView(bytes, offset, length) : new ENGINE[kind](bytes, offset, length);
+  setPrototypeOf(copy, getPrototypeOf(standIn));
+  copyExtras(kind === DATA_VIEW ? standIn : real, copy);
+  return copy;
+}
+
+/** @param {object} value a watched array or view, or a recorded buffer */
+function privateCopy(value) {
+  const watched = anyWatchedOf(value);
+  return watched === undefined ? privateBuffer(value) : privateView(watched);
+}
+
+/** The properties that an agent's code has given an array, besides its elements. */
+function copyExtras(from, to) {
+  const keys = ownKeys(from);
+  const first = tagOf(from) === undefined ? 0 : lengthOf(from);
+  for (let at = first; at < keys.length; at += 1) {
+    defineProperty(to, keys[at], getOwnPropertyDescriptor(from, keys[at]));
+  }
+}
+
+/**
+ * A value with private copies of all recorded memory that it reaches. What reaches none is itself.
+ * @param {any} value
+ * @param {Map<object, object>} made the copies of objects, so that each has one
+ */
+export function mirrored(value, made) {
+  const known = isObject(value) ? mapGet(made, value) : undefined;
+  if (known !== undefined) return known;
+  if (isRecorded(value)) {
+    const copy = privateCopy(value);
+    mapSet(made, value, copy);
+    return copy;
+  }
+  if (!reaches(value, WHOLLY)) return value;
+  const copy = emptyLike(value);
+  mapSet(made, value, copy);
+  fillMirror(value, copy, made);
+  return copy;
+}
+
+function emptyLike(value) {
+  if (value instanceof EngineMap) return setPrototyped(new EngineMap(), value);
+  if (value instanceof EngineSet) return setPrototyped(new EngineSet(), value);
+  if (isArray(value)) return setPrototyped([], value);
+  return create(getPrototypeOf(value));
+}
+
+function setPrototyped(copy, value) {
+  setPrototypeOf(copy, getPrototypeOf(value));
+  return copy;
+}
+
+function fillMirror(value, copy, made) {
+  if (value instanceof EngineMap) {
+    mapEach(value, (inner, key) => mapSet(copy, mirrored(key, made), mirrored(inner, made)));
+  }
+  if (value instanceof EngineSet) setEach(value, (inner) => setAdd(copy, mirrored(inner, made)));
+  const keys = ownKeys(value);
+  for (let at = 0; at < keys.length; at += 1) {
+    const found = getOwnPropertyDescriptor(value, keys[at]);
+    if (hasOwn(found, "value")) found.value = mirrored(found.value, made);
+    defineProperty(copy, keys[at], found);
+  }
+}

@@ -1,0 +1,57 @@
+// Recorded buffers themselves: a part of one is a copy, which is read.
+
+import { construct, sharedLengthOf, uncurried } from "../../../kept/own.mjs";
+import { blockNumber, watching } from "./context.mjs";
+import { positionOf } from "./numbers.mjs";
+import { replaceNeeded } from "./patch.mjs";
+import { WHOLE_BUFFER, unwrapped } from "./watched.mjs";
+
+const { TypeError: EngineTypeError } = globalThis;
+const EngineShared = SharedArrayBuffer;
+const EngineBytes = Uint8Array;
+const { species } = Symbol;
+const setElements = uncurried(EngineBytes.prototype.set);
+
+/** The constructor of what `slice` answers. @param {object} buffer */
+function speciesOf(buffer) {
+  const { constructor } = buffer;
+  if (constructor === undefined) return EngineShared;
+  if ((typeof constructor !== "object" && typeof constructor !== "function") || constructor === null) {
+    throw new EngineTypeError("object.constructor is not an object");
+  }
+  return constructor[species] ?? EngineShared;
+}
+
+/** The buffer that `slice` answers, by the receiver's species. */
+function answered(buffer, count) {
+  const made = construct(speciesOf(buffer), [count]);
+  if (sharedLengthOf(made) < count || made === buffer) {
+    throw new EngineTypeError("Species constructor did not return a new SharedArrayBuffer of enough bytes");
+  }
+  return made;
+}
+
+/** Tells that bytes of a buffer are accessed, where it is recorded. */
+function tellBytes(buffer, from, to, writes) {
+  const block = blockNumber(buffer);
+  if (block < 0 || from >= to) return;
+  watching.seen({ block, kind: WHOLE_BUFFER, offset: 0, length: sharedLengthOf(buffer) }, from, to, writes);
+}
+
+/** Patches what there is of shared buffers in this realm. */
+export function watchBuffers() {
+  replaceNeeded(EngineShared.prototype, "slice", () => ({
+    method(begin, end) {
+      const length = sharedLengthOf(this);
+      const from = positionOf(begin, length, 0);
+      const to = positionOf(end, length, length);
+      const count = from < to ? to - from : 0;
+      const made = answered(this, count);
+      tellBytes(this, from, to, false);
+      tellBytes(made, 0, count, true);
+      setElements(new EngineBytes(made), new EngineBytes(this, from, count));
+      return made;
+    },
+  }).method);
+  replaceNeeded(ArrayBuffer, "isView", (engine) => (value) => engine(unwrapped(value)));
+}

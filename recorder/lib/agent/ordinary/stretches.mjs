@@ -1,0 +1,44 @@
+// Elements of watched arrays, one by one and in stretches: what is read and written is told.
+
+import { bufferOf, lengthOf, TypedArray, uncurried } from "../../../kept/own.mjs";
+import { ENGINE, tell, unwrapped, watchedOf } from "./watched.mjs";
+
+/** @typedef {import("./watched.mjs").Watched} Watched */
+
+/** The engine's own `set`. */
+export const setElements = uncurried(TypedArray.prototype.set);
+
+/**
+ * Reads an element.
+ * @param {Watched} watched
+ * @param {number} index
+ */
+export function read(watched, index) {
+  watched.tellElement(index, false);
+  return watched.real[index];
+}
+
+/**
+ * A private array with what is read of a watched one.
+ * @param {Watched} watched
+ * @param {number} from the first element
+ * @param {number} to behind the last
+ */
+export function copied(watched, from, to) {
+  tell(watched, from, to, false);
+  const { kind, real, size, offset } = watched;
+  const copy = new ENGINE[kind](to - from);
+  setElements(copy, new ENGINE[kind](bufferOf(real), offset + from * size, to - from));
+  return copy;
+}
+
+/**
+ * Writes a private array's elements into another one, which may be watched.
+ * @param {object} array
+ * @param {object} values
+ */
+export function written(array, values) {
+  const watched = watchedOf(array);
+  if (watched !== undefined) tell(watched, 0, lengthOf(values), true);
+  setElements(unwrapped(array), values, 0);
+}

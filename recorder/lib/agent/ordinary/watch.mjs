@@ -1,0 +1,39 @@
+// Watches a realm: typed arrays and DataViews on recorded buffers tell each ordinary read and write, in code that knows
+// nothing of it. What would pass unseen ends the run.
+
+import buffer from "node:buffer";
+import { syncBuiltinESMExports } from "node:module";
+import threads from "node:worker_threads";
+import vm from "node:vm";
+import { watchArrays } from "./arrays.mjs";
+import { watchNodeBuffer } from "./buffer.mjs";
+import { watchCloning } from "./clone.mjs";
+import { begin } from "./context.mjs";
+import { watchDataView } from "./data-view.mjs";
+import { watchInspection } from "./inspect.mjs";
+import { watchNatives } from "./natives.mjs";
+import { watchRealms } from "./realms.mjs";
+import { watchBuffers } from "./shared.mjs";
+
+export { blockNumber } from "./context.mjs";
+export { unwrapped } from "./watched.mjs";
+
+/** @typedef {import("./context.mjs").Place} Place */
+/** @typedef {import("./context.mjs").Watching} Watching */
+
+/**
+ * Patches this realm's globals and node's modules. It is called once, before any of the agents' code is loaded.
+ * @param {Watching} watching
+ */
+export function watchOrdinary(watching) {
+  begin(watching);
+  watchArrays();
+  watchDataView();
+  watchBuffers();
+  watchNodeBuffer(buffer);
+  watchCloning(threads);
+  watchInspection();
+  watchRealms(vm);
+  watchNatives();
+  syncBuiltinESMExports();
+}

@@ -1,0 +1,173 @@
+// What is known of each watched array: the engine's own array behind it, and what it stands on.
+
+import { CONSTRUCTORS, KINDS } from "../../../script/kinds.mjs";
+import {
+  bufferOf, create, getPrototypeOf, lengthOf, offsetOf, setPrototypeOf, tagOf, viewBufferOf, viewLengthOf, viewOffsetOf,
+  weakGet, weakSet,
+} from "../../../kept/own.mjs";
+import { originalOf, refused, watching } from "./context.mjs";
+
+/** The numbers of places that are no typed array. */
+export const DATA_VIEW = KINDS.length;
+export const WHOLE_BUFFER = KINDS.length + 1;
+
+/** The number and the bytes of an element of each kind, by the name of its constructor. */
+const kindNumbers = create(null);
+const sizes = [];
+for (let kind = 0; kind < KINDS.length; kind += 1) {
+  kindNumbers[`${KINDS[kind]}Array`] = kind;
+  sizes[kind] = CONSTRUCTORS[kind].BYTES_PER_ELEMENT;
+}
+const FIRST_BIG = kindNumbers.BigInt64Array;
+
+/** The engine's constructors, by their kind. */
+export const ENGINE = CONSTRUCTORS;
+const EngineView = DataView;
+
+/** What is known of an array, by what stands for it in the agents' code. */
+const arrays = new WeakMap();
+
+/** What stands for a DataView has a field, which costs private ones less. */
+class Marked extends (function (object) {
+  return object;
+}) {
+  #watched;
+
+  constructor(object, watched) {
+    super(object);
+    this.#watched = watched;
+  }
+
+  static of(view) {
+    return #watched in view ? view.#watched : undefined;
+  }
+}
+
+/** A watched array or DataView. */
+export class Watched {
+  /**
+   * @param {object} real the engine's own
+   * @param {import("./context.mjs").Place} place
+   * @param {number} size bytes of an element
+   */
+  constructor(real, place, size) {
+    this.real = real;
+    this.place = place;
+    this.size = size;
+    this.offset = place.offset;
+    this.length = place.length;
+    this.kind = place.kind;
+    this.big = place.kind === FIRST_BIG || place.kind === FIRST_BIG + 1;
+    /** What agents see as its buffer. @type {object} */
+    this.buffer = undefined;
+    /** What agents hold. @type {object | undefined} */
+    this.standIn = undefined;
+    /** The same elements, for the engine's iterators. @type {object | undefined} */
+    this.elements = undefined;
+  }
+}
+
+/** A view on a recorded buffer itself, in place of one on another object that has its memory. */
+function onOriginal(real, buffer, Engine, offset, length) {
+  const original = originalOf(buffer);
+  if (original === buffer) return real;
+  const view = new Engine(original, offset, length);
+  setPrototypeOf(view, getPrototypeOf(real));
+  return view;
+}
+
+/**
+ * @param {object} real one of the typed arrays
+ * @param {number} block
+ * @param {typeof Watched} Kind what is made of it
+ */
+export function arrayOn(real, block, Kind) {
+  const kind = kindNumbers[tagOf(real)];
+  if (kind === undefined) refused(`a ${tagOf(real)} was made on a recorded buffer`);
+  const place = { block, kind, offset: offsetOf(real), length: lengthOf(real) };
+  const buffer = bufferOf(real);
+  const watched = new Kind(onOriginal(real, buffer, ENGINE[kind], place.offset, place.length), place, sizes[kind]);
+  watched.buffer = buffer;
+  return watched;
+}
+
+/**
+ * @param {DataView} real
+ * @param {number} block
+ */
+export function viewOn(real, block) {
+  const place = { block, kind: DATA_VIEW, offset: viewOffsetOf(real), length: viewLengthOf(real) };
+  const buffer = viewBufferOf(real);
+  const watched = new Watched(onOriginal(real, buffer, EngineView, place.offset, place.length), place, 1);
+  watched.buffer = buffer;
+  return watched;
+}
+
+/**
+ * @param {Watched} watched an array
+ * @param {object} standIn
+ */
+export function keepArray(watched, standIn) {
+  watched.standIn = standIn;
+  weakSet(arrays, standIn, watched);
+}
+
+/**
+ * @param {Watched} watched a DataView
+ * @param {object} standIn
+ */
+export function keepView(watched, standIn) {
+  watched.standIn = standIn;
+  new Marked(standIn, watched);
+}
+
+/**
+ * What is known of a typed array that agents hold, or undefined where it isn't watched.
+ * @param {unknown} value
+ * @returns {Watched | undefined}
+ */
+export const watchedOf = (value) => weakGet(arrays, value);
+
+/**
+ * Likewise of an object that may be a DataView. What is no object is none, and throws.
+ * @type {(view: object) => Watched | undefined}
+ */
+export const watchedView = Marked.of;
+
+/** @param {any} value @returns {Watched | undefined} of an array or of a DataView */
+export function anyWatchedOf(value) {
+  const watched = weakGet(arrays, value);
+  if (watched !== undefined || typeof value !== "object" || value === null) return watched;
+  return watchedView(value);
+}
+
+/**
+ * The engine's array behind a watched one, or the value itself.
+ * @param {any} value
+ */
+export function unwrapped(value) {
+  const watched = anyWatchedOf(value);
+  return watched === undefined ? value : watched.real;
+}
+
+/**
+ * Tells that elements are read or written.
+ * @param {Watched} watched
+ * @param {number} from the first element
+ * @param {number} to behind the last
+ * @param {boolean} writes
+ */
+export function tell(watched, from, to, writes) {
+  if (from >= to) return;
+  const { place, offset, size } = watched;
+  watching.seen(place, offset + from * size, offset + to * size, writes);
+}
+
+/**
+ * Tells that all of it is read or written.
+ * @param {Watched} watched
+ * @param {boolean} writes
+ */
+export function tellAll(watched, writes) {
+  tell(watched, 0, watched.length, writes);
+}

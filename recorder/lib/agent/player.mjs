@@ -1,0 +1,474 @@
+// One agent's part in a run, in its own thread: it asks for each call, makes it with the engine's own Atomics when the
+// turn is its own, and writes down what came of it. Between its calls its ordinary reads and writes are noted, as they
+// are seen, and what they have changed is taken before its next call.
+
+import { JOIN, LEAVE, MAKE, TIME_UP } from "../board/journal.mjs";
+import { PHASE, WORD } from "../board/layout.mjs";
+import { CALLS, CALL_NUMBERS, SIZES } from "../../script/kinds.mjs";
+import { SCRIPT_LIMITS } from "../../script/limits.mjs";
+import { FLAG, NO_CALL, READ, WRITE } from "../run/log.mjs";
+import { byteOf } from "../run/memory.mjs";
+import { callText, textRoom, viewKey, viewName } from "../run/spelling.mjs";
+import { engineCall, isEqualElement } from "./engine.mjs";
+import { RunIsOver } from "./over.mjs";
+import { mapGet, mapSet, mapHas, uncurried } from "../../kept/own.mjs";
+import { sourceHere } from "./sources.mjs";
+import { Repeats } from "./repeats.mjs";
+
+const { wait: WAIT, notify: NOTIFY, load: LOAD, store: STORE, compareExchange: COMPARE_EXCHANGE } = CALL_NUMBERS;
+const { RangeError: EngineRangeError, TypeError: EngineTypeError, Map: EngineMap } = globalThis;
+const clearMap = uncurried(Map.prototype.clear);
+
+// Where sources are told, each access is; but of one that is repeated no more than so many in a row.
+const MOST_TOLD_AGAIN = 100;
+
+/** @typedef {import("../run/records.mjs").Call} Call */
+/** @typedef {import("./ordinary/watch.mjs").Place} Place */
+
+/**
+ * What an agent plays with.
+ * @typedef {object} Table
+ * @property {import("../board/board.mjs").Board} board
+ * @property {import("../run/memory.mjs").Memory} memory
+ * @property {import("../run/log.mjs").Log} log
+ * @property {import("../run/stores.mjs").Stores} stores
+ * @property {import("../run/records.mjs").Records} records of its own calls
+ * @property {import("./sources.mjs").Sources} sources of its own code
+ * @property {import("./later.mjs").Later} later
+ * @property {import("./time.mjs").Chance} chance
+ * @property {number[]} lengths of the buffers
+ * @property {boolean} canBlock
+ * @property {"watch" | "store" | "refuse"} ordinary
+ */
+
+export class Player {
+  /**
+   * @param {number} agent its number
+   * @param {Table} table
+   */
+  constructor(agent, table) {
+    this.agent = agent;
+    this.table = table;
+    /** The run in which it began last. What a worker before it has begun isn't begun again. */
+    this.started = table.board.turn.lastStart(agent);
+    this.made = 0;
+    /** Whether the agent has a part in a run now. */
+    this.isPlaying = false;
+    /** Whether that run is over for it. */
+    this.isOver = false;
+    /** Whether it is in a call of Atomics. It stays so where an exception ends the call amid its way. */
+    this.isInside = false;
+    /** The last call, for messages. @type {Call | undefined} */
+    this.last = undefined;
+    /** The views that the script has, by their keys: the length of each one's name. @type {Map<number, number>} */
+    this.views = new EngineMap();
+    this.repeats = new Repeats(table.lengths);
+    this.accesses = 0;
+    /** The first event of the log that this agent has appended since its last call. */
+    this.since = 0;
+  }
+
+  /** Waits until there is something to begin. @returns {number} one of the board's `ORDER` */
+  awaitOrder() {
+    const { board } = this.table;
+    this.started = board.turn.awaitStart(this.agent, this.started);
+    return board.ordered();
+  }
+
+  /**
+   * Plays the agent's part in a run, from its start to its end, and hands the turn on.
+   * @param {() => unknown} body
+   * @param {(thrown: unknown) => string} described what was thrown, as a text
+   */
+  play(body, described) {
+    this.#begin();
+    let problem;
+    try {
+      problem = leftOpen(body());
+    } catch (thrown) {
+      problem = `threw ${described(thrown)}`;
+    }
+    this.#finish(problem);
+  }
+
+  /**
+   * Does something else than its part in a run: nothing of it is recorded.
+   * @param {() => unknown} body
+   * @param {(thrown: unknown) => string} described
+   */
+  serve(body, described) {
+    const { end, turn } = this.table.board;
+    let problem = "";
+    try {
+      body();
+    } catch (thrown) {
+      problem = described(thrown);
+    }
+    turn.goHome(this.agent);
+    end.end(problem === "" ? "finished" : "failed", problem);
+  }
+
+  /**
+   * Makes a call when it is the agent's turn.
+   * @param {Call} call
+   * @param {object} view its typed array
+   * @returns {unknown} what it answers; what it throws, it throws
+   */
+  make(call, view) {
+    this.#enter();
+    this.#stayWithin(call);
+    const source = this.#source();
+    this.table.board.line.become(this.agent, PHASE.ASKS);
+    this.#untilTurn();
+    this.table.records.begin(this.made, call);
+    this.last = call;
+    if (call.call === WAIT) return this.#wait(call, view, source);
+    if (call.call === NOTIFY) return this.#notify(call, view, source);
+    return this.#access(call, view, source);
+  }
+
+  /**
+   * Ends the run for something that it can't have.
+   * @param {string} text
+   * @returns {never}
+   */
+  refuse(text) {
+    this.#enter();
+    return this.#end("failed", `agent ${this.agent} ${text}`);
+  }
+
+  /**
+   * Notes an ordinary access that is about to be made.
+   * @param {Place} place
+   * @param {number} from its first byte in the block
+   * @param {number} to the byte behind its last one
+   * @param {boolean} writes
+   */
+  seen(place, from, to, writes) {
+    const { board, log } = this.table;
+    if (this.isOver || board.words[WORD.ENDED] !== 0) this.#interrupted();
+    this.accesses += 1;
+    const tellsSources = board.words[WORD.TELLS_SOURCES] === 1;
+    const repeats = this.repeats.note(place, from, to, writes);
+    if (repeats !== Repeats.NEW) {
+      if (repeats === Repeats.SPINS) this.#spins("it reads the same bytes again and again without a call of Atomics");
+      if (!tellsSources || this.repeats.again > MOST_TOLD_AGAIN) return;
+    }
+    const what = writes ? WRITE : READ;
+    if (!tellsSources && log.extend(what, this.agent, place.block, from, to, place, this.since)) return;
+    if (!log.hasRoom()) {
+      if (tellsSources && !writes) return;
+      this.#bound(`more than ${log.most} reads and writes were made that differ`);
+    }
+    const source = tellsSources ? this.table.sources.here() : 0;
+    const flags = writes ? FLAG.WRITES : FLAG.READS;
+    log.append(what, this.agent, NO_CALL, flags, this.made, place.block, from, to, place, source);
+  }
+
+  /** @returns {number} what time it is in the run */
+  look() {
+    if (this.isOver || this.table.board.end.hasEnded()) this.#over();
+    return this.table.board.clock.look();
+  }
+
+  /** @param {number} milliseconds for which the agent sleeps where nobody else can wake it */
+  doze(milliseconds) {
+    if (this.isOver || this.table.board.end.hasEnded()) this.#over();
+    this.table.board.clock.pass(milliseconds);
+  }
+
+  #begin() {
+    const { board, stores, later, chance, log } = this.table;
+    this.made = 0;
+    this.accesses = 0;
+    this.isInside = false;
+    this.since = log.length;
+    clearMap(this.views);
+    this.repeats.begin();
+    stores.join();
+    chance.begin(board.clock.seed());
+    later.begin();
+    this.isPlaying = true;
+    this.isOver = false;
+    board.line.become(this.agent, PHASE.RUNS);
+    board.turn.leave(this.agent);
+  }
+
+  #access(call, view, source) {
+    const value = this.#tried(call, source, () => {
+      const from = byteOf(call);
+      if (isWithin(call)) this.table.stores.touch(call.block, from, from + SIZES[call.kind]);
+      return engineCall(call, view);
+    });
+    const from = byteOf(call);
+    this.table.memory.keep(call.block, from, from + SIZES[call.kind]);
+    this.#log(MAKE, call, FLAG.ATOMIC | effectOf(call, value), source);
+    return this.#answer(value, MAKE);
+  }
+
+  /** The engine's notify makes the checks and wakes nobody: no thread waits in the engine's own line. */
+  #notify(call, view, source) {
+    this.#tried(call, source, () => engineCall(call, view));
+    this.#log(MAKE, call, FLAG.WAITERS, source);
+    return this.#answer(this.table.board.line.notify(call.block, byteOf(call), call.limit), MAKE);
+  }
+
+  /** The engine's wait makes the checks and compares, with no time at all. */
+  #wait(call, view, source) {
+    const { board, canBlock, records, stores } = this.table;
+    const word = this.#tried(call, source, () => {
+      const from = byteOf(call);
+      if (isWithin(call)) stores.touch(call.block, from, from + SIZES[call.kind]);
+      const found = engineCall(call, view);
+      if (!canBlock) throw new EngineTypeError("Atomics.wait cannot be called in this context");
+      return found;
+    });
+    const flags = FLAG.ATOMIC | FLAG.READS | FLAG.WAITERS;
+    if (word === "not-equal") {
+      this.#log(MAKE, call, flags, source);
+      return this.#answer(word, MAKE);
+    }
+    records.join(this.made);
+    this.#log(JOIN, call, flags, source);
+    board.did(this.agent, JOIN);
+    board.line.join(this.agent, call.block, byteOf(call), call.limit !== undefined);
+    if (call.limit !== undefined) board.clock.setDeadline(this.agent, call.milliseconds);
+    this.#untilTurn();
+    const isWoken = board.line.phase(this.agent) === PHASE.WOKEN;
+    if (!isWoken) board.clock.reachDeadline(this.agent);
+    this.#log(isWoken ? LEAVE : TIME_UP, call, FLAG.WAITERS, source);
+    return isWoken ? this.#answer("ok", LEAVE) : this.#answer("timed-out", TIME_UP);
+  }
+
+  /**
+   * What the engine answers. An error that it throws is the call's answer, and is thrown on to the agent's code.
+   * @template T
+   * @param {Call} call
+   * @param {number} source
+   * @param {() => T} make
+   * @returns {T}
+   */
+  #tried(call, source, make) {
+    try {
+      return make();
+    } catch (error) {
+      const isRange = error instanceof EngineRangeError;
+      // No index is to blame, so it is the stack that came to its end: no answer of the call.
+      if (isRange && isWithin(call)) this.#outOfStack();
+      this.#log(MAKE, call, 0, source);
+      this.#answer(isRange ? "RangeError" : "TypeError", MAKE);
+      throw error;
+    }
+  }
+
+  #log(event, call, flags, source) {
+    const from = byteOf(call);
+    this.table.log.append(
+      event, this.agent, call.call, flags, this.made, call.block, from, from + SIZES[call.kind], call, source,
+    );
+  }
+
+  /**
+   * Writes down the call's answer; the agent's code goes on.
+   * @template T
+   * @param {T} answer
+   * @param {number} event
+   * @returns {T}
+   */
+  #answer(answer, event) {
+    const { board, records, log } = this.table;
+    records.answer(this.made, answer);
+    this.made += 1;
+    board.did(this.agent, event);
+    board.line.become(this.agent, PHASE.RUNS);
+    this.since = log.length;
+    this.isInside = false;
+    board.turn.leave(this.agent);
+    return answer;
+  }
+
+  /** The agent's own code has made a call. What it changed by ordinary writes is taken here. */
+  #enter() {
+    const { board, later } = this.table;
+    if (this.isInside) this.#outOfStack();
+    if (!board.turn.enter(this.agent)) this.#over();
+    this.isInside = true;
+    this.repeats.renew();
+    this.#take();
+    const goesOn = later.told();
+    if (goesOn !== undefined) this.#end("failed", this.#laterText(goesOn));
+  }
+
+  /** Sleeps until the agent's move was picked. */
+  #untilTurn() {
+    const { board } = this.table;
+    if (!board.pass(this.agent)) board.turn.sleep(this.agent);
+    if (board.end.isOver()) this.#over();
+  }
+
+  /** @param {string | undefined} problem why the agent's code ended, where it didn't come to its end */
+  #finish(problem) {
+    const { board, later } = this.table;
+    later.end();
+    board.journal.countOrdinary(this.agent, this.accesses);
+    let hasTurn = false;
+    try {
+      if (this.isInside) this.#outOfStack();
+      hasTurn = board.turn.enter(this.agent);
+      if (hasTurn) this.#take();
+    } catch (over) {
+      if (!(over instanceof RunIsOver)) throw over;
+      hasTurn = false;
+    }
+    this.isPlaying = false;
+    board.line.become(this.agent, PHASE.DONE);
+    board.turn.goHome(this.agent);
+    if (!hasTurn) return;
+    const why = problem ?? this.#leftText();
+    if (why !== undefined) board.end.end("failed", problem === undefined ? why : `agent ${this.agent} ${problem}`);
+    else board.pass(this.agent);
+  }
+
+  /** Takes what ordinary writes have changed since the agent's last call. */
+  #take() {
+    const { memory, ordinary } = this.table;
+    for (let block = 0; block < memory.real.length; block += 1) {
+      if (!memory.hasChanged(block)) continue;
+      if (ordinary === "watch") this.#takeSeen();
+      if (ordinary === "store") this.table.stores.takeChanged(this.agent, this.table.log.length, block);
+    }
+    const change = memory.changed();
+    if (change !== undefined) this.#end("failed", this.#changeText(change));
+  }
+
+  /** Takes what the writes that were seen have changed. */
+  #takeSeen() {
+    const { log, stores } = this.table;
+    const { length } = log;
+    for (let event = this.since; event < length; event += 1) {
+      if (log.whatAt(event) !== WRITE) continue;
+      stores.takeWritten(
+        this.agent, length, log.blockAt(event), log.fromAt(event), log.toAt(event), log.kindAt(event),
+      );
+    }
+  }
+
+  /** Ends the run where the script could not have the call. */
+  #stayWithin(call) {
+    const { calls, views, text } = SCRIPT_LIMITS;
+    const { board, lengths } = this.table;
+    if (this.made >= calls) this.#meetsCalls(calls);
+    const key = viewKey(call);
+    if (!mapHas(this.views, key)) {
+      if (!board.journal.registers(key)) this.#bound(`more than ${views} different typed arrays were used`);
+      mapSet(this.views, key, viewName(lengths, call).length);
+    }
+    if (!board.journal.takesText(textRoom(mapGet(this.views, key), call))) {
+      this.#bound(`the script would be longer than ${text} bytes`);
+    }
+  }
+
+  #meetsCalls(most) {
+    if (this.table.records.endsAlike(this.made)) this.#spins(`it has made ${most} calls, and goes on`);
+    const source = sourceHere();
+    const where = source === undefined ? "" : ` at ${source}`;
+    this.#bound(`agent ${this.agent} has made ${most} calls, and goes on${where}`);
+  }
+
+  /** @param {string} what it does again and again @returns {never} */
+  #spins(what) {
+    const source = sourceHere();
+    const where = source === undefined ? "" : ` at ${source}`;
+    return this.#bound(`agent ${this.agent} spins${where}: ${what}`);
+  }
+
+  /** @returns {never} */
+  #bound(detail) {
+    return this.#end("bound", detail);
+  }
+
+  /** The run has ended while this agent's code went on, or the referee asks where it is. */
+  #interrupted() {
+    const { board } = this.table;
+    if (!this.isOver && board.end.isAsked() && board.turn.enter(this.agent)) {
+      this.#spins("it has made no call for too long");
+    }
+    this.#over();
+  }
+
+  /** The stack came to its end amid a call: the agent can't go on as if it had been made. */
+  #outOfStack() {
+    const { board } = this.table;
+    if (!board.turn.isInCall(this.agent) && !board.end.hasEnded()) board.turn.sleep(this.agent);
+    if (board.end.hasEnded() || board.end.isOver()) this.#over();
+    this.#end("failed", `agent ${this.agent} ran out of stack in a call of Atomics`);
+  }
+
+  /** @returns {never} */
+  #end(ending, detail) {
+    this.table.board.journal.countOrdinary(this.agent, this.accesses);
+    this.table.board.end.end(ending, detail);
+    return this.#over();
+  }
+
+  /** @returns {never} */
+  #over() {
+    this.isOver = true;
+    this.isInside = false;
+    throw new RunIsOver();
+  }
+
+  /** @returns {number} where the agent's code is, where sources are told */
+  #source() {
+    return this.table.board.words[WORD.TELLS_SOURCES] === 1 ? this.table.sources.here() : 0;
+  }
+
+  /** What the agent's code has left undone, or untold. @returns {string | undefined} */
+  #leftText() {
+    const { later } = this.table;
+    const goesOn = later.left();
+    if (goesOn !== undefined) return this.#laterText(goesOn);
+    const rejected = later.rejected();
+    if (rejected === undefined) return undefined;
+    return `agent ${this.agent} left a rejected promise, which nobody handles: ${rejected}`;
+  }
+
+  /** @param {string} what goes on later, in words */
+  #laterText(what) {
+    return `agent ${this.agent} goes on later, by ${what}, but an agent must be synchronous`;
+  }
+
+  /** @param {import("../run/memory.mjs").Change} change */
+  #changeText({ block, byte, was, is }) {
+    const { agent, made, last, table } = this;
+    const when = made === 0
+      ? "before its first call"
+      : `after its call ${made - 1}, ${callText(viewName(table.lengths, last), last)}`;
+    const what = `agent ${agent} changed byte ${byte} of block ${block} from ${was} to ${is}`;
+    if (table.ordinary === "watch") return `${what} where no access was seen, ${when}: try --ordinary store`;
+    return `${what} without a call of Atomics, ${when}`;
+  }
+}
+
+/** Whether a call's index is one of its view's. @param {Call} call */
+const isWithin = (call) => call.index >= 0 && call.index < call.length;
+
+/** What an access does to its element: whether it reads and writes it. */
+function effectOf(call, value) {
+  if (call.call === LOAD) return FLAG.READS;
+  if (call.call === STORE) return FLAG.WRITES;
+  if (call.call !== COMPARE_EXCHANGE) return FLAG.READS | FLAG.WRITES;
+  return isEqualElement(call.kind, call.operands[0], value) ? FLAG.READS | FLAG.WRITES : FLAG.READS;
+}
+
+/**
+ * What an agent's answer leaves undone.
+ * @param {unknown} answer
+ * @returns {string | undefined}
+ */
+function leftOpen(answer) {
+  if (answer === null || (typeof answer !== "object" && typeof answer !== "function")) return undefined;
+  if (typeof answer.then === "function") return "answered a promise, but an agent must be synchronous";
+  if (typeof answer.next === "function") return "answered an iterator, whose code nobody runs: it is a generator";
+  return undefined;
+}

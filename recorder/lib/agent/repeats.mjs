@@ -1,0 +1,77 @@
+// Which ordinary accesses an agent has made since its last call, so that the same one is noted once, and a spin is found.
+// Nobody else moves between two calls of an agent: what it repeats there tells nothing new.
+
+const { Int32Array } = globalThis;
+
+// So often is one access repeated before it is a spin: nothing that it reads can change meanwhile.
+const SPIN = 1_000_000;
+
+const MOST_EPOCHS = 2 ** 26;
+
+export class Repeats {
+  static NEW = 0;
+
+  static KNOWN = 1;
+
+  static SPINS = 2;
+
+  /** @param {number[]} lengths of the blocks */
+  constructor(lengths) {
+    /** For each byte, when an access began there last, and how long it was: of reads, and of writes. */
+    this.reads = [];
+    this.writes = [];
+    for (let block = 0; block < lengths.length; block += 1) {
+      this.reads[block] = new Int32Array(lengths[block]);
+      this.writes[block] = new Int32Array(lengths[block]);
+    }
+    this.epoch = 1;
+    this.again = 0;
+    this.last = -1;
+  }
+
+  /** A run begins. */
+  begin() {
+    if (this.epoch > MOST_EPOCHS / 2) {
+      for (let block = 0; block < this.reads.length; block += 1) {
+        for (let byte = 0; byte < this.reads[block].length; byte += 1) {
+          this.reads[block][byte] = 0;
+          this.writes[block][byte] = 0;
+        }
+      }
+      this.epoch = 0;
+    }
+    this.renew();
+  }
+
+  /** The agent has made a call: others may move. */
+  renew() {
+    this.epoch += 1;
+    this.again = 0;
+    this.last = -1;
+  }
+
+  /**
+   * @param {{ block: number }} place
+   * @param {number} from
+   * @param {number} to
+   * @param {boolean} writes
+   * @returns {number} whether it is new, known or a spin
+   */
+  note(place, from, to, writes) {
+    const size = to - from;
+    if (size > 8) return Repeats.NEW;
+    const stamps = writes ? this.writes[place.block] : this.reads[place.block];
+    const stamp = (this.epoch << 4) | size;
+    if (stamps[from] !== stamp) {
+      stamps[from] = stamp;
+      return Repeats.NEW;
+    }
+    if (writes || this.last !== from) {
+      this.last = writes ? -1 : from;
+      this.again = 0;
+      return Repeats.KNOWN;
+    }
+    this.again += 1;
+    return this.again < SPIN ? Repeats.KNOWN : Repeats.SPINS;
+  }
+}

@@ -1,0 +1,148 @@
+// The clocks and the random numbers of an agent: its run's time in place of the machine's, and the seed's row in place
+// of chance. So the same seed gives the same run, and deadlines fit the answers of waits.
+
+import crypto from "node:crypto";
+import process from "node:process";
+import { apply, construct, likeEngine, put, uncurried } from "../../kept/own.mjs";
+import { Random } from "../run/random.mjs";
+
+const { Date: EngineDate, Proxy: EngineProxy, Int32Array, Uint8Array, BigInt: big, RangeError, TypeError } = globalThis;
+const { floor } = Math;
+const { isView } = ArrayBuffer;
+const { isSafeInteger } = Number;
+const bytesFrom = Buffer.alloc;
+const hexOf = uncurried(Buffer.prototype.toString);
+const textOf = uncurried(EngineDate.prototype.toString);
+
+/** The date at which each run begins: the first moment of the year 2000, UTC. */
+const EPOCH = 946_684_800_000;
+
+/**
+ * Lets this realm's clocks tell a run's time.
+ * @param {() => number} now in milliseconds from the run's beginning
+ */
+export function simulateTime(now) {
+  const today = () => floor(EPOCH + now());
+  const Simulated = new EngineProxy(EngineDate, {
+    construct(target, given, made) {
+      const parts = given.length === 0 ? [today()] : given;
+      return construct(target, parts, made === Simulated ? target : made);
+    },
+    apply: () => textOf(new EngineDate(today())),
+  });
+  put(EngineDate, "now", likeEngine(today, EngineDate.now));
+  put(EngineDate.prototype, "constructor", Simulated);
+  put(globalThis, "Date", Simulated);
+  put(performance, "now", likeEngine(() => now(), performance.now));
+  put(performance, "timeOrigin", EPOCH);
+  simulateProcess(now);
+}
+
+/** @param {() => number} now */
+function simulateProcess(now) {
+  const nanoseconds = () => big(floor(now() * 1e6));
+  const hrtime = (before) => {
+    const time = floor(now() * 1e6);
+    const seconds = floor(time / 1e9);
+    const rest = time % 1e9;
+    if (before === undefined) return [seconds, rest];
+    const borrowed = rest < before[1];
+    return [seconds - before[0] - (borrowed ? 1 : 0), rest - before[1] + (borrowed ? 1e9 : 0)];
+  };
+  put(hrtime, "bigint", likeEngine(nanoseconds, process.hrtime.bigint));
+  put(process, "hrtime", likeEngine(hrtime, process.hrtime));
+  put(process, "uptime", likeEngine(() => now() / 1_000, process.uptime));
+}
+
+/** A row of random numbers that an agent's code draws from. */
+export class Chance {
+  /** @param {number} agent */
+  constructor(agent) {
+    this.agent = agent;
+    this.random = new Random(new Int32Array(4));
+    this.begin(0);
+  }
+
+  /** @param {number} seed of the run that begins */
+  begin(seed) {
+    this.random.seed(seed);
+    this.random.branch(this.agent);
+  }
+
+  /** @returns {number} from 0, below 1, with 53 bits */
+  fraction() {
+    const high = this.random.next() >>> 5;
+    const low = this.random.next() >>> 6;
+    return (high * 2 ** 26 + low) / 2 ** 53;
+  }
+
+  /**
+   * Fills bytes.
+   * @param {Uint8Array} bytes
+   */
+  fill(bytes) {
+    for (let at = 0; at < bytes.length; at += 1) bytes[at] = this.random.next() >>> 24;
+  }
+}
+
+/**
+ * Lets this realm's random numbers be those of a row.
+ * @param {Chance} chance
+ */
+export function simulateChance(chance) {
+  put(Math, "random", likeEngine(() => chance.fraction(), Math.random));
+  const { webcrypto } = crypto;
+  const fillView = webcrypto.getRandomValues;
+  const getRandomValues = likeEngine((view) => {
+    // The engine's own makes the checks, and its numbers are overwritten.
+    apply(fillView, webcrypto, [view]);
+    chance.fill(new Uint8Array(view.buffer, view.byteOffset, view.byteLength));
+    return view;
+  }, fillView);
+  const randomUUID = likeEngine(() => uuidOf(chance), crypto.randomUUID);
+  for (const owner of [webcrypto, crypto]) {
+    put(owner, "getRandomValues", getRandomValues);
+    put(owner, "randomUUID", randomUUID);
+  }
+  simulateNodeChance(chance);
+}
+
+/** Those of node's module alone. @param {Chance} chance */
+function simulateNodeChance(chance) {
+  const { randomBytes, randomInt, randomFillSync } = crypto;
+  put(crypto, "randomBytes", likeEngine((size, done) => {
+    if (done !== undefined) return apply(randomBytes, crypto, [size, done]);
+    const bytes = bytesFrom(size);
+    chance.fill(bytes);
+    return bytes;
+  }, randomBytes));
+  put(crypto, "randomFillSync", likeEngine((view, offset = 0, size = undefined) => {
+    apply(randomFillSync, crypto, size === undefined ? [view, offset] : [view, offset, size]);
+    const each = isView(view) ? view.BYTES_PER_ELEMENT ?? 1 : 1;
+    const bytes = isView(view)
+      ? new Uint8Array(view.buffer, view.byteOffset, view.byteLength)
+      : new Uint8Array(view);
+    const to = size === undefined ? bytes.length : (offset + size) * each;
+    for (let at = offset * each; at < to; at += 1) bytes[at] = chance.random.next() >>> 24;
+    return view;
+  }, randomFillSync));
+  put(crypto, "randomInt", likeEngine((least, most, done) => {
+    const from = typeof most === "number" ? least : 0;
+    const to = typeof most === "number" ? most : least;
+    const callback = typeof most === "function" ? most : done;
+    if (callback !== undefined) return apply(randomInt, crypto, [from, to, callback]);
+    if (!isSafeInteger(from) || !isSafeInteger(to)) throw new TypeError("the bounds must be safe integers");
+    if (to <= from || to - from >= 2 ** 48) throw new RangeError("the bounds are out of order, or too far apart");
+    return from + floor(chance.fraction() * (to - from));
+  }, randomInt));
+}
+
+/** A version 4 UUID. @param {Chance} chance */
+function uuidOf(chance) {
+  const bytes = bytesFrom(16);
+  chance.fill(bytes);
+  bytes[6] = (bytes[6] & 0x0f) | 0x40;
+  bytes[8] = (bytes[8] & 0x3f) | 0x80;
+  const part = (from, to) => hexOf(bytes, "hex", from, to);
+  return `${part(0, 4)}-${part(4, 6)}-${part(6, 8)}-${part(8, 10)}-${part(10, 16)}`;
+}

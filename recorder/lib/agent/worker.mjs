@@ -1,0 +1,238 @@
+// The worker of one agent. It replaces what shows an agent the world: Atomics, typed arrays, clocks, random numbers. It
+// imports the agents' module, and then does again and again what it is ordered: the agent's part in a run, or the
+// module's `init` or `check`. It never gets back to its event loop.
+//
+// All of this runs beside the agents' code, which may change what it finds: so it uses functions that it has kept from
+// before that code is loaded, and loops in place of the methods of arrays.
+
+import { writeSync } from "node:fs";
+import { syncBuiltinESMExports } from "node:module";
+import { Writable } from "node:stream";
+import { workerData } from "node:worker_threads";
+import { Board } from "../board/board.mjs";
+import { ORDER, WORD } from "../board/layout.mjs";
+import { Log } from "../run/log.mjs";
+import { Memory } from "../run/memory.mjs";
+import { Records } from "../run/records.mjs";
+import { Stores } from "../run/stores.mjs";
+import { shown } from "../../script/operands.mjs";
+import { recordedAtomics } from "./atomics.mjs";
+import { Later } from "./later.mjs";
+import { watchOrdinary } from "./ordinary/watch.mjs";
+import { put, uncurried } from "../../kept/own.mjs";
+import { Player } from "./player.mjs";
+import { Sources } from "./sources.mjs";
+import { Chance, simulateChance, simulateTime } from "./time.mjs";
+
+const { Error: EngineError, String: text } = globalThis;
+const includes = uncurried(String.prototype.includes);
+const plainTitle = uncurried(Error.prototype.toString);
+
+/**
+ * An error's title as it tells it itself, or as the engine does where the agents' code has broken that.
+ * @param {Error} error
+ * @returns {string}
+ */
+function titleOf(error) {
+  const plain = plainTitle(error);
+  try {
+    const own = text(error);
+    return includes(own, text(error.message)) ? own : plain;
+  } catch {
+    return plain;
+  }
+}
+
+/** An error's stack, where its code has left it one. @param {Error} error */
+function stackOf(error) {
+  try {
+    return text(error.stack ?? "");
+  } catch {
+    return "";
+  }
+}
+
+/**
+ * What was thrown, with its stack where it has one.
+ * @param {unknown} thrown
+ * @returns {string}
+ */
+function described(thrown) {
+  try {
+    if (!(thrown instanceof EngineError)) return shown(thrown);
+    const title = titleOf(thrown);
+    const stack = stackOf(thrown);
+    if (stack === "") return title;
+    return includes(stack, title) ? stack : `${title}\n${stack}`;
+  } catch {
+    return "a value that can't be shown";
+  }
+}
+
+// A worker's own streams are written by its event loop, which never comes to its turn again. What agents print goes to
+// standard error at once: standard output is the recorder's.
+function printAtOnce() {
+  const printed = (chunk) => {
+    try {
+      writeSync(2, chunk);
+    } catch {
+      // Nobody reads it, or not fast enough: what an agent prints isn't worth its end.
+    }
+    return true;
+  };
+  for (const name of ["stdout", "stderr"]) {
+    const stream = new Writable({ write: (chunk, _encoding, done) => done(printed(chunk) ? null : undefined) });
+    // The stream's own way of writing goes on later, for a callback.
+    put(stream, "write", (chunk) => printed(chunk));
+    Object.defineProperty(process, name, { value: stream, configurable: true });
+  }
+}
+
+const { port, agent: number, args, ordinary, clock, module: file } = workerData;
+
+/**
+ * How the agent's calls are made; none can be while its module is being loaded.
+ * @type {{ player: Player | undefined, buffers: unknown[] }}
+ */
+const self = { player: undefined, buffers: [] };
+const chance = new Chance(number);
+
+const blockOf = (buffer) => {
+  for (let block = 0; block < self.buffers.length; block += 1) {
+    if (self.buffers[block] === buffer) return block;
+  }
+  return -1;
+};
+
+const isRecording = () => self.player !== undefined && self.player.isPlaying;
+
+/** Ends the run, and says where. @param {string} why */
+const refuse = (why) => self.player.refuse(`stands outside of sabsim's profile: ${described(new EngineError(why))}`);
+
+/** @type {import("./atomics.mjs").Asking} */
+const asking = {
+  blockOf,
+  isRecording,
+  make: (call, view) => self.player.make(call, view),
+  sleep: (milliseconds) => {
+    if (clock !== "run") return false;
+    self.player.doze(milliseconds);
+    return true;
+  },
+  refuse,
+};
+
+/** @type {import("./ordinary/watch.mjs").Watching} */
+const watching = {
+  blockOf,
+  seen: (place, from, to, writes) => {
+    if (isRecording()) self.player.seen(place, from, to, writes);
+  },
+  refuse: (why) => {
+    if (isRecording()) return refuse(why);
+    throw new EngineError(why);
+  },
+};
+
+/** Replaces what shows an agent the world. */
+function furnish() {
+  printAtOnce();
+  if (clock === "run") simulateTime(() => (isRecording() ? self.player.look() : 0));
+  simulateChance(chance);
+  if (ordinary === "watch") watchOrdinary(watching);
+  globalThis.Atomics = recordedAtomics(Atomics, asking);
+  syncBuiltinESMExports();
+}
+
+/**
+ * Imports the agents' module, and tells what it exports besides the agent.
+ * @returns {Promise<{ default: Function, init?: Function, check?: Function } | undefined>}
+ */
+async function loaded() {
+  try {
+    const found = await import(file);
+    // A compiled CommonJS module has its exports in its default export.
+    const isCompiled = typeof found.default === "object" && typeof found.default?.default === "function";
+    const module = isCompiled ? found.default : found;
+    if (typeof module.default !== "function") throw new EngineError("it has no function as its default export");
+    const others = ["init", "check"];
+    for (let at = 0; at < others.length; at += 1) {
+      const name = others[at];
+      const isThere = module[name] !== undefined;
+      if (isThere && typeof module[name] !== "function") throw new EngineError(`its export ${name} is no function`);
+    }
+    const { default: agent, init, check, setup } = module;
+    port.postMessage({ setup, hasInit: init !== undefined, hasCheck: check !== undefined });
+    return { default: agent, init, check };
+  } catch (problem) {
+    port.postMessage({ failed: described(problem) });
+    return undefined;
+  }
+}
+
+/**
+ * The agent's player, over the memory that the group shares.
+ * @param {object} handed
+ */
+function playerOf({ memory, plan, rules }) {
+  const board = new Board(memory.board, rules);
+  const buffers = new Memory(memory.buffers, memory.copies);
+  return new Player(number, {
+    board,
+    memory: buffers,
+    log: new Log(memory.log, board.words, WORD.EVENTS),
+    stores: new Stores(memory.stores, board.words, buffers),
+    records: new Records(memory.records[number]),
+    sources: new Sources(memory.sources[number]),
+    later: new Later(),
+    chance,
+    lengths: plan.buffers,
+    canBlock: plan.canBlock[number],
+    ordinary,
+  });
+}
+
+/**
+ * Does what it is ordered, again and again.
+ * @param {Awaited<ReturnType<typeof loaded>>} module
+ * @param {number} agents how many
+ */
+function serve(module, agents) {
+  const { player } = self;
+  const buffers = () => {
+    const list = [];
+    for (let block = 0; block < self.buffers.length; block += 1) list[block] = self.buffers[block];
+    return list;
+  };
+  const words = () => {
+    const list = [];
+    for (let at = 0; at < args.length; at += 1) list[at] = args[at];
+    return list;
+  };
+  for (;;) {
+    const order = player.awaitOrder();
+    const own = { agents, args: words() };
+    const play = () => module.default({ buffers: buffers(), agent: number, agents, args: words() });
+    if (order === ORDER.PLAY) player.play(play, described);
+    else player.serve(() => (order === ORDER.INIT ? module.init : module.check)(buffers(), own), described);
+  }
+}
+
+async function main() {
+  const handed = new Promise((done) => {
+    port.once("message", done);
+  });
+  furnish();
+  const module = await loaded();
+  if (module === undefined) {
+    port.close();
+    return;
+  }
+  const given = await handed;
+  self.buffers = given.memory.buffers;
+  self.player = playerOf(given);
+  port.postMessage({ ready: true });
+  serve(module, given.plan.agents);
+}
+
+await main();

@@ -1,0 +1,148 @@
+// The board of a run, in memory that all threads share: whose turn it is, what each agent is at, who waits where, the
+// row of random numbers, the time, what was done, and how the run ended. Only the thread that has the turn changes it.
+
+import { SCRIPT_LIMITS } from "../../script/limits.mjs";
+import { Random } from "../run/random.mjs";
+import { Clock } from "./clock.mjs";
+import { End } from "./end.mjs";
+import { EVENTS, Journal } from "./journal.mjs";
+import { ORDER, PHASE, WORD, wordsFor } from "./layout.mjs";
+import { Line } from "./line.mjs";
+import { NOBODY_MOVES, Strategy } from "./strategy.mjs";
+import { REASON_BYTES, Turn } from "./turn.mjs";
+
+const { Int32Array, Float64Array } = globalThis;
+const { load, store } = Atomics;
+const bufferFrom = Buffer.from;
+
+const TEXT_BYTES = 16_384;
+
+/**
+ * @typedef {object} BoardMemory
+ * @property {SharedArrayBuffer} words
+ * @property {SharedArrayBuffer} views
+ * @property {SharedArrayBuffer} text
+ * @property {SharedArrayBuffer} reasons
+ * @property {SharedArrayBuffer} times
+ */
+
+export class Board {
+  /** @returns {BoardMemory} */
+  static memory() {
+    const { agents, views } = SCRIPT_LIMITS;
+    return {
+      words: new SharedArrayBuffer(wordsFor(agents) * 4),
+      views: new SharedArrayBuffer(views * 8),
+      text: new SharedArrayBuffer(TEXT_BYTES),
+      reasons: new SharedArrayBuffer(agents * REASON_BYTES),
+      times: Clock.memory(agents),
+    };
+  }
+
+  /**
+   * @param {BoardMemory} memory
+   * @param {import("./strategy.mjs").Rules} rules
+   */
+  constructor(memory, rules) {
+    const { agents } = rules;
+    this.rules = rules;
+    this.words = new Int32Array(memory.words);
+    this.end = new End(this.words, bufferFrom(memory.text));
+    this.turn = new Turn(this.words, bufferFrom(memory.reasons), this.end, agents);
+    this.line = new Line(this.words, agents);
+    this.journal = new Journal(this.words, new Float64Array(memory.views), agents);
+    this.clock = new Clock(memory.times);
+    this.strategy = new Strategy(this.words, rules, new Random(new Int32Array(memory.words, WORD.RANDOM * 4, 4)));
+  }
+
+  /**
+   * Begins a run. No agent may be busy.
+   * @param {number} seed
+   */
+  begin(seed) {
+    this.#prepare(ORDER.PLAY);
+    this.line.begin();
+    this.journal.begin();
+    this.clock.begin(seed);
+    this.strategy.begin(seed);
+    this.turn.start(this.strategy.nextToStart());
+  }
+
+  /**
+   * Has agent 0 do something else than its part in a run. No agent may be busy.
+   * @param {number} order one of `ORDER`
+   */
+  order(order) {
+    this.#prepare(order);
+    this.turn.start(0);
+  }
+
+  /** Sends home the agents that ask or wait in a run that has ended. */
+  dismiss() {
+    this.end.dismiss();
+    for (let agent = 0; agent < this.rules.agents; agent += 1) {
+      const phase = this.line.phase(agent);
+      if (phase !== PHASE.RUNS && phase !== PHASE.DONE) this.turn.wake(agent);
+    }
+  }
+
+  /** @returns {number} one of `ORDER`: what agents are started for */
+  ordered() {
+    return load(this.words, WORD.ORDER);
+  }
+
+  /**
+   * Picks who moves next, and hands the turn over. Where nobody can move, the run ends.
+   * @param {number} agent that has the turn
+   * @returns {boolean} whether it moves next itself
+   */
+  pass(agent) {
+    const { strategy, turn, end, line, rules } = this;
+    const first = strategy.nextToStart();
+    if (first !== NOBODY_MOVES) {
+      turn.start(first);
+      return false;
+    }
+    if (!strategy.hasMoves() && this.#somebodyCan()) {
+      end.end("bound", `more than ${rules.maxMoves} moves would be made`);
+      return false;
+    }
+    const next = strategy.next();
+    if (next === NOBODY_MOVES) end.end(this.#somebodyWaits(line) ? "deadlock" : "finished", "");
+    else if (next !== agent) turn.give(next);
+    return next === agent;
+  }
+
+  /**
+   * Counts what was done, and lets its time pass.
+   * @param {number} agent
+   * @param {number} event
+   */
+  did(agent, event) {
+    this.journal.count(agent, event);
+    this.clock.advance(EVENTS[event].moves);
+  }
+
+  #prepare(order) {
+    const { words } = this;
+    this.end.begin();
+    this.turn.begin();
+    store(words, WORD.ORDER, order);
+    store(words, WORD.RUN, (load(words, WORD.RUN) + 1) | 0);
+  }
+
+  #somebodyCan() {
+    for (let agent = 0; agent < this.rules.agents; agent += 1) {
+      const phase = this.line.phase(agent);
+      if (phase !== PHASE.WAITS && phase !== PHASE.DONE && phase !== PHASE.RUNS) return true;
+    }
+    return false;
+  }
+
+  #somebodyWaits(line) {
+    for (let agent = 0; agent < this.rules.agents; agent += 1) {
+      if (line.waits(agent)) return true;
+    }
+    return false;
+  }
+}

@@ -1,0 +1,114 @@
+// How a run ends, and that it has ended.
+
+import { NOBODY, WORD } from "./layout.mjs";
+import { uncurried } from "../../kept/own.mjs";
+
+// Agents get another Atomics, and may change what they find: the engine's own functions are kept here, before.
+const { load, store, compareExchange, wait, notify } = Atomics;
+const encode = uncurried(TextEncoder.prototype.encodeInto);
+const encoder = new TextEncoder();
+
+/** @typedef {"finished" | "deadlock" | "failed" | "bound"} Ended how a run ends by itself */
+
+/** @type {readonly Ended[]} */
+const ENDINGS = Object.freeze(["finished", "deadlock", "failed", "bound"]);
+
+// The word ENDED.
+const GOES_ON = 0;
+const ENDED = 1;
+const ASKED = 2;
+
+const numberOf = (ending) => {
+  let number = 0;
+  while (ENDINGS[number] !== ending) number += 1;
+  return number;
+};
+
+export class End {
+  /**
+   * @param {Int32Array} words of the board
+   * @param {Buffer} text where the details are told
+   */
+  constructor(words, text) {
+    this.words = words;
+    this.text = text;
+  }
+
+  /** Nothing has ended yet. */
+  begin() {
+    store(this.words, WORD.ENDED, GOES_ON);
+    store(this.words, WORD.OVER, 0);
+  }
+
+  /** @returns {boolean} */
+  hasEnded() {
+    return load(this.words, WORD.ENDED) === ENDED;
+  }
+
+  /** Asks the agent whose code runs to end the run, and to say where it is. */
+  ask() {
+    compareExchange(this.words, WORD.ENDED, GOES_ON, ASKED);
+  }
+
+  /** @returns {boolean} whether that was asked */
+  isAsked() {
+    return load(this.words, WORD.ENDED) === ASKED;
+  }
+
+  /**
+   * Waits until the run has ended.
+   * @param {number} milliseconds at most
+   */
+  await(milliseconds) {
+    const found = load(this.words, WORD.ENDED);
+    if (found !== ENDED) wait(this.words, WORD.ENDED, found, milliseconds);
+  }
+
+  /** @returns {boolean} whether the agents of this run are sent home */
+  isOver() {
+    return load(this.words, WORD.OVER) === 1;
+  }
+
+  /** Sends home the agents of a run that has ended. */
+  dismiss() {
+    store(this.words, WORD.OVER, 1);
+  }
+
+  /**
+   * Ends the run. The agent's thread that does it still has to go home.
+   * @param {Ended} ending
+   * @param {string} detail
+   */
+  end(ending, detail) {
+    // What may run out of stack comes first: else nobody would have the turn, in a run that hasn't ended.
+    this.#tell(ending, detail);
+    store(this.words, WORD.TURN, NOBODY);
+    store(this.words, WORD.ENDED, ENDED);
+    notify(this.words, WORD.ENDED);
+  }
+
+  /**
+   * The same, where nobody has the turn any more.
+   * @param {Ended} ending
+   * @param {string} detail
+   */
+  close(ending, detail) {
+    this.#tell(ending, detail);
+    store(this.words, WORD.ENDED, ENDED);
+    notify(this.words, WORD.ENDED);
+  }
+
+  /**
+   * How the run ended. What a deadlock is made of is in the log alone.
+   * @returns {{ ending: Ended, detail: string }}
+   */
+  told() {
+    const detail = this.text.toString("utf8", 0, this.words[WORD.TEXT_LENGTH]);
+    return { ending: ENDINGS[this.words[WORD.ENDING]], detail };
+  }
+
+  #tell(ending, detail) {
+    this.words[WORD.TEXT_LENGTH] = encode(encoder, detail, this.text).written;
+    this.words[WORD.ENDING] = numberOf(ending);
+  }
+}

@@ -1,0 +1,70 @@
+// Where everything of a run lies in the board's words: 32-bit words in memory that all threads share.
+//
+// Only the thread that has the turn changes them, by plain writes. These are published by the atomic stores of GO,
+// TURN and ENDED that come after them: who is woken by one of these, or reads it, sees all that was written before.
+
+/** Words of the run. */
+export const WORD = Object.freeze({
+  TURN: 0,
+  ENDED: 1,
+  OVER: 2,
+  ENDING: 3,
+  LAST: 4,
+  MOVES: 5,
+  TICKETS: 6,
+  TICKS: 7,
+  STARTED: 8,
+  EVENTS: 9,
+  VIEWS: 10,
+  ROOM: 11,
+  TEXT_LENGTH: 12,
+  RUN: 13,
+  ORDER: 14,
+  TELLS_SOURCES: 15,
+  RANDOM: 16,
+  STORES: 20,
+  IS_THINNED: 21,
+});
+
+/** Words of each agent; each agent has a line of the processor's cache for itself. */
+export const AGENT_WORD = Object.freeze({
+  GO: 0,
+  STATE: 1,
+  AT: 2,
+  WHERE_BLOCK: 3,
+  WHERE_BYTE: 4,
+  TICKET: 5,
+  CALLS: 6,
+  RETURNED: 7,
+  START: 8,
+  ORDINARY: 9,
+});
+
+const AGENTS = 32;
+const AGENT_WORDS = 16;
+
+/**
+ * The position of an agent's word.
+ * @param {number} agent
+ * @param {number} word one of `AGENT_WORD`
+ * @returns {number}
+ */
+export const wordOf = (agent, word) => AGENTS + AGENT_WORDS * agent + word;
+
+/** How many words there are for so many agents. @param {number} agents */
+export const wordsFor = (agents) => AGENTS + AGENT_WORDS * agents;
+
+/** What an agent is at. */
+export const PHASE = Object.freeze({ RUNS: 0, ASKS: 1, WAITS: 2, WAITS_TIMED: 3, WOKEN: 4, DONE: 5 });
+
+/** What an agent's worker is at. */
+export const STATUS = Object.freeze({ IDLE: 0, BUSY: 1, DEAD: 2 });
+
+/** What an agent's worker is asked for: its part in a run, or the module's `init` or `check`. */
+export const ORDER = Object.freeze({ PLAY: 0, INIT: 1, CHECK: 2 });
+
+// The word TURN: nobody's, or an agent's while its own code runs (even) or while it is in a call of Atomics (odd).
+export const NOBODY = -1;
+export const inCode = (agent) => 2 * agent;
+export const inCall = (agent) => 2 * agent + 1;
+export const agentOf = (turn) => turn >> 1;

@@ -1,0 +1,109 @@
+// Who is at what, and the line of waiters: who waits where, in order of arrival.
+
+import { AGENT_WORD, PHASE, WORD, wordOf } from "./layout.mjs";
+
+const { load } = Atomics;
+
+/** @typedef {{ block: number, byte: number }} Place */
+
+export class Line {
+  /**
+   * @param {Int32Array} words of the board
+   * @param {number} agents how many
+   */
+  constructor(words, agents) {
+    this.words = words;
+    this.agents = agents;
+  }
+
+  /** Nobody waits. */
+  begin() {
+    this.words[WORD.TICKETS] = 0;
+    for (let agent = 0; agent < this.agents; agent += 1) this.become(agent, PHASE.RUNS);
+  }
+
+  /** @param {number} agent @returns {number} one of `PHASE` */
+  phase(agent) {
+    return load(this.words, wordOf(agent, AGENT_WORD.AT));
+  }
+
+  /**
+   * @param {number} agent
+   * @param {number} phase one of `PHASE`
+   */
+  become(agent, phase) {
+    this.words[wordOf(agent, AGENT_WORD.AT)] = phase;
+  }
+
+  /**
+   * An agent joins the line of waiters, at its end.
+   * @param {number} agent
+   * @param {number} block
+   * @param {number} byte
+   * @param {boolean} timed
+   */
+  join(agent, block, byte, timed) {
+    const { words } = this;
+    words[wordOf(agent, AGENT_WORD.WHERE_BLOCK)] = block;
+    words[wordOf(agent, AGENT_WORD.WHERE_BYTE)] = byte;
+    words[wordOf(agent, AGENT_WORD.TICKET)] = words[WORD.TICKETS];
+    words[WORD.TICKETS] += 1;
+    this.become(agent, timed ? PHASE.WAITS_TIMED : PHASE.WAITS);
+  }
+
+  /**
+   * Takes the oldest waiters of a place off the line.
+   * @param {number} block
+   * @param {number} byte
+   * @param {number | undefined} count how many at most: no count is no bound, and a negative one is 0
+   * @returns {number} how many were woken
+   */
+  notify(block, byte, count) {
+    let woken = 0;
+    while (count === undefined || woken < count) {
+      const agent = this.#oldest(block, byte);
+      if (agent < 0) break;
+      this.become(agent, PHASE.WOKEN);
+      woken += 1;
+    }
+    return woken;
+  }
+
+  /** @param {number} agent that waits @returns {Place} */
+  placeOf(agent) {
+    const { words } = this;
+    return {
+      block: words[wordOf(agent, AGENT_WORD.WHERE_BLOCK)],
+      byte: words[wordOf(agent, AGENT_WORD.WHERE_BYTE)],
+    };
+  }
+
+  /** @returns {number[]} the agents that wait, the one that came first before the others */
+  waiting() {
+    const all = Array.from({ length: this.agents }, (_, agent) => agent);
+    return all.filter((agent) => this.waits(agent)).sort((one, other) => this.#ticket(one) - this.#ticket(other));
+  }
+
+  /** @param {number} agent */
+  waits(agent) {
+    const phase = this.words[wordOf(agent, AGENT_WORD.AT)];
+    return phase === PHASE.WAITS || phase === PHASE.WAITS_TIMED;
+  }
+
+  /** @returns {number} the agent that has waited longest at a place, or -1 */
+  #oldest(block, byte) {
+    const { words } = this;
+    let oldest = -1;
+    for (let agent = 0; agent < this.agents; agent += 1) {
+      const isHere = this.waits(agent)
+        && words[wordOf(agent, AGENT_WORD.WHERE_BLOCK)] === block
+        && words[wordOf(agent, AGENT_WORD.WHERE_BYTE)] === byte;
+      if (isHere && (oldest < 0 || this.#ticket(agent) < this.#ticket(oldest))) oldest = agent;
+    }
+    return oldest;
+  }
+
+  #ticket(agent) {
+    return this.words[wordOf(agent, AGENT_WORD.TICKET)];
+  }
+}

@@ -1,0 +1,205 @@
+// Whose turn it is. The turn goes from agent to agent: the one that has it asks for its next call, the strategy picks
+// who moves next, and the turn is handed to that agent's thread. No thread stands in between, so a call costs one
+// change of threads at most, and none where the same agent goes on.
+
+import { AGENT_WORD, NOBODY, STATUS, WORD, agentOf, inCall, inCode, wordOf } from "./layout.mjs";
+import { uncurried } from "../../kept/own.mjs";
+
+const { load, store, add, compareExchange, wait, notify } = Atomics;
+const writeText = uncurried(Buffer.prototype.write);
+
+/** How many bytes there are for the word of why an agent's worker is no more. */
+export const REASON_BYTES = 4_096;
+
+// How long an agent that was silent may take to say where it is.
+const MILLISECONDS_TO_ANSWER = 100;
+
+export class Turn {
+  /**
+   * @param {Int32Array} words of the board
+   * @param {Buffer} reasons why workers died: so many bytes for each agent
+   * @param {import("./end.mjs").End} end
+   * @param {number} agents how many
+   */
+  constructor(words, reasons, end, agents) {
+    this.words = words;
+    this.reasons = reasons;
+    this.end = end;
+    this.agents = agents;
+  }
+
+  /** Nobody has the turn yet, and nobody is to wake up. */
+  begin() {
+    store(this.words, WORD.TURN, NOBODY);
+    for (let agent = 0; agent < this.agents; agent += 1) store(this.words, wordOf(agent, AGENT_WORD.GO), 0);
+  }
+
+  // The part of the agent that has the turn.
+
+  /**
+   * An agent's own code makes a call, or ends.
+   * @param {number} agent
+   * @returns {boolean} false where the run has ended meanwhile
+   */
+  enter(agent) {
+    return compareExchange(this.words, WORD.TURN, inCode(agent), inCall(agent)) === inCode(agent);
+  }
+
+  /** @param {number} agent whose own code goes on */
+  leave(agent) {
+    add(this.words, WORD.TICKS, 1);
+    store(this.words, WORD.TURN, inCode(agent));
+  }
+
+  /** @param {number} agent @returns {boolean} whether the agent has the turn, in a call of Atomics */
+  isInCall(agent) {
+    return load(this.words, WORD.TURN) === inCall(agent);
+  }
+
+  /** @param {number} agent gets the turn; its worker may just have died */
+  give(agent) {
+    store(this.words, WORD.TURN, inCall(agent));
+    if (load(this.words, wordOf(agent, AGENT_WORD.STATE)) === STATUS.DEAD) this.#dies(agent);
+    else this.wake(agent);
+  }
+
+  /**
+   * An agent gets the turn to begin what it was ordered.
+   * @param {number} agent
+   */
+  start(agent) {
+    const { words } = this;
+    compareExchange(words, wordOf(agent, AGENT_WORD.STATE), STATUS.IDLE, STATUS.BUSY);
+    store(words, WORD.TURN, inCall(agent));
+    if (load(words, wordOf(agent, AGENT_WORD.STATE)) === STATUS.DEAD) {
+      this.#dies(agent);
+      return;
+    }
+    const word = wordOf(agent, AGENT_WORD.START);
+    store(words, word, load(words, WORD.RUN));
+    notify(words, word);
+  }
+
+  /** @param {number} agent that sleeps */
+  wake(agent) {
+    const word = wordOf(agent, AGENT_WORD.GO);
+    store(this.words, word, 1);
+    notify(this.words, word);
+  }
+
+  /** @param {number} agent sleeps until it has the turn, or is sent home */
+  sleep(agent) {
+    const word = wordOf(agent, AGENT_WORD.GO);
+    while (load(this.words, word) === 0) wait(this.words, word, 0);
+    store(this.words, word, 0);
+  }
+
+  /**
+   * Sleeps until there is something to begin. What is left of an earlier run wakes nobody here.
+   * @param {number} agent
+   * @param {number} last the number of the run in which it began something last
+   * @returns {number} that of the run in which it begins something now
+   */
+  awaitStart(agent, last) {
+    const word = wordOf(agent, AGENT_WORD.START);
+    while (load(this.words, word) === last) wait(this.words, word, last);
+    return load(this.words, word);
+  }
+
+  /** @param {number} agent @returns {number} the number of the run in which it, or its worker before, began last */
+  lastStart(agent) {
+    return load(this.words, wordOf(agent, AGENT_WORD.START));
+  }
+
+  /** @param {number} agent whose code has ended, and that can begin again */
+  goHome(agent) {
+    const word = wordOf(agent, AGENT_WORD.STATE);
+    store(this.words, word, STATUS.IDLE);
+    notify(this.words, word);
+  }
+
+  // The referee's part.
+
+  /**
+   * Whether an agent can run again; one that goes on without an end, or whose worker died, can't.
+   * @param {number} agent
+   * @param {number} milliseconds for how long to wait for it
+   */
+  isBack(agent, milliseconds) {
+    const word = wordOf(agent, AGENT_WORD.STATE);
+    const until = performance.now() + milliseconds;
+    while (load(this.words, word) === STATUS.BUSY) {
+      const left = until - performance.now();
+      if (left <= 0 || wait(this.words, word, STATUS.BUSY, left) === "timed-out") break;
+    }
+    return load(this.words, word) === STATUS.IDLE;
+  }
+
+  /**
+   * Waits for the end of the run. An agent that makes no call for too long ends it too.
+   * @param {number} seconds
+   */
+  awaitEnd(seconds) {
+    const { words } = this;
+    let ticks = load(words, WORD.TICKS);
+    let since = performance.now();
+    while (!this.end.hasEnded()) {
+      this.end.await(seconds * 250);
+      const now = performance.now();
+      if (ticks !== load(words, WORD.TICKS)) {
+        ticks = load(words, WORD.TICKS);
+        since = now;
+      } else if (now - since >= seconds * 1_000) {
+        this.#endSilent(seconds);
+      }
+    }
+  }
+
+  // The main thread's part: workers come and go.
+
+  /** @param {number} agent whose worker was started anew */
+  arrive(agent) {
+    store(this.words, wordOf(agent, AGENT_WORD.STATE), STATUS.IDLE);
+  }
+
+  /**
+   * Takes note that a worker has died; if it had the turn, that is the end of the run.
+   * @param {number} agent
+   * @param {string} why
+   */
+  die(agent, why) {
+    const text = this.#reason(agent);
+    text.fill(0);
+    writeText(text, why, "utf8");
+    const word = wordOf(agent, AGENT_WORD.STATE);
+    store(this.words, word, STATUS.DEAD);
+    notify(this.words, word);
+    this.#dies(agent);
+  }
+
+  /** @param {number} agent that is dead, and has the turn perhaps */
+  #dies(agent) {
+    for (let turn = inCode(agent); turn <= inCall(agent); turn += 1) {
+      if (compareExchange(this.words, WORD.TURN, turn, NOBODY) === turn) {
+        const why = this.#reason(agent).toString("utf8").split("\0")[0];
+        this.end.close("failed", `agent ${agent}'s worker died: ${why}`);
+      }
+    }
+  }
+
+  #reason(agent) {
+    return this.reasons.subarray(agent * REASON_BYTES, (agent + 1) * REASON_BYTES);
+  }
+
+  #endSilent(seconds) {
+    // An agent that makes ordinary accesses comes to the end by itself.
+    this.end.ask();
+    this.end.await(MILLISECONDS_TO_ANSWER);
+    const turn = load(this.words, WORD.TURN);
+    if (turn === NOBODY || compareExchange(this.words, WORD.TURN, turn, NOBODY) !== turn) return;
+    const agent = agentOf(turn);
+    // An agent whose stack came to its end amid a call never comes out of it.
+    if (turn === inCode(agent)) this.end.close("bound", `agent ${agent} has made no call for ${seconds} s`);
+    else this.end.close("failed", `agent ${agent} didn't come out of a call of Atomics for ${seconds} s`);
+  }
+}

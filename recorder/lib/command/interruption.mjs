@@ -1,0 +1,59 @@
+// A signal that ends the recorder: what was found until then is told first.
+
+import { setImmediate as turn } from "node:timers/promises";
+
+const SIGNALS = ["SIGINT", "SIGTERM"];
+
+/** The process was told to end. */
+export class Interrupted extends Error {
+  /** @param {NodeJS.Signals} by */
+  constructor(by) {
+    super(`interrupted by ${by}`);
+    this.by = by;
+  }
+}
+
+export class Interruption {
+  constructor() {
+    this.controller = new AbortController();
+    this.stop = (signal) => {
+      // A second one ends the process at once.
+      this.#forget();
+      this.controller.abort(new Interrupted(signal));
+    };
+    for (const signal of SIGNALS) process.on(signal, this.stop);
+  }
+
+  /** @returns {AbortSignal} */
+  get signal() {
+    return this.controller.signal;
+  }
+
+  /**
+   * From now on signals do what they do by themselves.
+   * @returns {Promise<void>} fails where one has come before
+   */
+  async end() {
+    // One that came while nothing else was done is told now.
+    await turn();
+    this.#forget();
+    if (this.signal.reason instanceof Interrupted) throw this.signal.reason;
+  }
+
+  #forget() {
+    for (const signal of SIGNALS) process.off(signal, this.stop);
+  }
+}
+
+/**
+ * Ends the process as a signal ends it.
+ * @param {NodeJS.Signals} signal that nothing listens to
+ * @returns {Promise<never>}
+ */
+export function endBy(signal) {
+  process.kill(process.pid, signal);
+  // Until it arrives.
+  return new Promise(() => {
+    setInterval(() => {}, 1_000);
+  });
+}

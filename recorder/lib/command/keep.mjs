@@ -1,0 +1,108 @@
+// Files in the folder that --out names, and nowhere else.
+
+import { randomBytes } from "node:crypto";
+import { closeSync, mkdirSync, openSync, renameSync, rmSync, writeFileSync } from "node:fs";
+import { join } from "node:path";
+import { Refused } from "../run/plan.mjs";
+
+/** A file couldn't be written. */
+export class NotKept extends Error {}
+
+export class Keeper {
+  /**
+   * Makes the folder where it isn't there, and tries whether a file can be written.
+   * @param {string} folder
+   */
+  constructor(folder) {
+    this.folder = folder;
+    /** The files that lie there by this keeper. @type {string[]} */
+    this.names = [];
+    /** The seed of the failing run that is kept. @type {number | undefined} */
+    this.seed = undefined;
+    try {
+      mkdirSync(folder, { recursive: true });
+      rmSync(this.#writeAside("sabsim"));
+    } catch (error) {
+      throw new Refused(`--out ${folder} can't be used: ${error.message}`);
+    }
+  }
+
+  /**
+   * Keeps a failing run, unless one of a lower seed is kept, or nothing is told of this one. The files of one of a
+   * higher seed go when all those of this one are there.
+   * @param {import("../run/group.mjs").Outcome} outcome
+   */
+  keepLowest({ seed, script, report, trace }) {
+    const texts = { json: script, report, "trace.jsonl": trace };
+    const isEmpty = Object.values(texts).every((text) => text === undefined);
+    if (this.seed < seed || isEmpty) return;
+    const before = this.names;
+    this.keepAll(seed, texts);
+    this.seed = seed;
+    this.#remove(before);
+  }
+
+  /**
+   * Keeps what is told of a run, in files of their own.
+   * @param {number} seed
+   * @param {Record<string, string | undefined>} texts by the endings of their names; undefined: there is none
+   */
+  keepAll(seed, texts) {
+    for (const [ending, text] of Object.entries(texts)) {
+      if (text !== undefined) this.#keep(`seed-${seed}.${ending}`, text);
+    }
+  }
+
+  /**
+   * Keeps a text under a name. It is written to another name first, so that no half of it is ever seen.
+   * @param {string} name of a file in the folder
+   * @param {string} text
+   */
+  #keep(name, text) {
+    const path = join(this.folder, name);
+    let aside;
+    try {
+      aside = this.#writeAside(name, text);
+      renameSync(aside, path);
+    } catch (error) {
+      if (aside !== undefined) rmSync(aside, { force: true });
+      const there = this.names.length === 0 ? "nothing" : this.names.join(", ");
+      throw new NotKept(`${path} can't be written: ${error.message}; kept there: ${there}`);
+    }
+    if (!this.names.includes(name)) this.names = [...this.names, name];
+  }
+
+  /** @param {string[]} names of files by this keeper */
+  #remove(names) {
+    for (const name of names) {
+      const path = join(this.folder, name);
+      try {
+        rmSync(path, { force: true });
+      } catch (error) {
+        throw new NotKept(`${path} can't be removed: ${error.message}`);
+      }
+      this.names = this.names.filter((each) => each !== name);
+    }
+  }
+
+  /**
+   * Writes a new file. Its name can't be known before, and what already has that name isn't written to, so no link that
+   * somebody has put there leads out of the folder.
+   * @param {string} name
+   * @param {string} [text]
+   * @returns {string} its path
+   */
+  #writeAside(name, text = "") {
+    const path = join(this.folder, `.${name}.${randomBytes(8).toString("hex")}`);
+    const file = openSync(path, "wx");
+    try {
+      writeFileSync(file, text);
+      return path;
+    } catch (error) {
+      rmSync(path, { force: true });
+      throw error;
+    } finally {
+      closeSync(file);
+    }
+  }
+}

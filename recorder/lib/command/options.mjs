@@ -1,0 +1,168 @@
+// The command line.
+
+import { parseArgs } from "node:util";
+import { DEFAULT_CHECK, DEFAULT_SECONDS, SCRIPT_LIMITS } from "../../script/limits.mjs";
+import { checkedAgents, checkedBuffers, checkedChoice, DEFAULT_TIMEOUTS, Refused } from "../run/plan.mjs";
+import { DEFAULT_SABSIM } from "../check/sabsim.mjs";
+
+export const USAGE = `usage: node recorder/record.mjs AGENTS.mjs [options] [-- arguments for the agents]
+
+Runs the agents of a module under seeded schedules, and keeps the first run that fails as a script for sabsim.
+
+  --agents N      how many agents; else the module's \`setup\` says it
+  --bytes N,..    the bytes of each buffer, one to four; else the module's \`setup\` says it
+  --no-block A    agent A can't block: its Atomics.wait throws TypeError; may be given more than once
+  --seeds A..B    the seeds, or one seed (1..100)
+  --switch P      how likely it is, from 0 to 1, that another agent moves next; else all moves are alike
+  --timeouts P    in how many of the draws, from 0 to 1, the end of a timed wait is offered while something else can
+                  move (${DEFAULT_TIMEOUTS})
+  --ordinary HOW  reads and writes without Atomics: watch (each is seen, and data races are looked for), store (only
+                  what changed is found) or refuse (a byte that changed fails the run) (watch)
+  --races HOW     fail: a run that has a data race fails; allow: its races are told only (fail)
+  --bounds HOW    fail: a run that meets a bound, as a spin does, fails; allow: it is told only (fail)
+  --clock WHICH   the time that clocks tell agents: run (the run's own, which comes from the seed) or real (run)
+  --fail-fast     ends at the first failing run
+  --out DIR       where the first failing run's script and report are kept; nothing is written without it
+  --jobs N        how many groups of workers run side by side (1)
+  --fresh         starts the agents' workers anew for each seed
+  --check N       checks with sabsim every run that fails, and one in N of the others; 0: none at all (${DEFAULT_CHECK})
+  --max-moves M   how many moves a run may have (${SCRIPT_LIMITS.moves})
+  --seconds S     for how long an agent may make no call (${DEFAULT_SECONDS})
+  --sabsim PATH   the built program (crates/sabsim/out/sabsim in the repository)
+  --help          this text
+
+Status: 0 no run failed, 1 some did, 2 the command line or the module was refused, 3 the code and sabsim differ, sabsim
+isn't there, a file or standard output can't be written, or a job's process ended.
+`;
+
+const SHAPE = {
+  agents: { type: "string" },
+  bytes: { type: "string" },
+  "no-block": { type: "string", multiple: true },
+  seeds: { type: "string" },
+  switch: { type: "string" },
+  timeouts: { type: "string" },
+  ordinary: { type: "string" },
+  races: { type: "string" },
+  bounds: { type: "string" },
+  clock: { type: "string" },
+  "fail-fast": { type: "boolean" },
+  out: { type: "string" },
+  jobs: { type: "string" },
+  fresh: { type: "boolean" },
+  check: { type: "string" },
+  "max-moves": { type: "string" },
+  seconds: { type: "string" },
+  sabsim: { type: "string" },
+  help: { type: "boolean" },
+};
+
+const MOST_JOBS = 64;
+const LEAST_SECONDS = 0.001;
+const MOST_SECONDS = 3_600;
+
+/**
+ * A whole number of a command line, by its digits alone.
+ * @param {string} text
+ * @param {string} option
+ * @param {number} least
+ * @param {number} most
+ * @returns {number}
+ */
+function whole(text, option, least, most) {
+  const value = /^[0-9]+$/.test(text) ? Number(text) : NaN;
+  if (value >= least && value <= most) return value;
+  throw new Refused(`--${option} must be a whole number from ${least} to ${most}, but is "${text}"`);
+}
+
+/**
+ * @param {string} text
+ * @param {string} option
+ * @param {number} least
+ * @param {number} most
+ */
+function decimal(text, option, least, most) {
+  const value = /^[0-9]+(\.[0-9]+)?$/.test(text) ? Number(text) : NaN;
+  if (value >= least && value <= most) return value;
+  throw new Refused(`--${option} must be a number from ${least} to ${most}, but is "${text}"`);
+}
+
+/** @param {string} text @returns {{ first: number, last: number }} */
+function seedsOf(text) {
+  const [from, to = from, more] = text.split("..");
+  const most = Number.MAX_SAFE_INTEGER;
+  if (more !== undefined) throw new Refused(`--seeds must be A..B or one seed, but is "${text}"`);
+  const [first, last] = [whole(from, "seeds", 0, most), whole(to, "seeds", 0, most)];
+  if (last < first) throw new Refused(`--seeds ${text}: the last seed is before the first`);
+  return { first, last };
+}
+
+/** The words of a command line, by option. @param {string[]} words */
+function parsed(words) {
+  try {
+    return parseArgs({ args: words, options: SHAPE, allowPositionals: true, strict: true });
+  } catch (error) {
+    throw new Refused(error.message.split("\n")[0]);
+  }
+}
+
+/**
+ * What a command line asks for.
+ * @param {string[]} words after the program's name
+ */
+export function optionsOf(words) {
+  const end = words.indexOf("--");
+  const { values, positionals } = parsed(end < 0 ? words : words.slice(0, end));
+  if (values.help) return { help: true };
+  if (positionals.length !== 1) {
+    const why = positionals.length === 0 ? "the agents' module is missing" : "there may be one module of agents only";
+    throw new Refused(`${why}; --help shows more`);
+  }
+  return {
+    help: false,
+    module: positionals[0],
+    args: end < 0 ? [] : words.slice(end + 1),
+    ...groupOf(values),
+    ...rulesOf(values),
+    ...seedsOf(values.seeds ?? "1..100"),
+    ...workOf(values),
+  };
+}
+
+/** Who runs, and on what. @param {Record<string, any>} values by option */
+function groupOf({ agents, bytes, "no-block": noBlock = [] }) {
+  const lengths = bytes?.split(",").map((text) => whole(text, "bytes", 0, SCRIPT_LIMITS.bytes));
+  return {
+    count: agents === undefined ? undefined : checkedAgents(whole(agents, "agents", 1, SCRIPT_LIMITS.agents)),
+    buffers: lengths === undefined ? undefined : checkedBuffers(lengths),
+    noBlock: noBlock.map((text) => whole(text, "no-block", 0, SCRIPT_LIMITS.agents - 1)),
+  };
+}
+
+/** What holds in a run. @param {Record<string, any>} values by option */
+function rulesOf({ switch: switching, timeouts, ordinary, races, bounds, clock, "max-moves": maxMoves, seconds }) {
+  const most = SCRIPT_LIMITS.moves;
+  return {
+    switching: switching === undefined ? undefined : decimal(switching, "switch", 0, 1),
+    timeouts: timeouts === undefined ? DEFAULT_TIMEOUTS : decimal(timeouts, "timeouts", 0, 1),
+    ordinary: checkedChoice("ordinary", ordinary, "--ordinary"),
+    races: checkedChoice("races", races, "--races"),
+    bounds: checkedChoice("bounds", bounds, "--bounds"),
+    clock: checkedChoice("clock", clock, "--clock"),
+    maxMoves: maxMoves === undefined ? most : whole(maxMoves, "max-moves", 1, most),
+    seconds: seconds === undefined ? DEFAULT_SECONDS : decimal(seconds, "seconds", LEAST_SECONDS, MOST_SECONDS),
+  };
+}
+
+/** How the runs are made, checked and kept. @param {Record<string, any>} values by option */
+function workOf({ out, jobs, fresh = false, check, "fail-fast": failFast = false, sabsim = DEFAULT_SABSIM }) {
+  if (out === "") throw new Refused("--out must name a folder");
+  return {
+    out,
+    jobs: jobs === undefined ? 1 : whole(jobs, "jobs", 1, MOST_JOBS),
+    fresh,
+    failFast,
+    check: check === undefined ? DEFAULT_CHECK : whole(check, "check", 0, Number.MAX_SAFE_INTEGER),
+    sabsim,
+  };
+}

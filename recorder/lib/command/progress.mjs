@@ -1,0 +1,26 @@
+// A line that tells how far it is, on a terminal only.
+
+import { digits } from "./words.mjs";
+
+const BETWEEN_LINES_MILLISECONDS = 100;
+
+export class Progress {
+  /** @param {number} runs how many there will be */
+  constructor(runs) {
+    this.runs = runs;
+    this.shown = process.stderr.isTTY ? 0 : Infinity;
+  }
+
+  /** @param {import("./summary.mjs").Summary} summary */
+  show({ runs, failed }) {
+    const now = performance.now();
+    if (now - this.shown < BETWEEN_LINES_MILLISECONDS) return;
+    this.shown = now;
+    process.stderr.write(`\r${digits(runs)} of ${digits(this.runs)} runs, ${digits(failed)} failed`);
+  }
+
+  /** Takes the line away. */
+  clear() {
+    if (process.stderr.isTTY) process.stderr.write("\r\x1b[K");
+  }
+}

@@ -1,0 +1,20 @@
+// Numbers, as a summary words them.
+
+/** @param {number} count @returns {string} as `9,432` */
+export const digits = (count) => String(count).replaceAll(/\B(?=([0-9]{3})+$)/g, ",");
+
+/** @param {number} count @param {string} what one of it @returns {string} as `1 run`, `2 runs` */
+export const counted = (count, what) => `${digits(count)} ${what}${count === 1 ? "" : "s"}`;
+
+/**
+ * The first entries as lines, and how many there are besides.
+ * @template T
+ * @param {T[]} entries
+ * @param {number} most how many lines
+ * @param {(entry: T) => string} line
+ * @returns {string[]}
+ */
+export function listed(entries, most, line) {
+  const lines = entries.slice(0, most).map(line);
+  return entries.length > most ? [...lines, `and ${digits(entries.length - most)} more`] : lines;
+}

@@ -1,0 +1,245 @@
+// A group of workers: one for each agent, and one for their referee. All end with the process, however it ends.
+
+import { Sources } from "../agent/sources.mjs";
+import { Board } from "../board/board.mjs";
+import { SCRIPT_LIMITS } from "../../script/limits.mjs";
+import { Log } from "./log.mjs";
+import { DEFAULTS, planOf, Refused } from "./plan.mjs";
+import { Records } from "./records.mjs";
+import { Stores } from "./stores.mjs";
+import { Thread } from "./thread.mjs";
+
+/** @typedef {"finished" | "deadlock" | "failed" | "check" | "race" | "bound"} Ending */
+
+/**
+ * @typedef {object} Outcome of one run
+ * @property {number} seed
+ * @property {Ending} ending
+ * @property {boolean} fails whether it is a failing run, by its ending and by what is allowed
+ * @property {string} detail why it ended so; empty where all agents finished
+ * @property {number} moves
+ * @property {number} calls of Atomics that were begun
+ * @property {number} ordinary how many ordinary reads and writes were seen
+ * @property {{ returned: number, calls: number }[]} progress of each agent: calls that returned, and that began
+ * @property {{ hash: string, shown: string[] }} state of the end: a hash of how it ended and of all bytes, and the
+ * beginnings of each buffer in hexadecimal digits
+ * @property {import("./findings.mjs").Told[]} races each pair of lines of code once
+ * @property {string[]} [bytes] of each buffer as it was left, in hexadecimal digits; this and what follows is told of
+ * runs that fail, and where it is asked for
+ * @property {(string | null)[][]} [answers] of each agent's calls, as a report spells them; null: a wait that goes on
+ * @property {string} [script] what `sabsim replay` reads
+ * @property {"all" | "touched"} [scriptHolds] which ordinary writes stand in the script: all, or those of bytes that
+ * some call of Atomics touches
+ * @property {string} [noScript] why there is no script
+ * @property {string} [report] what sabsim must answer
+ * @property {string} [trace] each event as an object of JSON, a line each
+ */
+
+/**
+ * @typedef {object} Wanted
+ * @property {number} seed
+ * @property {boolean} whole whether answers, script and report are told even of a run that finishes
+ */
+
+/** @typedef {(buffers: SharedArrayBuffer[], about: { agents: number, args: string[] }) => void} OfBuffers */
+
+/**
+ * @typedef {object} GroupOptions
+ * @property {string} module the URL of the agents' module
+ * @property {string[]} args for the agents
+ * @property {number} [count] how many agents
+ * @property {number[]} [buffers] their bytes
+ * @property {boolean[]} [block] which agents can block
+ * @property {number[]} [noBlock] agents that can't
+ * @property {number} [switching]
+ * @property {number} [timeouts] in how many draws the end of a timed wait is offered while something else can move
+ * @property {number} maxMoves
+ * @property {number} seconds for how long an agent may make no call
+ * @property {boolean} fresh
+ * @property {"watch" | "store" | "refuse"} [ordinary] what is done with ordinary reads and writes
+ * @property {"fail" | "allow"} [races] whether a run that finishes and races fails
+ * @property {"fail" | "allow"} [bounds] whether a run that meets a bound fails
+ * @property {"run" | "real"} [clock] which time agents are told
+ * @property {boolean} [trace] whether each run's trace is told
+ * @property {OfBuffers} [init] fills the buffers before each run, in place of the module's
+ * @property {OfBuffers} [checkState] throws where the buffers aren't right after a run that finished, in place of the
+ * module's `check`
+ * @property {number} [loadSeconds] how long the module may take to be loaded
+ */
+
+const DEFAULT_LOAD_SECONDS = 30;
+const AGENT_WORKER = new URL("../agent/worker.mjs", import.meta.url);
+const GROUP_WORKER = new URL("./referee.mjs", import.meta.url);
+
+/**
+ * The answer of a promise, or that it took too long.
+ * @template T
+ * @param {Promise<T>} promise
+ * @param {number} seconds
+ * @returns {Promise<T | undefined>}
+ */
+async function within(promise, seconds) {
+  let timer;
+  const late = new Promise((done) => {
+    timer = setTimeout(done, seconds * 1_000);
+  });
+  try {
+    return await Promise.race([promise, late]);
+  } finally {
+    clearTimeout(timer);
+  }
+}
+
+/**
+ * The memory that a group shares.
+ * @param {import("./plan.mjs").Plan} plan
+ */
+function memoryOf({ agents, buffers }) {
+  return {
+    board: Board.memory(),
+    log: Log.memory(),
+    stores: Stores.memory(buffers),
+    sources: Array.from({ length: agents }, () => Sources.memory()),
+    buffers: buffers.map((bytes) => new SharedArrayBuffer(bytes)),
+    copies: buffers.map((bytes) => new SharedArrayBuffer(bytes)),
+    records: Array.from({ length: agents }, () => Records.memory()),
+  };
+}
+
+export class Group {
+  /**
+   * Starts the workers, and waits until the agents' module is loaded in each.
+   * @param {GroupOptions} options
+   * @returns {Promise<Group>}
+   */
+  static async open(options) {
+    const group = new Group(options);
+    try {
+      await group.#start();
+      return group;
+    } catch (error) {
+      await group.close();
+      throw error;
+    }
+  }
+
+  /** @param {GroupOptions} options */
+  constructor(options) {
+    this.options = { ...DEFAULTS, loadSeconds: DEFAULT_LOAD_SECONDS, ...options };
+    /** @type {Thread[]} */
+    this.agents = [];
+    /** @type {Thread | undefined} */
+    this.referee = undefined;
+  }
+
+  /**
+   * Makes a run for each seed, in their order.
+   * @param {Wanted[]} seeds
+   * @param {(outcome: Outcome) => void} onOutcome
+   */
+  async run(seeds, onOutcome) {
+    this.referee.post({ seeds });
+    for (;;) {
+      const { message, ended } = await this.referee.next();
+      if (ended !== undefined) throw new Error(`the referee's worker failed: ${ended}`);
+      if (message.finished) return;
+      if (message.outcome) onOutcome(message.outcome);
+      if (message.replace) {
+        await Promise.all(message.replace.map((agent) => this.#replace(agent)));
+        this.referee.post({ replaced: true });
+      }
+      if (message.ask) this.referee.post({ threw: this.#askedHere(message.ask) });
+    }
+  }
+
+  /** Ends all workers. */
+  async close() {
+    await Promise.all([this.referee, ...this.agents].map((thread) => thread?.stop()));
+  }
+
+  async #start() {
+    const told = await this.#load(0);
+    this.plan = planOf(this.options, told.setup);
+    const { switching, timeouts, maxMoves } = this.options;
+    this.rules = { agents: this.plan.agents, switching, timeouts, maxMoves };
+    const options = this.#refereeOptions(told);
+    if (options.init !== undefined && this.plan.agents === SCRIPT_LIMITS.agents) {
+      throw new Refused(`with ${SCRIPT_LIMITS.agents} agents none is left for the stores of \`init\`: give one less`);
+    }
+    this.memory = memoryOf(this.plan);
+    this.board = new Board(this.memory.board, this.rules);
+    const others = Array.from({ length: this.plan.agents - 1 }, (_, other) => other + 1);
+    await Promise.all(others.map((agent) => this.#load(agent)));
+    await Promise.all(this.agents.map((_, agent) => this.#hand(agent)));
+    const { memory, plan, rules } = this;
+    this.referee = new Thread(GROUP_WORKER, { memory, plan, rules, options }, { ownPort: true });
+  }
+
+  /** What the referee goes by. @param {{ hasInit: boolean, hasCheck: boolean }} module */
+  #refereeOptions({ hasInit, hasCheck }) {
+    const { module, seconds, fresh, init, checkState, trace, ordinary, races, bounds } = this.options;
+    const whose = (own, isTheirs) => {
+      if (own !== undefined) return "library";
+      return isTheirs ? "module" : undefined;
+    };
+    const asked = { init: whose(init, hasInit), check: whose(checkState, hasCheck) };
+    return { module, seconds, fresh, trace, ordinary, races, bounds, ...asked };
+  }
+
+  /**
+   * Calls what the library was given, in this thread.
+   * @param {"init" | "check"} name
+   * @returns {string} what it threw, or nothing
+   */
+  #askedHere(name) {
+    const { init, checkState, args } = this.options;
+    const { buffers } = this.memory;
+    try {
+      (name === "init" ? init : checkState)([...buffers], { agents: this.plan.agents, args: [...args] });
+      return "";
+    } catch (thrown) {
+      return thrown instanceof Error ? String(thrown.stack ?? thrown) : `a value that is no Error: ${String(thrown)}`;
+    }
+  }
+
+  /** @param {number} agent whose worker is ended, and started anew */
+  async #replace(agent) {
+    await this.agents[agent].stop();
+    await this.#load(agent);
+    await this.#hand(agent);
+    this.board.turn.arrive(agent);
+  }
+
+  /**
+   * Starts an agent's worker.
+   * @param {number} agent
+   * @returns {Promise<{ setup: unknown, hasInit: boolean, hasCheck: boolean }>} what its module exports
+   */
+  async #load(agent) {
+    const { module, args, ordinary, clock } = this.options;
+    const thread = new Thread(AGENT_WORKER, { module, args, agent, ordinary, clock }, { ownPort: true });
+    this.agents[agent] = thread;
+    const { message, ended } = await this.#told(thread);
+    if (ended !== undefined) throw new Refused(`${module} can't be loaded: its worker ended (${ended})`);
+    if (message.failed !== undefined) throw new Refused(`${module} can't be loaded: ${message.failed}`);
+    return message;
+  }
+
+  /** @param {number} agent that gets the shared memory, and then plays by the board */
+  async #hand(agent) {
+    const thread = this.agents[agent];
+    const { memory, plan, rules } = this;
+    thread.onEnd = (why) => this.board.turn.die(agent, why);
+    thread.post({ memory, plan, rules });
+    const { ended } = await this.#told(thread);
+    if (ended !== undefined) throw new Refused(`${this.options.module} can't be loaded: its worker ended (${ended})`);
+  }
+
+  /** @param {Thread} thread whose next message is awaited, but not for ever */
+  async #told(thread) {
+    const { loadSeconds: seconds } = this.options;
+    const told = await within(thread.next(), seconds);
+    if (told === undefined) throw new Refused(`${this.options.module} wasn't loaded within ${seconds} s`);
+    return told;
+  }
+}

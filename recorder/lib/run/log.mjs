@@ -1,0 +1,209 @@
+// The log of a run: every access and every act on a place's waiters, in the order in which they were made, in shared
+// memory. Scripts, traces and the judging of races are read off it.
+
+const { Int32Array, SharedArrayBuffer } = globalThis;
+
+/** The first four are those of `EVENTS` of the board; then come ordinary reads and writes. */
+export const READ = 4;
+export const WRITE = 5;
+
+/** What an event is. */
+export const FLAG = Object.freeze({ READS: 1, WRITES: 2, ATOMIC: 4, WAITERS: 8 });
+
+/** Where there is no call of Atomics. */
+export const NO_CALL = 15;
+
+// How many events there are room for; the last ones are kept for calls of Atomics, which a script is made of.
+const ROOM = 2 ** 20;
+const FOR_CALLS = 65_536;
+
+// An event's words.
+const EACH = 8;
+const HEAD = 0;
+const NUMBER = 1;
+const BLOCK = 2;
+const FROM = 3;
+const TO = 4;
+const SOURCE = 5;
+const OFFSET = 6;
+const LENGTH = 7;
+
+// The head: what was done, by whom, on a view of which kind, by which call, and the flags.
+const AGENT_BITS = 4;
+const KIND_BITS = 8;
+const CALL_BITS = 12;
+const FLAG_BITS = 16;
+
+/**
+ * @typedef {object} LogEvent
+ * @property {number} what one of the board's events, or `READ` or `WRITE`
+ * @property {number} agent
+ * @property {number} kind of the view; see `Place` of what watches ordinary accesses
+ * @property {number} method the number of the call's function in `CALLS`, or `NO_CALL`
+ * @property {number} flags
+ * @property {number} call which of the agent's calls it is; of an ordinary access, how many began before
+ * @property {number} block
+ * @property {number} from its first byte in the block
+ * @property {number} to the byte behind its last one
+ * @property {number} source a number of the agent's source positions; 0 where none was taken
+ * @property {number} offset of the view, in bytes
+ * @property {number} length of the view, in elements
+ */
+
+export class Log {
+  /** @param {number} [room] for how many events @returns {SharedArrayBuffer} */
+  static memory(room = ROOM) {
+    return new SharedArrayBuffer(room * EACH * 4);
+  }
+
+  /**
+   * @param {SharedArrayBuffer} memory
+   * @param {Int32Array} words in which one tells how many events there are
+   * @param {number} count the position of that word
+   */
+  constructor(memory, words, count) {
+    this.events = new Int32Array(memory);
+    this.words = words;
+    this.count = count;
+    this.most = this.events.length / EACH;
+  }
+
+  /** @returns {number} how many events there are */
+  get length() {
+    return this.words[this.count];
+  }
+
+  /** Forgets all. */
+  begin() {
+    this.words[this.count] = 0;
+  }
+
+  /** @returns {boolean} whether there is room for another ordinary access */
+  hasRoom() {
+    return this.words[this.count] < this.most - FOR_CALLS;
+  }
+
+  /**
+   * Appends an event.
+   * @param {number} what
+   * @param {number} agent
+   * @param {number} method
+   * @param {number} flags
+   * @param {number} call
+   * @param {number} block
+   * @param {number} from
+   * @param {number} to
+   * @param {{ kind: number, offset: number, length: number }} view
+   * @param {number} source
+   */
+  append(what, agent, method, flags, call, block, from, to, view, source) {
+    const { events, words, count } = this;
+    const at = words[count] * EACH;
+    events[at + HEAD] = what | (agent << AGENT_BITS) | (view.kind << KIND_BITS) | (method << CALL_BITS) | (flags << FLAG_BITS);
+    events[at + NUMBER] = call;
+    events[at + BLOCK] = block;
+    events[at + FROM] = from;
+    events[at + TO] = to;
+    events[at + SOURCE] = source;
+    events[at + OFFSET] = view.offset;
+    events[at + LENGTH] = view.length;
+    words[count] += 1;
+  }
+
+  /**
+   * Lets the last event go on to more bytes, where it is one of the same agent on the bytes just before.
+   * @param {number} what
+   * @param {number} agent
+   * @param {number} block
+   * @param {number} from
+   * @param {number} to
+   * @param {{ kind: number, offset: number, length: number }} view
+   * @param {number} since the first event that may be changed
+   * @returns {boolean} whether it was done
+   */
+  extend(what, agent, block, from, to, view, since) {
+    const { events, words, count } = this;
+    if (words[count] <= since) return false;
+    const at = (words[count] - 1) * EACH;
+    const head = what | (agent << AGENT_BITS) | (view.kind << KIND_BITS);
+    if ((events[at + HEAD] & ((1 << CALL_BITS) - 1)) !== head || events[at + TO] !== from) return false;
+    if (events[at + BLOCK] !== block || events[at + OFFSET] !== view.offset) return false;
+    if (events[at + LENGTH] !== view.length) return false;
+    events[at + TO] = to;
+    return true;
+  }
+
+  // Of one event.
+
+  whatAt(event) {
+    return this.events[event * EACH + HEAD] & 15;
+  }
+
+  agentAt(event) {
+    return (this.events[event * EACH + HEAD] >> AGENT_BITS) & 15;
+  }
+
+  kindAt(event) {
+    return (this.events[event * EACH + HEAD] >> KIND_BITS) & 15;
+  }
+
+  flagsAt(event) {
+    return this.events[event * EACH + HEAD] >> FLAG_BITS;
+  }
+
+  blockAt(event) {
+    return this.events[event * EACH + BLOCK];
+  }
+
+  fromAt(event) {
+    return this.events[event * EACH + FROM];
+  }
+
+  toAt(event) {
+    return this.events[event * EACH + TO];
+  }
+
+  sourceAt(event) {
+    return this.events[event * EACH + SOURCE];
+  }
+
+  /**
+   * @param {number} event its position
+   * @returns {LogEvent}
+   */
+  at(event) {
+    const head = this.events[event * EACH + HEAD];
+    const word = (which) => this.events[event * EACH + which];
+    return {
+      what: head & 15,
+      agent: (head >> AGENT_BITS) & 15,
+      kind: (head >> KIND_BITS) & 15,
+      method: (head >> CALL_BITS) & 15,
+      flags: head >> FLAG_BITS,
+      call: word(NUMBER),
+      block: word(BLOCK),
+      from: word(FROM),
+      to: word(TO),
+      source: word(SOURCE),
+      offset: word(OFFSET),
+      length: word(LENGTH),
+    };
+  }
+
+  /**
+   * A log of events that are given as a trace spells them, with a number for each source.
+   * @param {{ agent: number, block: number, byte: number, size: number, read: boolean, write: boolean,
+   *   atomic: boolean, waiters: boolean, source: number, call?: number }[]} events
+   * @returns {Log}
+   */
+  static of(events) {
+    const log = new Log(Log.memory(events.length), new Int32Array(1), 0);
+    const view = { kind: 0, offset: 0, length: 0 };
+    for (const { agent, block, byte, size, read, write, atomic, waiters, source, call = 0 } of events) {
+      const flags = (read ? FLAG.READS : 0) | (write ? FLAG.WRITES : 0) | (atomic ? FLAG.ATOMIC : 0)
+        | (waiters ? FLAG.WAITERS : 0);
+      log.append(atomic || waiters ? 0 : READ, agent, NO_CALL, flags, call, block, byte, byte + size, view, source);
+    }
+    return log;
+  }
+}

@@ -1,0 +1,80 @@
+// The buffers that agents share, and beside each a copy of what the recorder knows to be written, which shows bytes
+// that changed otherwise. Both are shared memory, so that each thread sees what the others did.
+
+import { SIZES } from "../../script/kinds.mjs";
+import { uncurried } from "../../kept/own.mjs";
+
+const { Uint8Array } = globalThis;
+const areEqual = uncurried(Buffer.prototype.equals);
+
+/** @typedef {{ block: number, byte: number, was: number, is: number }} Change */
+
+export class Memory {
+  /**
+   * @param {SharedArrayBuffer[]} buffers
+   * @param {SharedArrayBuffer[]} copies as long as they are
+   */
+  constructor(buffers, copies) {
+    this.real = [];
+    this.known = [];
+    for (let block = 0; block < buffers.length; block += 1) {
+      this.real[block] = new Uint8Array(buffers[block]);
+      this.known[block] = new Uint8Array(copies[block]);
+    }
+  }
+
+  /** Makes every byte zero. */
+  reset() {
+    for (const bytes of [...this.real, ...this.known]) bytes.fill(0);
+  }
+
+  /** @returns {string[]} the known bytes of each block, two hexadecimal digits for each */
+  hex() {
+    return this.known.map((bytes) => Buffer.from(bytes.buffer).toString("hex"));
+  }
+
+  /**
+   * Takes over bytes that were written.
+   * @param {number} block
+   * @param {number} from
+   * @param {number} to
+   */
+  keep(block, from, to) {
+    const real = this.real[block];
+    const known = this.known[block];
+    for (let byte = from; byte < to; byte += 1) known[byte] = real[byte];
+  }
+
+  /**
+   * @param {number} block
+   * @returns {boolean} whether a byte of the block isn't as it is known
+   */
+  hasChanged(block) {
+    return !areEqual(this.real[block], this.known[block]);
+  }
+
+  /**
+   * The first byte that isn't as it is known.
+   * @returns {Change | undefined}
+   */
+  changed() {
+    for (let block = 0; block < this.real.length; block += 1) {
+      if (!this.hasChanged(block)) continue;
+      const real = this.real[block];
+      const known = this.known[block];
+      let byte = 0;
+      while (real[byte] === known[byte]) byte += 1;
+      return { block, byte, was: known[byte], is: real[byte] };
+    }
+    return undefined;
+  }
+}
+
+/**
+ * The byte of its block at which a call's element begins.
+ * @param {import("./records.mjs").Call} call
+ * @returns {number}
+ */
+export function byteOf(call) {
+  return call.offset + call.index * SIZES[call.kind];
+}

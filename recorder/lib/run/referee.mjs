@@ -1,0 +1,254 @@
+// The referee's thread: it begins a run for each seed that it is sent, waits for its end, judges it, and tells what
+// came of it. A run whose lines of code are wanted is made once more, by the same seed, and then each access tells its
+// own.
+
+import { createHash } from "node:crypto";
+import { workerData } from "node:worker_threads";
+import { Board } from "../board/board.mjs";
+import { ORDER, WORD } from "../board/layout.mjs";
+import { Sources } from "../agent/sources.mjs";
+import { reportText } from "../../script/report.mjs";
+import { racesTold } from "./findings.mjs";
+import { fitted } from "./fitting.mjs";
+import { initialStores } from "./initial.mjs";
+import { Log } from "./log.mjs";
+import { Memory } from "./memory.mjs";
+import { withSourceNames } from "./places.mjs";
+import { isRacy } from "./races.mjs";
+import { Records } from "./records.mjs";
+import { Stores } from "./stores.mjs";
+import { traceText } from "./trace.mjs";
+import { ownCalls, transcriptOf, waitingText } from "./transcript.mjs";
+
+/** @typedef {import("./group.mjs").Outcome} Outcome */
+
+/**
+ * @typedef {object} Made what a run came to, before it is told
+ * @property {import("./group.mjs").Ending} ending
+ * @property {string} detail
+ * @property {string[]} bytes of each block, in hexadecimal digits
+ * @property {number[]} gone agents that can't run again
+ * @property {boolean} racy
+ * @property {import("./stores.mjs").Store[]} initial what filled the buffers at first
+ * @property {{ agent: number, block: number, byte: number }[]} waiting who waits where, in order of arrival
+ */
+
+// How long an agent has to come back after its run has ended, before its worker is started anew.
+const GRACE_MILLISECONDS = 200;
+const SHOWN_DIGITS = 48;
+
+const { port, memory: shared, plan, rules, options } = workerData;
+const board = new Board(shared.board, rules);
+const memory = new Memory(shared.buffers, shared.copies);
+const log = new Log(shared.log, board.words, WORD.EVENTS);
+const stores = new Stores(shared.stores, board.words, memory);
+const records = shared.records.map((each) => new Records(each));
+const sources = shared.sources.map((each) => new Sources(each));
+const agents = plan.canBlock.map((_, agent) => agent);
+const run = { log, records, lengths: plan.buffers, canBlock: plan.canBlock };
+
+/** Whether the next run tells its lines of code at once: where the one before raced, it may well. */
+let tellsNext = options.trace;
+/** Whether the trace of a failing run was made already, or tried: a later seed's isn't kept. */
+let isTraced = false;
+
+/** What another thread answers to a message. @param {object} message @returns {Promise<any>} */
+function answered(message) {
+  return new Promise((done) => {
+    port.once("message", done);
+    port.postMessage(message);
+  });
+}
+
+/**
+ * Has the module's `init` or `check` run, or the library's.
+ * @param {"init" | "check"} name
+ * @returns {Promise<string>} what it threw, or nothing
+ */
+async function asked(name) {
+  if (options[name] === "library") return (await answered({ ask: name })).threw;
+  board.order(name === "init" ? ORDER.INIT : ORDER.CHECK);
+  board.turn.awaitEnd(options.seconds);
+  const { ending, detail } = board.end.told();
+  if (!board.turn.isBack(0, GRACE_MILLISECONDS)) await answered({ replace: [0] });
+  return ending === "finished" ? "" : detail;
+}
+
+/** Sends the agents home. @returns {number[]} those that can't run again */
+function sentHome() {
+  board.dismiss();
+  return agents.filter((agent) => !board.turn.isBack(agent, GRACE_MILLISECONDS));
+}
+
+/**
+ * One run, by a seed.
+ * @param {number} seed
+ * @param {boolean} tellsSources whether each access tells its line of code
+ * @returns {Promise<Made>}
+ */
+async function made(seed, tellsSources) {
+  memory.reset();
+  log.begin();
+  stores.begin();
+  board.journal.begin();
+  const problem = options.init === undefined ? "" : await asked("init");
+  const initial = options.init === undefined ? [] : initialStores(memory, plan.agents);
+  if (problem !== "") {
+    const nothing = { bytes: memory.hex(), gone: [], racy: false, initial, waiting: [] };
+    return { ending: "failed", detail: `init threw ${problem}`, ...nothing };
+  }
+  board.words[WORD.TELLS_SOURCES] = tellsSources ? 1 : 0;
+  board.begin(seed);
+  board.turn.awaitEnd(options.seconds);
+  const told = board.end.told();
+  const bytes = memory.hex();
+  const waiting = board.line.waiting().map((agent) => ({ agent, ...board.line.placeOf(agent) }));
+  const gone = sentHome();
+  const racy = options.ordinary === "watch" && isRacy(log, plan.agents);
+  const detail = told.ending === "bound" ? withSourceNames(told.detail, options.module) : told.detail;
+  return { ending: told.ending, detail, bytes, gone, racy, initial, waiting };
+}
+
+/** How many calls of Atomics were begun. */
+const callCount = () => agents.reduce((sum, agent) => sum + board.journal.progress(agent).calls, 0);
+
+/** How a run ends, with what is known when its agents are home. @param {Made} made @returns {Promise<Made>} */
+async function judged(found) {
+  if (found.ending !== "finished") return found;
+  if (callCount() === 0) {
+    const detail = "no agent has made a call of Atomics on the recorded buffers: nothing was tried";
+    return { ...found, ending: "failed", detail };
+  }
+  const problem = options.check === undefined ? "" : await asked("check");
+  if (problem !== "") return { ...found, ending: "check", detail: `check threw ${problem}` };
+  return found.racy && options.races === "fail" ? { ...found, ending: "race" } : found;
+}
+
+/** @param {Made} found */
+const isFailing = ({ ending }) => ending !== "finished" && !(ending === "bound" && options.bounds === "allow");
+
+/** The bytes at the end: their hash, with the ending's, and their beginnings. @param {Made} found */
+function stateOf({ ending, bytes }) {
+  const hash = createHash("sha256").update(`${ending} ${bytes.join(" ")}`).digest("base64");
+  const shown = bytes.map((hex) => (hex.length > SHOWN_DIGITS ? `${hex.slice(0, SHOWN_DIGITS)}…` : hex));
+  return { hash, shown };
+}
+
+/** What is told of each run. @param {number} seed @param {Made} found @returns {Outcome} */
+function briefly(seed, found) {
+  return {
+    seed,
+    ending: found.ending,
+    fails: isFailing(found),
+    detail: found.detail,
+    moves: board.journal.moves(),
+    calls: callCount(),
+    ordinary: agents.reduce((sum, agent) => sum + board.journal.ordinary(agent), 0),
+    progress: agents.map((agent) => board.journal.progress(agent)),
+    state: stateOf(found),
+    races: [],
+  };
+}
+
+/**
+ * What is told besides of a run that fails, or that is asked for.
+ * @param {Outcome} outcome
+ * @param {Made} found
+ */
+function tellWhole(outcome, found) {
+  const { transcript, script, holds, bytes, noScript } = fitted(run, stores, found.initial, found.bytes);
+  if (outcome.ending === "deadlock") outcome.detail = waitingText(found.waiting, transcript);
+  outcome.bytes = found.bytes;
+  outcome.answers = agents.map((agent) => ownCalls(transcript, agent).map((call) => call.answer));
+  if (script === undefined) {
+    outcome.noScript = noScript;
+    return;
+  }
+  outcome.script = script;
+  outcome.scriptHolds = holds;
+  outcome.report = reportText(transcript, bytes);
+}
+
+/** The races of the run that was made last. */
+function tellRaces(tellsSources) {
+  const list = tellsSources ? sources.map((each) => each.list()) : [];
+  return racesTold({ run, transcript: transcriptOf(run, []), sources: list, module: options.module });
+}
+
+/** Whether two runs of a seed did the same. @param {Outcome} one @param {Outcome} other */
+function areAlike(one, other) {
+  const parts = ({ ending, moves, calls, state }) => [ending, moves, calls, state.hash].join(" ");
+  return parts(one) === parts(other);
+}
+
+/**
+ * Has workers started anew, and waits until they are there.
+ * @param {number[]} gone
+ */
+async function replaced(gone) {
+  if (gone.length > 0) await answered({ replace: gone });
+}
+
+/**
+ * Adds the lines of code to what is told of a run: it is made once more where it hasn't told them.
+ * @param {Outcome} outcome
+ * @param {Made} found
+ * @param {boolean} hasSources whether its accesses have told their lines
+ */
+async function addSources(outcome, found, hasSources) {
+  const wantsTrace = options.trace || (outcome.fails && !isTraced);
+  isTraced ||= outcome.fails;
+  if (!found.racy && !wantsTrace) return;
+  if (hasSources) {
+    tellSources(outcome, wantsTrace);
+    return;
+  }
+  // Until the agents have told their lines, this is all that is known.
+  outcome.races = found.racy ? tellRaces(false) : [];
+  // Who didn't come back made no call for long, and would take as long again.
+  if (found.gone.length > 0) return;
+  const again = await made(outcome.seed, true);
+  const same = areAlike(briefly(outcome.seed, await judged(again)), outcome);
+  await replaced(options.fresh ? agents : again.gone);
+  if (same) tellSources(outcome, wantsTrace);
+}
+
+/** The races and the trace of the run that was made last, whose accesses have told their lines. */
+function tellSources(outcome, wantsTrace) {
+  outcome.races = options.ordinary === "watch" ? tellRaces(true) : [];
+  if (wantsTrace) outcome.trace = traceText(log, sources.map((each) => each.list()));
+}
+
+/**
+ * The outcome of a seed.
+ * @param {import("./group.mjs").Wanted} wanted
+ * @returns {Promise<Outcome>}
+ */
+async function outcomeOf({ seed, whole }) {
+  let hasSources = tellsNext;
+  let found = await made(seed, hasSources);
+  const isCut = hasSources && !log.hasRoom();
+  if (isCut) {
+    // Not all accesses have told their lines: this is judged by a run that keeps each of them once.
+    await replaced(found.gone);
+    hasSources = false;
+    found = await made(seed, false);
+  }
+  found = await judged(found);
+  const outcome = briefly(seed, found);
+  if (whole || outcome.fails) tellWhole(outcome, found);
+  await replaced(options.fresh ? agents : found.gone);
+  await addSources(outcome, found, hasSources);
+  if (outcome.ending === "race") outcome.detail = outcome.races.map(({ text }) => text).join("\n");
+  tellsNext = options.trace || (found.racy && !isCut);
+  return outcome;
+}
+
+/** @param {{ seeds: import("./group.mjs").Wanted[] }} work */
+async function record({ seeds }) {
+  for (const wanted of seeds) port.postMessage({ outcome: await outcomeOf(wanted) });
+  port.once("message", record);
+  port.postMessage({ finished: true });
+}
+
+port.once("message", record);

@@ -1,0 +1,250 @@
+// Ordinary writes as a script has them: stores by the agent that wrote, before its next call. They are taken when the
+// agent makes that call, and only what has changed is taken.
+//
+// A few elements stand as they were written; many stand as the largest whole aligned elements. Where more are taken than
+// a script can ever have, those of bytes that no call touches are thinned out: what the calls answer doesn't rest on
+// them. When a call comes to touch such a byte after all, what was last written there is taken up again.
+
+import { KINDS, SIZES } from "../../script/kinds.mjs";
+import { SCRIPT_LIMITS } from "../../script/limits.mjs";
+import { WORD } from "../board/layout.mjs";
+
+const { Int32Array, Uint8Array, SharedArrayBuffer } = globalThis;
+
+// More don't come into a script, even where each of its calls is such a store of eight bytes that were written singly.
+const ROOM = SCRIPT_LIMITS.agents * SCRIPT_LIMITS.calls * 8;
+
+// Up to so many bytes that were written together stand as the elements that were written.
+const FEW_BYTES = 64;
+
+const EACH = 8;
+const POSITION = 0;
+const AGENT = 1;
+const BLOCK = 2;
+const BYTE = 3;
+const KIND = 4;
+const VALUE = 6;
+
+// The word IS_THINNED.
+const ALL = 0;
+const THINNED = 1;
+const LOST = 2;
+
+const UINT8 = KINDS.indexOf("Uint8");
+const INT32 = KINDS.indexOf("Int32");
+
+/** The unsigned kinds, by how many bytes they have. */
+const UNSIGNED = Object.freeze({ 1: UINT8, 2: KINDS.indexOf("Uint16"), 4: KINDS.indexOf("Uint32"),
+  8: KINDS.indexOf("BigUint64") });
+
+/** The kind of a store that writes the bytes of an element of each kind. A float stands by its bytes. */
+const STORED = Object.freeze(KINDS.map((name, kind) => {
+  return name.startsWith("Float") || name === "Uint8Clamped" ? UNSIGNED[SIZES[kind]] : kind;
+}));
+
+/**
+ * @typedef {object} Store
+ * @property {number} position in the log: it is done before the event that stands there
+ * @property {number} agent
+ * @property {number} block
+ * @property {number} byte
+ * @property {number} kind
+ * @property {Uint8Array} bytes that it writes
+ */
+
+export class Stores {
+  /** @param {number[]} lengths of the blocks */
+  static memory(lengths) {
+    const bytes = lengths.reduce((sum, length) => sum + length, 0);
+    return {
+      entries: new SharedArrayBuffer(ROOM * EACH * 4),
+      touched: new SharedArrayBuffer(bytes * 4),
+      dropped: new SharedArrayBuffer(bytes * 4),
+    };
+  }
+
+  /**
+   * @param {ReturnType<typeof Stores.memory>} memory
+   * @param {Int32Array} words of the board
+   * @param {import("./memory.mjs").Memory} buffers
+   */
+  constructor(memory, words, buffers) {
+    this.entries = new Int32Array(memory.entries);
+    this.bytes = new Uint8Array(memory.entries);
+    /** For each byte, the run in which a call touched it. */
+    this.touched = new Int32Array(memory.touched);
+    /** For each byte of a thinned list, where a store that was left out would stand, and whose; else 0. */
+    this.dropped = new Int32Array(memory.dropped);
+    this.words = words;
+    this.buffers = buffers;
+    this.run = 0;
+    this.firsts = [];
+    let first = 0;
+    for (let block = 0; block < buffers.real.length; block += 1) {
+      this.firsts[block] = first;
+      first += buffers.real[block].length;
+    }
+  }
+
+  /** A run begins. */
+  begin() {
+    this.words[WORD.STORES] = 0;
+    this.words[WORD.IS_THINNED] = ALL;
+  }
+
+  /** An agent begins its part in a run. */
+  join() {
+    this.run = this.words[WORD.RUN];
+  }
+
+  /**
+   * Takes what an access of this agent has changed.
+   * @param {number} agent
+   * @param {number} position
+   * @param {number} block
+   * @param {number} from
+   * @param {number} to
+   * @param {number} kind of the view that it was written by, or a greater number where that is no typed array
+   */
+  takeWritten(agent, position, block, from, to, kind) {
+    if (kind < KINDS.length && to - from <= FEW_BYTES) {
+      const stored = STORED[kind];
+      for (let byte = from; byte < to; byte += SIZES[stored]) this.#take(agent, position, block, byte, stored);
+      return;
+    }
+    for (let byte = from; byte < to;) {
+      const size = largestAt(byte, to);
+      this.#take(agent, position, block, byte, UNSIGNED[size]);
+      byte += size;
+    }
+  }
+
+  /**
+   * Takes all that has changed in a block, in words where they are whole.
+   * @param {number} agent
+   * @param {number} position
+   * @param {number} block
+   */
+  takeChanged(agent, position, block) {
+    const { length } = this.buffers.real[block];
+    const whole = length - (length % 4);
+    for (let byte = 0; byte < whole; byte += 4) this.#take(agent, position, block, byte, INT32);
+    for (let byte = whole; byte < length; byte += 1) this.#take(agent, position, block, byte, UINT8);
+  }
+
+  /**
+   * A call is about to touch some bytes.
+   * @param {number} block
+   * @param {number} from
+   * @param {number} to
+   */
+  touch(block, from, to) {
+    const { touched, dropped, words } = this;
+    for (let byte = from; byte < to; byte += 1) {
+      const place = this.firsts[block] + byte;
+      if (touched[place] === this.run) continue;
+      touched[place] = this.run;
+      if (words[WORD.IS_THINNED] === ALL || dropped[place] === 0) continue;
+      const left = dropped[place] - 1;
+      this.#push(left & 15, left >> 4, block, byte, UINT8);
+    }
+  }
+
+  /** @returns {boolean} whether all stores are there */
+  isWhole() {
+    return this.words[WORD.IS_THINNED] === ALL;
+  }
+
+  /** @returns {boolean} whether some are lost that calls may rest on */
+  isLost() {
+    return this.words[WORD.IS_THINNED] === LOST;
+  }
+
+  /** @returns {Store[]} in the order in which they are done */
+  list() {
+    const { entries, bytes, words } = this;
+    const stores = Array.from({ length: words[WORD.STORES] }, (_, number) => {
+      const at = number * EACH;
+      const kind = entries[at + KIND];
+      const value = (at + VALUE) * 4;
+      return { position: entries[at + POSITION], agent: entries[at + AGENT], block: entries[at + BLOCK],
+        byte: entries[at + BYTE], kind, bytes: bytes.slice(value, value + SIZES[kind]) };
+    });
+    return stores.sort((one, other) => one.position - other.position);
+  }
+
+  /** Takes one element, where it has changed. */
+  #take(agent, position, block, byte, kind) {
+    const real = this.buffers.real[block];
+    const known = this.buffers.known[block];
+    const to = byte + SIZES[kind];
+    let at = byte;
+    while (at < to && real[at] === known[at]) at += 1;
+    if (at === to) return;
+    this.buffers.keep(block, byte, to);
+    if (this.words[WORD.STORES] === ROOM) this.#thin();
+    if (this.words[WORD.IS_THINNED] !== ALL && !this.#isTouched(block, byte, to)) {
+      this.#drop(agent, position, block, byte, to);
+    } else {
+      this.#push(agent, position, block, byte, kind);
+    }
+  }
+
+  #push(agent, position, block, byte, kind) {
+    const { entries, bytes, words } = this;
+    if (words[WORD.STORES] === ROOM) {
+      words[WORD.IS_THINNED] = LOST;
+      return;
+    }
+    const at = words[WORD.STORES] * EACH;
+    entries[at + POSITION] = position;
+    entries[at + AGENT] = agent;
+    entries[at + BLOCK] = block;
+    entries[at + BYTE] = byte;
+    entries[at + KIND] = kind;
+    const known = this.buffers.known[block];
+    const value = (at + VALUE) * 4;
+    for (let more = 0; more < SIZES[kind]; more += 1) bytes[value + more] = known[byte + more];
+    words[WORD.STORES] += 1;
+  }
+
+  #drop(agent, position, block, from, to) {
+    for (let byte = from; byte < to; byte += 1) this.dropped[this.firsts[block] + byte] = ((position << 4) | agent) + 1;
+  }
+
+  /** Leaves out the stores of bytes that no call has touched yet. */
+  #thin() {
+    const { entries, words, dropped } = this;
+    if (words[WORD.IS_THINNED] !== ALL) return;
+    words[WORD.IS_THINNED] = THINNED;
+    for (let place = 0; place < dropped.length; place += 1) dropped[place] = 0;
+    let kept = 0;
+    for (let number = 0; number < words[WORD.STORES]; number += 1) {
+      const at = number * EACH;
+      const block = entries[at + BLOCK];
+      const byte = entries[at + BYTE];
+      const to = byte + SIZES[entries[at + KIND]];
+      if (!this.#isTouched(block, byte, to)) {
+        this.#drop(entries[at + AGENT], entries[at + POSITION], block, byte, to);
+        continue;
+      }
+      for (let word = 0; word < EACH; word += 1) entries[kept * EACH + word] = entries[at + word];
+      kept += 1;
+    }
+    words[WORD.STORES] = kept;
+  }
+
+  #isTouched(block, from, to) {
+    for (let byte = from; byte < to; byte += 1) {
+      if (this.touched[this.firsts[block] + byte] === this.run) return true;
+    }
+    return false;
+  }
+}
+
+/** How many bytes the largest aligned element has that begins at a byte and ends at another one at the latest. */
+function largestAt(byte, to) {
+  let size = 8;
+  while (byte % size !== 0 || byte + size > to) size /= 2;
+  return size;
+}

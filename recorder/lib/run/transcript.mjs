@@ -1,0 +1,165 @@
+// What was done in a run, as a script and its report have it: views, the calls of each agent, and moves. Ordinary writes
+// stand among the calls as stores. What agents call is counted apart: they are none of theirs.
+
+import { EVENTS, LEAVE, TIME_UP } from "../board/journal.mjs";
+import { CONSTRUCTORS, KINDS, SIZES } from "../../script/kinds.mjs";
+import { answerText } from "../../script/report.mjs";
+import { READ } from "./log.mjs";
+import { callText, viewName } from "./spelling.mjs";
+
+/** @typedef {import("./stores.mjs").Store} Store */
+
+/**
+ * @typedef {object} View as a script has it
+ * @property {string} name
+ * @property {string} kind
+ * @property {number} block
+ * @property {number} offset
+ * @property {number} length
+ */
+
+/**
+ * @typedef {object} Done a call that has begun
+ * @property {string} text the call as a script has it
+ * @property {boolean} joined whether it joined the line of waiters
+ * @property {string | null} answer as a report spells it, or null while it waits
+ * @property {boolean} isOwn whether the agent called it; else it stands for an ordinary write
+ */
+
+/** @typedef {{ agent: number, timeUp: boolean }} Move */
+
+/**
+ * @typedef {object} Transcript
+ * @property {number[]} lengths of the blocks
+ * @property {boolean[]} canBlock of each agent
+ * @property {View[]} views
+ * @property {Done[][]} calls of each agent
+ * @property {Move[]} moves
+ */
+
+/**
+ * @typedef {object} Run what a transcript is made from
+ * @property {import("./log.mjs").Log} log
+ * @property {import("./records.mjs").Records[]} records of each agent
+ * @property {number[]} lengths of the blocks
+ * @property {boolean[]} canBlock of each agent
+ */
+
+/**
+ * @param {string} name
+ * @param {{ kind: number, block: number, offset: number, length: number }} range
+ * @returns {View}
+ */
+function viewOf(name, { kind, block, offset, length }) {
+  return { name, kind: KINDS[kind], block, offset, length };
+}
+
+class Writer {
+  /** @param {number[]} lengths @param {boolean[]} canBlock */
+  constructor(lengths, canBlock) {
+    this.lengths = lengths;
+    this.canBlock = canBlock;
+    /** @type {Map<string, View>} */
+    this.views = new Map();
+    /** @type {Done[][]} */
+    this.calls = canBlock.map(() => []);
+    /** How many calls each agent has made itself. */
+    this.own = canBlock.map(() => 0);
+    /** @type {Move[]} */
+    this.moves = [];
+  }
+
+  /** @param {string} name @param {Parameters<typeof viewOf>[1]} range */
+  addView(name, range) {
+    if (!this.views.has(name)) this.views.set(name, viewOf(name, range));
+  }
+
+  /** @param {number} agent @param {number} count @param {boolean} timeUp whether the first is the end of a time */
+  addMoves(agent, count, timeUp) {
+    for (let move = 0; move < count; move += 1) this.moves.push({ agent, timeUp: timeUp && move === 0 });
+  }
+
+  /**
+   * @param {Store} store
+   * @param {string} whose what its view's name begins with
+   */
+  addStore({ agent, block, byte, kind, bytes }, whose) {
+    const length = Math.floor(this.lengths[block] / SIZES[kind]);
+    const range = { kind, block, offset: 0, length };
+    const name = `${whose}_${viewName(this.lengths, range)}`;
+    this.addView(name, range);
+    const [value] = new CONSTRUCTORS[kind](bytes.slice().buffer);
+    const isBig = typeof value === "bigint";
+    const index = byte / SIZES[kind];
+    const text = `["store", "${name}", ${index}, ${isBig ? `"${value}"` : value}]`;
+    this.calls[agent].push({ text, joined: false, answer: answerText(value), isOwn: false });
+    this.addMoves(agent, EVENTS[0].moves, false);
+  }
+
+  /** @param {import("./records.mjs").Records} records @param {number} agent @param {number} event */
+  addEvent(records, agent, event) {
+    if (event !== LEAVE && event !== TIME_UP) {
+      const call = records.callAt(this.own[agent]);
+      const name = viewName(this.lengths, call);
+      this.addView(name, call);
+      this.calls[agent].push({ text: callText(name, call), ...records.doneAt(this.own[agent]), isOwn: true });
+      this.own[agent] += 1;
+    }
+    this.addMoves(agent, EVENTS[event].moves, event === TIME_UP);
+  }
+}
+
+/**
+ * Reads what was done in a run that has ended.
+ * @param {Run} run
+ * @param {Store[]} stores that stand for ordinary writes, in their order
+ * @param {Store[]} [initial] those that fill the buffers at first, of an agent of their own
+ * @returns {Transcript}
+ */
+export function transcriptOf({ log, records, lengths, canBlock }, stores, initial = []) {
+  const writer = new Writer(lengths, initial.length === 0 ? canBlock : [...canBlock, true]);
+  for (const store of initial) writer.addStore(store, "init");
+  let next = 0;
+  const addStores = (position) => {
+    for (; next < stores.length && stores[next].position <= position; next += 1) {
+      writer.addStore(stores[next], "ordinary");
+    }
+  };
+  for (let position = 0; position < log.length; position += 1) {
+    const event = log.whatAt(position);
+    if (event >= READ) continue;
+    addStores(position);
+    const agent = log.agentAt(position);
+    writer.addEvent(records[agent], agent, event);
+  }
+  addStores(Infinity);
+  const { views, calls, moves, canBlock: all } = writer;
+  return { lengths, canBlock: all, views: [...views.values()], calls, moves };
+}
+
+/**
+ * The calls that an agent made itself.
+ * @param {Transcript} transcript
+ * @param {number} agent
+ * @returns {(Done & { inScript: number })[]} each with its number in the script
+ */
+export function ownCalls(transcript, agent) {
+  return transcript.calls[agent].map((call, inScript) => ({ ...call, inScript })).filter((call) => call.isOwn);
+}
+
+/**
+ * Who waits where, a line for each.
+ * @param {{ agent: number, block: number, byte: number }[]} waiting in order of arrival
+ * @param {Transcript} transcript
+ * @returns {string}
+ */
+export function waitingText(waiting, transcript) {
+  const lines = waiting.map(({ agent, block, byte }) => {
+    const calls = ownCalls(transcript, agent);
+    const number = calls.length - 1;
+    const { text, inScript } = calls[number];
+    const there = inScript === number ? "" : `, which is ${inScript} in the script`;
+    return `agent ${agent} waits at byte ${byte} of block ${block}: its call ${number}, ${text}${there}`;
+  });
+  return lines.join("\n");
+}

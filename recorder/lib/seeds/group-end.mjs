@@ -1,0 +1,15 @@
+// How the process of a job is ended. It leads a group of processes: those that its agents or its checks have started
+// end with it. It isn't asked to end by itself, since it would await each thread that native code holds.
+
+/**
+ * Ends a process, and all of its group.
+ * @param {number} id of the process that leads the group
+ */
+export function endGroup(id) {
+  try {
+    // Windows has no such groups.
+    process.kill(process.platform === "win32" ? id : -id, "SIGKILL");
+  } catch {
+    // It has ended by itself.
+  }
+}

@@ -1,0 +1,73 @@
+// One job: a group of workers, and the checks of its runs.
+
+import { Checker } from "../check/checker.mjs";
+import { Group } from "../run/group.mjs";
+import { foundSabsim } from "../check/sabsim.mjs";
+
+/**
+ * @typedef {object} CheckOptions
+ * @property {boolean} checks whether runs that are told whole are checked
+ * @property {string} sabsim the program's path
+ */
+
+// How many checks may wait before more runs are made.
+const MOST_WAITING = 64;
+
+export class Job {
+  /**
+   * @param {import("../run/group.mjs").GroupOptions & CheckOptions} options
+   * @param {(seed: number) => void} onCheck is told of each run that sabsim says the same of
+   * @returns {Promise<Job>}
+   */
+  static async open(options, onCheck) {
+    const checker = options.checks ? new Checker(foundSabsim(options.sabsim)) : undefined;
+    return new Job(await Group.open(options), checker, onCheck);
+  }
+
+  /**
+   * @param {Group} group
+   * @param {Checker | undefined} checker
+   * @param {(seed: number) => void} onCheck
+   */
+  constructor(group, checker, onCheck) {
+    this.group = group;
+    this.checker = checker;
+    this.onCheck = onCheck;
+    /** @type {Set<Promise<void>>} */
+    this.checks = new Set();
+    this.failure = undefined;
+  }
+
+  /**
+   * Makes runs; their checks go on meanwhile, and afterwards.
+   * @param {import("../run/group.mjs").Wanted[]} seeds
+   * @param {(outcome: import("../run/group.mjs").Outcome) => void} onOutcome
+   * @returns {Promise<void>} fails where a check has failed
+   */
+  async run(seeds, onOutcome) {
+    while (this.checks.size > 0 && this.checker.waiting > MOST_WAITING) await Promise.race(this.checks);
+    await this.group.run(seeds, (outcome) => {
+      if (this.failure !== undefined) return;
+      onOutcome(outcome);
+      if (this.checker !== undefined && outcome.script !== undefined) this.#check(outcome);
+    });
+    if (this.failure !== undefined) throw this.failure;
+  }
+
+  /** @returns {Promise<void>} when the last check is done; fails where one has failed */
+  async finish() {
+    await Promise.all(this.checks);
+    if (this.failure !== undefined) throw this.failure;
+  }
+
+  /** @param {import("../run/group.mjs").Outcome} outcome of which a check needs little: the rest isn't kept for it */
+  #check({ seed, script, report }) {
+    const agreed = () => this.onCheck(seed);
+    const fail = (failure) => {
+      this.failure ??= failure;
+    };
+    const checked = this.checker.check({ seed, script, report });
+    const checking = checked.then(agreed, fail).finally(() => this.checks.delete(checking));
+    this.checks.add(checking);
+  }
+}

@@ -1,0 +1,58 @@
+// The kinds of typed arrays that a script can have, and the functions of Atomics that it can call.
+
+import { mapGet, tagOf } from "../kept/own.mjs";
+
+/**
+ * The names of the kinds, as scripts spell them. A kind's position here is its number in a record.
+ * @type {readonly string[]}
+ */
+export const KINDS = Object.freeze([
+  "Int8", "Uint8", "Uint8Clamped", "Int16", "Uint16", "Int32", "Uint32", "Float32", "Float64", "BigInt64", "BigUint64",
+]);
+
+/** The constructor of each kind, by its number. */
+export const CONSTRUCTORS = Object.freeze(KINDS.map((kind) => globalThis[`${kind}Array`]));
+
+/** How many bytes an element of each kind has, by its number. */
+export const SIZES = Object.freeze(CONSTRUCTORS.map((constructor) => constructor.BYTES_PER_ELEMENT));
+
+/**
+ * @typedef {object} Taken what a call takes
+ * @property {string} name of the function of Atomics
+ * @property {number} operands how many Numbers or BigInts, after its view and index
+ * @property {boolean} takesLimit whether a Number may follow: the timeout of a wait, the count of a notify
+ */
+
+/**
+ * The calls that a script can have. A call's position here is its number in a record.
+ * @type {readonly Taken[]}
+ */
+export const CALLS = Object.freeze([
+  { name: "load", operands: 0, takesLimit: false },
+  { name: "store", operands: 1, takesLimit: false },
+  { name: "exchange", operands: 1, takesLimit: false },
+  { name: "add", operands: 1, takesLimit: false },
+  { name: "sub", operands: 1, takesLimit: false },
+  { name: "and", operands: 1, takesLimit: false },
+  { name: "or", operands: 1, takesLimit: false },
+  { name: "xor", operands: 1, takesLimit: false },
+  { name: "compareExchange", operands: 2, takesLimit: false },
+  { name: "wait", operands: 1, takesLimit: true },
+  { name: "notify", operands: 0, takesLimit: true },
+]);
+
+/** The number of each call, by its name. */
+export const CALL_NUMBERS = Object.freeze(Object.fromEntries(CALLS.map((call, number) => [call.name, number])));
+
+const NUMBERS = new Map(KINDS.map((kind, number) => [`${kind}Array`, number]));
+
+/**
+ * The number of a value's kind, or -1 for a value that is no typed array of the eleven kinds. It asks the engine's own
+ * slot of the value, so a class that extends a typed array has its kind too.
+ * @param {unknown} value
+ * @returns {number}
+ */
+export function kindOf(value) {
+  const tag = tagOf(value);
+  return tag === undefined ? -1 : mapGet(NUMBERS, tag);
+}

@@ -1,0 +1,88 @@
+// Reports: their form, the one that a replay of a run's script has to give, and how two of them differ.
+
+/**
+ * @typedef {object} Entry what a move did
+ * @property {number} agent that moved
+ * @property {number} call its number among the agent's
+ * @property {string} text what it did, in the report's words
+ */
+
+/**
+ * The text of a report (docs/FORMATS.md has its form).
+ * @param {Entry[]} entries one for each move
+ * @param {string[]} bytes of each block at the end, in hexadecimal digits
+ * @param {{ returned: number, calls: number }[]} progress of each agent: how many of its calls returned
+ * @returns {string}
+ */
+export function reportOf(entries, bytes, progress) {
+  const moves = entries.map(({ agent, call, text }, position) => `${position} ${agent} ${call} ${text}`);
+  const blocks = bytes.map((hex, block) => `block ${block} ${hex === "" ? "-" : hex}`);
+  const agents = progress.map(({ returned, calls }, agent) => `agent ${agent} ${returned} of ${calls}`);
+  return [...moves, ...blocks, ...agents].map((line) => `${line}\n`).join("");
+}
+
+/**
+ * What a call answers, as a report spells it.
+ * @param {number | bigint | string} answer a value, or a word as "ok"
+ * @returns {string}
+ */
+export const answerText = (answer) => (typeof answer === "bigint" ? `${answer}n` : `${answer}`);
+
+/**
+ * What the next step of a call is written as; a call steps through its words.
+ * @param {import("../lib/run/transcript.mjs").Done} call
+ * @returns {string[]}
+ */
+function wordsOf(call) {
+  const { joined, answer } = call;
+  return joined
+    ? ["begin", "wait", `leave ${answer}`, `return ${answer}`]
+    : ["begin", `act ${answer}`, `return ${answer}`];
+}
+
+/**
+ * What each move did.
+ * @param {import("../lib/run/transcript.mjs").Transcript} transcript
+ * @returns {Entry[]}
+ */
+function entriesOf(transcript) {
+  const at = transcript.calls.map((calls) => ({ call: 0, words: calls.length > 0 ? wordsOf(calls[0]) : [] }));
+  return transcript.moves.map(({ agent }) => {
+    const cursor = at[agent];
+    const entry = { agent, call: cursor.call, text: cursor.words.shift() };
+    if (cursor.words.length === 0) {
+      cursor.call += 1;
+      const next = transcript.calls[agent][cursor.call];
+      cursor.words = next === undefined ? [] : wordsOf(next);
+    }
+    return entry;
+  });
+}
+
+/**
+ * The report of what the agents' code saw, in the form of `sabsim replay`: every answer, how far each agent came, and
+ * the bytes at the end.
+ * @param {import("../lib/run/transcript.mjs").Transcript} transcript
+ * @param {string[]} bytes of each block, in hexadecimal digits
+ * @returns {string}
+ */
+export function reportText(transcript, bytes) {
+  const progress = transcript.calls.map((calls) => {
+    return { returned: calls.filter((call) => call.answer !== null).length, calls: calls.length };
+  });
+  return reportOf(entriesOf(transcript), bytes, progress);
+}
+
+/**
+ * The first line in which two reports differ.
+ * @param {string} recorded
+ * @param {string} replayed
+ * @returns {{ line: number, recorded: string, replayed: string } | undefined}
+ */
+export function firstDifference(recorded, replayed) {
+  if (recorded === replayed) return undefined;
+  const [ours, theirs] = [recorded.split("\n"), replayed.split("\n")];
+  let line = 0;
+  while (ours[line] === theirs[line]) line += 1;
+  return { line: line + 1, recorded: ours[line] ?? "(no line)", replayed: theirs[line] ?? "(no line)" };
+}

@@ -1,0 +1,17 @@
+// Runs the cases of a module in a watched realm, and tells what is wrong with each. The realm comes first.
+
+import { parentPort, workerData } from "node:worker_threads";
+import "./watched-realm.mjs";
+
+const { cases } = await import(workerData.module);
+const results = [];
+for (const [name, problem] of Object.entries(cases())) {
+  let told;
+  try {
+    told = problem();
+  } catch (error) {
+    told = `${error?.stack ?? error}`;
+  }
+  results.push({ name, problem: told });
+}
+parentPort.postMessage(results);

@@ -1,0 +1,117 @@
+// What fills the buffers before a run, and what is checked after it: `init` and `check`, as exports of the agents'
+// module and as options of the library.
+
+import assert from "node:assert/strict";
+import { execFile } from "node:child_process";
+import { readFileSync, readdirSync } from "node:fs";
+import { join } from "node:path";
+import { describe, it } from "node:test";
+import { Refused, record } from "../recorder.mjs";
+import { sabsim } from "../lib/check/sabsim.mjs";
+import { RECORD, SABSIM, agentsPath, recordCase, temporaryFolder, withSabsim } from "./common.mjs";
+import { different, recorded, seedsTo } from "./recorded.mjs";
+
+const program = (name, options = {}) => ({ agents: agentsPath("checked"), args: [name], ...options });
+
+describe("init and check", { concurrency: 2, ...withSabsim }, () => {
+  it("a lost update is one line to find: a run fails by its check just where the count is wrong", async () => {
+    const outcomes = await recorded(program("lost"), seedsTo(20));
+    assert.deepEqual(different(outcomes, "ending"), ["check", "finished"]);
+    for (const { ending, fails, detail, bytes, races, script } of outcomes) {
+      const isRight = bytes[0].startsWith("02000000");
+      assert.deepEqual([ending, fails], isRight ? ["finished", false] : ["check", true]);
+      if (isRight) assert.equal(detail, "");
+      else assert.match(detail, /^check threw Error: counted to 1\n +at .*checked\.mjs/);
+      assert.deepEqual(races, []);
+      assert.equal(JSON.parse(script).agents.length, 2);
+    }
+  });
+
+  it("what fails by its check is kept, and replays", async (context) => {
+    const out = temporaryFolder(context);
+    const words = [RECORD, agentsPath("checked"), "--seeds", "1..20", "--out", out, "--sabsim", SABSIM, "--", "lost"];
+    const { code, stdout } = await new Promise((done) => {
+      execFile(process.execPath, words, (error, text) => done({ code: error?.code, stdout: text }));
+    });
+    assert.equal(code, 1);
+    const [, seed] = /^first failing seed: (\d+), check\n {2}check threw Error: counted to 1$/m.exec(stdout);
+    const kept = (ending) => readFileSync(join(out, `seed-${seed}.${ending}`), "utf8");
+    assert.deepEqual(readdirSync(out).sort(), [
+      "explained", "json", "report", "svg", "trace.jsonl",
+    ].map((ending) => `seed-${seed}.${ending}`));
+    assert.equal(sabsim(SABSIM, ["replay"], kept("json")).output, kept("report"));
+  });
+
+  it("the stores of init stand first, by an agent of its own, in each run anew", async () => {
+    const outcomes = await recorded(program("filled"), seedsTo(3));
+    for (const { ending, detail, script, bytes, answers, progress, calls } of outcomes) {
+      assert.deepEqual([ending, detail], ["finished", ""]);
+      const { agents, schedule } = JSON.parse(script);
+      assert.equal(agents.length, 3);
+      // Words that aren't zero; and bytes where no word is whole.
+      const stores = [
+        ["store", "init_Int32_b0", 1, 10], ["store", "init_Int32_b1", 0, 1], ["store", "init_Uint8_b1", 6, 1],
+      ];
+      assert.deepEqual(agents[2].calls, stores);
+      assert.deepEqual(schedule.slice(0, 9), Array(9).fill(2));
+      assert.ok(!schedule.slice(9).includes(2));
+      assert.deepEqual(bytes, ["000000000c000000", "01000000000001"]);
+      assert.deepEqual(answers.flat().sort(), ["10", "11"]);
+      assert.deepEqual([progress.length, calls], [2, 2]);
+    }
+  });
+
+  it("where the stores of init don't all fit, those that calls rest on stand there", async () => {
+    const [outcome] = await recorded(program("large", { buffers: [65_536] }));
+    assert.deepEqual([outcome.ending, outcome.scriptHolds], ["finished", "touched"]);
+    assert.deepEqual(outcome.answers.flat().sort(), [0x07070707, 0x07070708].map(String));
+    assert.equal(outcome.bytes[0], `${"07".repeat(12)}09070707${"07".repeat(65_536 - 16)}`);
+  });
+
+  it("a run whose init throws has failed, whatever was before it, and the next one begins", async () => {
+    const outcomes = await recorded(program("begins"), seedsTo(3));
+    const [first, second, third] = outcomes.map(({ ending }) => ending);
+    assert.deepEqual([first, second, third], ["deadlock", "failed", "deadlock"]);
+    assert.match(outcomes[1].detail, /^init threw TypeError: not thrice\n/);
+    assert.deepEqual([outcomes[1].calls, outcomes[1].moves, outcomes[1].answers], [0, 0, [[], []]]);
+    assert.equal(outcomes[2].bytes[0], outcomes[0].bytes[0]);
+  });
+
+  it("check goes before race, and the races are told too", async () => {
+    const [outcome] = await recorded(program("races"));
+    assert.deepEqual([outcome.ending, outcome.fails], ["check", true]);
+    assert.equal(outcome.detail, 'check threw "no Error"');
+    assert.equal(outcome.races.length, 1);
+    // The library's own goes before the module's; and where it passes the race is what is left.
+    const [passed] = await recorded(program("races", { check() {} }));
+    assert.deepEqual([passed.ending, passed.races.length], ["race", 1]);
+    assert.match(passed.detail, /^agent 0 writes Int32_b0\[1\] at checked\.mjs:\d+:\d+, before its call 0; agent 1 writes /);
+  });
+
+  it("a run that hasn't finished isn't checked", async () => {
+    const cases = { waitsForEver: "deadlock", throwsLater: "failed", nothing: "failed", spins: "bound" };
+    for (const [name, ending] of Object.entries(cases)) {
+      const check = () => assert.fail("it was checked");
+      const outcome = await recordCase(name, { check, sabsim: false, maxMoves: 100 });
+      assert.equal(outcome.ending, ending);
+    }
+  });
+
+  it("a check that doesn't end fails its run, and the next one begins", async () => {
+    const outcomes = await recorded(program("loops", { seconds: 0.2 }), [1, 2]);
+    assert.deepEqual(outcomes.map(({ ending, fails }) => [ending, fails]), [["check", true], ["check", true]]);
+    for (const { detail } of outcomes) assert.match(detail, /for 0\.2 s/);
+  });
+
+  it("with 16 agents none is left for the stores of init", async () => {
+    const refused = (error) => error instanceof Refused && /16 agents/.test(error.message) && /init/.test(error.message);
+    await assert.rejects(record(program("lost", { count: 16, check: false })), refused);
+    const options = { agents: agentsPath("cases"), args: ["addition"], count: 16, buffers: [64], check: false };
+    await assert.rejects(record({ ...options, init() {} }), refused);
+    const [outcome] = await recorded(program("filled", { count: 15, check() {} }));
+    assert.equal(outcome.ending, "finished");
+    // Five for each agent, and what each adds.
+    assert.equal(outcome.bytes[0].slice(8), "5a000000");
+    assert.equal(JSON.parse(outcome.script).agents.length, 16);
+  });
+});

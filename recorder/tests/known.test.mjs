@@ -1,0 +1,106 @@
+// Programs with known answers: what each of them comes to in 500 seeds is what its module says in `known`, which was
+// reasoned out by the standard. `endings` are those that occur, `may` those that need not, and `races` the pairs of
+// lines of code that race: for each side what its line is told by. Nothing else is found, and nothing is missed.
+
+import assert from "node:assert/strict";
+import { readFileSync, readdirSync } from "node:fs";
+import { describe, it } from "node:test";
+import { recordSeeds } from "../lib/seeds/seeds.mjs";
+import { SABSIM, withSabsim } from "./common.mjs";
+
+const FOLDER = new URL("./known/", import.meta.url);
+const NAMES = readdirSync(FOLDER).filter((name) => name.endsWith(".mjs"));
+const SEEDS = 500;
+const CHECKED = 25;
+const LEAST_PROGRAMS = 36;
+
+// Several programs side by side with a job each need less than one by one with several jobs each.
+const SIDE_BY_SIDE = 4;
+
+/**
+ * What the runs of a program come to.
+ * @param {string} name of its file
+ */
+async function runsOf(name) {
+  const outcomes = [];
+  const options = {
+    module: new URL(name, FOLDER).href, args: [], first: 1, last: SEEDS, jobs: 1, check: CHECKED, sabsim: SABSIM,
+    ordinary: "watch", maxMoves: 100_000, seconds: 5, fresh: false,
+  };
+  const { checked } = await recordSeeds(options, (outcome) => outcomes.push(outcome));
+  outcomes.sort((one, other) => one.seed - other.seed);
+  return { outcomes, checked };
+}
+
+/** How often each value occurs, and what it occurred with first. */
+function counted(entries) {
+  const counts = new Map();
+  for (const [value, seed] of entries) {
+    const { count, first } = counts.get(value) ?? { count: 0, first: seed };
+    counts.set(value, { count: count + 1, first });
+  }
+  return counts;
+}
+
+/** @param {Map<string, { count: number, first: number }>} counts */
+const shown = (counts) => [...counts].map(([value, { count, first }]) => `${count} ${value}, seed ${first} the first`);
+
+/**
+ * The text of a line of code.
+ * @param {string} place file and line
+ */
+function lineAt(place) {
+  const [, file, line] = /^(.*\.mjs):(\d+)$/.exec(place) ?? assert.fail(`no line of code is told: ${place}`);
+  return readFileSync(new URL(file, FOLDER), "utf8").split("\n")[line - 1].trim();
+}
+
+/** Whether two lines are those of a known pair, whichever comes first. */
+function areOf([one, other], lines) {
+  const [first, second] = lines.map(lineAt);
+  const match = (left, right) => new RegExp(one).test(left) && new RegExp(other).test(right);
+  return match(first, second) || match(second, first);
+}
+
+/** The endings that occur are the known ones. */
+function demandEndings({ endings, may = [] }, outcomes) {
+  const found = counted(outcomes.map(({ ending, seed }) => [ending, seed]));
+  const needed = [...found.keys()].filter((ending) => !may.includes(ending));
+  assert.deepEqual(needed.sort(), [...endings].sort(), shown(found).join("; "));
+}
+
+/** The pairs of lines that race are the known ones, and each of these is told of by one pair of lines. */
+function demandRaces({ races = [] }, outcomes) {
+  const withoutColumn = (line) => line.replace(/:\d+$/, "");
+  const pairs = outcomes.flatMap((outcome) =>
+    outcome.races.map(({ lines }) => [lines.map(withoutColumn).sort().join(" and "), outcome.seed]));
+  const found = counted(pairs);
+  for (const known of races) {
+    const matching = [...found.keys()].filter((pair) => areOf(known, pair.split(" and ")));
+    assert.equal(matching.length, 1, `${known.join(" and ")} is told of ${matching.length} times: ${shown(found)}`);
+    found.delete(matching[0]);
+  }
+  assert.deepEqual(shown(found), [], "races that aren't known");
+}
+
+/** Every run that was told whole has a script with all of its ordinary writes, which sabsim has replayed. */
+function demandChecks(outcomes, checked) {
+  const whole = outcomes.filter(({ bytes }) => bytes !== undefined);
+  assert.deepEqual(whole.filter(({ scriptHolds }) => scriptHolds !== "all").map(({ noScript }) => noScript), []);
+  assert.equal(checked, whole.length);
+  assert.ok(checked >= SEEDS / CHECKED);
+}
+
+describe("programs with known answers", { concurrency: SIDE_BY_SIDE, ...withSabsim }, () => {
+  it("are many", () => assert.ok(NAMES.length >= LEAST_PROGRAMS));
+
+  for (const name of NAMES) {
+    it(name.replace(".mjs", ""), async () => {
+      const { known } = await import(new URL(name, FOLDER).href);
+      const { outcomes, checked } = await runsOf(name);
+      assert.equal(outcomes.length, SEEDS);
+      demandEndings(known, outcomes);
+      demandRaces(known, outcomes);
+      demandChecks(outcomes, checked);
+    });
+  }
+});

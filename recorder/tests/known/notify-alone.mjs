@@ -1,0 +1,18 @@
+// Right: the data is handed over by a notify alone, with no flag. Who is woken comes after who woke it; who isn't
+// keeps its hands off.
+
+export const setup = { agents: 2, buffers: [4, 8] };
+
+export default function agent({ buffers, agent }) {
+  const bell = new Int32Array(buffers[0]);
+  const data = new Float64Array(buffers[1]);
+  if (agent === 0) {
+    const answer = Atomics.wait(bell, 0, 0, 50);
+    if (answer === "ok" && data[0] !== 42.5) throw new Error(`read ${data[0]}`);
+  } else {
+    data[0] = 42.5;
+    Atomics.notify(bell, 0);
+  }
+}
+
+export const known = { endings: ["finished"] };

@@ -1,0 +1,217 @@
+// The library: what its options may be, and what each of them does.
+
+import assert from "node:assert/strict";
+import { spawnSync } from "node:child_process";
+import { writeFileSync } from "node:fs";
+import { join } from "node:path";
+import { test } from "node:test";
+import { pathToFileURL } from "node:url";
+import { Difference, NoSabsim, Refused, record } from "../recorder.mjs";
+import { SABSIM, agentsOf, agentsPath, recordCase, temporaryFolder, withSabsim } from "./common.mjs";
+
+const agents = agentsPath("cases");
+
+test("each option that can't be is refused, with one line that names it", async () => {
+  const wrong = {
+    count: [0, 17, 1.5, "2", null],
+    buffers: [4, [], [4, 4, 4, 4, 4], [-1], [65_537], ["4"], [4, , 4], null],
+    block: [true, [1], ["true"], [, true], null],
+    seed: [-1, 1.5, 2 ** 53, "1", 1n, NaN, null],
+    args: ["abc", [1], ["a", , "b"], { 0: "a", length: 1 }, null],
+    switch: ["0.5", -0.1, 1.1, NaN, true, null],
+    timeouts: ["0.5", -0.1, 1.1, NaN, null],
+    maxMoves: [0, 100_001, 1.5, "7", null],
+    seconds: [0, -1, 3_601, "5", NaN, Infinity, null],
+    ordinary: ["see", "Watch", true, "toString", ["watch"], null],
+    races: ["ignore", true, null],
+    bounds: ["ignore", false, null],
+    clock: ["simulated", 0, null],
+    init: [true, "init", null],
+    check: ["yes", 1, null],
+    sabsim: [true, "", 5, null],
+    trace: ["yes", 1, null],
+  };
+  const named = {
+    count: "number of agents", buffers: "buffer", block: "`block`",
+    ...Object.fromEntries(Object.keys(wrong).slice(3).map((name) => [name, `\`${name}\``])),
+  };
+  for (const [name, values] of Object.entries(wrong)) {
+    for (const value of values) {
+      await assert.rejects(record({ agents, [name]: value }), (error) => {
+        assert.ok(error instanceof Refused, `${name}: ${String(value)}: ${error.stack}`);
+        assert.ok(error.message.includes(named[name]), error.message);
+        return !error.message.includes("\n");
+      });
+    }
+  }
+});
+
+test("agents must be named, and options that there aren't are refused by their names", async () => {
+  const refused = (why) => (error) => error instanceof Refused && why.test(error.message);
+  for (const given of [undefined, null, "agents.mjs", 5]) {
+    await assert.rejects(record(given), refused(/^the options must be an object$/));
+  }
+  for (const given of [{}, { agents: undefined }, { agents: 5 }, { agents: "" }, { agents: null }]) {
+    await assert.rejects(record(given), refused(/^`agents` [^\n]+$/));
+  }
+  for (const name of ["jobs", "switching", "no-block", "module", "constructor", "__proto__x", "Seed"]) {
+    await assert.rejects(record({ agents, [name]: 1 }), (error) => {
+      assert.ok(error instanceof Refused);
+      assert.equal(error.message, `there is no option \`${name}\``);
+      return true;
+    });
+  }
+});
+
+test("an option that is undefined is one that isn't given", async () => {
+  const given = await recordCase("addition", { seed: 1, timeouts: undefined, ordinary: undefined, init: undefined });
+  assert.deepEqual(given, await recordCase("addition"));
+});
+
+test("a module may be given by a path or a URL", async () => {
+  const options = { count: 2, buffers: [12], args: ["addition"], check: false };
+  for (const module of [agents, pathToFileURL(agents), pathToFileURL(agents).href]) {
+    assert.equal((await record({ ...options, agents: module })).ending, "finished");
+  }
+});
+
+test("the outcome is whole", withSabsim, async () => {
+  const { seed, ending, fails, calls, bytes, answers, script, report, state, races, scriptHolds, trace } =
+    await recordCase("addition", { check: true, seed: 9 });
+  assert.deepEqual([seed, ending, fails, calls, trace], [9, "finished", false, 6, undefined]);
+  assert.deepEqual([bytes, state.shown], [["030000000300000000000000"], ["030000000300000000000000"]]);
+  assert.deepEqual([answers, races, scriptHolds], [[["0", "1", "2"], ["0", "1", "2"]], [], "all"]);
+  const replayed = spawnSync(SABSIM, ["replay"], { input: script, encoding: "utf8" });
+  assert.equal(replayed.stdout, report);
+});
+
+test("sabsim is asked unless `check` or `sabsim` is false", async (context) => {
+  const missing = "/nowhere/sabsim";
+  await assert.rejects(recordCase("addition", { check: true, sabsim: missing }), NoSabsim);
+  await assert.rejects(recordCase("addition", { check: () => {}, sabsim: missing }), NoSabsim);
+  assert.equal((await recordCase("addition", { check: false, sabsim: missing })).ending, "finished");
+  assert.equal((await recordCase("addition", { check: true, sabsim: false })).ending, "finished");
+  const lying = join(temporaryFolder(context), "lying");
+  writeFileSync(lying, "#!/bin/sh\ncat > /dev/null\necho '0 0 0 begin'\n", { mode: 0o755 });
+  await assert.rejects(recordCase("addition", { check: true, sabsim: lying }), (error) => {
+    assert.ok(error instanceof Difference);
+    assert.equal(error.outcome.seed, 1);
+    return true;
+  });
+});
+
+test("`init` fills the buffers before the run, and the script has what it wrote", withSabsim, async () => {
+  const seen = [];
+  const init = (buffers, run) => {
+    seen.push([buffers.map((buffer) => buffer.byteLength), run]);
+    new Int32Array(buffers[0]).set([40, 50, 60]);
+  };
+  const { bytes, script } = await recordCase("addition", { check: true, init });
+  assert.deepEqual(seen, [[[12], { agents: 2, args: ["addition"] }]]);
+  // Three is added to the first two words.
+  assert.deepEqual(bytes, [Buffer.from(Int32Array.of(43, 53, 60).buffer).toString("hex")]);
+  assert.equal(JSON.parse(script).agents.length, 3);
+});
+
+test("what `init` throws fails the run", async () => {
+  const init = () => {
+    throw new Error("nothing to begin with");
+  };
+  const { ending, fails, detail } = await recordCase("addition", { init });
+  assert.deepEqual([ending, fails], ["failed", true]);
+  assert.match(detail, /nothing to begin with/);
+});
+
+test("a function `check` is called after a run that finished; what it throws fails the run", withSabsim, async () => {
+  const seen = [];
+  const check = (buffers, run) => {
+    seen.push([[...new Int32Array(buffers[0])], run]);
+  };
+  assert.equal((await recordCase("addition", { check })).ending, "finished");
+  assert.deepEqual(seen, [[[3, 3, 0], { agents: 2, args: ["addition"] }]]);
+  const throws = () => {
+    throw new Error("a sum is wrong");
+  };
+  const { ending, fails, detail, script } = await recordCase("addition", { check: throws });
+  assert.deepEqual([ending, fails], ["check", true]);
+  assert.match(detail, /a sum is wrong/);
+  assert.notEqual(script, undefined);
+  // One that did not finish has failed already.
+  assert.equal((await recordCase("waitsForEver", { check: throws })).ending, "deadlock");
+});
+
+test("`trace` adds the trace: an object for each event, a line for each", async () => {
+  const { trace } = await recordCase("addition", { trace: true });
+  const events = trace.trimEnd().split("\n").map((line) => JSON.parse(line));
+  // Two agents add three times each.
+  assert.equal(events.length, 6);
+  for (const agent of [0, 1]) assert.equal(events.filter((event) => event.agent === agent).length, 3);
+});
+
+/** Two agents that write to one word without a call between them, and then call. */
+const RACY = `
+  const words = new Int32Array(buffers[0]);
+  words[0] = agent + 1;
+  Atomics.add(words, 1, 1);
+`;
+
+test("`races` says whether a run with a data race fails", async (context) => {
+  const options = { agents: agentsOf(temporaryFolder(context), RACY), count: 2, buffers: [8], check: false };
+  const failing = await record(options);
+  assert.deepEqual([failing.ending, failing.fails, failing.races.length], ["race", true, 1]);
+  const allowed = await record({ ...options, races: "allow" });
+  assert.deepEqual([allowed.ending, allowed.fails], ["finished", false]);
+  assert.deepEqual(allowed.races.map(({ lines }) => lines), failing.races.map(({ lines }) => lines));
+});
+
+test("`ordinary` says what is seen of reads and writes", async (context) => {
+  const options = { agents: agentsOf(temporaryFolder(context), RACY), count: 2, buffers: [8], check: false };
+  const stored = await record({ ...options, ordinary: "store" });
+  assert.deepEqual([stored.ending, stored.races], ["finished", []]);
+  assert.equal((await record({ ...options, ordinary: "refuse" })).ending, "failed");
+});
+
+test("`bounds` says whether a run that meets a bound fails", async () => {
+  const options = { count: 1, maxMoves: 50 };
+  const failing = await recordCase("spins", options);
+  assert.deepEqual([failing.ending, failing.fails], ["bound", true]);
+  const allowed = await recordCase("spins", { ...options, bounds: "allow" });
+  assert.deepEqual([allowed.ending, allowed.fails], ["bound", false]);
+});
+
+test("with `clock` run the same seed tells the same time, and with real the machine's", async (context) => {
+  const module = agentsOf(temporaryFolder(context), `
+    const words = new Int32Array(buffers[0]);
+    Atomics.store(words, 0, Date.now() > 1_600_000_000_000 ? 1 : 0);
+    Atomics.store(words, 1, Math.floor(Math.random() * 1_000_000_000));
+  `);
+  const drawn = async (clock) => {
+    const { bytes } = await record({ agents: module, count: 1, buffers: [8], check: false, clock });
+    return bytes[0];
+  };
+  assert.equal(await drawn("run"), await drawn("run"));
+  assert.match(await drawn("real"), /^01000000/);
+});
+
+test("with `timeouts` 0 a wait that can be woken isn't ended by its time, and with 1 it may be", async (context) => {
+  const module = agentsOf(temporaryFolder(context), `
+    const words = new Int32Array(buffers[0]);
+    if (agent === 0) {
+      Atomics.store(words, 1, Atomics.wait(words, 0, 0, 60_000) === "timed-out" ? 1 : 2);
+    } else {
+      for (let time = 0; time < 20; time += 1) Atomics.load(words, 0);
+      Atomics.store(words, 0, 1);
+      Atomics.notify(words, 0);
+    }
+  `);
+  const timedOut = async (timeouts, seed) => {
+    const { bytes } = await record({ agents: module, count: 2, buffers: [8], check: false, timeouts, seed });
+    return bytes[0].endsWith("01000000");
+  };
+  const firstOf = async (timeouts, last) => {
+    for (let seed = 1; seed <= last; seed += 1) if (await timedOut(timeouts, seed)) return seed;
+    return undefined;
+  };
+  assert.equal(await firstOf(0, 4), undefined);
+  assert.notEqual(await firstOf(1, 12), undefined);
+});

@@ -1,0 +1,130 @@
+// The same programs with ordinary accesses where these are watched, stored and refused: how their runs end, what is seen
+// of them, and what is said of what isn't.
+
+import assert from "node:assert/strict";
+import { fileURLToPath } from "node:url";
+import { describe, it } from "node:test";
+import { agentsPath, withSabsim } from "./common.mjs";
+import { different, hexOf, placesOf, recorded, seedsTo, summaryLines } from "./recorded.mjs";
+
+const knownPath = (name) => fileURLToPath(new URL(`./known/${name}.mjs`, import.meta.url));
+
+/** The outcomes of one program in some modes, under the same seeds. */
+async function inModes(modes, options, last) {
+  const all = await Promise.all(modes.map((ordinary) => recorded({ ...options, ordinary }, seedsTo(last))));
+  return Object.fromEntries(modes.map((mode, at) => [mode, all[at]]));
+}
+
+const program = (name) => ({ agents: agentsPath("modes"), args: [name] });
+
+/** The names of the views in which ordinary writes stand in a script. */
+function ordinaryViews({ script }) {
+  return JSON.parse(script).views.map(({ name }) => name).filter((name) => name.startsWith("ordinary")).sort();
+}
+
+/** The calls of a script that stand for ordinary writes of an agent. */
+const ordinaryCalls = ({ script }, agent) =>
+  JSON.parse(script).agents[agent].calls.filter(([, view]) => view.startsWith("ordinary"));
+
+describe("ordinary accesses in each mode", { concurrency: 2, ...withSabsim }, () => {
+  it("a counter under a mutex is right, and the modes make the same runs", async () => {
+    const { watch, store, refuse } = await inModes(["watch", "store", "refuse"], program("counter"), 10);
+    for (const outcomes of [watch, store]) {
+      assert.deepEqual(different(outcomes, "ending"), ["finished"]);
+      assert.deepEqual(outcomes.flatMap(({ races }) => races), []);
+      for (const { bytes } of outcomes) assert.equal(bytes[1].slice(0, 4), "0400");
+    }
+    // Who is asked for a call, and who moves, doesn't rest on how ordinary accesses are seen.
+    const told = ({ seed, moves, calls, answers, bytes }) => ({ seed, moves, calls, answers, bytes });
+    assert.deepEqual(store.map(told), watch.map(told));
+    // Four times a read and a write.
+    for (const { ordinary } of watch) assert.equal(ordinary, 8);
+    for (const { ordinary } of [...store, ...refuse]) assert.equal(ordinary, 0);
+    assert.deepEqual(different(refuse, "ending"), ["failed"]);
+    for (const { detail } of refuse) {
+      assert.match(detail, /^agent \d changed byte 0 of block 1 from 0 to 1 without a call of Atomics, after its call /);
+    }
+  });
+
+  it("a counter that nobody guards races under each seed where that is watched, and not where it isn't", async () => {
+    const { watch, store } = await inModes(["watch", "store"], program("unlocked"), 3);
+    assert.deepEqual(different(watch, "ending"), ["race"]);
+    const [line] = placesOf("modes", "count[0] += 1;\n    Atomics.load").map(({ line: number }) => number);
+    for (const { detail, races, bytes } of watch) {
+      // The write of each with the read of the other, and with its write.
+      const columns = races.map(({ lines }) => lines.map((place) => {
+        const [, column] = new RegExp(`^modes\\.mjs:${line}:(\\d+)$`).exec(place) ?? assert.fail(place);
+        return column;
+      }));
+      assert.equal(columns.length, 2, detail);
+      assert.deepEqual(columns.map(([one, other]) => one === other).sort(), [false, true], detail);
+      assert.ok(detail.startsWith(`agent 0 writes Uint16_b1[0] at modes.mjs:${line}:`), detail);
+      assert.match(detail, /before its call 0; agent 1 /);
+      assert.equal(bytes[1].slice(0, 4), "0200");
+    }
+    assert.deepEqual(different(store, "ending"), ["finished"]);
+    assert.deepEqual(store.flatMap(({ races }) => races), []);
+  });
+
+  it("rings: where ordinary writes are stored no race is found, and where they are refused none passes", async () => {
+    const { store, refuse } = await inModes(["store", "refuse"], { agents: knownPath("ring") }, 20);
+    assert.deepEqual(different(store, "ending"), ["finished"]);
+    // Four messages in two slots.
+    for (const { bytes } of store) assert.equal(bytes[1], "1e28");
+    assert.deepEqual(different(refuse, "ending"), ["failed"]);
+    // The same runs race where they are watched.
+    const wrong = await inModes(["watch", "store"], { agents: knownPath("ring-frees-first") }, 20);
+    const racing = wrong.watch.filter(({ ending }) => ending === "race");
+    assert.ok(racing.length > 0);
+    for (const { seed } of racing) assert.equal(wrong.store[seed - 1].ending, "finished");
+    assert.deepEqual(wrong.store.flatMap(({ races }) => races), []);
+  });
+
+  it("what is written stands in the script by its bytes, whatever it was written as", async () => {
+    const { watch, store, refuse } = await inModes(["watch", "store", "refuse"], program("writes"), 2);
+    const bytes = new DataView(new ArrayBuffer(32));
+    bytes.setInt16(1, -2);
+    bytes.setFloat32(4, 1.5, true);
+    bytes.setUint8(3, 255);
+    bytes.setFloat32(8, -0.5, true);
+    bytes.setFloat64(16, 0.1, true);
+    bytes.setBigInt64(24, -3n, true);
+    for (const outcome of [...watch, ...store]) {
+      assert.deepEqual([outcome.ending, outcome.scriptHolds, outcome.bytes[1]], ["finished", "all", hexOf(bytes)]);
+    }
+    for (const outcome of watch) {
+      // The two bytes at 1 aren't aligned; what a DataView writes are the largest aligned elements.
+      assert.deepEqual(ordinaryCalls(outcome, 0), [
+        ["store", "ordinary_Uint8_b1", 1, 255],
+        ["store", "ordinary_Uint8_b1", 2, 254],
+        ["store", "ordinary_Uint32_b1", 1, 0x3fc00000],
+        ["store", "ordinary_Uint8_b1", 3, 255],
+        ["store", "ordinary_Uint32_b1", 2, 0xbf000000],
+        ["store", "ordinary_BigUint64_b1", 2, `${bytes.getBigUint64(16, true)}`],
+        ["store", "ordinary_BigInt64_b1", 3, "-3"],
+      ]);
+    }
+    for (const outcome of store) assert.deepEqual(ordinaryViews(outcome), ["ordinary_Int32_b1"]);
+    tellsWhatIsNotSeen(watch, store, refuse);
+  });
+
+  it("calls are told by the program's own numbers, and by the script's where these differ", async () => {
+    const { watch, store } = await inModes(["watch", "store"], program("sleeps"), 2);
+    for (const { ending, detail, progress, calls, answers } of [...watch, ...store]) {
+      assert.equal(ending, "deadlock");
+      const own = 'agent 0 waits at byte 0 of block 0: its call 2, ["wait", "Int32_b0", 0, 0]';
+      assert.equal(detail, `${own}, which is 4 in the script`);
+      assert.deepEqual([progress[0], calls, answers[0]], [{ returned: 2, calls: 3 }, 4, ["0", "0", null]]);
+    }
+  });
+});
+
+/** The last lines of summaries say what the mode doesn't see: of two runs with six writes, and four calls, each. */
+function tellsWhatIsNotSeen(watch, store, refuse) {
+  const lines = (outcomes, ordinary) => summaryLines(outcomes, { ordinary });
+  const seen = "2 runs made 8 calls of Atomics, and 12 ordinary reads and writes";
+  assert.equal(lines(watch, "watch").at(-1), seen);
+  assert.match(lines(store, "store").at(-1), /^ordinary reads were not seen, .* data races were not looked for$/);
+  assert.match(lines(refuse, "refuse").at(-1), /^ordinary reads were not seen, .*data races were not looked for$/);
+  assert.equal(lines(refuse, "refuse")[0], "2 of 2 runs failed: 2 failed");
+}

@@ -1,0 +1,119 @@
+// Random programs with ordinary accesses of all sizes, recorded: what is told of races is what a second judge finds in
+// the traces, and the traces say of each call what sabsim says.
+
+import assert from "node:assert/strict";
+import { test } from "node:test";
+import { moduleUrl } from "../lib/recorder.mjs";
+import { recordSeeds } from "../lib/seeds/seeds.mjs";
+import { CONSTRUCTORS, KINDS } from "../script/kinds.mjs";
+import { SABSIM, agentsPath, withSabsim } from "./common.mjs";
+import { slowRaces } from "./second-detector.mjs";
+
+/**
+ * How the agents keep out of each other's way, what else their runs are recorded with, and from how many to how many
+ * of 500 runs race: neither hardly any nor nearly all, but where nobody keeps out of anybody's way.
+ */
+const WAYS = [
+  { way: "wild", options: {}, racy: [400, 499] },
+  { way: "words", options: {}, racy: [150, 400] },
+  { way: "locked", options: {}, racy: [30, 200] },
+  // An agent mostly goes on for long, so that they come by the places one after the other.
+  { way: "passing", options: { switching: 0.02 }, racy: [150, 400] },
+];
+
+/**
+ * The outcomes of random programs, in the order of their seeds.
+ * @param {string} way
+ * @param {object} options
+ * @returns {Promise<import("../lib/run/group.mjs").Outcome[]>}
+ */
+async function recorded(way, options) {
+  const outcomes = [];
+  const all = {
+    module: moduleUrl(agentsPath("random-ordinary")), args: [way], first: 1, last: 500, jobs: 2, check: 1,
+    sabsim: SABSIM, maxMoves: 100_000, seconds: 10, fresh: false, ordinary: "watch", trace: true, ...options,
+  };
+  const { checked } = await recordSeeds(all, (outcome) => outcomes.push(outcome));
+  assert.equal(checked, all.check * outcomes.length);
+  return outcomes.sort((one, other) => one.seed - other.seed);
+}
+
+/** @returns {import("./second-detector.mjs").Event[]} the events of a trace, with the source as it is told in short */
+function eventsOf(trace) {
+  return trace.split("\n").slice(0, -1).map((line, index) => {
+    const { event, source, ...rest } = JSON.parse(line);
+    assert.equal(event, index);
+    return { ...rest, source: source.slice(source.lastIndexOf("/") + 1) };
+  });
+}
+
+/** The different pairs of lines whose accesses race, as the second judge finds them. */
+function racingLines(events) {
+  const pairs = slowRaces(events).map((pair) => pair.map((index) => events[index].source).sort().join(" and "));
+  return [...new Set(pairs)].sort();
+}
+
+/** What a trace says of calls, in one line each. */
+function callLines(events) {
+  return events.filter(({ atomic, waiters }) => atomic || waiters).map((event) => {
+    const { agent, call, does, block, byte, size, read, write, waiters } = event;
+    return [agent, call, does, block, byte, size, read, write, waiters].join(" ");
+  });
+}
+
+/** The same lines by a script, and by what sabsim has replayed of it. */
+function callLinesOfReport(script, report) {
+  const { views, agents } = JSON.parse(script);
+  const isOwn = ([, view]) => !view.startsWith("ordinary");
+  const done = report.matchAll(/^\d+ (\d+) (\d+) (act|wait|leave) ?(.*)$/gm);
+  return [...done].flatMap(([, agent, number, deed, answer]) => {
+    const { calls } = agents[agent];
+    const call = calls[number];
+    if (!isOwn(call)) return [];
+    const [name, viewName, index, expected] = call;
+    const { kind, block, offset } = views.find((view) => view.name === viewName);
+    const Kind = CONSTRUCTORS[KINDS.indexOf(kind)];
+    const size = Kind.BYTES_PER_ELEMENT;
+    const does = deed === "leave" ? { ok: "leave", "timed-out": "time-up" }[answer] : name;
+    const place = [block, offset + index * size, size];
+    const own = calls.slice(0, number).filter(isOwn).length;
+    return [[agent, own, does, ...place, ...effectOf(does, Kind, expected, answer)].join(" ")];
+  });
+}
+
+/** Whether a call reads, whether it writes, and whether it passes the critical section of a place's waiters. */
+function effectOf(does, Kind, expected, answer) {
+  if (does === "load") return [true, false, false];
+  if (does === "store") return [false, true, false];
+  if (does === "wait") return [true, false, true];
+  if (["notify", "leave", "time-up"].includes(does)) return [false, false, true];
+  if (does !== "compareExchange") return [true, true, false];
+  const isBig = answer.endsWith("n");
+  const element = Kind.of(isBig ? BigInt(expected) : expected)[0];
+  return [true, `${element}${isBig ? "n" : ""}` === answer, false];
+}
+
+for (const { way, options, racy: [least, most] } of WAYS) {
+  test(`clocks and the search agree on 500 random programs: ${way}`, withSabsim, async () => {
+    let racy = 0;
+    for (const { seed, ending, races, trace, script, report } of await recorded(way, options)) {
+      const events = eventsOf(trace);
+      const expected = racingLines(events);
+      assert.deepEqual(races.map(({ lines }) => lines.join(" and ")).sort(), expected, `seed ${seed}`);
+      assert.ok([expected.length > 0 ? "race" : "finished", "deadlock"].includes(ending), `seed ${seed}: ${ending}`);
+      assert.deepEqual(callLines(events), callLinesOfReport(script, report), `seed ${seed}`);
+      racy += expected.length > 0 ? 1 : 0;
+    }
+    assert.ok(least < racy && racy < most, `${racy} of them race`);
+  });
+}
+
+test("where no trace is wanted, and accesses are kept once, the same is told of the same runs", async () => {
+  const toldOf = ({ seed, ending, detail, moves, state, races }) => ({ seed, ending, detail, moves, state, races });
+  for (const { way, options } of WAYS) {
+    const few = { ...options, last: 100, check: 0 };
+    const traced = await recorded(way, few);
+    const untraced = await recorded(way, { ...few, trace: false });
+    assert.deepEqual(untraced.map(toldOf), traced.map(toldOf), way);
+  }
+});

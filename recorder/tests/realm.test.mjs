@@ -1,0 +1,539 @@
+// What agents find around them, and what they do to it: nothing of it may change what a run comes to, and what a run
+// can't have is told. Work that goes on later, a patched language, messages, arrays of their own, modules that break,
+// stacks that come to their end, clocks and random numbers.
+
+import assert from "node:assert/strict";
+import { writeFileSync } from "node:fs";
+import { join } from "node:path";
+import { describe, test } from "node:test";
+import { pathToFileURL } from "node:url";
+import { Refused, record } from "../recorder.mjs";
+import { Group } from "../lib/run/group.mjs";
+import { SABSIM, agentsOf, agentsPath, temporaryFolder, withSabsim } from "./common.mjs";
+
+const AT_ONCE = 4;
+
+/**
+ * Makes something of each of a list, some at a time.
+ * @template One, Made
+ * @param {One[]} list
+ * @param {(one: One) => Promise<Made>} make
+ * @returns {Promise<Made[]>}
+ */
+async function madeOfEach(list, make) {
+  const made = [];
+  let next = 0;
+  const work = async () => {
+    while (next < list.length) {
+      const at = next;
+      next += 1;
+      made[at] = await make(list[at]);
+    }
+  };
+  await Promise.all(Array.from({ length: AT_ONCE }, work));
+  return made;
+}
+
+/**
+ * Records agents whose module is written for it.
+ * @param {import("node:test").TestContext} context
+ * @param {string} text of the module
+ * @param {object} [options]
+ */
+async function recordText(context, text, options = {}) {
+  const agents = join(temporaryFolder(context), "agents.mjs");
+  writeFileSync(agents, text);
+  return record({ agents, count: 2, buffers: [16], check: false, seconds: 5, ...options });
+}
+
+/** The same, where only the agent's body is given. */
+async function recordBody(context, body, options = {}) {
+  const agents = agentsOf(temporaryFolder(context), body);
+  return record({ agents, count: 2, buffers: [16], check: false, seconds: 5, ...options });
+}
+
+describe("work that goes on later", () => {
+  const later = [
+    ["what comes after a promise", "Promise.resolve().then(() => { throw new Error('never seen'); });", "a promise"],
+    ["what comes after an await", "(async () => { await 5; throw new Error('never seen'); })();", "a promise"],
+    ["a loop that awaits", "(async () => { for await (const one of [1]) throw one; })();", "a promise"],
+    ["an import", "import('node:fs').then(() => { throw new Error('never seen'); });", "a promise"],
+    ["setTimeout", "setTimeout(() => { throw new Error('never seen'); }, 0);", "a timer"],
+    ["setInterval", "setInterval(() => { throw new Error('never seen'); }, 1);", "a timer"],
+    ["setImmediate", "setImmediate(() => { throw new Error('never seen'); });", "setImmediate"],
+    ["queueMicrotask", "queueMicrotask(() => { throw new Error('never seen'); });", "queueMicrotask"],
+    ["process.nextTick", "process.nextTick(() => { throw new Error('never seen'); });", "process.nextTick"],
+    ["a callback of fs", "fs.readFile('/', () => { throw new Error('never seen'); });", "a callback"],
+    ["a promise of fs", "fs.promises.readFile('/').catch(() => { throw new Error('never seen'); });", "a promise"],
+    ["a callback of crypto", "crypto.randomBytes(4, () => { throw new Error('never seen'); });", "a callback"],
+    ["a callback of dns", "dns.lookup('localhost', () => { throw new Error('never seen'); });", "a callback"],
+  ];
+  const text = (body) => `
+    import crypto from "node:crypto";
+    import dns from "node:dns";
+    import fs from "node:fs";
+    import zlib from "node:zlib";
+    import { MessageChannel, Worker, receiveMessageOnPort } from "node:worker_threads";
+    export default function agent({ buffers }) {
+      const words = new Int32Array(buffers[0]);
+      ${body}
+    }`;
+  const call = "Atomics.add(words, 1, 1);";
+
+  test("fails the run, before a call and behind the last one, and it is told what goes on", async (context) => {
+    const all = later.flatMap(([name, body, word]) => {
+      return [`${body} ${call}`, `${call} ${body}`].map((both) => [name, both, word]);
+    });
+    const outcomes = await madeOfEach(all, ([, body]) => recordText(context, text(body)));
+    outcomes.forEach(({ ending, detail }, at) => {
+      const [name, , word] = all[at];
+      assert.equal(ending, "failed", name);
+      assert.equal(detail, `agent 0 goes on later, by ${word}, but an agent must be synchronous`, name);
+    });
+  });
+
+  test("is told of an agent that is a generator or asynchronous itself", async (context) => {
+    const kinds = [
+      ["function* agent() { throw new Error('never seen'); }", /^agent 0 answered an iterator, whose code nobody runs/],
+      ["async function* agent() { throw new Error('never seen'); }", /^agent 0 answered an iterator/],
+      ["async function agent() {}", /^agent 0 answered a promise, but an agent must be synchronous$/],
+      ["() => ({ then() {} })", /^agent 0 answered a promise/],
+    ];
+    for (const [agent, told] of kinds) {
+      const outcome = await recordText(context, `export default ${agent}`);
+      assert.equal(outcome.ending, "failed", agent);
+      assert.match(outcome.detail, told, agent);
+    }
+  });
+
+  test("a promise that is rejected, and that nobody handles, fails the run", async (context) => {
+    const cases = [
+      "(async () => { Atomics.add(words, 1, 1); throw new Error('mine'); })();",
+      "Atomics.add(words, 1, 1); Promise.reject(new Error('mine'));",
+    ];
+    for (const body of cases) {
+      const outcome = await recordText(context, text(body));
+      assert.equal(outcome.ending, "failed", body);
+      assert.match(outcome.detail, /^agent 0 left a rejected promise, which nobody handles: Error: mine\n/);
+    }
+  });
+
+  test("what has done all of its work at once is no failure", async (context) => {
+    const bodies = [
+      "(async () => { Atomics.add(words, 0, 1); })();",
+      "new Promise((done) => done(Atomics.add(words, 0, 1)));",
+      "zlib.gzipSync('text'); fs.readdirSync('/'); crypto.createHash('sha1').update('text').digest();",
+      "const { port1, port2 } = new MessageChannel(); port2.postMessage(1); receiveMessageOnPort(port1);",
+      "console.log(`to standard error`); structuredClone({ a: 1 });",
+      "clearTimeout(setTimeout(() => {}, 5)); clearInterval(setInterval(() => {}, 5));",
+      "clearImmediate(setImmediate(() => {}));",
+      "new Worker('0', { eval: true }).unref();",
+    ];
+    const outcomes = await madeOfEach(bodies, (body) => recordText(context, text(`${body} ${call}`), { count: 1 }));
+    outcomes.forEach(({ ending, detail }, at) => assert.deepEqual([ending, detail], ["finished", ""], bodies[at]));
+  });
+});
+
+describe("a patched language", withSabsim, () => {
+  const GLOBALS = [
+    "Int32Array", "Uint8Array", "BigInt64Array", "Error", "TypeError", "RangeError", "Map", "WeakMap", "Proxy",
+    "Symbol", "String", "Number", "BigInt", "Array", "Object", "Promise", "Math", "JSON", "Reflect",
+    "SharedArrayBuffer", "ArrayBuffer", "DataView", "Buffer", "TextEncoder", "performance", "process",
+  ];
+
+  /** What is told of a run under a patch, checked by sabsim. */
+  async function patched([what, when, how], end, ordinary) {
+    const agents = new URL("./agents/patched.mjs", import.meta.url);
+    agents.search = new URLSearchParams({ what, when, how });
+    const options = { agents, args: [end], seed: 7, seconds: 5, ordinary, sabsim: SABSIM };
+    const { trace, races, ...outcome } = await record(options);
+    // The stack of an error has the module's name.
+    return { ...outcome, detail: outcome.detail.split("\n")[0] };
+  }
+
+  const FUNCTIONS = ["top", "agent"].flatMap((when) => ["throws", "lies"].map((how) => ["functions", when, how]));
+  const ENDS = {
+    finished: "", deadlock: "waits at byte 20", failed: "threw Error: as it must be", refused: "the value 0.5",
+    later: "goes on later, by setImmediate",
+  };
+
+  for (const [end, told] of Object.entries(ENDS)) {
+    test(`no function that is patched changes a run, with the end ${end}`, async () => {
+      const expected = await patched(["nothing", "top", "throws"], end, "watch");
+      assert.ok(expected.detail.includes(told), expected.detail);
+      const outcomes = await madeOfEach(FUNCTIONS, (patch) => patched(patch, end, "watch"));
+      outcomes.forEach((outcome, at) => assert.deepEqual(outcome, expected, FUNCTIONS[at].join(" ")));
+    });
+  }
+
+  test("nor where ordinary reads and writes aren't seen", async () => {
+    const expected = await patched(["nothing", "top", "throws"], "finished", "store");
+    assert.equal(expected.ending, "finished");
+    const outcomes = await madeOfEach(FUNCTIONS, (patch) => patched(patch, "finished", "store"));
+    outcomes.forEach((outcome, at) => assert.deepEqual(outcome, expected, FUNCTIONS[at].join(" ")));
+  });
+
+  test("no global that is replaced changes a run", async () => {
+    const expected = await patched(["nothing", "top", "throws"], "finished", "watch");
+    const outcomes = await madeOfEach(GLOBALS, (name) => patched([name, "top", "throws"], "finished", "watch"));
+    outcomes.forEach((outcome, at) => assert.deepEqual(outcome, expected, GLOBALS[at]));
+  });
+});
+
+test("messages to whoever started the worker change nothing", withSabsim, async (context) => {
+  const text = (top, body) => `
+    import { parentPort } from "node:worker_threads";
+    ${top}
+    export default function agent({ buffers, agent }) {
+      ${body}
+      Atomics.add(new Int32Array(buffers[0]), agent, 1);
+    }`;
+  const messages = ["hello", null, undefined, { finished: true }, { failed: "no" }, { ready: true }, { ended: "no" }];
+  const posts = messages.map((message) => `parentPort.postMessage(${JSON.stringify(message)});`).join(" ");
+  const options = { check: true, sabsim: SABSIM };
+  const expected = await recordText(context, text("", ""), options);
+  assert.equal(expected.ending, "finished");
+  const cases = [[posts, ""], ["", posts], ["", "parentPort.close();"], ["parentPort.on('message', () => {});", posts]];
+  const outcomes = await madeOfEach(cases, ([top, body]) => recordText(context, text(top, body), options));
+  for (const outcome of outcomes) assert.deepEqual(outcome, expected);
+});
+
+describe("arrays of the program's own", () => {
+  /** Has one agent tell what a body answers, by what it throws. */
+  async function answersOf(context, body, options = {}) {
+    const outcome = await recordBody(context, `
+      const words = new Int32Array(buffers[0]);
+      Atomics.add(words, 0, 1);
+      const told = (() => { ${body} })();
+      throw new Error("told " + JSON.stringify(told));`, { count: 1, ...options });
+    const [, told] = /^agent 0 threw Error: told (.*)$/m.exec(outcome.detail) ?? assert.fail(outcome.detail);
+    return { told: JSON.parse(told), outcome };
+  }
+
+  for (const buffer of ["ArrayBuffer", "SharedArrayBuffer"]) {
+    test(`calls on a ${buffer} get the standard's answers, and aren't recorded`, async (context) => {
+      const { told, outcome } = await answersOf(context, `
+        const own = new Int32Array(new ${buffer}(16));
+        const bigs = new BigInt64Array(new ${buffer}(16));
+        const answers = [
+          Atomics.add(own, 0, 5), Atomics.load(own, 0), Atomics.sub(own, 0, 7), Atomics.exchange(own, 0, 9.7),
+          Atomics.compareExchange(own, 0, 9, "4"), Atomics.or(own, 0, 3), Atomics.and(own, 0, 6),
+          Atomics.xor(own, 0, 1), Atomics.store(own, 1, -0.5), Atomics.notify(own, 0),
+          String(Atomics.add(bigs, 1, 2n ** 64n + 3n)), own[0], String(bigs[1]),
+        ];
+        for (const wrong of [() => Atomics.load(own, 4), () => Atomics.add(new Float64Array(1), 0, 1)]) {
+          try {
+            answers.push(wrong());
+          } catch (error) {
+            answers.push(error.name);
+          }
+        }
+        return answers;`);
+      // 5, 5-7 = -2, 9, 4, 4|3 = 7, 7&6 = 6, 6^1 = 7; -0.5 is stored, and answered, as 0.
+      assert.deepEqual(told, [0, 5, 5, -2, 9, 4, 7, 6, 0, 0, "0", 7, "3", "RangeError", "TypeError"]);
+      assert.deepEqual(outcome.answers, [["0"]]);
+      assert.deepEqual([outcome.calls, outcome.moves], [1, 3]);
+    });
+  }
+
+  test("who sleeps by a wait on one takes the run's time alone", async (context) => {
+    const began = performance.now();
+    const { told, outcome } = await answersOf(context, `
+      const from = performance.now();
+      const own = new Int32Array(new SharedArrayBuffer(4));
+      return [Atomics.wait(own, 0, 0, 60_000), Atomics.wait(own, 0, 1, 60_000), performance.now() - from >= 60_000];`);
+    assert.deepEqual(told, ["timed-out", "not-equal", true]);
+    assert.deepEqual(outcome.answers, [["0"]]);
+    assert.ok(performance.now() - began < 30_000);
+  });
+
+  test("with the machine's clock a wait on one really waits, and a worker of its own may wake it", async (context) => {
+    const outcome = await recordText(context, `
+      import { Worker } from "node:worker_threads";
+      const own = new Int32Array(new SharedArrayBuffer(8));
+      const code = "const { workerData: own } = require('node:worker_threads');"
+        + "Atomics.wait(own, 1, 0, 100); Atomics.store(own, 0, 1); Atomics.notify(own, 0);";
+      export default function agent({ buffers }) {
+        Atomics.add(new Int32Array(buffers[0]), 0, 1);
+        new Worker(code, { eval: true, workerData: own }).unref();
+        const from = Date.now();
+        const woken = Atomics.wait(own, 0, 0, 4_000);
+        const slept = Atomics.wait(own, 0, 1, 50);
+        const time = Date.now() - from;
+        throw new Error("told " + JSON.stringify([woken, slept, time >= 140 && time < 4_000]));
+      }`, { count: 1, clock: "real", seconds: 10 });
+    assert.match(outcome.detail, /^agent 0 threw Error: told \["ok","timed-out",true\]$/m);
+  });
+
+  test("the module may be compiled to CommonJS", async (context) => {
+    const agents = join(temporaryFolder(context), "agents.cjs");
+    writeFileSync(agents, `"use strict";
+      Object.defineProperty(exports, "__esModule", { value: true });
+      exports.setup = { agents: 2, buffers: [16] };
+      exports.default = function agent({ buffers, agent }) {
+        Atomics.add(new Int32Array(buffers[0]), agent, 1);
+      };`);
+    const outcome = await record({ agents, check: false });
+    assert.deepEqual([outcome.ending, outcome.bytes], ["finished", ["01000000010000000000000000000000"]]);
+  });
+});
+
+test("a module that breaks while it is loaded is refused with its own error, at once", async (context) => {
+  const cases = [
+    ["throw new Error('mine');", /Error: mine/],
+    ["throw 'mine';", /"mine"/],
+    ["throw null;", /null/],
+    ["globalThis.process = undefined; throw new Error('mine');", /mine/],
+    ["globalThis.Map = undefined; globalThis.Promise = undefined; throw new Error('mine');", /mine/],
+    ["Array.prototype[Symbol.iterator] = undefined; throw new Error('mine');", /mine/],
+    ["Promise.prototype.then = () => { throw new Error('another'); }; throw new Error('mine');", /mine/],
+    ["Error.prototype.toString = () => { throw 'another'; }; throw new TypeError('mine');", /TypeError: mine/],
+    ["await Promise.reject(new Error('mine'));", /mine/],
+    ["Promise.reject(new Error('mine')); await new Promise((done) => setTimeout(done, 5_000));", /mine/],
+    ["setTimeout(() => { throw new Error('mine'); }); await new Promise((done) => setTimeout(done, 5_000));", /mine/],
+    ["process.nextTick(() => { throw new Error('mine'); }); await new Promise(() => {});", /mine/],
+    ["process.exit(3);", /exit code 3/],
+    ["import './nowhere.mjs';", /nowhere\.mjs/],
+    ["export const init = 5;", /its export init is no function/],
+  ];
+  const began = performance.now();
+  const told = await madeOfEach(cases, async ([top]) => {
+    const run = recordText(context, `${top}\nexport default function agent() {}\n`);
+    return run.then(() => "it was run", (error) => error);
+  });
+  told.forEach((error, at) => {
+    assert.ok(error instanceof Refused, `${cases[at][0]}: ${error}`);
+    assert.match(error.message, cases[at][1]);
+  });
+  assert.ok(performance.now() - began < 15_000, `it took ${performance.now() - began} ms`);
+});
+
+describe("a stack that comes to its end in what an agent asks", () => {
+  const SEEDS = 60;
+  const STEP = 14;
+
+  /**
+   * The outcomes of some seeds in one group. Before each the test says how far from its stack's end agent 0 asks, in
+   * its own frames; 0: it doesn't.
+   * @param {string} asks what it asks for
+   * @param {(seed: number) => number} depthOf
+   */
+  async function outcomes(asks, depthOf) {
+    let depth;
+    const found = [];
+    const group = await Group.open({
+      module: new URL("./agents/deep.mjs", import.meta.url).href, args: [asks], count: 3, buffers: [16],
+      maxMoves: 100_000, seconds: 2, fresh: false, init: ([buffer]) => new Int32Array(buffer).fill(depth, 2, 3),
+    });
+    try {
+      for (let seed = 1; seed <= SEEDS; seed += 1) {
+        depth = depthOf(seed);
+        await group.run([{ seed, whole: true }], (outcome) => found.push(outcome));
+      }
+    } finally {
+      await group.close();
+    }
+    return found;
+  }
+
+  for (const asks of ["add", "wait", "notify", "refuse"]) {
+    test(`leaves nothing to the seeds that come after it: ${asks}`, { timeout: 120_000 }, async () => {
+      const calm = await outcomes(asks, () => 0);
+      const deep = await outcomes(asks, (seed) => (seed % 2 === 1 ? seed * STEP : 0));
+      const hasAsked = [];
+      deep.forEach((outcome, at) => {
+        if (outcome.seed % 2 === 0) assert.deepEqual(outcome, calm[at], `seed ${outcome.seed}`);
+        else hasAsked.push(outcome.ending === "failed" || outcome.script.includes(`["${asks}", "Int32", 3`));
+      });
+      // Right at the end of the stack nothing can be asked, and far from it all.
+      assert.deepEqual([hasAsked[0], hasAsked.at(-1)], [false, true]);
+      assert.equal(deep.at(-2).ending, asks === "refuse" ? "failed" : "finished");
+    });
+  }
+});
+
+test("a worker that takes the place of another one begins nothing before it is told", async (context) => {
+  const path = join(temporaryFolder(context), "agents.mjs");
+  writeFileSync(path, `
+    let parts = 0;
+    export default function agent({ buffers, agent }) {
+      parts += 1;
+      if (agent === 0) {
+        Atomics.store(new Int32Array(buffers[0]), 0, parts);
+        process.exit(3);
+      }
+    }`);
+  const group = await Group.open({
+    module: pathToFileURL(path).href, args: [], count: 2, buffers: [4], maxMoves: 100, seconds: 5, fresh: false,
+  });
+  const found = [];
+  try {
+    await group.run([1, 2, 3, 4].map((seed) => ({ seed, whole: true })), (outcome) => found.push(outcome));
+  } finally {
+    await group.close();
+  }
+  for (const { detail, bytes } of found) {
+    assert.match(detail, /^agent 0's worker died: .*exit code 3$/);
+    // It is each worker's first part in a run.
+    assert.deepEqual(bytes, ["01000000"]);
+  }
+});
+
+describe("clocks", () => {
+  const text = (body) => `
+    import { performance as hooks } from "node:perf_hooks";
+    import process, { hrtime } from "node:process";
+    const number = (value) => Number(value) / 1e6;
+    const pair = ([seconds, rest]) => seconds * 1e3 + rest / 1e6;
+    export default function agent({ buffers, agent }) {
+      const words = new Int32Array(buffers[0]);
+      const clocks = () => [
+        performance.now(), hooks.now(), Date.now(), new Date().getTime(), +new Date(), Date.parse(Date()),
+        pair(process.hrtime()), number(process.hrtime.bigint()), pair(hrtime()), number(hrtime.bigint()),
+      ];
+      ${body}
+    }`;
+
+  /** What the agents told by what they threw. */
+  function toldBy({ detail }) {
+    const [, told] = /^agent \d threw Error: told (.*)$/m.exec(detail) ?? assert.fail(detail);
+    return JSON.parse(told);
+  }
+
+  test("go on with the run, past the end of a wait that timed out, and take no time", async (context) => {
+    const began = performance.now();
+    const [before, between, after] = toldBy(await recordText(context, text(`
+      const before = clocks();
+      Atomics.add(words, 0, 1);
+      const between = clocks();
+      if (Atomics.wait(words, 1, 0, 3_600_000) !== "timed-out") throw new Error("it was woken");
+      throw new Error("told " + JSON.stringify([before, between, clocks()]));`), { count: 1 }));
+    before.forEach((time, which) => {
+      // Those that tell whole milliseconds, or seconds, may tell the same ones.
+      const tells = which < 2 || which > 5 ? "parts" : "whole";
+      assert.ok(tells === "parts" ? between[which] > time : between[which] >= time, `clock ${which}`);
+      const passed = after[which] - between[which];
+      assert.ok(passed >= 3_600_000 - 1 && passed < 3_602_000, `clock ${which} went on by ${passed} ms`);
+    });
+    assert.ok(Math.abs(after[0] - after[6]) < 10 && Math.abs(after[0] - after[7]) < 10);
+    assert.ok(performance.now() - began < 30_000);
+  });
+
+  test("fit the answers: where a wait has timed out, its time is over", async (context) => {
+    const body = `
+      const until = performance.now() + 5;
+      for (;;) {
+        const left = until - performance.now();
+        if (left <= 0) break;
+        const answer = Atomics.wait(words, 1, 0, left);
+        if (answer === "timed-out" && performance.now() < until) throw new Error("too early");
+      }
+      Atomics.notify(words, 1);`;
+    const outcomes = await madeOfEach([1, 2, 3, 4], (seed) => recordText(context, text(body), { count: 3, seed }));
+    for (const { ending, detail } of outcomes) assert.deepEqual([ending, detail], ["finished", ""]);
+  });
+
+  test("are the same for a seed", async (context) => {
+    const body = `
+      const told = [clocks()];
+      for (let time = 0; time < 3; time += 1) {
+        Atomics.add(words, 0, 1);
+        Atomics.wait(words, 1, 0, 10 * Math.random());
+        told.push(clocks());
+      }
+      if (agent === 1) throw new Error("told " + JSON.stringify(told));`;
+    const [one, again] = await madeOfEach([5, 5], (seed) => recordText(context, text(body), { seed }));
+    assert.deepEqual(toldBy(one), toldBy(again));
+  });
+
+  test("are the machine's where that is asked for", async (context) => {
+    const from = Date.now();
+    const told = toldBy(await recordText(context, text(`
+      Atomics.add(words, 0, 1);
+      const before = clocks();
+      const own = new Int32Array(new SharedArrayBuffer(4));
+      Atomics.wait(own, 0, 0, 100);
+      throw new Error("told " + JSON.stringify([before, clocks()]));`), { count: 1, clock: "real" }));
+    const to = Date.now();
+    const [before, after] = told;
+    for (const which of [2, 3, 4]) assert.ok(before[which] >= from && after[which] <= to, `clock ${which}`);
+    for (const which of [0, 1, 2, 3, 4, 6, 7, 8, 9]) {
+      const passed = after[which] - before[which];
+      assert.ok(passed > 90 && passed < to - from + 1, `clock ${which} went on by ${passed} ms`);
+    }
+  });
+
+  test("a date that is given, and what hangs on Date, is the engine's", async (context) => {
+    const told = toldBy(await recordText(context, text(`
+      class Day extends Date {}
+      throw new Error("told " + JSON.stringify([
+        new Date(86_400_000).toISOString(), new Date("2020-02-29").getUTCDate(), Date.UTC(1970, 0, 2),
+        new Date(NaN).getTime(), new Date() instanceof Date, Object.prototype.toString.call(new Date()),
+        new Day(5).getTime(), new Day() instanceof Day, typeof Date(), Date.length, Date.name,
+        new Date().constructor === Date, new Day().constructor === Day,
+      ]));`), { count: 1 }));
+    assert.deepEqual(told, [
+      "1970-01-02T00:00:00.000Z", 29, 86_400_000, null, true, "[object Date]", 5, true, "string", 7, "Date", true, true,
+    ]);
+  });
+});
+
+describe("random numbers", () => {
+  // Each agent draws by every way that there is, and leaves what it drew in its part of the buffer.
+  const text = `
+    import crypto, { randomBytes, randomFillSync, randomInt, randomUUID, webcrypto } from "node:crypto";
+    export default function agent({ buffers, agent }) {
+      const words = new Int32Array(buffers[0]);
+      const drawn = [
+        Math.random() * 2 ** 32, globalThis.crypto.getRandomValues(new Uint32Array(1))[0],
+        crypto.getRandomValues(new Uint32Array(1))[0], webcrypto.getRandomValues(new Uint32Array(2))[1],
+        parseInt(randomUUID(), 16), parseInt(globalThis.crypto.randomUUID(), 16), randomBytes(4).readUInt32LE(0),
+        crypto.randomBytes(8).readUInt32LE(4), randomInt(2 ** 32), randomInt(5, 2 ** 32),
+        randomFillSync(new Uint32Array(1))[0],
+      ];
+      drawn.forEach((number, at) => Atomics.store(words, agent * 16 + at, Math.floor(number) | 0));
+    }`;
+  const WAYS = 11;
+
+  /** What each agent drew, of each way. @returns {Promise<number[][]>} */
+  async function drawn(context, seed, options = {}) {
+    const { ending, detail, bytes } = await recordText(context, text, { buffers: [128], seed, ...options });
+    assert.deepEqual([ending, detail], ["finished", ""]);
+    const words = new Uint32Array(new Uint8Array(Buffer.from(bytes[0], "hex")).buffer);
+    return [words.slice(0, WAYS), words.slice(16, 16 + WAYS)].map((part) => [...part]);
+  }
+
+  test("are the same for a seed, and differ between agents and between seeds", async (context) => {
+    const [one, again, other] = await madeOfEach([3, 3, 4], (seed) => drawn(context, seed));
+    assert.deepEqual(one, again);
+    for (let way = 0; way < WAYS; way += 1) {
+      const numbers = [one[0][way], one[1][way], other[0][way], other[1][way]];
+      assert.equal(new Set(numbers).size, 4, `way ${way}: ${numbers}`);
+    }
+    assert.equal(new Set(one.flat()).size, 2 * WAYS);
+  });
+
+  test("are as they must be", async (context) => {
+    const { ending, detail } = await recordText(context, `
+      import assert from "node:assert";
+      import { randomBytes, randomInt, randomUUID } from "node:crypto";
+      export default function agent({ buffers }) {
+        Atomics.add(new Int32Array(buffers[0]), 0, 1);
+        assert.match(randomUUID(), /^[0-9a-f]{8}-[0-9a-f]{4}-4[0-9a-f]{3}-[89ab][0-9a-f]{3}-[0-9a-f]{12}$/);
+        assert.equal(randomBytes(7).length, 7);
+        const seen = new Set();
+        for (let time = 0; time < 200; time += 1) {
+          const number = Math.random();
+          assert.ok(number >= 0 && number < 1);
+          seen.add(randomInt(3, 6));
+        }
+        assert.deepEqual([...seen].sort(), [3, 4, 5]);
+        assert.throws(() => randomInt(6, 3), RangeError);
+        assert.throws(() => crypto.getRandomValues(new Float64Array(1)), { name: "TypeMismatchError" });
+        const bytes = new Uint8Array(1_000);
+        assert.equal(crypto.getRandomValues(bytes), bytes);
+        assert.ok(new Set(bytes).size > 200);
+      }`, { count: 1 });
+    assert.deepEqual([ending, detail], ["finished", ""]);
+  });
+});

@@ -1,0 +1,65 @@
+// Runs of one program under several seeds, by one group of workers, each told whole and replayed by sabsim.
+
+import { readFileSync } from "node:fs";
+import { check as checkWithSabsim } from "../lib/check/sabsim.mjs";
+import { Summary } from "../lib/command/summary.mjs";
+import { checkedOptions } from "../lib/library-options.mjs";
+import { Group } from "../lib/run/group.mjs";
+import { SABSIM, agentsPath } from "./common.mjs";
+
+/** @typedef {import("../lib/run/group.mjs").Outcome} Outcome */
+
+/**
+ * @param {import("../lib/library-options.mjs").RecordOptions} options
+ * @param {number[]} [seeds]
+ * @returns {Promise<Outcome[]>} in the order of the seeds; fails with a Difference where sabsim says something else
+ */
+export async function recorded(options, seeds = [1]) {
+  const { check, ...rest } = checkedOptions({ seconds: 5, ...options });
+  const checkState = typeof check === "function" ? check : undefined;
+  const group = await Group.open({ ...rest, checkState, fresh: false });
+  const outcomes = [];
+  try {
+    await group.run(seeds.map((seed) => ({ seed, whole: true })), (outcome) => outcomes.push(outcome));
+  } finally {
+    await group.close();
+  }
+  for (const outcome of outcomes) {
+    if (outcome.script !== undefined) checkWithSabsim(SABSIM, outcome);
+  }
+  return outcomes;
+}
+
+/** The seeds from 1 to a last one. @param {number} last */
+export const seedsTo = (last) => Array.from({ length: last }, (_, at) => at + 1);
+
+/** The values of a part of outcomes that occur, in the order of their spelling. */
+export const different = (outcomes, part) => [...new Set(outcomes.map((outcome) => outcome[part]))].sort();
+
+/** The bytes of a typed array, as an outcome shows them. @param {ArrayBufferView} array */
+export const hexOf = (array) => Buffer.from(array.buffer, array.byteOffset, array.byteLength).toString("hex");
+
+/**
+ * Where a text stands in a module of agents.
+ * @param {string} name of the module
+ * @param {string} text
+ * @returns {{ line: number, column: number }[]} both from 1
+ */
+export function placesOf(name, text) {
+  const code = readFileSync(agentsPath(name), "utf8");
+  return code.split(text).slice(0, -1).map((_, at, parts) => {
+    const before = parts.slice(0, at + 1).join(text).split("\n");
+    return { line: before.length, column: before.at(-1).length + 1 };
+  });
+}
+
+/**
+ * The lines of the summary of some outcomes.
+ * @param {Outcome[]} outcomes
+ * @param {object} [rules] as the command line gives them to a Summary
+ */
+export function summaryLines(outcomes, rules = {}) {
+  const summary = new Summary({ ordinary: "watch", races: "fail", checks: false, ...rules });
+  for (const outcome of outcomes) summary.add(outcome);
+  return summary.text().trimEnd().split("\n");
+}

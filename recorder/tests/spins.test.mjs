@@ -1,0 +1,78 @@
+// Agents that go on and on: a spin is told as one, with its place in the code, and what comes on isn't called one.
+
+import assert from "node:assert/strict";
+import { describe, it } from "node:test";
+import { SCRIPT_LIMITS } from "../script/limits.mjs";
+import { agentsPath, withSabsim } from "./common.mjs";
+import { placesOf, recorded, summaryLines } from "./recorded.mjs";
+
+/** The outcome of one way to go on. */
+async function outcomeOf(way, options = {}) {
+  const [outcome] = await recorded({ agents: agentsPath("spins"), args: [way], ...options });
+  return outcome;
+}
+
+/** Where a text stands in the agents' code, as the recorder tells it. */
+function placeOf(text) {
+  const [{ line, column }] = placesOf("spins", text);
+  return `spins.mjs:${line}:${column}`;
+}
+
+const { calls: MOST } = SCRIPT_LIMITS;
+
+// Of calls the engine tells the place of the function's name, of an element that of its index.
+const SPINS = {
+  load: ["load(words, 1) === 0", `it has made ${MOST} calls, and goes on`],
+  compareExchange: ["compareExchange(words, 1, 1, 2)", `it has made ${MOST} calls, and goes on`],
+  ordinary: ["[1] === 0", "it reads the same bytes again and again without a call of Atomics"],
+};
+
+describe("agents that go on and on", { concurrency: 2, ...withSabsim }, () => {
+  for (const [way, [text, what]] of Object.entries(SPINS)) {
+    it(`a spin is told with its place: ${way}`, async () => {
+      const { ending, fails, detail } = await outcomeOf(way);
+      const [, place, rest] = /^agent 1 spins at (\S+:\d+:\d+): (.*)$/.exec(detail) ?? assert.fail(detail);
+      assert.deepEqual([ending, fails, rest], ["bound", true, what]);
+      assert.equal(withoutColumn(place), withoutColumn(placeOf(text)));
+    });
+  }
+
+  it("who reads several elements in turn is asked where it is when its time is up", async () => {
+    const { ending, detail } = await outcomeOf("alternately", { seconds: 0.3 });
+    assert.equal(ending, "bound");
+    const [, place] = /^agent 1 spins at (\S+): it has made no call for too long$/.exec(detail) ?? assert.fail(detail);
+    assert.equal(withoutColumn(place), withoutColumn(placeOf("[at] === 0")));
+  });
+
+  it("of who accesses nothing no place is known, and it isn't called a spin", async () => {
+    const { ending, fails, detail } = await outcomeOf("nothing", { seconds: 0.3 });
+    assert.deepEqual([ending, fails, detail], ["bound", true, "agent 1 has made no call for 0.3 s"]);
+  });
+
+  it("who comes on meets the bound of calls, and doesn't spin", async () => {
+    for (const [way, text] of [["strides", "store(words, at % 16, at)"], ["counts", "add(words, 1, 1)"]]) {
+      const { ending, detail, progress } = await outcomeOf(way);
+      assert.equal(ending, "bound");
+      assert.equal(detail, `agent 1 has made ${MOST} calls, and goes on at ${placeOf(text)}`);
+      assert.deepEqual(progress[1], { returned: MOST, calls: MOST });
+    }
+  });
+
+  it("who waits for a time to come gets there, since to look at the time takes time", async () => {
+    const { ending, bytes } = await outcomeOf("deadline");
+    assert.equal(ending, "finished");
+    const [, reached] = new Int32Array(Uint8Array.from(Buffer.from(bytes[0], "hex")).buffer);
+    assert.ok(reached >= 50 && reached < 53, `${reached} ms`);
+  });
+
+  it("a bound that is allowed is no failure, and is told all the same", async () => {
+    const outcome = await outcomeOf("load", { bounds: "allow" });
+    assert.deepEqual([outcome.ending, outcome.fails], ["bound", false]);
+    assert.match(outcome.detail, /^agent 1 spins at /);
+    const [first, ...others] = summaryLines([outcome]);
+    assert.equal(first, "1 run: 1 bound (allowed)");
+    assert.ok(!others.some((line) => line.includes("first failing seed")));
+  });
+});
+
+const withoutColumn = (place) => place.replace(/:\d+$/, "");

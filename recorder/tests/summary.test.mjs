@@ -1,0 +1,207 @@
+// What is told of many runs, by runs that were made up.
+
+import assert from "node:assert/strict";
+import { test } from "node:test";
+import { Summary } from "../lib/command/summary.mjs";
+import { counted, digits } from "../lib/command/words.mjs";
+
+const SEEN = { ordinary: "watch", races: "fail", checks: true };
+
+/**
+ * An outcome, of which a test says what matters to it.
+ * @param {number} seed
+ * @param {object} [parts]
+ */
+function outcome(seed, { ending = "finished", fails = ending !== "finished", shown = ["01"], ...rest } = {}) {
+  const state = { hash: `${ending} ${shown.join(" ")}`, shown };
+  return { seed, ending, fails, detail: "", moves: 6, calls: 2, ordinary: 0, progress: [], state, races: [], ...rest };
+}
+
+/**
+ * The lines of a summary.
+ * @param {object[]} outcomes
+ * @param {{ checked?: number, stop?: object } & object} [options]
+ */
+function linesOf(outcomes, { checked = 1, stop, ...options } = {}) {
+  const summary = new Summary({ ...SEEN, ...options });
+  for (const each of outcomes) summary.add(each);
+  for (let check = 0; check < checked; check += 1) summary.addCheck();
+  const text = summary.text(stop);
+  assert.ok(text.endsWith("\n"));
+  return text.slice(0, -1).split("\n");
+}
+
+/** Many seeds, each with an outcome of the same parts. */
+const seeds = (first, last, parts) => {
+  return Array.from({ length: last - first + 1 }, (_, at) => outcome(first + at, parts));
+};
+
+const race = (one, other) => ({ lines: [one, other], text: `${one} races with ${other}` });
+
+test("a summary tells first what failed, and it is the same in whatever order the runs come", () => {
+  const ring = [race("ring.mjs:12:7", "ring.mjs:20:11")];
+  const outcomes = [
+    ...seeds(1, 185, { shown: ["0900"], calls: 40, ordinary: 5 }),
+    ...seeds(186, 190, { ending: "deadlock", detail: "agent 0 waits\nagent 1 waits", shown: ["0700"] }),
+    outcome(191, { ending: "deadlock", detail: "another", shown: ["0800"] }),
+    ...seeds(192, 194, { ending: "race", detail: "two of them race", shown: ["0900"], races: ring }),
+  ];
+  const expected = [
+    "9 of 194 runs failed: 6 deadlock, 3 race; 185 finished",
+    "first failing seed: 186, deadlock",
+    "  agent 0 waits",
+    "  agent 1 waits",
+    "data races: 3 runs, 1 pair of lines",
+    "  seed 192 the first, 3 runs: ring.mjs:12:7 and ring.mjs:20:11",
+    "4 final states: how it ended, and the bytes",
+    "  5 runs deadlock, seed 186 the first: 0700",
+    "  3 runs race, seed 192 the first: 0900",
+    "  1 run deadlock, seed 191 the first: 0800",
+    "  185 runs finished, seed 1 the first: 0900",
+    "28 runs checked: sabsim says the same",
+    // 185 times 40 and 9 times 2; 185 times 5.
+    "194 runs made 7,418 calls of Atomics, and 925 ordinary reads and writes",
+  ];
+  assert.deepEqual(linesOf(outcomes, { checked: 28 }), expected);
+  assert.deepEqual(linesOf(outcomes.toReversed(), { checked: 28 }), expected);
+});
+
+test("where no run failed, the first line says how they ended", () => {
+  assert.equal(linesOf(seeds(1, 200))[0], "200 runs: 200 finished");
+  assert.equal(linesOf([outcome(5)])[0], "1 run: 1 finished");
+  const allowed = [...seeds(1, 197), ...seeds(198, 200, { ending: "bound", fails: false })];
+  const lines = linesOf(allowed);
+  assert.equal(lines[0], "200 runs: 197 finished, 3 bound (allowed)");
+  assert.ok(lines.includes("  3 runs bound (allowed), seed 198 the first: 01"));
+  assert.ok(!lines.some((line) => line.includes("first failing seed")));
+});
+
+test("where all runs failed, none is said to have finished", () => {
+  assert.equal(linesOf([outcome(5, { ending: "failed" })])[0], "1 of 1 run failed: 1 failed");
+  const both = [outcome(1, { ending: "check" }), outcome(2, { ending: "bound", detail: "too much" })];
+  assert.equal(linesOf(both)[0], "2 of 2 runs failed: 1 check, 1 bound");
+});
+
+test("bounds that are allowed stand behind the runs that finished, and those that fail before", () => {
+  const mixed = [outcome(1), outcome(2, { ending: "bound", fails: false }), outcome(3, { ending: "race" })];
+  assert.equal(linesOf(mixed)[0], "1 of 3 runs failed: 1 race; 1 finished, 1 bound (allowed)");
+});
+
+test("failing states come before finished ones, eight at most", () => {
+  const failing = Array.from({ length: 7 }, (_, at) => outcome(100 + at, { ending: "deadlock", shown: [`d${at}`] }));
+  const finished = Array.from({ length: 5 }, (_, at) => seeds(at * 10, at * 10 + 8, { shown: [`f${at}`] })).flat();
+  const lines = linesOf([...finished, ...failing]);
+  const title = lines.indexOf("12 final states: how it ended, and the bytes");
+  assert.deepEqual(lines.slice(title + 1, title + 10), [
+    ...[0, 1, 2, 3, 4, 5, 6].map((at) => `  1 run deadlock, seed ${100 + at} the first: d${at}`),
+    "  9 runs finished, seed 0 the first: f0",
+    "  and 4 more",
+  ]);
+});
+
+test("a state is told by its hash: two that begin alike are two, and an empty buffer is a dash", () => {
+  const alike = (seed, hash) => ({ ...outcome(seed), state: { hash, shown: ["00…", ""] } });
+  const lines = linesOf([alike(1, "x"), alike(2, "y"), alike(3, "y")]);
+  assert.deepEqual(lines.slice(1, 4), [
+    "2 final states: how it ended, and the bytes",
+    "  2 runs finished, seed 2 the first: 00… | -",
+    "  1 run finished, seed 1 the first: 00… | -",
+  ]);
+});
+
+test("each pair of lines is told once, with its first seed and its runs, and eight of them at most", () => {
+  const often = race("a.mjs:1:1", "a.mjs:2:1");
+  const outcomes = Array.from({ length: 10 }, (_, at) => {
+    const own = race(`b.mjs:${at}:1`, "b.mjs:77:1");
+    return outcome(20 - at, { ending: "race", races: at === 0 ? [own] : [often, own] });
+  });
+  const lines = linesOf(outcomes);
+  const title = lines.indexOf("data races: 10 runs, 11 pairs of lines");
+  assert.deepEqual(lines.slice(title + 1, title + 10), [
+    "  seed 11 the first, 9 runs: a.mjs:1:1 and a.mjs:2:1",
+    ...[9, 8, 7, 6, 5, 4, 3].map((at) => `  seed ${20 - at} the first, 1 run: b.mjs:${at}:1 and b.mjs:77:1`),
+    "  and 3 more",
+  ]);
+});
+
+test("races that are allowed are told too, and races of runs that failed otherwise", () => {
+  const races = [race("a.mjs:1:1", "a.mjs:2:1")];
+  const allowed = linesOf([outcome(1, { races }), outcome(2)], { races: "allow" });
+  assert.equal(allowed[0], "2 runs: 2 finished");
+  assert.deepEqual(allowed.slice(1, 3), [
+    "data races, allowed: 1 run, 1 pair of lines", "  seed 1 the first, 1 run: a.mjs:1:1 and a.mjs:2:1",
+  ]);
+  const failed = linesOf([outcome(1, { ending: "deadlock", detail: "it waits", races })]);
+  assert.ok(failed.includes("data races: 1 run, 1 pair of lines"));
+});
+
+test("scripts that hold a part, and runs that have none, are told", () => {
+  const holding = { scriptHolds: "touched" };
+  const whole = { scriptHolds: "all" };
+  const none = { ending: "bound", detail: "it is too long", noScript: "it would have 2,000 calls" };
+  const lines = linesOf([outcome(1, holding), outcome(2, holding), outcome(3, whole), outcome(4, none)]);
+  assert.deepEqual(lines.slice(1, 4), [
+    "first failing seed: 4, bound", "  it is too long", "  it has no script: it would have 2,000 calls",
+  ]);
+  const checked = lines.indexOf("1 run checked: sabsim says the same");
+  assert.deepEqual(lines.slice(checked + 1, checked + 3), [
+    "2 scripts hold only the ordinary writes of bytes that calls touch, since all don't fit; their other bytes " +
+      "weren't compared",
+    "1 run has no script, and wasn't checked: it would have 2,000 calls",
+  ]);
+  const one = linesOf([outcome(1, holding)]);
+  assert.ok(one.includes(
+    "1 script holds only the ordinary writes of bytes that calls touch, since all don't fit; its other bytes " +
+      "weren't compared",
+  ));
+  const unchecked = linesOf([outcome(1, none), outcome(2, none)], { checked: 0, checks: false });
+  assert.ok(unchecked.includes("no run was checked"));
+  assert.ok(unchecked.includes("2 runs have no script: it would have 2,000 calls"));
+});
+
+test("the last lines say what was not seen", () => {
+  const last = (options) => linesOf(seeds(1, 2, { ordinary: 3 }), options).at(-1);
+  assert.equal(last({ ordinary: "watch" }), "2 runs made 4 calls of Atomics, and 6 ordinary reads and writes");
+  assert.equal(
+    last({ ordinary: "store" }),
+    "ordinary reads were not seen, and of ordinary writes only what they changed between two calls, so data races " +
+      "were not looked for",
+  );
+  assert.equal(last({ ordinary: "refuse" }), "ordinary reads were not seen, so data races were not looked for");
+  for (const ordinary of ["store", "refuse"]) {
+    assert.equal(linesOf(seeds(1, 2), { ordinary }).at(-2), "2 runs made 4 calls of Atomics");
+  }
+});
+
+test("how many calls and accesses there were is told as it is said", () => {
+  const last = (calls, ordinary) => linesOf([outcome(1, { calls, ordinary })]).at(-1);
+  assert.equal(last(0, 0), "1 run made no call of Atomics, and no ordinary read or write");
+  assert.equal(last(1, 1), "1 run made 1 call of Atomics, and 1 ordinary read or write");
+  assert.equal(last(9_432, 1_000_000), "1 run made 9,432 calls of Atomics, and 1,000,000 ordinary reads and writes");
+  assert.deepEqual([0, 12, 999, 1_000, 123_456, 1_234_567].map(digits), [
+    "0", "12", "999", "1,000", "123,456", "1,234,567",
+  ]);
+  assert.equal(counted(1, "seed"), "1 seed");
+});
+
+test("where not all runs were made, the first line says so", () => {
+  const stop = { why: "interrupted by SIGINT", wanted: 1_000_000 };
+  assert.deepEqual(linesOf(seeds(1, 3), { stop }).slice(0, 2), [
+    "interrupted by SIGINT after 3 of 1,000,000 runs", "3 runs: 3 finished",
+  ]);
+  assert.deepEqual(linesOf([], { stop }), ["interrupted by SIGINT after 0 of 1,000,000 runs"]);
+});
+
+test("what is kept of a run doesn't grow with its bytes and its texts", () => {
+  const summary = new Summary(SEEN);
+  const long = "0".repeat(1_000_000);
+  summary.add(outcome(7, { ending: "failed", detail: "the first", script: long }));
+  for (let seed = 8; seed < 20; seed += 1) {
+    const texts = { detail: long, script: long, report: long, trace: long, bytes: [long] };
+    summary.add(outcome(seed, { ending: "failed", ...texts }));
+  }
+  // The maps of a Summary are looked into as its fields are.
+  const room = JSON.stringify(summary, (_, value) => (value instanceof Map ? [...value] : value)).length;
+  assert.ok(room < 2_000_000, `${room} characters are kept`);
+  assert.equal(summary.failing.seed, 7);
+});

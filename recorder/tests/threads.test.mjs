@@ -1,0 +1,98 @@
+// Workers, as those who start them see them: their messages, and what they died of.
+
+import assert from "node:assert/strict";
+import { existsSync, writeFileSync } from "node:fs";
+import { join } from "node:path";
+import { test } from "node:test";
+import { setTimeout as sleep } from "node:timers/promises";
+import { pathToFileURL } from "node:url";
+import { Thread } from "../lib/run/thread.mjs";
+import { temporaryFolder } from "./common.mjs";
+
+/**
+ * A thread that runs some code, in which `port` is where its messages go.
+ * @param {import("node:test").TestContext} context
+ * @param {string} code
+ * @param {{ ownPort?: boolean }} [options]
+ */
+function threadOf(context, code, options) {
+  const path = join(temporaryFolder(context), "worker.mjs");
+  const imports = [
+    'import { execSync } from "node:child_process";',
+    'import { parentPort, workerData } from "node:worker_threads";',
+    "const port = workerData.port ?? parentPort;",
+  ];
+  writeFileSync(path, [...imports, code].join("\n"));
+  const thread = new Thread(pathToFileURL(path), { number: 7 }, options);
+  context.after(() => thread.stop());
+  return thread;
+}
+
+/** All that is told of a thread until its end. */
+async function toldBy(thread) {
+  const items = [];
+  for (;;) {
+    const item = await thread.next();
+    items.push(item);
+    if (item.ended !== undefined) return items;
+  }
+}
+
+for (const ownPort of [false, true]) {
+  const by = ownPort ? "by a port of its own" : "by the worker's port";
+
+  test(`messages go to and fro ${by}, and those before the end are all told`, async (context) => {
+    const echo = 'port.once("message", (it) => { port.postMessage([it, workerData.number]); process.exit(3); });';
+    const thread = threadOf(context, `port.postMessage("first"); ${echo}`, { ownPort });
+    thread.post("there");
+    assert.deepEqual(await toldBy(thread), [
+      { message: "first" }, { message: ["there", 7] }, { ended: "it ended by itself, with exit code 3" },
+    ]);
+    assert.deepEqual(await thread.next(), { ended: "it ended by itself, with exit code 3" });
+  });
+
+  test(`what a worker dies of is told ${by}`, async (context) => {
+    const told = async (code) => (await toldBy(threadOf(context, code, { ownPort }))).at(-1).ended;
+    assert.equal(await told('throw new RangeError("mine");'), "RangeError: mine");
+    assert.equal(await told('await Promise.reject(new Error("later"));'), "Error: later");
+    assert.equal(await told("throw undefined;"), "it threw undefined");
+    assert.equal(await told('throw "words";'), "it threw words");
+  });
+}
+
+test("the error is kept, and who listens for the end gets it in words", async (context) => {
+  const thread = threadOf(context, 'throw new TypeError("mine");');
+  const why = new Promise((done) => {
+    thread.onEnd = done;
+  });
+  assert.equal(await why, "TypeError: mine");
+  assert.ok(thread.error instanceof TypeError);
+  assert.equal(thread.ended, "TypeError: mine");
+});
+
+test("what other code sends by the worker's port isn't taken for a message", async (context) => {
+  const code = 'parentPort.postMessage("false"); port.postMessage("true"); process.exit();';
+  const [first, second] = await toldBy(threadOf(context, code, { ownPort: true }));
+  assert.deepEqual([first, Object.keys(second)], [{ message: "true" }, ["ended"]]);
+});
+
+test("the end of a thread that native code holds is awaited no longer than is said", async (context) => {
+  const mark = join(temporaryFolder(context), "mark");
+  const thread = threadOf(context, `execSync("touch ${mark}; sleep 2");`);
+  while (!existsSync(mark)) await sleep(10);
+  const begun = performance.now();
+  assert.equal(await thread.stop(100), false);
+  const took = performance.now() - begun;
+  assert.ok(took >= 95 && took < 1_500, `it took ${took} ms`);
+});
+
+test("a thread that loops is ended, and nothing is told of it", async (context) => {
+  const thread = threadOf(context, 'port.postMessage("looping"); for (;;);');
+  await thread.next();
+  let told = false;
+  thread.onEnd = () => {
+    told = true;
+  };
+  assert.equal(await thread.stop(20_000), true);
+  assert.equal(told, false);
+});
