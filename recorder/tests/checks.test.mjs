@@ -8,7 +8,7 @@ import { join } from "node:path";
 import { describe, it } from "node:test";
 import { Refused, record } from "../recorder.mjs";
 import { sabsim } from "../lib/check/sabsim.mjs";
-import { RECORD, SABSIM, agentsPath, recordCase, temporaryFolder, withSabsim } from "./common.mjs";
+import { RECORD, SABSIM, agentsPath, temporaryFolder, withSabsim } from "./common.mjs";
 import { different, recorded, seedsTo } from "./recorded.mjs";
 
 const program = (name, options = {}) => ({ agents: agentsPath("checked"), args: [name], ...options });
@@ -85,29 +85,53 @@ describe("init and check", { concurrency: 2, ...withSabsim }, () => {
     // The library's own goes before the module's; and where it passes the race is what is left.
     const [passed] = await recorded(program("races", { check() {} }));
     assert.deepEqual([passed.ending, passed.races.length], ["race", 1]);
-    assert.match(passed.detail, /^agent 0 writes Int32_b0\[1\] at checked\.mjs:\d+:\d+, before its call 0; agent 1 writes /);
+    const what = /^agent 0 writes Int32_b0\[1\] at checked\.mjs:\d+:\d+, before its call 0; agent 1 writes /;
+    assert.match(passed.detail, what);
   });
 
   it("a run that hasn't finished isn't checked", async () => {
-    const cases = { waitsForEver: "deadlock", throwsLater: "failed", nothing: "failed", spins: "bound" };
-    for (const [name, ending] of Object.entries(cases)) {
-      const check = () => assert.fail("it was checked");
-      const outcome = await recordCase(name, { check, sabsim: false, maxMoves: 100 });
-      assert.equal(outcome.ending, ending);
-    }
+    const outcomes = await recorded(program("ends", { trace: true, maxMoves: 100 }), seedsTo(4));
+    assert.deepEqual(outcomes.map(({ ending }) => ending), ["deadlock", "failed", "failed", "bound"]);
+    assert.match(outcomes[2].detail, /^no agent has made a call of Atomics/);
   });
 
   it("a check that doesn't end fails its run, and the next one begins", async () => {
-    const outcomes = await recorded(program("loops", { seconds: 0.2 }), [1, 2]);
+    const outcomes = await recorded(program("loops", { seconds: 0.5, trace: true }), [1, 2]);
     assert.deepEqual(outcomes.map(({ ending, fails }) => [ending, fails]), [["check", true], ["check", true]]);
-    for (const { detail } of outcomes) assert.match(detail, /for 0\.2 s/);
+    for (const { detail } of outcomes) assert.match(detail, /^check didn't come to its end: .* for 0\.5 s$/);
+  });
+
+  it("an init or a check that isn't synchronous fails its run: nobody awaits what comes of it", async () => {
+    const outcomes = await recorded(program("unfinished", { trace: true }), seedsTo(4));
+    assert.deepEqual(outcomes.map(({ ending, fails, detail }) => [ending, fails, detail]), [
+      ["check", true, "check answered a promise, but it must be synchronous"],
+      ["check", true, "check goes on later, by a promise, but it must be synchronous"],
+      ["check", true, "check answered an iterator, whose code nobody runs: it is a generator"],
+      ["failed", true, "init answered a promise, but it must be synchronous"],
+    ]);
+  });
+
+  it("so does one that the library is given, and what it rejects harms nobody", async () => {
+    const rejects = async () => {
+      throw new Error("nobody is told");
+    };
+    const checks = [rejects, function* never() {
+      throw new Error("nobody asks for it");
+    }, () => {}];
+    const options = { init: () => (checks.length === 1 ? rejects() : undefined), check: () => checks.shift()() };
+    const outcomes = await recorded({ agents: agentsPath("three-state-mutex"), trace: true, ...options }, seedsTo(3));
+    assert.deepEqual(outcomes.map(({ ending, fails }) => [ending, fails]), [
+      ["check", true], ["check", true], ["failed", true],
+    ]);
+    for (const { detail } of outcomes) assert.match(detail, /^(check|init) answered /);
   });
 
   it("with 16 agents none is left for the stores of init", async () => {
-    const refused = (error) => error instanceof Refused && /16 agents/.test(error.message) && /init/.test(error.message);
+    const why = /^with 16 agents none is left for the stores of `init`/;
+    const refused = (error) => error instanceof Refused && why.test(error.message);
     await assert.rejects(record(program("lost", { count: 16, check: false })), refused);
-    const options = { agents: agentsPath("cases"), args: ["addition"], count: 16, buffers: [64], check: false };
-    await assert.rejects(record({ ...options, init() {} }), refused);
+    const others = { agents: agentsPath("three-state-mutex"), count: 16, check: false };
+    await assert.rejects(record({ ...others, init() {} }), refused);
     const [outcome] = await recorded(program("filled", { count: 15, check() {} }));
     assert.equal(outcome.ending, "finished");
     // Five for each agent, and what each adds.

@@ -1,5 +1,6 @@
 // Each example is recorded under 200 seeds: sabsim replays every script to the same answers, the naive mutex is found,
-// and no other run fails. The engine's own waits and notifies agree with some of the scripts of each.
+// no other run fails, and what is found is what the examples' README says. The engine's own waits and notifies agree
+// with some of the scripts of each.
 
 import assert from "node:assert/strict";
 import { mkdtempSync, readFileSync, readdirSync, rmSync, writeFileSync } from "node:fs";
@@ -28,6 +29,72 @@ async function outcomesOf(module, last, check) {
   return outcomes.sort((one, other) => one.seed - other.seed);
 }
 
+/** How many waits ended by their time. */
+function timeOuts(outcomes) {
+  return outcomes.flatMap(({ answers }) => answers.flat()).filter((answer) => answer === "timed-out").length;
+}
+
+/** How many runs ended with each of some bytes, those of most runs first. */
+function runsByBytes(outcomes) {
+  const counts = new Map();
+  for (const { bytes } of outcomes) counts.set(bytes.join(" "), (counts.get(bytes.join(" ")) ?? 0) + 1);
+  return [...counts].sort(([, one], [, other]) => other - one);
+}
+
+/** The bytes of words, as outcomes have them. */
+const wordsHex = (...words) => Buffer.from(Int32Array.from(words).buffer).toString("hex");
+
+/** What README says of an example's runs, by their outcomes. */
+const FOUND = {
+  "mutex-naive": (outcomes) => {
+    const failing = outcomes.filter(({ ending }) => ending === "deadlock");
+    return `**${failing.length} deadlocks**, the first at seed ${failing[0].seed}: a wake-up is lost`;
+  },
+  "mutex-three-state": (outcomes) => {
+    assert.deepEqual(runsByBytes(outcomes), [[wordsHex(0, 9), SEEDS]]);
+    return "nothing; every run ends with all nine counts";
+  },
+  semaphore: (outcomes) => `nothing; ${timeOuts(outcomes)} times an agent gives up`,
+  "bounded-queue": (outcomes) => {
+    assert.equal(runsByBytes(outcomes).length, 1);
+    return "nothing; every run ends with the same bytes";
+  },
+  barrier: (outcomes) => {
+    assert.equal(runsByBytes(outcomes).length, 1);
+    return "nothing; every run ends with the same bytes";
+  },
+  "readers-writer": (outcomes) => {
+    const [[most, runs], [least, others], ...more] = runsByBytes(outcomes);
+    // Round 3 of writer 0 or of writer 1.
+    assert.deepEqual([[most, least].sort(), more], [[wordsHex(0, 13, 13), wordsHex(0, 23, 23)], []]);
+    return `nothing; ${runs} runs end with the last write of one writer, ${others} with that of the other`;
+  },
+};
+
+const README = readFileSync(join(FOLDER, "README.md"), "utf8");
+
+/** What README's table says of an example's runs: its last column. */
+function saidOf(name) {
+  const row = README.split("\n").find((line) => line.startsWith(`| [${name}](`));
+  return row.slice(0, -" |".length).split(" | ").at(-1);
+}
+
+/** What all recorded scripts come to. */
+const all = { scripts: 0, waits: 0, timeOuts: 0, moves: 0 };
+
+/** Adds the outcomes of an example. */
+function count(outcomes) {
+  all.scripts += outcomes.length;
+  all.timeOuts += timeOuts(outcomes);
+  for (const { script, answers, moves } of outcomes) {
+    all.moves += moves;
+    JSON.parse(script).agents.forEach(({ calls }, agent) => {
+      const joined = ([name], call) => name === "wait" && answers[agent][call] !== "not-equal";
+      all.waits += calls.filter(joined).length;
+    });
+  }
+}
+
 const NAMES = readdirSync(FOLDER).filter((name) => name.endsWith(".agents.mjs")).map((name) => name.split(".")[0]);
 
 describe("examples", () => {
@@ -45,6 +112,8 @@ describe("examples", () => {
       } else {
         assert.deepEqual(failing.map(({ seed, ending, detail }) => ({ seed, ending, detail })), []);
       }
+      assert.equal(saidOf(name), FOUND[name](outcomes));
+      count(outcomes);
       const calls = outcomes.flatMap(({ progress }) => progress.map((agent) => agent.calls));
       assert.ok(Math.max(...calls) <= 1_000);
       const compare = async ({ seed, script, report }) => {
@@ -54,6 +123,12 @@ describe("examples", () => {
       await Promise.all([...outcomes.slice(0, BY_THE_ENGINE), ...failing.slice(0, 1)].map(compare));
     });
   }
+
+  test("README counts their scripts, waits and moves", withSabsim, () => {
+    const counted = /All ([\d,]+) scripts .* ([\d,]+) waits that joined a line and ([\d,]+) that .* ([\d,]+) moves/s;
+    const said = counted.exec(README).slice(1).map((text) => Number(text.replaceAll(",", "")));
+    assert.deepEqual(said, [all.scripts, all.waits, all.timeOuts, all.moves]);
+  });
 });
 
 describe("the checks of the agents find a lock that isn't one", () => {

@@ -6,6 +6,7 @@ import { randomUUID } from "node:crypto";
 import { closeSync, existsSync, mkdirSync, openSync, readFileSync, readdirSync, writeFileSync } from "node:fs";
 import { join } from "node:path";
 import { test } from "node:test";
+import { fileURLToPath } from "node:url";
 import { optionsOf, USAGE } from "../lib/command/options.mjs";
 import { Refused } from "../lib/run/plan.mjs";
 import { RECORD, SABSIM, agentsOf, agentsPath, temporaryFolder, withSabsim } from "./common.mjs";
@@ -196,11 +197,36 @@ test("a wrong command line is refused with status 2 and one line", async (contex
   });
 });
 
-test("README's worked command prints what README says", withSabsim, () => {
-  const readme = readFileSync(new URL("../README.md", import.meta.url), "utf8");
-  const [, command, printed] = /^ {4}\$ node recorder\/record\.mjs (.*)\n((?: {4}.*\n)+)/m.exec(readme);
-  const { stdout } = run([...command.split(" "), ...sabsim], { cwd: new URL("../../", import.meta.url) });
-  assert.equal(stdout, printed.replaceAll(/^ {4}/gm, ""));
+const ROOT = fileURLToPath(new URL("../../", import.meta.url));
+const textOf = (path) => readFileSync(join(ROOT, path), "utf8");
+
+/** The recorder's commands in a document, with what they print. @param {string} path */
+function workedCommands(path) {
+  const commands = textOf(path).matchAll(/^ {4}\$ node recorder\/record\.mjs (.*)\n((?: {4}.*\n)+)/gm);
+  return [...commands].map(([, words, printed]) => {
+    return { words: words.split(" "), printed: printed.replaceAll(/^ {4}/gm, "") };
+  });
+}
+
+for (const [path, count] of [["README.md", 1], ["recorder/README.md", 2]]) {
+  test(`the worked commands of ${path} print what it says`, withSabsim, (context) => {
+    const commands = workedCommands(path);
+    assert.equal(commands.length, count);
+    for (const { words: [module, ...words], printed } of commands) {
+      const { stdout } = run([join(ROOT, module), ...words, ...sabsim], { cwd: temporaryFolder(context) });
+      // Two dots stand for lines that aren't shown.
+      const [begin, end] = printed.split(/^\.\.\n/m);
+      const shown = end === undefined ? stdout : `${stdout.slice(0, begin.length)}..\n${stdout.slice(-end.length)}`;
+      assert.equal(shown, printed);
+    }
+  });
+}
+
+test("README tells a race as the recorder does", () => {
+  const [lines] = /(?:^ {4}.*\n)+/m.exec(textOf("README.md").split("before it has read its byte:\n\n")[1]);
+  const told = lines.trim().replaceAll(/\s+/g, " ");
+  const ring = workedCommands("recorder/README.md").find(({ words: [module] }) => module.includes("ring"));
+  assert.ok(ring.printed.includes(`first failing seed: 2, race\n  ${told}\n`), told);
 });
 
 test("help is on standard output, with status 0", () => {

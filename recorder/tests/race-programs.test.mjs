@@ -2,8 +2,9 @@
 // the traces, and the traces say of each call what sabsim says.
 
 import assert from "node:assert/strict";
+import { readFileSync } from "node:fs";
 import { test } from "node:test";
-import { moduleUrl } from "../lib/recorder.mjs";
+import { moduleUrl, record } from "../lib/recorder.mjs";
 import { recordSeeds } from "../lib/seeds/seeds.mjs";
 import { CONSTRUCTORS, KINDS } from "../script/kinds.mjs";
 import { SABSIM, agentsPath, withSabsim } from "./common.mjs";
@@ -116,4 +117,39 @@ test("where no trace is wanted, and accesses are kept once, the same is told of 
     const untraced = await recorded(way, { ...few, trace: false });
     assert.deepEqual(untraced.map(toldOf), traced.map(toldOf), way);
   }
+});
+
+test("workers that are started anew go on with the lines of code of those before", async () => {
+  const few = { last: 5, check: 0, jobs: 1 };
+  const traces = async (options) => (await recorded("wild", { ...few, ...options })).map(({ trace }) => trace);
+  assert.deepEqual(await traces({ fresh: true }), await traces({ fresh: false }));
+});
+
+const NAMED = ["element", "view", "find", "iteration", "nested", "limited"];
+const NAMED_LINES = readFileSync(agentsPath("named-lines"), "utf8").split("\n");
+
+/** The sources of the ordinary reads of a run of the agents that make one. @param {string} way */
+async function sourcesOf(way) {
+  const options = { agents: agentsPath("named-lines"), args: [way], count: 1, buffers: [4, 4], check: false };
+  const { ending, detail, trace } = await record({ ...options, trace: true });
+  assert.equal(ending, "finished", detail);
+  const events = trace.trimEnd().split("\n").map((line) => JSON.parse(line));
+  return events.filter(({ does }) => does === "read").map(({ source }) => source);
+}
+
+for (const way of NAMED) {
+  test(`the line of code of a read is told: ${way}`, async () => {
+    const told = await sourcesOf(way);
+    assert.ok(told.length > 0);
+    const first = NAMED_LINES.findIndex((line) => line.startsWith(`  ${way}`));
+    const last = way === "limited" ? first + 3 : first;
+    for (const source of told) {
+      const [, line] = /named-lines\.mjs:(\d+):\d+$/.exec(source);
+      assert.ok(first < line && line <= last + 1, `${source} isn't from line ${first + 1} to ${last + 1}`);
+    }
+  });
+}
+
+test("where the agents' code has frozen Error no line is told, and their code goes on", async () => {
+  assert.deepEqual(await sourcesOf("frozen"), [null]);
 });

@@ -3,7 +3,8 @@
 
 import assert from "node:assert/strict";
 import { test } from "node:test";
-import { Log } from "../lib/run/log.mjs";
+import { racesTold } from "../lib/run/findings.mjs";
+import { FLAG, Log, NO_CALL, READ, WRITE } from "../lib/run/log.mjs";
 import { isRacy, racesOf } from "../lib/run/races.mjs";
 import { randomEvents } from "./events.mjs";
 import { slowRaces } from "./second-detector.mjs";
@@ -195,28 +196,87 @@ test("clocks and the search agree on 2,000 random lists of events", () => {
 
 test("what one line of code does again and again is told once, and no pair of lines is left out", () => {
   for (let seed = 1; seed <= 500; seed += 1) {
-    const events = randomEvents(seed).map((one, index) => ({ ...one, source: index % 3 }));
+    const events = randomEvents(seed).map((one, index) => ({ ...one, source: 1 + index % 3 }));
     const agents = 1 + Math.max(...events.map(({ agent }) => agent));
     const told = racesOf(Log.of(events), agents).map(({ one, other }) => [one, other]);
     const racing = slowRaces(events);
     const racingPairs = new Set(racing.map(String));
     for (const pair of told) assert.ok(racingPairs.has(String(pair)), `seed ${seed}: ${pair} don't race`);
-    const spelled = told.map(([one, other]) => `${rangeName(events[one])}, ${rangeName(events[other])}`);
+    const spelled = told.map(([one, other]) => `${lineName(events[one])}, ${lineName(events[other])}`);
     assert.equal(new Set(spelled).size, spelled.length, `seed ${seed}: one was told twice`);
     assert.deepEqual(linesOf(events, told), linesOf(events, racing), `seed ${seed}`);
   }
 });
 
-/** Who makes an access and where in the code, and which one it is: of an atomic one its bytes too. */
-function lineName({ agent, source, read, write, atomic, block, byte, size }) {
-  return [agent, source, read, write, ...(atomic ? [block, byte, size] : [])].join(" ");
-}
-
-const rangeName = ({ block, byte, size, waiters, ...access }) =>
-  `${lineName({ block, byte, size, ...access })} at ${block} ${byte} ${size} ${waiters}`;
+/** Who makes an access, where in the code, and what it does. */
+const lineName = ({ agent, source, read, write, atomic }) => [agent, source, read, write, atomic].join(" ");
 
 /** The different pairs, whatever the order of the two. */
 function linesOf(events, pairs) {
   const spelled = pairs.map(([one, other]) => [lineName(events[one]), lineName(events[other])].sort().join(", "));
   return [...new Set(spelled)].sort();
 }
+
+test("where no lines of code are known, each agent's reads and writes by a view race once with each other's", () => {
+  const view = (kind, offset) => ({ kind, offset, length: 4 });
+  const log = new Log(Log.memory(64), new Int32Array(1), 0);
+  const access = (agent, flag, byte, by) => {
+    log.append(flag === FLAG.READS ? READ : WRITE, agent, NO_CALL, flag, 0, 0, byte, byte + 1, by, 0);
+  };
+  const whole = view(1, 0);
+  const part = view(1, 2);
+  for (let byte = 0; byte < 4; byte += 1) access(0, FLAG.WRITES, byte, whole);
+  for (let byte = 0; byte < 4; byte += 1) access(1, FLAG.READS, byte, whole);
+  for (let byte = 2; byte < 4; byte += 1) access(1, FLAG.READS, byte, part);
+  for (let byte = 0; byte < 4; byte += 1) access(1, FLAG.WRITES, byte, whole);
+  const pairs = racesOf(log, 2).map(({ one, other, byte }) => [one, other, byte]);
+  // Event 4 is the first read by the whole view, 8 the first by the part, and 10 the first write.
+  assert.deepEqual(pairs, [[0, 4, 0], [2, 8, 2], [0, 10, 0]]);
+});
+
+test("reads and writes in turn are joined, and race as if they weren't", () => {
+  const log = new Log(Log.memory(64), new Int32Array(1), 0);
+  const view = { kind: 1, offset: 0, length: 8 };
+  const noted = (what, agent, byte, since, by = view) => {
+    const flag = what === READ ? FLAG.READS : FLAG.WRITES;
+    if (log.extend(what, agent, 0, byte, byte + 1, by, since)) return;
+    log.append(what, agent, NO_CALL, flag, 0, 0, byte, byte + 1, by, 0);
+  };
+  const ranges = () => Array.from({ length: log.length }, (_, at) => {
+    return [log.whatAt(at), log.agentAt(at), log.fromAt(at), log.toAt(at)];
+  });
+  for (let byte = 0; byte < 4; byte += 1) for (const what of [READ, WRITE]) noted(what, 0, byte, 0);
+  assert.deepEqual(ranges(), [[READ, 0, 0, 4], [WRITE, 0, 0, 4]]);
+  // Another agent's events, and those before its own call, aren't gone on with; nor is what another view has read.
+  noted(WRITE, 1, 4, 2);
+  noted(READ, 1, 5, 2);
+  noted(READ, 1, 6, 2, { ...view, kind: 0 });
+  noted(WRITE, 1, 5, 2);
+  const later = [[WRITE, 1, 4, 5], [READ, 1, 5, 6], [READ, 1, 6, 7], [WRITE, 1, 5, 6]];
+  assert.deepEqual(ranges().slice(2), later);
+  const { length } = log;
+  noted(WRITE, 1, 6, length);
+  assert.equal(log.length, length + 1);
+  assert.deepEqual(racesOf(log, 2), []);
+  noted(READ, 1, 3, log.length);
+  assert.deepEqual(racesOf(log, 2), [{ one: 1, other: length + 1, block: 0, byte: 3 }]);
+});
+
+test("of the races of a run a thousand pairs of lines are told, and how many there are besides", () => {
+  const LINES = 40;
+  // Agent 0 writes a byte on each of 40 lines, and agent 1 reads it on each of 40 others: 1,600 pairs.
+  const access = (agent, source) => ({ ...(agent === 0 ? write : read)(agent, 0, 1), source });
+  const numbers = Array.from({ length: LINES }, (_, line) => line + 1);
+  const log = Log.of([0, 1].flatMap((agent) => numbers.map((source) => access(agent, source))));
+  const sources = [0, 1].map((agent) => ["", ...numbers.map((line) => `file:///a/agents.mjs:${line}:${agent + 1}`)]);
+  const run = { log, records: [{}, {}], lengths: [4], canBlock: [true, true] };
+  const told = racesTold({ run, transcript: { calls: [[], []] }, sources, module: "file:///a/agents.mjs" });
+  assert.equal(told.length, 1_000);
+  assert.equal(new Set(told.map(({ lines }) => lines.join(" "))).size, 1_000);
+  assert.ok(told.at(-1).text.endsWith("\nand 600 more"), told.at(-1).text);
+  assert.ok(told.slice(0, -1).every(({ text }) => !text.includes("more")));
+  const [writes, reads] = told[0].sides;
+  assert.deepEqual([writes.agent, writes.access, reads.agent, reads.access], [0, "write", 1, "read"]);
+  assert.equal(reads.source, "agents.mjs:1:2", "the first read comes first");
+  assert.deepEqual(told[0].lines, [writes.source, reads.source].sort());
+});

@@ -1,16 +1,21 @@
 // Agents that go on and on: a spin is told as one, with its place in the code, and what comes on isn't called one.
 
 import assert from "node:assert/strict";
-import { describe, it } from "node:test";
+import { before, describe, it } from "node:test";
 import { SCRIPT_LIMITS } from "../script/limits.mjs";
 import { agentsPath, withSabsim } from "./common.mjs";
-import { placesOf, recorded, summaryLines } from "./recorded.mjs";
+import { placesOf, recorded, seedsTo, summaryLines } from "./recorded.mjs";
 
-/** The outcome of one way to go on. */
-async function outcomeOf(way, options = {}) {
-  const [outcome] = await recorded({ agents: agentsPath("spins"), args: [way], ...options });
-  return outcome;
+/** The outcomes of some ways to go on, by their names. With a trace each run is made once, and is the next way. */
+async function outcomesOf(ways, seconds) {
+  const options = { agents: agentsPath("spins"), args: ways, trace: true, seconds };
+  const outcomes = await recorded(options, seedsTo(ways.length));
+  return Object.fromEntries(ways.map((way, at) => [way, outcomes[at]]));
 }
+
+// What ends by itself has all the time, and what doesn't little.
+const ENDING = ["load", "compareExchange", "ordinary", "strides", "counts", "deadline"];
+const ENDLESS = ["alternately", "nothing"];
 
 /** Where a text stands in the agents' code, as the recorder tells it. */
 function placeOf(text) {
@@ -20,6 +25,13 @@ function placeOf(text) {
 
 const { calls: MOST } = SCRIPT_LIMITS;
 
+/** An agent that comes on has met the bound of calls at a place. */
+function meetsBound({ ending, detail, progress }, text) {
+  assert.equal(ending, "bound");
+  assert.equal(detail, `agent 1 has made ${MOST} calls, and goes on at ${placeOf(text)}`);
+  assert.deepEqual(progress[1], { returned: MOST, calls: MOST });
+}
+
 // Of calls the engine tells the place of the function's name, of an element that of its index.
 const SPINS = {
   load: ["load(words, 1) === 0", `it has made ${MOST} calls, and goes on`],
@@ -27,48 +39,53 @@ const SPINS = {
   ordinary: ["[1] === 0", "it reads the same bytes again and again without a call of Atomics"],
 };
 
-describe("agents that go on and on", { concurrency: 2, ...withSabsim }, () => {
+describe("agents that go on and on", withSabsim, () => {
+  let outcomes;
+
+  before(async () => {
+    const [ending, endless] = await Promise.all([outcomesOf(ENDING, 60), outcomesOf(ENDLESS, 0.5)]);
+    outcomes = { ...ending, ...endless };
+  });
+
   for (const [way, [text, what]] of Object.entries(SPINS)) {
-    it(`a spin is told with its place: ${way}`, async () => {
-      const { ending, fails, detail } = await outcomeOf(way);
+    it(`a spin is told with its place: ${way}`, () => {
+      const { ending, fails, detail } = outcomes[way];
       const [, place, rest] = /^agent 1 spins at (\S+:\d+:\d+): (.*)$/.exec(detail) ?? assert.fail(detail);
       assert.deepEqual([ending, fails, rest], ["bound", true, what]);
       assert.equal(withoutColumn(place), withoutColumn(placeOf(text)));
     });
   }
 
-  it("who reads several elements in turn is asked where it is when its time is up", async () => {
-    const { ending, detail } = await outcomeOf("alternately", { seconds: 0.3 });
+  it("who reads several elements in turn is asked where it is when its time is up", () => {
+    const { ending, detail } = outcomes.alternately;
     assert.equal(ending, "bound");
     const [, place] = /^agent 1 spins at (\S+): it has made no call for too long$/.exec(detail) ?? assert.fail(detail);
     assert.equal(withoutColumn(place), withoutColumn(placeOf("[at] === 0")));
   });
 
-  it("of who accesses nothing no place is known, and it isn't called a spin", async () => {
-    const { ending, fails, detail } = await outcomeOf("nothing", { seconds: 0.3 });
-    assert.deepEqual([ending, fails, detail], ["bound", true, "agent 1 has made no call for 0.3 s"]);
+  it("of who accesses nothing no place is known, and it isn't called a spin", () => {
+    const { ending, fails, detail } = outcomes.nothing;
+    assert.deepEqual([ending, fails, detail], ["bound", true, "agent 1 has made no call for 0.5 s"]);
   });
 
-  it("who comes on meets the bound of calls, and doesn't spin", async () => {
-    for (const [way, text] of [["strides", "store(words, at % 16, at)"], ["counts", "add(words, 1, 1)"]]) {
-      const { ending, detail, progress } = await outcomeOf(way);
-      assert.equal(ending, "bound");
-      assert.equal(detail, `agent 1 has made ${MOST} calls, and goes on at ${placeOf(text)}`);
-      assert.deepEqual(progress[1], { returned: MOST, calls: MOST });
-    }
+  it("who comes on from one to the next meets the bound of calls, and doesn't spin", () => {
+    meetsBound(outcomes.strides, "store(words, at % 16, at)");
   });
 
-  it("who waits for a time to come gets there, since to look at the time takes time", async () => {
-    const { ending, bytes } = await outcomeOf("deadline");
+  it("who counts meets the bound of calls, and doesn't spin", () => {
+    meetsBound(outcomes.counts, "add(words, 1, 1)");
+  });
+
+  it("who waits for a time to come gets there, since to look at the time takes time", () => {
+    const { ending, bytes } = outcomes.deadline;
     assert.equal(ending, "finished");
     const [, reached] = new Int32Array(Uint8Array.from(Buffer.from(bytes[0], "hex")).buffer);
     assert.ok(reached >= 50 && reached < 53, `${reached} ms`);
   });
 
   it("a bound that is allowed is no failure, and is told all the same", async () => {
-    const outcome = await outcomeOf("load", { bounds: "allow" });
-    assert.deepEqual([outcome.ending, outcome.fails], ["bound", false]);
-    assert.match(outcome.detail, /^agent 1 spins at /);
+    const [outcome] = await recorded({ agents: agentsPath("spins"), args: ["load"], bounds: "allow" });
+    assert.deepEqual([outcome.ending, outcome.fails, outcome.detail], ["bound", false, outcomes.load.detail]);
     const [first, ...others] = summaryLines([outcome]);
     assert.equal(first, "1 run: 1 bound (allowed)");
     assert.ok(!others.some((line) => line.includes("first failing seed")));

@@ -167,7 +167,8 @@ test("the last lines say what was not seen", () => {
     "ordinary reads were not seen, and of ordinary writes only what they changed between two calls, so data races " +
       "were not looked for",
   );
-  assert.equal(last({ ordinary: "refuse" }), "ordinary reads were not seen, so data races were not looked for");
+  assert.equal(last({ ordinary: "refuse" }), last({ ordinary: "store" }));
+  assert.match(last({ ordinary: "watch", preloads: true }), /^what is done by .* as --require, .* was not seen$/);
   for (const ordinary of ["store", "refuse"]) {
     assert.equal(linesOf(seeds(1, 2), { ordinary }).at(-2), "2 runs made 4 calls of Atomics");
   }

@@ -9,6 +9,7 @@ import { SCRIPT_LIMITS } from "../../script/limits.mjs";
 import { FLAG, NO_CALL, READ, WRITE } from "../run/log.mjs";
 import { byteOf } from "../run/memory.mjs";
 import { callText, textRoom, viewKey, viewName } from "../run/spelling.mjs";
+import { leftOpen } from "./answer.mjs";
 import { engineCall, isEqualElement } from "./engine.mjs";
 import { RunIsOver } from "./over.mjs";
 import { mapGet, mapSet, mapHas, uncurried } from "../../kept/own.mjs";
@@ -84,7 +85,7 @@ export class Player {
     this.#begin();
     let problem;
     try {
-      problem = leftOpen(body());
+      problem = leftOpen(body(), "an agent");
     } catch (thrown) {
       problem = `threw ${described(thrown)}`;
     }
@@ -92,20 +93,22 @@ export class Player {
   }
 
   /**
-   * Does something else than its part in a run: nothing of it is recorded.
+   * Does something else than its part in a run: nothing of it is recorded. It tells what went wrong in it.
    * @param {() => unknown} body
    * @param {(thrown: unknown) => string} described
    */
   serve(body, described) {
-    const { end, turn } = this.table.board;
-    let problem = "";
+    const { board, later } = this.table;
+    let problem;
+    later.begin();
     try {
-      body();
+      problem = leftOpen(body(), "it") ?? this.#undone("it");
     } catch (thrown) {
-      problem = described(thrown);
+      problem = `threw ${described(thrown)}`;
     }
-    turn.goHome(this.agent);
-    end.end(problem === "" ? "finished" : "failed", problem);
+    later.end();
+    board.turn.goHome(this.agent);
+    board.end.end("finished", problem ?? "");
   }
 
   /**
@@ -150,18 +153,19 @@ export class Player {
     this.accesses += 1;
     const tellsSources = board.words[WORD.TELLS_SOURCES] === 1;
     const repeats = this.repeats.note(place, from, to, writes);
-    if (repeats !== Repeats.NEW) {
+    const isNew = repeats === Repeats.NEW;
+    if (!isNew) {
       if (repeats === Repeats.SPINS) this.#spins("it reads the same bytes again and again without a call of Atomics");
       if (!tellsSources || this.repeats.again > MOST_TOLD_AGAIN) return;
     }
     const what = writes ? WRITE : READ;
     if (!tellsSources && log.extend(what, this.agent, place.block, from, to, place, this.since)) return;
     if (!log.hasRoom()) {
-      if (tellsSources && !writes) return;
+      if (tellsSources && !(writes && isNew)) return;
       this.#bound(`more than ${log.most} reads and writes were made that differ`);
     }
     const source = tellsSources ? this.table.sources.here() : 0;
-    const flags = writes ? FLAG.WRITES : FLAG.READS;
+    const flags = (writes ? FLAG.WRITES : FLAG.READS) | (isNew ? 0 : FLAG.AGAIN);
     log.append(what, this.agent, NO_CALL, flags, this.made, place.block, from, to, place, source);
   }
 
@@ -296,7 +300,7 @@ export class Player {
     this.repeats.renew();
     this.#take();
     const goesOn = later.told();
-    if (goesOn !== undefined) this.#end("failed", this.#laterText(goesOn));
+    if (goesOn !== undefined) this.#end("failed", `agent ${this.agent} ${laterText(goesOn, "an agent")}`);
   }
 
   /** Sleeps until the agent's move was picked. */
@@ -324,9 +328,9 @@ export class Player {
     board.line.become(this.agent, PHASE.DONE);
     board.turn.goHome(this.agent);
     if (!hasTurn) return;
-    const why = problem ?? this.#leftText();
-    if (why !== undefined) board.end.end("failed", problem === undefined ? why : `agent ${this.agent} ${problem}`);
-    else board.pass(this.agent);
+    const why = problem ?? this.#undone("an agent");
+    if (why === undefined) board.pass(this.agent);
+    else board.end.end("failed", `agent ${this.agent} ${why}`);
   }
 
   /** Takes what ordinary writes have changed since the agent's last call. */
@@ -334,23 +338,40 @@ export class Player {
     const { memory, ordinary } = this.table;
     for (let block = 0; block < memory.real.length; block += 1) {
       if (!memory.hasChanged(block)) continue;
-      if (ordinary === "watch") this.#takeSeen();
+      if (ordinary === "watch") this.#takeSeen(block);
       if (ordinary === "store") this.table.stores.takeChanged(this.agent, this.table.log.length, block);
     }
     const change = memory.changed();
     if (change !== undefined) this.#end("failed", this.#changeText(change));
   }
 
-  /** Takes what the writes that were seen have changed. */
-  #takeSeen() {
-    const { log, stores } = this.table;
+  /**
+   * Takes what the writes that were seen have changed in a block. Those that go on from each other are taken together,
+   * whether the log has joined them or not: a script doesn't depend on that.
+   */
+  #takeSeen(block) {
+    const { log } = this.table;
     const { length } = log;
+    let kind = -1;
+    let from = 0;
+    let to = 0;
     for (let event = this.since; event < length; event += 1) {
-      if (log.whatAt(event) !== WRITE) continue;
-      stores.takeWritten(
-        this.agent, length, log.blockAt(event), log.fromAt(event), log.toAt(event), log.kindAt(event),
-      );
+      if (log.whatAt(event) !== WRITE || log.blockAt(event) !== block) continue;
+      if ((log.flagsAt(event) & FLAG.AGAIN) !== 0) continue;
+      const goesOn = log.kindAt(event) === kind && log.fromAt(event) === to;
+      if (!goesOn) {
+        this.#takeStretch(block, from, to, kind);
+        kind = log.kindAt(event);
+        from = log.fromAt(event);
+      }
+      to = log.toAt(event);
     }
+    this.#takeStretch(block, from, to, kind);
+  }
+
+  #takeStretch(block, from, to, kind) {
+    const { log, stores } = this.table;
+    if (from < to) stores.takeWritten(this.agent, log.length, block, from, to, kind);
   }
 
   /** Ends the run where the script could not have the call. */
@@ -423,19 +444,13 @@ export class Player {
     return this.table.board.words[WORD.TELLS_SOURCES] === 1 ? this.table.sources.here() : 0;
   }
 
-  /** What the agent's code has left undone, or untold. @returns {string | undefined} */
-  #leftText() {
+  /** What code that has ended has left undone, or untold. @param {string} who @returns {string | undefined} */
+  #undone(who) {
     const { later } = this.table;
     const goesOn = later.left();
-    if (goesOn !== undefined) return this.#laterText(goesOn);
+    if (goesOn !== undefined) return laterText(goesOn, who);
     const rejected = later.rejected();
-    if (rejected === undefined) return undefined;
-    return `agent ${this.agent} left a rejected promise, which nobody handles: ${rejected}`;
-  }
-
-  /** @param {string} what goes on later, in words */
-  #laterText(what) {
-    return `agent ${this.agent} goes on later, by ${what}, but an agent must be synchronous`;
+    return rejected === undefined ? undefined : `left a rejected promise, which nobody handles: ${rejected}`;
   }
 
   /** @param {import("../run/memory.mjs").Change} change */
@@ -461,14 +476,5 @@ function effectOf(call, value) {
   return isEqualElement(call.kind, call.operands[0], value) ? FLAG.READS | FLAG.WRITES : FLAG.READS;
 }
 
-/**
- * What an agent's answer leaves undone.
- * @param {unknown} answer
- * @returns {string | undefined}
- */
-function leftOpen(answer) {
-  if (answer === null || (typeof answer !== "object" && typeof answer !== "function")) return undefined;
-  if (typeof answer.then === "function") return "answered a promise, but an agent must be synchronous";
-  if (typeof answer.next === "function") return "answered an iterator, whose code nobody runs: it is a generator";
-  return undefined;
-}
+/** @param {string} what goes on later, in words @param {string} who */
+const laterText = (what, who) => `goes on later, by ${what}, but ${who} must be synchronous`;

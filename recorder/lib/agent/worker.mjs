@@ -26,6 +26,8 @@ import { Chance, simulateChance, simulateTime } from "./time.mjs";
 
 const { Error: EngineError, String: text } = globalThis;
 const includes = uncurried(String.prototype.includes);
+const indexOf = uncurried(String.prototype.indexOf);
+const slice = uncurried(String.prototype.slice);
 const plainTitle = uncurried(Error.prototype.toString);
 
 /**
@@ -43,13 +45,29 @@ function titleOf(error) {
   }
 }
 
-/** An error's stack, where its code has left it one. @param {Error} error */
+// The frames of the recorder's own files say nothing of the agents' code.
+const OWN = new URL("../", import.meta.url).href;
+
+/** An error's stack without the recorder's frames, where its code has left it one. @param {Error} error */
 function stackOf(error) {
   try {
-    return text(error.stack ?? "");
+    return withoutOwn(text(error.stack ?? ""));
   } catch {
     return "";
   }
+}
+
+/** @param {string} stack */
+function withoutOwn(stack) {
+  let kept = "";
+  for (let from = 0; from < stack.length;) {
+    const found = indexOf(stack, "\n", from + 1);
+    const to = found < 0 ? stack.length : found;
+    const line = slice(stack, from, to);
+    if (!includes(line, OWN)) kept += line;
+    from = to;
+  }
+  return kept;
 }
 
 /**

@@ -1,6 +1,7 @@
 // What the command line does: many runs, a summary of them, and the first failing one kept.
 
 import { Difference, sabsim } from "../check/sabsim.mjs";
+import { preloads } from "../seeds/node-words.mjs";
 import { recordSeeds } from "../seeds/seeds.mjs";
 import { Interrupted, Interruption } from "./interruption.mjs";
 import { Keeper } from "./keep.mjs";
@@ -18,7 +19,10 @@ export class Session {
     this.options = options;
     this.wanted = options.last - options.first + 1;
     this.keeper = options.out === undefined ? undefined : new Keeper(options.out);
-    this.summary = new Summary({ ordinary: options.ordinary, races: options.races, checks: options.check > 0 });
+    this.summary = new Summary({
+      ordinary: options.ordinary, races: options.races, checks: options.check > 0,
+      preloads: preloads([...process.execArgv, process.env.NODE_OPTIONS ?? ""]),
+    });
     this.progress = new Progress(this.wanted);
     this.interruption = new Interruption();
   }

@@ -11,6 +11,7 @@ import { counted, digits, listed } from "./words.mjs";
  * @property {"watch" | "store" | "refuse"} ordinary how ordinary reads and writes were seen
  * @property {"fail" | "allow"} races
  * @property {boolean} checks whether runs are checked
+ * @property {boolean} [preloads] whether node's own words load code before the recorder
  */
 
 /**
@@ -24,20 +25,22 @@ const FAILING = ["deadlock", "failed", "check", "race", "bound"];
 const PASSING = ["finished", ...FAILING];
 const MOST_LISTED = 8;
 
+const CHANGES_ALONE =
+  "ordinary reads were not seen, and of ordinary writes only what they changed between two calls, so data races " +
+  "were not looked for";
+
 /** What no run of a mode has seen. */
-const UNSEEN = {
-  watch: [],
-  store: [
-    "ordinary reads were not seen, and of ordinary writes only what they changed between two calls, so data races " +
-      "were not looked for",
-  ],
-  refuse: ["ordinary reads were not seen, so data races were not looked for"],
-};
+const UNSEEN = { watch: [], store: [CHANGES_ALONE], refuse: [CHANGES_ALONE] };
+
+/** What a run may not have seen besides, where other code was there before the recorder. */
+const UNSEEN_BEFORE =
+  "what is done by typed arrays and Atomics that code of node's own words, as --require, has put aside was not seen";
 
 export class Summary {
   /** @param {SummaryOptions} options */
-  constructor({ ordinary, races, checks }) {
+  constructor({ ordinary, races, checks, preloads = false }) {
     this.ordinary = ordinary;
+    this.preloads = preloads;
     this.races = races;
     this.checks = checks;
     this.runs = 0;
@@ -87,7 +90,7 @@ export class Summary {
     if (stop !== undefined) lines.push(`${stop.why} after ${digits(this.runs)} of ${counted(stop.wanted, "run")}`);
     if (this.runs > 0) {
       lines.push(this.#endingLine(), ...this.#failingLines(), ...this.#raceLines(), ...this.#stateLines());
-      lines.push(this.#checkLine(), ...this.#scriptLines(), this.#accessLine(), ...UNSEEN[this.ordinary]);
+      lines.push(this.#checkLine(), ...this.#scriptLines(), this.#accessLine(), ...this.#unseenLines());
     }
     return lines.map((line) => `${line}\n`).join("");
   }
@@ -164,6 +167,10 @@ export class Summary {
     const [hold, their] = isOne ? ["1 script holds", "its"] : [`${digits(this.parts)} scripts hold`, "their"];
     const touched = `${hold} only the ordinary writes of bytes that calls touch, since all don't fit`;
     return [`${touched}; ${their} other bytes weren't compared`, ...lines];
+  }
+
+  #unseenLines() {
+    return this.preloads ? [...UNSEEN[this.ordinary], UNSEEN_BEFORE] : UNSEEN[this.ordinary];
   }
 
   #accessLine() {

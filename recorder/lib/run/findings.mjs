@@ -39,55 +39,93 @@ function accessOf(flags) {
  * @property {string} module the URL of the agents' module
  */
 
-/**
- * @param {Telling} telling
- * @param {number} position in the log
- * @param {number} byte on which the two meet
- */
-function sideOf({ run, sources, module }, position, byte) {
-  const event = run.log.at(position);
-  const { agent, flags, block, from, to, call, source } = event;
-  const place = sources[agent]?.[source] ?? "";
-  return {
-    event,
-    side: {
+// More aren't told of one run, but counted.
+const MOST_TOLD = 1_000;
+
+/** What is told of accesses; what is asked for again and again is made out once. */
+class Teller {
+  /** @param {Telling} telling */
+  constructor({ run, transcript, sources, module }) {
+    this.run = run;
+    this.transcript = transcript;
+    this.module = module;
+    /** The name of each agent's source positions; the ones made out so far. */
+    this.names = run.records.map(() => []);
+    this.sources = sources;
+    /** Each agent's own calls, likewise. */
+    this.calls = [];
+  }
+
+  /** What a race calls an access: its line of code, or what it did. @param {number} event @param {number} byte */
+  line(event, byte) {
+    const { log, lengths } = this.run;
+    const agent = log.agentAt(event);
+    const source = this.#source(agent, log.sourceAt(event));
+    if (source !== null) return source;
+    return `agent ${agent}'s ${accessOf(log.flagsAt(event))} of ${elementName(log.at(event), byte, lengths)}`;
+  }
+
+  /** @param {number} position in the log @param {number} byte on which the two meet @returns {Side} */
+  side(position, byte) {
+    const { log, lengths } = this.run;
+    const event = log.at(position);
+    const { agent, flags, block, from, to, call, source } = event;
+    return {
       agent,
       access: accessOf(flags),
       atomic: (flags & FLAG.ATOMIC) !== 0,
       block,
       byte: from,
       size: to - from,
-      element: elementName(event, byte, run.lengths),
+      element: elementName(event, byte, lengths),
       call,
-      source: place === "" ? null : sourceName(place, module),
-    },
-  };
-}
+      source: this.#source(agent, source),
+    };
+  }
 
-/** One side in words. */
-function sideText({ transcript }, { event, side }) {
-  const calls = ownCalls(transcript, side.agent);
-  const where = side.source === null ? "" : ` at ${side.source}`;
-  if (side.atomic) return `agent ${side.agent}'s call ${side.call}, ${calls[side.call].text}${where}`;
-  return `agent ${side.agent} ${deedOf(event)} ${side.element}${where}, ${whenOf(event, calls.length)}`;
+  /** One side in words. @param {number} position in the log @param {Side} side */
+  text(position, { agent, atomic, call, element, source }) {
+    const calls = this.#ownCalls(agent);
+    const where = source === null ? "" : ` at ${source}`;
+    if (atomic) return `agent ${agent}'s call ${call}, ${calls[call].text}${where === "" ? "" : `,${where}`}`;
+    const event = this.run.log.at(position);
+    return `agent ${agent} ${deedOf(event)} ${element}${where}, ${whenOf(event, calls.length)}`;
+  }
+
+  /** @returns {string | null} */
+  #source(agent, number) {
+    const place = this.sources[agent]?.[number] ?? "";
+    if (place === "") return null;
+    this.names[agent][number] ??= sourceName(place, this.module);
+    return this.names[agent][number];
+  }
+
+  #ownCalls(agent) {
+    this.calls[agent] ??= ownCalls(this.transcript, agent);
+    return this.calls[agent];
+  }
 }
 
 /**
- * The races of a run: each pair of lines of code once.
+ * The races of a run: each pair of lines of code once, and at most a thousand of them; the last one's text says how
+ * many there are besides.
  * @param {Telling} telling
  * @returns {Told[]} in the order of their later accesses
  */
 export function racesTold(telling) {
-  const { run } = telling;
-  const found = new Map();
-  for (const { one, other, byte } of racesOf(run.log, run.records.length)) {
-    const both = [sideOf(telling, one, byte), sideOf(telling, other, byte)];
-    const unknown = ({ agent, element, access }) => `agent ${agent}'s ${access} of ${element}`;
-    const lines = both.map(({ side }) => side.source ?? unknown(side)).sort();
+  const teller = new Teller(telling);
+  const { log, records } = telling.run;
+  const told = [];
+  const pairs = new Set();
+  for (const { one, other, byte } of racesOf(log, records.length)) {
+    const lines = [teller.line(one, byte), teller.line(other, byte)].sort();
     const key = lines.join(" ");
-    if (found.has(key)) continue;
-    const text = both.map((each) => sideText(telling, each)).join("; ");
-    found.set(key, { lines, text, sides: both.map(({ side }) => side) });
+    if (pairs.has(key)) continue;
+    pairs.add(key);
+    if (told.length === MOST_TOLD) continue;
+    const sides = [teller.side(one, byte), teller.side(other, byte)];
+    told.push({ lines, text: `${teller.text(one, sides[0])}; ${teller.text(other, sides[1])}`, sides });
   }
-  return [...found.values()];
+  if (pairs.size > told.length) told.at(-1).text += `\nand ${pairs.size - told.length} more`;
+  return told;
 }

@@ -1,6 +1,7 @@
 // Which ordinary writes stand in a run's script: all of them as they were written, where they fit; else as the largest
 // whole aligned elements; else only those of bytes that some call touches, which is what the answers rest on.
 
+import { EVENTS, LEAVE, MAKE, TIME_UP } from "../board/journal.mjs";
 import { KINDS, SIZES } from "../../script/kinds.mjs";
 import { SCRIPT_LIMITS } from "../../script/limits.mjs";
 import { scriptText } from "../../script/text.mjs";
@@ -19,9 +20,10 @@ import { transcriptOf } from "./transcript.mjs";
  * @property {string} [noScript] why there is no script
  */
 
-const UNSIGNED = [8, 4, 2, 1].map((size) => {
-  const name = { 8: "BigUint64", 4: "Uint32", 2: "Uint16", 1: "Uint8" }[size];
-  return { size, kind: KINDS.indexOf(name) };
+/** The unsigned kinds, the largest first. */
+const UNSIGNED = ["BigUint64", "Uint32", "Uint16", "Uint8"].map((name) => {
+  const kind = KINDS.indexOf(name);
+  return { size: SIZES[kind], kind };
 });
 
 /** @param {Store} store */
@@ -42,46 +44,112 @@ function touchedBytes(log, lengths) {
   return touched;
 }
 
+/** Whether a call touches a byte of a store. @param {Uint8Array[]} touched @param {Store} store */
+function isTouched(touched, store) {
+  const marks = touched[store.block];
+  for (let byte = store.byte; byte < endOf(store); byte += 1) {
+    if (marks[byte] === 1) return true;
+  }
+  return false;
+}
+
 /**
  * Stores that were taken at once by one agent, as few as there can be: the largest whole aligned elements.
  * @param {Store[]} stores
  * @returns {Store[]}
  */
 function joined(stores) {
+  /** @type {Map<number, Store[]>} */
   const groups = new Map();
   for (const store of stores) {
-    const key = `${store.position} ${store.agent} ${store.block}`;
-    if (!groups.has(key)) groups.set(key, []);
-    groups.get(key).push(store);
+    const key = (store.position * (SCRIPT_LIMITS.agents + 1) + store.agent) * SCRIPT_LIMITS.blocks + store.block;
+    const group = groups.get(key);
+    if (group === undefined) groups.set(key, [store]);
+    else group.push(store);
   }
-  return [...groups.values()].flatMap(joinedOnce);
-}
-
-/** Those of one group. @param {Store[]} stores @returns {Store[]} */
-function joinedOnce(stores) {
-  const [{ position, agent, block }] = stores;
-  const bytes = new Map();
-  for (const store of stores) store.bytes.forEach((value, at) => bytes.set(store.byte + at, value));
-  const places = [...bytes.keys()].sort((one, other) => one - other);
   const all = [];
-  for (let at = 0; at < places.length;) {
-    const byte = places[at];
-    const isWhole = (size) => byte % size === 0 && places[at + size - 1] === byte + size - 1;
-    const { size, kind } = UNSIGNED.find((unsigned) => isWhole(unsigned.size));
-    const values = Uint8Array.from({ length: size }, (_, more) => bytes.get(byte + more));
-    all.push({ position, agent, block, byte, kind, bytes: values });
-    at += size;
-  }
+  for (const group of groups.values()) addJoined(all, group);
   return all;
 }
 
-/** Why a transcript can't be a script; undefined where it can. */
-function reasonAgainst({ calls, moves, views }) {
-  const { calls: mostCalls, moves: mostMoves, views: mostViews } = SCRIPT_LIMITS;
-  const full = calls.findIndex((each) => each.length > mostCalls);
+/** What was last written to each byte of a block, while the stores of one group are joined. */
+const written = new Uint8Array(SCRIPT_LIMITS.bytes);
+
+/** Adds those of one group. @param {Store[]} all @param {Store[]} stores */
+function addJoined(all, stores) {
+  const [{ position, agent, block }] = stores;
+  const places = placesOf(stores);
+  for (let at = 0; at < places.length;) {
+    const byte = places[at];
+    let which = 0;
+    while (!isWhole(places, at, UNSIGNED[which].size)) which += 1;
+    const { size, kind } = UNSIGNED[which];
+    all.push({ position, agent, block, byte, kind, bytes: written.slice(byte, byte + size) });
+    at += size;
+  }
+}
+
+/** Whether an aligned element begins at one of the places and ends before a gap. */
+const isWhole = (places, at, size) => places[at] % size === 0 && places[at + size - 1] === places[at] + size - 1;
+
+/**
+ * The bytes that some stores write; what they write there stands in `written`.
+ * @param {Store[]} stores of one block
+ * @returns {Int32Array} in rising order, each once
+ */
+function placesOf(stores) {
+  const places = new Int32Array(stores.reduce((sum, { kind }) => sum + SIZES[kind], 0));
+  let count = 0;
+  let isRising = true;
+  for (const { byte, bytes } of stores) {
+    for (let at = 0; at < bytes.length; at += 1) {
+      isRising &&= count === 0 || places[count - 1] < byte + at;
+      places[count] = byte + at;
+      written[byte + at] = bytes[at];
+      count += 1;
+    }
+  }
+  return isRising ? places : places.sort().filter((place, at) => at === 0 || places[at - 1] !== place);
+}
+
+/** How many calls each agent makes by itself, and how many moves are made. @param {import("./log.mjs").Log} log */
+function countsOf(log, agents) {
+  const calls = Array.from({ length: agents }, () => 0);
+  let moves = 0;
+  for (let event = 0; event < log.length; event += 1) {
+    const what = log.whatAt(event);
+    if (what >= READ) continue;
+    moves += EVENTS[what].moves;
+    if (what !== LEAVE && what !== TIME_UP) calls[log.agentAt(event)] += 1;
+  }
+  return { calls, moves };
+}
+
+/**
+ * Why so many stores can't stand in a script with an agent's own calls; undefined where they may.
+ * @param {ReturnType<typeof countsOf>} counts
+ * @param {Store[]} stores
+ */
+function reasonAgainst(counts, stores) {
+  const { calls: mostCalls, moves: mostMoves } = SCRIPT_LIMITS;
+  const calls = [...counts.calls];
+  for (const { agent } of stores) calls[agent] = (calls[agent] ?? 0) + 1;
+  const full = calls.findIndex((count) => count > mostCalls);
   if (full >= 0) return `agent ${full} would have more than ${mostCalls} calls`;
-  if (moves.length > mostMoves) return `it would have more than ${mostMoves} moves`;
-  return views.length > mostViews ? `it would have more than ${mostViews} views` : undefined;
+  const moves = counts.moves + stores.length * EVENTS[MAKE].moves;
+  return moves > mostMoves ? `it would have more than ${mostMoves} moves` : undefined;
+}
+
+/**
+ * A transcript and its script, or why it can't be one.
+ * @param {Transcript} transcript
+ * @returns {{ script?: string, noScript?: string }}
+ */
+function spelled(transcript) {
+  const { views, text } = SCRIPT_LIMITS;
+  if (transcript.views.length > views) return { noScript: `it would have more than ${views} views` };
+  const script = scriptText(transcript);
+  return script.length > text ? { noScript: `it would be longer than ${text} bytes` } : { script };
 }
 
 /**
@@ -91,9 +159,7 @@ function reasonAgainst({ calls, moves, views }) {
 function bytesLeft(final, touched, stores) {
   const blocks = final.map((hex, block) => {
     const bytes = Buffer.from(hex, "hex");
-    bytes.forEach((_, byte) => {
-      if (touched[block][byte] === 0) bytes[byte] = 0;
-    });
+    for (let byte = 0; byte < bytes.length; byte += 1) bytes[byte] *= touched[block][byte];
     return bytes;
   });
   for (const store of stores) {
@@ -114,28 +180,27 @@ function bytesLeft(final, touched, stores) {
  */
 export function fitted(run, stores, initial, final) {
   const touched = touchedBytes(run.log, run.lengths);
-  const isTouched = (store) => touched[store.block].subarray(store.byte, endOf(store)).some((mark) => mark === 1);
+  const ofTouched = (list) => joined(list.filter((store) => isTouched(touched, store)));
   const all = stores.list();
   const choices = [
     { holds: "all", list: () => [all, initial] },
     { holds: "all", list: () => [joined(all), joined(initial)] },
-    { holds: "touched", list: () => [joined(all.filter(isTouched)), joined(initial.filter(isTouched))] },
+    { holds: "touched", list: () => [ofTouched(all), ofTouched(initial)] },
   ];
-  let transcript;
   let noScript = "too many ordinary writes were made to bytes that calls touch";
   if (stores.isLost()) return { transcript: transcriptOf(run, []), noScript };
+  const counts = countsOf(run.log, run.canBlock.length);
   for (const { holds, list } of stores.isWhole() ? choices : choices.slice(2)) {
     const [own, first] = list();
-    transcript = transcriptOf(run, own, first);
-    noScript = reasonAgainst(transcript);
+    noScript = reasonAgainst(counts, [...first, ...own]);
     if (noScript !== undefined) continue;
-    const script = scriptText(transcript);
-    if (script.length > SCRIPT_LIMITS.text) {
-      noScript = `it would be longer than ${SCRIPT_LIMITS.text} bytes`;
-      continue;
-    }
+    const transcript = transcriptOf(run, own, first);
+    const { script, noScript: why } = spelled(transcript);
+    noScript = why;
+    if (script === undefined) continue;
     const bytes = holds === "all" ? final : bytesLeft(final, touched, [...first, ...own]);
     return { transcript, script, holds, bytes };
   }
-  return { transcript, noScript: `${noScript}, with the ordinary writes of bytes that calls touch` };
+  noScript = `${noScript}, with the ordinary writes of bytes that calls touch`;
+  return { transcript: transcriptOf(run, []), noScript };
 }

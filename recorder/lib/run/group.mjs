@@ -1,5 +1,6 @@
 // A group of workers: one for each agent, and one for their referee. All end with the process, however it ends.
 
+import { leftOpen } from "../agent/answer.mjs";
 import { Sources } from "../agent/sources.mjs";
 import { Board } from "../board/board.mjs";
 import { SCRIPT_LIMITS } from "../../script/limits.mjs";
@@ -148,7 +149,7 @@ export class Group {
         await Promise.all(message.replace.map((agent) => this.#replace(agent)));
         this.referee.post({ replaced: true });
       }
-      if (message.ask) this.referee.post({ threw: this.#askedHere(message.ask) });
+      if (message.ask) this.referee.post({ problem: this.#askedHere(message.ask) });
     }
   }
 
@@ -168,11 +169,11 @@ export class Group {
     }
     this.memory = memoryOf(this.plan);
     this.board = new Board(this.memory.board, this.rules);
+    const { memory, plan, rules } = this;
+    this.referee = new Thread(GROUP_WORKER, { memory, plan, rules, options }, { ownPort: true });
     const others = Array.from({ length: this.plan.agents - 1 }, (_, other) => other + 1);
     await Promise.all(others.map((agent) => this.#load(agent)));
     await Promise.all(this.agents.map((_, agent) => this.#hand(agent)));
-    const { memory, plan, rules } = this;
-    this.referee = new Thread(GROUP_WORKER, { memory, plan, rules, options }, { ownPort: true });
   }
 
   /** What the referee goes by. @param {{ hasInit: boolean, hasCheck: boolean }} module */
@@ -189,16 +190,20 @@ export class Group {
   /**
    * Calls what the library was given, in this thread.
    * @param {"init" | "check"} name
-   * @returns {string} what it threw, or nothing
+   * @returns {string} what went wrong in it, as "threw ..", or nothing
    */
   #askedHere(name) {
     const { init, checkState, args } = this.options;
     const { buffers } = this.memory;
     try {
-      (name === "init" ? init : checkState)([...buffers], { agents: this.plan.agents, args: [...args] });
-      return "";
+      const call = name === "init" ? init : checkState;
+      const answer = call([...buffers], { agents: this.plan.agents, args: [...args] });
+      // That it is a promise is told; what it comes to isn't anybody's.
+      Promise.resolve(answer).catch(() => {});
+      return leftOpen(answer, "it") ?? "";
     } catch (thrown) {
-      return thrown instanceof Error ? String(thrown.stack ?? thrown) : `a value that is no Error: ${String(thrown)}`;
+      if (thrown instanceof Error) return `threw ${thrown.stack ?? thrown}`;
+      return `threw a value that is no Error: ${String(thrown)}`;
     }
   }
 

@@ -7,8 +7,8 @@ const { Int32Array, SharedArrayBuffer } = globalThis;
 export const READ = 4;
 export const WRITE = 5;
 
-/** What an event is. */
-export const FLAG = Object.freeze({ READS: 1, WRITES: 2, ATOMIC: 4, WAITERS: 8 });
+/** What an event is. `AGAIN`: an ordinary access that its agent has made before, since its last call. */
+export const FLAG = Object.freeze({ READS: 1, WRITES: 2, ATOMIC: 4, WAITERS: 8, AGAIN: 16 });
 
 /** Where there is no call of Atomics. */
 export const NO_CALL = 15;
@@ -33,6 +33,8 @@ const AGENT_BITS = 4;
 const KIND_BITS = 8;
 const CALL_BITS = 12;
 const FLAG_BITS = 16;
+const WHAT = 15;
+const BEFORE_CALL = (1 << CALL_BITS) - 1;
 
 /**
  * @typedef {object} LogEvent
@@ -99,7 +101,8 @@ export class Log {
   append(what, agent, method, flags, call, block, from, to, view, source) {
     const { events, words, count } = this;
     const at = words[count] * EACH;
-    events[at + HEAD] = what | (agent << AGENT_BITS) | (view.kind << KIND_BITS) | (method << CALL_BITS) | (flags << FLAG_BITS);
+    events[at + HEAD] = what | (agent << AGENT_BITS) | (view.kind << KIND_BITS) | (method << CALL_BITS)
+      | (flags << FLAG_BITS);
     events[at + NUMBER] = call;
     events[at + BLOCK] = block;
     events[at + FROM] = from;
@@ -111,22 +114,26 @@ export class Log {
   }
 
   /**
-   * Lets the last event go on to more bytes, where it is one of the same agent on the bytes just before.
+   * Lets an ordinary access go on to more bytes, in place of another event: one of the same agent by the same view on
+   * the bytes just before. That is the last one, or the one before where the agent has read and written in turn. Nobody
+   * else has moved since, so nothing is ordered otherwise.
    * @param {number} what
    * @param {number} agent
    * @param {number} block
    * @param {number} from
    * @param {number} to
    * @param {{ kind: number, offset: number, length: number }} view
-   * @param {number} since the first event that may be changed
+   * @param {number} since the first event that may be changed, from which on there are ordinary accesses of the agent
    * @returns {boolean} whether it was done
    */
   extend(what, agent, block, from, to, view, since) {
     const { events, words, count } = this;
-    if (words[count] <= since) return false;
-    const at = (words[count] - 1) * EACH;
     const head = what | (agent << AGENT_BITS) | (view.kind << KIND_BITS);
-    if ((events[at + HEAD] & ((1 << CALL_BITS) - 1)) !== head || events[at + TO] !== from) return false;
+    let event = words[count] - 1;
+    if (event > since && (events[event * EACH + HEAD] & WHAT) !== what) event -= 1;
+    if (event < since) return false;
+    const at = event * EACH;
+    if (events[at + TO] !== from || (events[at + HEAD] & BEFORE_CALL) !== head) return false;
     if (events[at + BLOCK] !== block || events[at + OFFSET] !== view.offset) return false;
     if (events[at + LENGTH] !== view.length) return false;
     events[at + TO] = to;
@@ -136,7 +143,7 @@ export class Log {
   // Of one event.
 
   whatAt(event) {
-    return this.events[event * EACH + HEAD] & 15;
+    return this.events[event * EACH + HEAD] & WHAT;
   }
 
   agentAt(event) {
@@ -172,21 +179,22 @@ export class Log {
    * @returns {LogEvent}
    */
   at(event) {
-    const head = this.events[event * EACH + HEAD];
-    const word = (which) => this.events[event * EACH + which];
+    const { events } = this;
+    const at = event * EACH;
+    const head = events[at + HEAD];
     return {
-      what: head & 15,
+      what: head & WHAT,
       agent: (head >> AGENT_BITS) & 15,
       kind: (head >> KIND_BITS) & 15,
       method: (head >> CALL_BITS) & 15,
       flags: head >> FLAG_BITS,
-      call: word(NUMBER),
-      block: word(BLOCK),
-      from: word(FROM),
-      to: word(TO),
-      source: word(SOURCE),
-      offset: word(OFFSET),
-      length: word(LENGTH),
+      call: events[at + NUMBER],
+      block: events[at + BLOCK],
+      from: events[at + FROM],
+      to: events[at + TO],
+      source: events[at + SOURCE],
+      offset: events[at + OFFSET],
+      length: events[at + LENGTH],
     };
   }
 

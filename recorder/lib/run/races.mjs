@@ -11,8 +11,18 @@
 
 import { SCRIPT_LIMITS } from "../../script/limits.mjs";
 import { FLAG } from "./log.mjs";
+import { viewKey } from "./spelling.mjs";
 
 /** @typedef {import("./log.mjs").Log} Log */
+
+/**
+ * Is told of two accesses that race, with each byte on which they meet.
+ * @callback OnRace
+ * @param {number} one the position of an event in the log
+ * @param {number} other that of a later one
+ * @param {number} place the byte: its block times the most bytes of one, and its position there
+ * @returns {boolean} whether to go on
+ */
 
 /**
  * @typedef {object} Race
@@ -33,6 +43,10 @@ const SORT = 3;
 const SOURCE = 4;
 const NEXT = 5;
 
+// In place of an access: none is alike, and nothing more is wanted.
+const NONE = -1;
+const ENOUGH = -2;
+
 const WRITES = 1;
 const READS = 2;
 
@@ -49,15 +63,20 @@ class Numbers {
     this.length = 0;
   }
 
+  /** @param {number} count for how many more there is to be room */
+  reserve(count) {
+    const needed = this.length + count;
+    if (needed <= this.items.length) return;
+    const more = new Int32Array(needed * 2);
+    more.set(this.items);
+    this.items = more;
+  }
+
   /** @param {number} count how many more there will be @returns {number} where they begin */
   take(count) {
+    this.reserve(count);
     const at = this.length;
     this.length += count;
-    if (this.length > this.items.length) {
-      const more = new Int32Array(this.length * 2);
-      more.set(this.items);
-      this.items = more;
-    }
     return at;
   }
 }
@@ -79,7 +98,7 @@ export class Judge {
    * Judges a run.
    * @param {Log} log
    * @param {number} agents how many
-   * @param {(race: Race) => boolean} onRace whether to go on
+   * @param {OnRace} onRace
    */
   judge(log, agents, onRace) {
     this.run += 1;
@@ -142,58 +161,56 @@ export class Judge {
   }
 
   #write(agent, flags, first, last) {
-    const clock = flags & FLAG.ATOMIC ? this.#leave(agent) : -1;
-    for (let byte = first; byte < last; byte += 1) {
-      this.written[byte] = clock;
-      this.sizes[byte] = last - first;
-    }
+    this.written.fill(flags & FLAG.ATOMIC ? this.#leave(agent) : NONE, first, last);
+    // Only atomic writes are asked for their sizes.
+    this.sizes.fill(last - first, first, last);
   }
 
   /** An access meets what is remembered of each of its bytes, and is remembered. */
   #access(log, event, agent, flags, first, last, onRace) {
+    const { runs, heads, written, run, accesses } = this;
     const sort = sortOf(flags, last - first);
     const source = log.sourceAt(event);
+    const time = this.clocks[agent * this.agents + agent];
+    accesses.reserve((last - first) * EACH);
+    const { items } = accesses;
     for (let byte = first; byte < last; byte += 1) {
-      if (this.runs[byte] !== this.run) {
-        this.runs[byte] = this.run;
-        this.heads[byte] = -1;
-        this.written[byte] = -1;
+      if (runs[byte] !== run) {
+        runs[byte] = run;
+        heads[byte] = NONE;
+        written[byte] = NONE;
       }
-      if (!this.#meet(event, agent, sort, source, byte, onRace)) return false;
+      // Of accesses of one agent that are alike the latest is enough: what happens before the others, does before it.
+      let at = heads[byte] === NONE ? NONE : this.#meet(event, agent, sort, source, byte, onRace);
+      if (at === ENOUGH) return false;
+      if (at === NONE) {
+        at = accesses.take(EACH);
+        items[at + AGENT] = agent;
+        items[at + SORT] = sort;
+        items[at + SOURCE] = source;
+        items[at + NEXT] = heads[byte];
+        heads[byte] = at;
+      }
+      items[at + EVENT] = event;
+      items[at + TIME] = time;
     }
     return true;
   }
 
+  /** @returns {number} the remembered access of the agent that is alike, or `NONE`, or `ENOUGH` */
   #meet(event, agent, sort, source, byte, onRace) {
     const { items } = this.accesses;
-    const { agents, clocks } = this;
-    let own = -1;
-    for (let at = this.heads[byte]; at >= 0; at = items[at + NEXT]) {
+    const clock = agent * this.agents;
+    let own = NONE;
+    for (let at = this.heads[byte]; at !== NONE; at = items[at + NEXT]) {
       const other = items[at + AGENT];
       if (other === agent) {
         if (items[at + SORT] === sort && items[at + SOURCE] === source) own = at;
-      } else if (items[at + TIME] > clocks[agent * agents + other] && conflict(items[at + SORT], sort)) {
-        const race = { one: items[at + EVENT], other: event, block: Math.floor(byte / SCRIPT_LIMITS.bytes),
-          byte: byte % SCRIPT_LIMITS.bytes };
-        if (!onRace(race)) return false;
+      } else if (items[at + TIME] > this.clocks[clock + other] && conflict(items[at + SORT], sort)) {
+        if (!onRace(items[at + EVENT], event, byte)) return ENOUGH;
       }
     }
-    this.#remember(own, event, agent, sort, source, byte);
-    return true;
-  }
-
-  /** Of accesses of one agent that are alike the latest is enough: what happens before the others, does before it. */
-  #remember(own, event, agent, sort, source, byte) {
-    const at = own >= 0 ? own : this.accesses.take(EACH);
-    const { items } = this.accesses;
-    items[at + EVENT] = event;
-    items[at + TIME] = this.clocks[agent * this.agents + agent];
-    if (own >= 0) return;
-    items[at + AGENT] = agent;
-    items[at + SORT] = sort;
-    items[at + SOURCE] = source;
-    items[at + NEXT] = this.heads[byte];
-    this.heads[byte] = at;
+    return own;
   }
 }
 
@@ -205,6 +222,19 @@ function conflict(one, other) {
 
 const judge = new Judge();
 
+/** Whether all accesses are atomic and of one size: these never race, since their ranges are the same or disjoint. */
+function areAlike(log) {
+  let size = 0;
+  for (let event = 0; event < log.length; event += 1) {
+    const flags = log.flagsAt(event);
+    if ((flags & (FLAG.READS | FLAG.WRITES)) === 0) continue;
+    const own = log.toAt(event) - log.fromAt(event);
+    if (size === 0) size = own;
+    if ((flags & FLAG.ATOMIC) === 0 || own !== size) return false;
+  }
+  return true;
+}
+
 /**
  * Whether any two accesses of a run race.
  * @param {Log} log
@@ -212,6 +242,7 @@ const judge = new Judge();
  * @returns {boolean}
  */
 export function isRacy(log, agents) {
+  if (areAlike(log)) return false;
   let found = false;
   judge.judge(log, agents, () => {
     found = true;
@@ -220,21 +251,76 @@ export function isRacy(log, agents) {
   return found;
 }
 
+// A line's number: which agent, what it does, and its place in the code or, in odd numbers, the view.
+const AGENT_BITS = 4;
+const DEED_BITS = 3;
+const DEEDS = FLAG.READS | FLAG.WRITES | FLAG.ATOMIC;
+
+/** Numbers of the lines of code of a run's accesses; of one that isn't known, its view stands for it. */
+class Lines {
+  /** @param {Log} log */
+  constructor(log) {
+    this.log = log;
+    /** @type {Map<number, number>} */
+    this.views = new Map();
+  }
+
+  /** @param {number} event @returns {number} the same where agent, line and what is done are the same */
+  of(event) {
+    const { log } = this;
+    const source = log.sourceAt(event);
+    const place = source > 0 ? source * 2 : this.#viewOf(event) * 2 + 1;
+    return (((place << DEED_BITS) | (log.flagsAt(event) & DEEDS)) << AGENT_BITS) | log.agentAt(event);
+  }
+
+  #viewOf(event) {
+    const key = viewKey(this.log.at(event));
+    const known = this.views.get(key);
+    if (known !== undefined) return known;
+    this.views.set(key, this.views.size);
+    return this.views.size - 1;
+  }
+}
+
+/** Pairs of numbers. */
+class Pairs {
+  constructor() {
+    /** @type {Map<number, Set<number>>} */
+    this.seconds = new Map();
+  }
+
+  /** @param {number} first @param {number} second @returns {boolean} whether it wasn't there */
+  add(first, second) {
+    const known = this.seconds.get(first);
+    if (known === undefined) this.seconds.set(first, new Set([second]));
+    else if (known.has(second)) return false;
+    else known.add(second);
+    return true;
+  }
+}
+
 /**
- * The races of a run: of each two accesses that are alike in agent, source and what they do to which bytes, one.
+ * The races of a run: of each two accesses that are alike in agent, line of code and what they do, one. Of an access
+ * whose line isn't known those of the same view are alike.
  * @param {Log} log
  * @param {number} agents how many
  * @returns {Race[]} in the order of their later accesses
  */
 export function racesOf(log, agents) {
-  const found = new Map();
-  const keyOf = (event) => {
-    return [log.agentAt(event), log.sourceAt(event), log.flagsAt(event), log.fromAt(event), log.toAt(event)].join(" ");
-  };
-  judge.judge(log, agents, (race) => {
-    const key = `${race.block} ${keyOf(race.one)} ${keyOf(race.other)}`;
-    if (!found.has(key)) found.set(key, race);
+  const races = [];
+  const lines = new Lines(log);
+  const pairs = new Pairs();
+  let lastOne = NONE;
+  let lastOther = NONE;
+  judge.judge(log, agents, (one, other, place) => {
+    // Two ranges meet on many bytes.
+    if (one === lastOne && other === lastOther) return true;
+    lastOne = one;
+    lastOther = other;
+    if (pairs.add(lines.of(one), lines.of(other))) {
+      races.push({ one, other, block: Math.floor(place / SCRIPT_LIMITS.bytes), byte: place % SCRIPT_LIMITS.bytes });
+    }
     return true;
   });
-  return [...found.values()];
+  return races;
 }

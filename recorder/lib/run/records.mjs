@@ -2,7 +2,7 @@
 // tells of the run reads them at its end.
 
 import { SCRIPT_LIMITS } from "../../script/limits.mjs";
-import { CALLS } from "../../script/kinds.mjs";
+import { CALLS, CALL_NUMBERS } from "../../script/kinds.mjs";
 import { answerText } from "../../script/report.mjs";
 
 // Agents may change what they find, so the engine's own functions are kept here, before.
@@ -30,6 +30,8 @@ const numberOf = (word) => {
   while (WORDS[number] !== word) number += 1;
   return number;
 };
+
+const { load: LOAD } = CALL_NUMBERS;
 
 const NONE = 0;
 const NUMBER = 1;
@@ -161,13 +163,24 @@ export class Records {
     return { joined: this.words[position * WORDS_EACH + JOINED] === 1, answer: this.#spelled(position, tag) };
   }
 
-  /** Whether two calls are the same function on the same element. */
+  /**
+   * Whether two calls are the same function on the same element, and come to the same. A load may find something else
+   * each time; who writes and is answered something else comes on.
+   */
   #isAlike(one, other) {
     const { words, numbers } = this;
     for (let word = CALL; word <= LENGTH; word += 1) {
       if (words[one * WORDS_EACH + word] !== words[other * WORDS_EACH + word]) return false;
     }
-    return numbers[one * NUMBERS_EACH + INDEX] === numbers[other * NUMBERS_EACH + INDEX];
+    if (numbers[one * NUMBERS_EACH + INDEX] !== numbers[other * NUMBERS_EACH + INDEX]) return false;
+    return words[one * WORDS_EACH + CALL] === LOAD || this.#isAnsweredAlike(one, other);
+  }
+
+  #isAnsweredAlike(one, other) {
+    const tag = this.words[one * WORDS_EACH + ANSWER];
+    if (tag !== this.words[other * WORDS_EACH + ANSWER]) return false;
+    if (tag !== NUMBER && tag !== BIG) return true;
+    return this.#read(one, ANSWER_VALUE, tag) === this.#read(other, ANSWER_VALUE, tag);
   }
 
   /** @returns {string | null} */

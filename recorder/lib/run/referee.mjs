@@ -63,15 +63,15 @@ function answered(message) {
 /**
  * Has the module's `init` or `check` run, or the library's.
  * @param {"init" | "check"} name
- * @returns {Promise<string>} what it threw, or nothing
+ * @returns {Promise<string>} what went wrong in it, as "threw ..", or nothing
  */
 async function asked(name) {
-  if (options[name] === "library") return (await answered({ ask: name })).threw;
+  if (options[name] === "library") return (await answered({ ask: name })).problem;
   board.order(name === "init" ? ORDER.INIT : ORDER.CHECK);
   board.turn.awaitEnd(options.seconds);
   const { ending, detail } = board.end.told();
   if (!board.turn.isBack(0, GRACE_MILLISECONDS)) await answered({ replace: [0] });
-  return ending === "finished" ? "" : detail;
+  return ending === "finished" ? detail : `didn't come to its end: ${detail}`;
 }
 
 /** Sends the agents home. @returns {number[]} those that can't run again */
@@ -95,19 +95,22 @@ async function made(seed, tellsSources) {
   const initial = options.init === undefined ? [] : initialStores(memory, plan.agents);
   if (problem !== "") {
     const nothing = { bytes: memory.hex(), gone: [], racy: false, initial, waiting: [] };
-    return { ending: "failed", detail: `init threw ${problem}`, ...nothing };
+    return { ending: "failed", detail: `init ${problem}`, ...nothing };
   }
   board.words[WORD.TELLS_SOURCES] = tellsSources ? 1 : 0;
   board.begin(seed);
   board.turn.awaitEnd(options.seconds);
   const told = board.end.told();
   const bytes = memory.hex();
-  const waiting = board.line.waiting().map((agent) => ({ agent, ...board.line.placeOf(agent) }));
+  const waiting = told.ending === "deadlock" ? whoWaits() : [];
   const gone = sentHome();
   const racy = options.ordinary === "watch" && isRacy(log, plan.agents);
   const detail = told.ending === "bound" ? withSourceNames(told.detail, options.module) : told.detail;
   return { ending: told.ending, detail, bytes, gone, racy, initial, waiting };
 }
+
+/** Who waits where, in order of arrival. */
+const whoWaits = () => board.line.waiting().map((agent) => ({ agent, ...board.line.placeOf(agent) }));
 
 /** How many calls of Atomics were begun. */
 const callCount = () => agents.reduce((sum, agent) => sum + board.journal.progress(agent).calls, 0);
@@ -120,7 +123,7 @@ async function judged(found) {
     return { ...found, ending: "failed", detail };
   }
   const problem = options.check === undefined ? "" : await asked("check");
-  if (problem !== "") return { ...found, ending: "check", detail: `check threw ${problem}` };
+  if (problem !== "") return { ...found, ending: "check", detail: `check ${problem}` };
   return found.racy && options.races === "fail" ? { ...found, ending: "race" } : found;
 }
 

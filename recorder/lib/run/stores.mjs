@@ -1,9 +1,9 @@
 // Ordinary writes as a script has them: stores by the agent that wrote, before its next call. They are taken when the
 // agent makes that call, and only what has changed is taken.
 //
-// A few elements stand as they were written; many stand as the largest whole aligned elements. Where more are taken than
-// a script can ever have, those of bytes that no call touches are thinned out: what the calls answer doesn't rest on
-// them. When a call comes to touch such a byte after all, what was last written there is taken up again.
+// A few elements stand as they were written; many stand as the largest whole aligned elements. Where more are taken
+// than a script can ever have, those of bytes that no call touches are thinned out: what the calls answer doesn't rest
+// on them. When a call comes to touch such a byte after all, what was last written there is taken up again.
 
 import { KINDS, SIZES } from "../../script/kinds.mjs";
 import { SCRIPT_LIMITS } from "../../script/limits.mjs";
@@ -160,17 +160,22 @@ export class Stores {
     return this.words[WORD.IS_THINNED] === LOST;
   }
 
-  /** @returns {Store[]} in the order in which they are done */
+  /** @returns {Store[]} in the order in which they are done; they hold until the next run begins */
   list() {
     const { entries, bytes, words } = this;
-    const stores = Array.from({ length: words[WORD.STORES] }, (_, number) => {
-      const at = number * EACH;
+    const stores = [];
+    let isOrdered = true;
+    let last = 0;
+    for (let at = 0; at < words[WORD.STORES] * EACH; at += EACH) {
+      const position = entries[at + POSITION];
       const kind = entries[at + KIND];
       const value = (at + VALUE) * 4;
-      return { position: entries[at + POSITION], agent: entries[at + AGENT], block: entries[at + BLOCK],
-        byte: entries[at + BYTE], kind, bytes: bytes.slice(value, value + SIZES[kind]) };
-    });
-    return stores.sort((one, other) => one.position - other.position);
+      stores.push({ position, agent: entries[at + AGENT], block: entries[at + BLOCK], byte: entries[at + BYTE], kind,
+        bytes: bytes.subarray(value, value + SIZES[kind]) });
+      isOrdered &&= last <= position;
+      last = position;
+    }
+    return isOrdered ? stores : stores.sort((one, other) => one.position - other.position);
   }
 
   /** Takes one element, where it has changed. */

@@ -1,5 +1,5 @@
-// The trace of a run: each of its events as an object of JSON, a line each. It is what another program needs to judge the
-// run's data races anew.
+// The trace of a run: each of its events as an object of JSON, a line each. It is what another program needs to judge
+// the run's data races anew.
 
 import { LEAVE, TIME_UP } from "../board/journal.mjs";
 import { CALLS } from "../../script/kinds.mjs";
@@ -14,29 +14,30 @@ function nameOf({ what, method }) {
 }
 
 /**
+ * What JSON.stringify makes of an event as an object, faster: a trace may have a million lines.
+ * @param {number} position
+ * @param {import("./log.mjs").LogEvent} event
+ * @param {string} source in JSON
+ */
+function lineOf(position, event, source) {
+  const { agent, call, block, from, to, flags } = event;
+  return `{"event":${position},"agent":${agent},"call":${call},"does":"${nameOf(event)}",` +
+    `"block":${block},"byte":${from},"size":${to - from},` +
+    `"read":${(flags & FLAG.READS) !== 0},"write":${(flags & FLAG.WRITES) !== 0},` +
+    `"atomic":${(flags & FLAG.ATOMIC) !== 0},"waiters":${(flags & FLAG.WAITERS) !== 0},"source":${source}}\n`;
+}
+
+/**
  * @param {import("./log.mjs").Log} log
  * @param {string[][]} sources the positions of each agent's code, by their numbers
  * @returns {string}
  */
 export function traceText(log, sources) {
+  const spelled = sources.map((list) => list.map((source) => JSON.stringify(source || null)));
   const lines = [];
   for (let position = 0; position < log.length; position += 1) {
     const event = log.at(position);
-    const { agent, call, block, from, to, flags, source } = event;
-    lines.push(JSON.stringify({
-      event: position,
-      agent,
-      call,
-      does: nameOf(event),
-      block,
-      byte: from,
-      size: to - from,
-      read: (flags & FLAG.READS) !== 0,
-      write: (flags & FLAG.WRITES) !== 0,
-      atomic: (flags & FLAG.ATOMIC) !== 0,
-      waiters: (flags & FLAG.WAITERS) !== 0,
-      source: sources[agent][source] || null,
-    }));
+    lines.push(lineOf(position, event, spelled[event.agent][event.source] ?? "null"));
   }
-  return lines.map((line) => `${line}\n`).join("");
+  return lines.join("");
 }

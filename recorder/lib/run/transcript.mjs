@@ -1,5 +1,5 @@
-// What was done in a run, as a script and its report have it: views, the calls of each agent, and moves. Ordinary writes
-// stand among the calls as stores. What agents call is counted apart: they are none of theirs.
+// What was done in a run, as a script and its report have it: views, the calls of each agent, and moves. Ordinary
+// writes stand among the calls as stores. What agents call is counted apart: they are none of theirs.
 
 import { EVENTS, LEAVE, TIME_UP } from "../board/journal.mjs";
 import { CONSTRUCTORS, KINDS, SIZES } from "../../script/kinds.mjs";
@@ -54,6 +54,10 @@ function viewOf(name, { kind, block, offset, length }) {
   return { name, kind: KINDS[kind], block, offset, length };
 }
 
+// An element of each kind on the same bytes: what a store's bytes stand for.
+const STORED = new Uint8Array(Math.max(...SIZES));
+const ELEMENTS = CONSTRUCTORS.map((Kind) => new Kind(STORED.buffer, 0, 1));
+
 class Writer {
   /** @param {number[]} lengths @param {boolean[]} canBlock */
   constructor(lengths, canBlock) {
@@ -67,6 +71,8 @@ class Writer {
     this.own = canBlock.map(() => 0);
     /** @type {Move[]} */
     this.moves = [];
+    /** The names of the views of stores, by whose they are: of each block's kinds. @type {Map<string, string[]>} */
+    this.storeNames = new Map();
   }
 
   /** @param {string} name @param {Parameters<typeof viewOf>[1]} range */
@@ -84,16 +90,27 @@ class Writer {
    * @param {string} whose what its view's name begins with
    */
   addStore({ agent, block, byte, kind, bytes }, whose) {
-    const length = Math.floor(this.lengths[block] / SIZES[kind]);
-    const range = { kind, block, offset: 0, length };
-    const name = `${whose}_${viewName(this.lengths, range)}`;
-    this.addView(name, range);
-    const [value] = new CONSTRUCTORS[kind](bytes.slice().buffer);
+    const name = this.#storeName(whose, kind, block);
+    STORED.set(bytes);
+    const [value] = ELEMENTS[kind];
     const isBig = typeof value === "bigint";
     const index = byte / SIZES[kind];
     const text = `["store", "${name}", ${index}, ${isBig ? `"${value}"` : value}]`;
     this.calls[agent].push({ text, joined: false, answer: answerText(value), isOwn: false });
     this.addMoves(agent, EVENTS[0].moves, false);
+  }
+
+  /** The name of a view that stores have, which the script gets with its first one. */
+  #storeName(whose, kind, block) {
+    if (!this.storeNames.has(whose)) this.storeNames.set(whose, []);
+    const names = this.storeNames.get(whose);
+    const number = block * KINDS.length + kind;
+    if (names[number] === undefined) {
+      const range = { kind, block, offset: 0, length: Math.floor(this.lengths[block] / SIZES[kind]) };
+      names[number] = `${whose}_${viewName(this.lengths, range)}`;
+      this.addView(names[number], range);
+    }
+    return names[number];
   }
 
   /** @param {import("./records.mjs").Records} records @param {number} agent @param {number} event */

@@ -1,5 +1,5 @@
-// Programs whose ordinary writes fit into a script in part only, or not at all; the first argument names one of them,
-// and the others are numbers.
+// Programs whose ordinary writes fit into a script in part only, or not at all. Each argument is one of them with its
+// numbers, and each run of a worker is that of the next one; the last one goes on.
 
 const PROGRAMS = {
   // One fills all bytes, and then calls see two words of them.
@@ -48,8 +48,11 @@ const PROGRAMS = {
   },
 };
 
+let runs = 0;
+
 export default function agent({ buffers, agent, args }) {
-  const [name, ...numbers] = args;
+  const [name, ...numbers] = args[Math.min(runs, args.length - 1)].split(" ");
+  runs += 1;
   const words = new Int32Array(buffers[0]);
   const bytes = new Uint8Array(buffers[0]);
   PROGRAMS[name]({ agent, words, bytes }, ...numbers.map(Number));

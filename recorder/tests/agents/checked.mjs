@@ -1,5 +1,32 @@
 // Agents whose module has `init` and `check`; the first argument names what they do, in all three.
 
+async function later() {
+  await undefined;
+  throw new Error("its turn never comes");
+}
+
+const ways = [
+  later,
+  () => {
+    later();
+  },
+  function* never() {
+    throw new Error("nobody asks for it");
+  },
+  () => {},
+];
+
+const ends = [
+  ({ words, agent }) => (agent === 0 ? Atomics.wait(words, 1, 0) : Atomics.load(words, 0)),
+  ({ words }) => {
+    throw new Error(Atomics.load(words, 0));
+  },
+  () => {},
+  ({ words }) => {
+    while (Atomics.load(words, 0) === 0);
+  },
+];
+
 const PROGRAMS = {
   // One of two may be lost.
   lost: {
@@ -52,6 +79,19 @@ const PROGRAMS = {
       for (;;);
     },
   },
+  // One way after the other to be done later, or never.
+  unfinished: {
+    init: () => (ways.length === 1 ? later() : undefined),
+    agent: ({ words }) => Atomics.load(words, 0),
+    check: () => ways.shift()(),
+  },
+  // One way after the other in which a run doesn't finish.
+  ends: {
+    agent: ({ words, agent }) => ends.shift()({ words, agent }),
+    check: () => {
+      throw new Error("it was checked");
+    },
+  },
   // It fills more bytes than a script can have stores.
   large: {
     init: ([buffer]) => new Uint8Array(buffer).fill(7),
@@ -62,7 +102,7 @@ const PROGRAMS = {
 export const setup = { agents: 2, buffers: [8, 7] };
 
 export function init(buffers, run) {
-  PROGRAMS[run.args[0]].init?.(buffers, run);
+  return PROGRAMS[run.args[0]].init?.(buffers, run);
 }
 
 export default function agent({ args, agent: number, buffers }) {
@@ -70,5 +110,5 @@ export default function agent({ args, agent: number, buffers }) {
 }
 
 export function check(buffers, run) {
-  PROGRAMS[run.args[0]].check?.(buffers, run);
+  return PROGRAMS[run.args[0]].check?.(buffers, run);
 }

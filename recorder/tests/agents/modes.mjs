@@ -1,8 +1,9 @@
-// Programs with ordinary accesses, whose answers are known in each of the modes; the first argument names one of them.
+// Programs with ordinary accesses, whose answers are known in each of the modes. Each run of a worker is that of the
+// next program, but where the first argument names one.
 
 import { Mutex } from "../known/shared/mutex.mjs";
 
-const PROGRAMS = {
+export const PROGRAMS = {
   // Each adds twice, between its calls.
   counter: ({ buffers }) => {
     const mutex = new Mutex(new Int32Array(buffers[0]));
@@ -50,6 +51,12 @@ const PROGRAMS = {
 
 export const setup = { agents: 2, buffers: [4, 32] };
 
+const NAMES = Object.keys(PROGRAMS);
+
+let runs = 0;
+
 export default function agent({ args, ...rest }) {
-  PROGRAMS[args[0]](rest);
+  const [name = NAMES[runs % NAMES.length]] = args;
+  runs += 1;
+  PROGRAMS[name](rest);
 }

@@ -1,4 +1,5 @@
-// Agents that go on and on; the first argument names how. Agent 0 makes a call, agent 1 waits for what never comes.
+// Agents that go on and on: agent 0 makes a call, agent 1 waits for what never comes. The arguments name in which way,
+// run by run; the last one goes on.
 
 const WAYS = {
   load: ({ words }) => {
@@ -15,9 +16,6 @@ const WAYS = {
     do at = 3 - at;
     while (words[at] === 0);
   },
-  nothing: () => {
-    for (let turns = 0; ; turns += 1);
-  },
   // It comes on, with each call.
   counts: ({ words }) => {
     for (let count = 0; count < 100_000; count += 1) Atomics.add(words, 1, 1);
@@ -32,12 +30,20 @@ const WAYS = {
     for (const begin = Date.now(); Date.now() === begin;);
     Atomics.store(words, 1, Math.floor(performance.now()));
   },
+  // It never comes back.
+  nothing: () => {
+    for (let turns = 0; ; turns += 1);
+  },
 };
 
 export const setup = { agents: 2, buffers: [64] };
 
+let runs = 0;
+
 export default function agent({ buffers, agent, args }) {
+  const way = args[Math.min(runs, args.length - 1)];
+  runs += 1;
   const words = new Int32Array(buffers[0]);
   if (agent === 0) Atomics.load(words, 0);
-  else WAYS[args[0]]({ words });
+  else WAYS[way]({ words });
 }
