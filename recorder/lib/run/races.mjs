@@ -161,9 +161,12 @@ export class Judge {
   }
 
   #write(agent, flags, first, last) {
-    this.written.fill(flags & FLAG.ATOMIC ? this.#leave(agent) : NONE, first, last);
-    // Only atomic writes are asked for their sizes.
-    this.sizes.fill(last - first, first, last);
+    const { written, sizes } = this;
+    const clock = flags & FLAG.ATOMIC ? this.#leave(agent) : NONE;
+    for (let byte = first; byte < last; byte += 1) {
+      written[byte] = clock;
+      sizes[byte] = last - first;
+    }
   }
 
   /** An access meets what is remembered of each of its bytes, and is remembered. */
@@ -174,6 +177,7 @@ export class Judge {
     const time = this.clocks[agent * this.agents + agent];
     accesses.reserve((last - first) * EACH);
     const { items } = accesses;
+    let { length } = accesses;
     for (let byte = first; byte < last; byte += 1) {
       if (runs[byte] !== run) {
         runs[byte] = run;
@@ -184,7 +188,8 @@ export class Judge {
       let at = heads[byte] === NONE ? NONE : this.#meet(event, agent, sort, source, byte, onRace);
       if (at === ENOUGH) return false;
       if (at === NONE) {
-        at = accesses.take(EACH);
+        at = length;
+        length += EACH;
         items[at + AGENT] = agent;
         items[at + SORT] = sort;
         items[at + SOURCE] = source;
@@ -194,6 +199,7 @@ export class Judge {
       items[at + EVENT] = event;
       items[at + TIME] = time;
     }
+    accesses.length = length;
     return true;
   }
 
