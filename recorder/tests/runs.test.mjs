@@ -142,6 +142,14 @@ test("what an agent does when its run is over changes nothing that is told", wit
   assert.match(endless.detail, /^agent 1 threw Error: the end/);
 });
 
+test("an ordinary write that the end of the stack has kept off is seen when it is made again", withSabsim, async () => {
+  for (const seed of [1, 2, 3]) {
+    const { ending, detail, bytes, ordinary } = await record({ agents: agentsPath("retried"), seed, sabsim: SABSIM });
+    assert.deepEqual([ending, detail, bytes], ["finished", "", ["01000000", "01".repeat(60)]]);
+    assert.ok(ordinary >= 60);
+  }
+});
+
 test("an agent whose stack comes to its end amid a call is told of, or not harmed", withSabsim, async () => {
   const outcome = await recordCase("deep", { check: true, count: 1, seconds: 1 });
   const told = /^agent 0 (ran out of stack in|didn't come out of) a call/;

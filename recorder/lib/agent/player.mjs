@@ -159,7 +159,10 @@ export class Player {
       if (!tellsSources || this.repeats.again > MOST_TOLD_AGAIN) return;
     }
     const what = writes ? WRITE : READ;
-    if (!tellsSources && log.extend(what, this.agent, place.block, from, to, place, this.since)) return;
+    if (!tellsSources && log.extend(what, this.agent, place.block, from, to, place, this.since)) {
+      this.repeats.keep(place, from, to, writes);
+      return;
+    }
     if (!log.hasRoom()) {
       if (tellsSources && !(writes && isNew)) return;
       this.#bound(`more than ${log.most} reads and writes were made that differ`);
@@ -167,6 +170,7 @@ export class Player {
     const source = tellsSources ? this.table.sources.here() : 0;
     const flags = (writes ? FLAG.WRITES : FLAG.READS) | (isNew ? 0 : FLAG.AGAIN);
     log.append(what, this.agent, NO_CALL, flags, this.made, place.block, from, to, place, source);
+    this.repeats.keep(place, from, to, writes);
   }
 
   /** @returns {number} what time it is in the run */

@@ -51,6 +51,8 @@ export class Repeats {
   }
 
   /**
+   * Whether the agent has made an access since its last call. One that is new is kept by `keep`, when it is in the log:
+   * where the stack comes to its end between, the agent may make it again.
    * @param {{ block: number }} place
    * @param {number} from
    * @param {number} to
@@ -61,11 +63,7 @@ export class Repeats {
     const size = to - from;
     if (size > 8) return Repeats.NEW;
     const stamps = writes ? this.writes[place.block] : this.reads[place.block];
-    const stamp = (this.epoch << 4) | size;
-    if (stamps[from] !== stamp) {
-      stamps[from] = stamp;
-      return Repeats.NEW;
-    }
+    if (stamps[from] !== ((this.epoch << 4) | size)) return Repeats.NEW;
     if (writes || this.last !== from) {
       this.last = writes ? -1 : from;
       this.again = 0;
@@ -73,5 +71,19 @@ export class Repeats {
     }
     this.again += 1;
     return this.again < SPIN ? Repeats.KNOWN : Repeats.SPINS;
+  }
+
+  /**
+   * An access that was new is in the log.
+   * @param {{ block: number }} place
+   * @param {number} from
+   * @param {number} to
+   * @param {boolean} writes
+   */
+  keep(place, from, to, writes) {
+    const size = to - from;
+    if (size > 8) return;
+    const stamps = writes ? this.writes[place.block] : this.reads[place.block];
+    stamps[from] = (this.epoch << 4) | size;
   }
 }
