@@ -6,6 +6,8 @@ import { Buffer as NodeBuffer, Blob, isUtf8, transcode } from "node:buffer";
 import childProcess from "node:child_process";
 import crypto, { createHash } from "node:crypto";
 import fs, { writeSync } from "node:fs";
+import { tmpdir } from "node:os";
+import { join } from "node:path";
 import { StringDecoder } from "node:string_decoder";
 import { PassThrough } from "node:stream";
 import util, { inspect, isDeepStrictEqual } from "node:util";
@@ -237,8 +239,9 @@ const REFUSED = {
   "fetch": [bytes, (array) => fetch("http://localhost", { method: "POST", body: array })],
 };
 
+const path = join(tmpdir(), `recorder-natives-${process.pid}`);
+
 function writeAndRead(write) {
-  const path = `/tmp/recorder-natives-${process.pid}`;
   const file = fs.openSync(path, "w+");
   const answer = write(file);
   const text = fs.readFileSync(path, "latin1");
@@ -248,7 +251,6 @@ function writeAndRead(write) {
 }
 
 function fromFile(body) {
-  const path = `/tmp/recorder-natives-${process.pid}`;
   fs.writeFileSync(path, "hello, world, all of it");
   const file = fs.openSync(path, "r");
   const answer = body(file);
