@@ -3,7 +3,7 @@
 
 import assert from "node:assert/strict";
 import { execFile } from "node:child_process";
-import { readFileSync, readdirSync } from "node:fs";
+import { readFileSync, readdirSync, writeFileSync } from "node:fs";
 import { join } from "node:path";
 import { describe, it } from "node:test";
 import { Refused, record } from "../recorder.mjs";
@@ -109,6 +109,43 @@ describe("init and check", { concurrency: 2, ...withSabsim }, () => {
       ["check", true, "check answered an iterator, whose code nobody runs: it is a generator"],
       ["failed", true, "init answered a promise, but it must be synchronous"],
     ]);
+  });
+
+  it("what a check answers in place of throwing it fails the run too", async (test) => {
+    const path = join(temporaryFolder(test), "agents.mjs");
+    writeFileSync(path, `
+      export const setup = { agents: 1, buffers: [4] };
+      export default ({ buffers: [buffer] }) => Atomics.store(new Int32Array(buffer), 0, 7);
+      export const check = ([buffer], { args: [what] }) =>
+        (what === "error" ? new RangeError("lost") : new Int32Array(buffer)[0] === Number(what));
+    `);
+    const told = [["7", "finished", ""], ["8", "check", "check answered false"],
+      ["error", "check", "check answered RangeError: lost"]];
+    for (const [what, ending, detail] of told) {
+      const outcome = await record({ agents: path, args: [what], sabsim: SABSIM });
+      assert.deepEqual([outcome.ending, outcome.detail], [ending, detail]);
+    }
+    const outcome = await record({ agents: path, args: ["7"], sabsim: SABSIM, check: () => false });
+    assert.deepEqual([outcome.ending, outcome.detail], ["check", "check answered false"]);
+  });
+
+  it("a CommonJS module has them as properties of its function; setup has no other member", async (test) => {
+    const folder = temporaryFolder(test);
+    const path = join(folder, "agents.cjs");
+    const write = (setup) => writeFileSync(path, `
+      const agent = ({ buffers: [buffer] }) => Atomics.add(new Int32Array(buffer), 0, 1);
+      agent.setup = ${setup};
+      agent.init = ([buffer]) => new Int32Array(buffer).fill(3);
+      agent.check = ([buffer]) => { throw new Error(String(new Int32Array(buffer)[0])); };
+      module.exports = agent;
+    `);
+    write("{ agents: 2, buffers: [4] }");
+    const outcome = await record({ agents: path, sabsim: SABSIM });
+    assert.equal(outcome.ending, "check");
+    assert.match(outcome.detail, /^check threw Error: 5\n/);
+    write("{ agents: 2, buffers: [4], noBlock: [0] }");
+    const refused = /`setup` has no member noBlock: it can have agents, buffers, block$/;
+    await assert.rejects(record({ agents: path, sabsim: SABSIM }), refused);
   });
 
   it("so does one that the library is given, and what it rejects harms nobody", async () => {

@@ -85,6 +85,19 @@ test("an agent that throws fails the run, with its message and stack", withSabsi
   assert.equal(noError.detail, "agent 0 threw an object");
 });
 
+test("what is thrown is told with its message and its causes", async (context) => {
+  const told = {
+    "{ message: 'no Error' }": /^agent 0 threw an object with the message "no Error"$/,
+    "new Error('one', { cause: new RangeError('two', { cause: 3 }) })":
+      /^agent 0 threw Error: one\n +at [^\n]*agents\.mjs[^\n]*\ncaused by RangeError: two\n +at [^\n]*\ncaused by 3$/,
+  };
+  for (const [thrown, detail] of Object.entries(told)) {
+    const agents = agentsOf(temporaryFolder(context), `throw ${thrown};`);
+    const outcome = await record({ agents, count: 1, buffers: [4], check: false });
+    assert.match(outcome.detail, detail);
+  }
+});
+
 test("an agent that answers a promise fails the run", async () => {
   const outcome = await recordCase("promises");
   assert.deepEqual([outcome.ending, outcome.detail],

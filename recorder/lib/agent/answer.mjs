@@ -1,5 +1,17 @@
 // What an agent, an `init` or a `check` answers: nothing that is still to be done.
 
+const { Error: EngineError } = globalThis;
+
+/**
+ * What a `check` finds that answers it and doesn't throw it, as one line of code does.
+ * @param {unknown} answer
+ * @returns {string | undefined} in words that go on after who it was; undefined where it finds nothing
+ */
+export function foundBy(answer) {
+  if (answer === false) return "answered false";
+  return answer instanceof EngineError ? `answered ${answer.name}: ${answer.message}` : undefined;
+}
+
 /**
  * What an answer leaves undone.
  * @param {unknown} answer

@@ -7,6 +7,7 @@ import util from "node:util";
 import { promiseHooks } from "node:v8";
 import { uncurried } from "../../kept/own.mjs";
 import { framesHere } from "./sources.mjs";
+import { withoutOwn } from "./stack.mjs";
 
 const { inspect } = util;
 const startsWith = uncurried(String.prototype.startsWith);
@@ -31,6 +32,13 @@ const OWN = import.meta.url;
 
 const SHOWN = Object.freeze({ depth: 0, customInspect: false, compact: true, breakLength: Infinity });
 const REJECTED = "{ <rejected> ";
+const HOOKS = ", [Symbol(async_id_symbol)]";
+
+/** Where the reason ends in what node shows of a promise: before what its hooks have put there. @param {string} text */
+function endOf(text) {
+  const found = indexOf(text, HOOKS);
+  return found < 0 ? text.length - 2 : found;
+}
 
 /** @param {string} type of node's resources @returns {string | undefined} what goes on later, in words */
 function wordFor(type) {
@@ -110,7 +118,7 @@ export class Later {
     for (let at = 0; at < this.settled.length; at += 1) {
       const text = inspect(this.settled[at], SHOWN);
       const from = indexOf(text, REJECTED);
-      if (from >= 0) return partOf(text, from + REJECTED.length, -2);
+      if (from >= 0) return withoutOwn(partOf(text, from + REJECTED.length, endOf(text)));
     }
     return undefined;
   }

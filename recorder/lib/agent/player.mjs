@@ -9,7 +9,7 @@ import { SCRIPT_LIMITS } from "../../script/limits.mjs";
 import { FLAG, NO_CALL, READ, WRITE } from "../run/log.mjs";
 import { byteOf } from "../run/memory.mjs";
 import { callText, textRoom, viewKey, viewName } from "../run/spelling.mjs";
-import { leftOpen } from "./answer.mjs";
+import { foundBy, leftOpen } from "./answer.mjs";
 import { engineCall, isEqualElement } from "./engine.mjs";
 import { RunIsOver } from "./over.mjs";
 import { mapGet, mapSet, mapHas, uncurried } from "../../kept/own.mjs";
@@ -102,7 +102,8 @@ export class Player {
     let problem;
     later.begin();
     try {
-      problem = leftOpen(body(), "it") ?? this.#undone("it");
+      const answer = body();
+      problem = leftOpen(answer, "it") ?? foundBy(answer) ?? this.#undone("it");
     } catch (thrown) {
       problem = `threw ${described(thrown)}`;
     }

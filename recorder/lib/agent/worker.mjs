@@ -22,12 +22,11 @@ import { watchOrdinary } from "./ordinary/watch.mjs";
 import { put, uncurried } from "../../kept/own.mjs";
 import { Player } from "./player.mjs";
 import { Sources } from "./sources.mjs";
+import { withoutOwn } from "./stack.mjs";
 import { Chance, simulateChance, simulateTime } from "./time.mjs";
 
 const { Error: EngineError, String: text } = globalThis;
 const includes = uncurried(String.prototype.includes);
-const indexOf = uncurried(String.prototype.indexOf);
-const slice = uncurried(String.prototype.slice);
 const plainTitle = uncurried(Error.prototype.toString);
 
 /**
@@ -45,9 +44,6 @@ function titleOf(error) {
   }
 }
 
-// The frames of the recorder's own files say nothing of the agents' code.
-const OWN = new URL("../", import.meta.url).href;
-
 /** An error's stack without the recorder's frames, where its code has left it one. @param {Error} error */
 function stackOf(error) {
   try {
@@ -57,31 +53,34 @@ function stackOf(error) {
   }
 }
 
-/** @param {string} stack */
-function withoutOwn(stack) {
-  let kept = "";
-  for (let from = 0; from < stack.length;) {
-    const found = indexOf(stack, "\n", from + 1);
-    const to = found < 0 ? stack.length : found;
-    const line = slice(stack, from, to);
-    if (!includes(line, OWN)) kept += line;
-    from = to;
-  }
-  return kept;
+/** Something else than an error of this realm, with its message where it has one. @param {any} thrown */
+function shownWithMessage(thrown) {
+  const message = typeof thrown === "object" && thrown !== null ? thrown.message : undefined;
+  return typeof message === "string" ? `an object with the message "${message}"` : shown(thrown);
+}
+
+// A cause has a cause in turn, perhaps without an end.
+const MOST_CAUSES = 3;
+
+/** What an error was caused by, where it says so. @param {Error} error @param {number} depth how many came before */
+function causeOf(error, depth) {
+  const { cause } = error;
+  return cause === undefined || depth === MOST_CAUSES ? "" : `\ncaused by ${described(cause, depth + 1)}`;
 }
 
 /**
- * What was thrown, with its stack where it has one.
+ * What was thrown, with its stack and its causes where it has them.
  * @param {unknown} thrown
+ * @param {number} [depth] how many errors have it as their cause
  * @returns {string}
  */
-function described(thrown) {
+function described(thrown, depth = 0) {
   try {
-    if (!(thrown instanceof EngineError)) return shown(thrown);
+    if (!(thrown instanceof EngineError)) return shownWithMessage(thrown);
     const title = titleOf(thrown);
     const stack = stackOf(thrown);
-    if (stack === "") return title;
-    return includes(stack, title) ? stack : `${title}\n${stack}`;
+    const whole = includes(stack, title) ? stack : `${title}\n${stack}`;
+    return `${stack === "" ? title : whole}${causeOf(thrown, depth)}`;
   } catch {
     return "a value that can't be shown";
   }
@@ -173,13 +172,17 @@ async function loaded() {
     const isCompiled = typeof found.default === "object" && typeof found.default?.default === "function";
     const module = isCompiled ? found.default : found;
     if (typeof module.default !== "function") throw new EngineError("it has no function as its default export");
-    const others = ["init", "check"];
-    for (let at = 0; at < others.length; at += 1) {
-      const name = others[at];
-      const isThere = module[name] !== undefined;
-      if (isThere && typeof module[name] !== "function") throw new EngineError(`its export ${name} is no function`);
+    const { default: agent } = module;
+    // A CommonJS module that exports a function has the others as its properties.
+    const { init = agent.init, check = agent.check, setup = agent.setup } = module;
+    const others = { init, check };
+    const names = ["init", "check"];
+    for (let at = 0; at < names.length; at += 1) {
+      const found = others[names[at]];
+      if (found !== undefined && typeof found !== "function") {
+        throw new EngineError(`its export ${names[at]} is no function`);
+      }
     }
-    const { default: agent, init, check, setup } = module;
     port.postMessage({ setup, hasInit: init !== undefined, hasCheck: check !== undefined });
     return { default: agent, init, check };
   } catch (problem) {

@@ -1,6 +1,6 @@
 // A group of workers: one for each agent, and one for their referee. All end with the process, however it ends.
 
-import { leftOpen } from "../agent/answer.mjs";
+import { foundBy, leftOpen } from "../agent/answer.mjs";
 import { Sources } from "../agent/sources.mjs";
 import { Board } from "../board/board.mjs";
 import { SCRIPT_LIMITS } from "../../script/limits.mjs";
@@ -200,7 +200,7 @@ export class Group {
       const answer = call([...buffers], { agents: this.plan.agents, args: [...args] });
       // That it is a promise is told; what it comes to isn't anybody's.
       Promise.resolve(answer).catch(() => {});
-      return leftOpen(answer, "it") ?? "";
+      return leftOpen(answer, "it") ?? foundBy(answer) ?? "";
     } catch (thrown) {
       if (thrown instanceof Error) return `threw ${thrown.stack ?? thrown}`;
       return `threw a value that is no Error: ${String(thrown)}`;

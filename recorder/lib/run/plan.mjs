@@ -17,6 +17,9 @@ export const CHOICES = Object.freeze({
 /** In how many of the draws the end of a timed wait is offered, where nothing else is asked for. */
 export const DEFAULT_TIMEOUTS = 0.05;
 
+// What a module's `setup` can say.
+const SETUP = ["agents", "buffers", "block"];
+
 /** What holds in a run where nothing else is asked for. */
 export const DEFAULTS = Object.freeze({
   ...Object.fromEntries(Object.entries(CHOICES).map(([name, [first]]) => [name, first])),
@@ -107,6 +110,8 @@ function canBlockOf(block, agents) {
  */
 export function planOf(options, setup) {
   const given = setup ?? {};
+  const other = Object.keys(given).find((name) => !SETUP.includes(name));
+  if (other !== undefined) throw new Refused(`\`setup\` has no member ${other}: it can have ${SETUP.join(", ")}`);
   const agents = checkedAgents(options.count ?? given.agents);
   const buffers = checkedBuffers(options.buffers ?? given.buffers);
   const canBlock = canBlockOf(options.block ?? given.block, agents);
