@@ -10,7 +10,7 @@ import { checkedAgents, checkedBlock, checkedBuffers, checkedChoice } from "./ru
  * @callback WithBuffers what is called with the buffers, when no agent runs
  * @param {SharedArrayBuffer[]} buffers
  * @param {{ agents: number, args: string[] }} run
- * @returns {void}
+ * @returns {unknown}
  */
 
 /**
@@ -32,7 +32,7 @@ import { checkedAgents, checkedBlock, checkedBuffers, checkedChoice } from "./ru
  * @property {"run" | "real"} [clock] the time that clocks tell agents: the run's own or the machine's; else "run"
  * @property {WithBuffers} [init] fills the buffers before the run
  * @property {boolean | WithBuffers} [check] false: sabsim isn't asked; a function is called after a run that finished,
- * and what it throws fails the run
+ * and what it throws fails the run, as does `false` or an error that it answers
  * @property {string | false} [sabsim] the program's path; false: it isn't asked
  * @property {boolean} [trace] whether the outcome has its trace
  */
