@@ -29,10 +29,15 @@ function existing(module) {
   throw new Refused(`there is no file ${module}`);
 }
 
+/** @param {unknown} problem @returns {unknown} a sentence; of a defect all that is known */
+function toldOf(problem) {
+  if (!(problem instanceof Error)) return problem;
+  return EXPECTED.some((kind) => problem instanceof kind) ? problem.message : problem.stack ?? problem;
+}
+
 /** @param {unknown} problem */
 function complain(problem) {
-  const expected = EXPECTED.some((kind) => problem instanceof kind);
-  process.stderr.write(`record: ${expected ? problem.message : problem?.stack ?? problem}\n`);
+  process.stderr.write(`record: ${toldOf(problem)}\n`);
 }
 
 /**
@@ -50,10 +55,13 @@ async function run(words) {
   }
 }
 
+/** @type {(problem: unknown) => problem is Interrupted} */
+const isInterrupted = (problem) => problem instanceof Interrupted;
+
 /** @returns {Promise<number>} the status */
 async function main() {
   const { failed, problems } = await run(process.argv.slice(2));
-  const interrupted = problems.find((problem) => problem instanceof Interrupted);
+  const interrupted = problems.find(isInterrupted);
   for (const problem of problems) {
     if (!(problem instanceof Interrupted)) complain(problem);
   }

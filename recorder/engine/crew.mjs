@@ -22,7 +22,9 @@ export const JOIN_TIME = LOOKS * 1.5 + 4;
 export const PATIENCE = 20_000;
 
 /** @typedef {import("./script.mjs").Operand} Operand */
-/** @typedef {{ answer: Operand | string } | { threw: string, message: string }} Answer what a call came to */
+/** @typedef {{ answer: Operand | string, threw?: undefined }} Answered */
+/** @typedef {{ threw: string, message: string, answer?: undefined }} Threw an error, by its name */
+/** @typedef {Answered | Threw} Answer what a call came to */
 
 /**
  * Turns of the event loop until a condition holds, or until the time is over.
@@ -70,6 +72,7 @@ export class Hand {
     this.#worker.on("exit", (status) => this.#die(new Error(`it ended with status ${status}`)));
   }
 
+  /** @param {Error} error */
   #die(error) {
     this.#death ??= error;
     this.#goOn();
@@ -131,7 +134,11 @@ export class Hand {
     return this.answer;
   }
 
-  /** Awaits that the worker tells something, or that a time is over. */
+  /**
+   * Awaits that the worker tells something, or that a time is over.
+   * @param {number} time in milliseconds
+   * @returns {Promise<void>}
+   */
   #told(time) {
     return new Promise((resolve) => {
       const timer = setTimeout(resolve, time);
@@ -186,6 +193,7 @@ export class Crew {
     await Promise.all(hands.filter((hand) => hand.isBusy).map((hand) => this.#dismiss(hand)));
   }
 
+  /** @param {Hand} hand */
   #dismiss(hand) {
     this.#all.delete(hand);
     return hand.end();

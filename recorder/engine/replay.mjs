@@ -74,7 +74,13 @@ export async function replay(script, crew) {
   throw new EngineFault("waits end, again and again, before the schedule comes to their ends: the machine is too slow");
 }
 
-/** One trial. */
+/**
+ * One trial.
+ * @param {Script} script
+ * @param {Crew} crew
+ * @param {number} trial
+ * @returns {Promise<Outcome>}
+ */
 async function replayOnce(script, crew, trial) {
   const buffers = script.blocks.map((length) => new SharedArrayBuffer(length));
   const views = script.views.map((view) => makeView(view, buffers));
@@ -90,11 +96,16 @@ async function replayOnce(script, crew, trial) {
   return { entries: run.entries, blocks: buffers.map((buffer) => new Uint8Array(buffer)), returned };
 }
 
+/**
+ * @param {import("./script.mjs").View} view
+ * @param {SharedArrayBuffer[]} buffers
+ * @returns {Int32Array} what it is for an engine's check of types: the real kind is known when it runs
+ */
 function makeView({ name, kind, block, offset, length }, buffers) {
   try {
     return new CONSTRUCTORS[kind](buffers[block], offset, length ?? undefined);
   } catch (error) {
-    throw new ScriptFault(`view ${name} can't be made: ${error.message}`);
+    throw new ScriptFault(`view ${name} can't be made: ${/** @type {Error} */ (error).message}`);
   }
 }
 
@@ -105,7 +116,7 @@ class Run {
 
   /**
    * @param {Script} script
-   * @param {ArrayBufferView[]} views
+   * @param {Int32Array[]} views
    * @param {Hand[]} hands one for each agent
    * @param {number} trial how often it was made before
    */
@@ -134,7 +145,12 @@ class Run {
     this.#checkNobodyLeft();
   }
 
-  /** A step of an agent, by what it does next. */
+  /**
+   * A step of an agent, by what it does next.
+   * @param {Actor} actor
+   * @param {number} position
+   * @returns {Promise<Line>}
+   */
   async #step(actor, position) {
     switch (actor.phase) {
       case "idle":
@@ -155,7 +171,11 @@ class Run {
     }
   }
 
-  /** The act of the call that an agent has begun. */
+  /**
+   * The act of the call that an agent has begun.
+   * @param {Actor} actor
+   * @param {number} position
+   */
   async #act(actor, position) {
     const call = actor.calls[actor.returned];
     if (call.method === "wait" && actor.canBlock) return this.#wait(actor, call, position);
@@ -165,7 +185,12 @@ class Run {
     return acted(actor, textOf(answer));
   }
 
-  /** A wait of an agent that can block: it answers, or else it stands in the engine's line. */
+  /**
+   * A wait of an agent that can block: it answers, or else it stands in the engine's line.
+   * @param {Actor} actor
+   * @param {Call} call
+   * @param {number} position
+   */
   async #wait(actor, call, position) {
     const [index, value, timeout] = call.operands;
     actor.deadline = timeout === undefined ? Infinity : this.#deadline(actor, position);
@@ -176,41 +201,56 @@ class Run {
       return engineLine("wait");
     }
     if (answer.answer === "timed-out" && actor.deadline < Infinity) throw new TooSlow();
-    const mayBe = "threw" in answer || answer.answer === "not-equal";
+    const mayBe = answer.threw !== undefined || answer.answer === "not-equal";
     if (!mayBe) throw new EngineFault(`agent ${actor.number}'s wait answered ${answer.answer} as it began`);
     return acted(actor, textOf(answer));
   }
 
-  /** When the time of an agent's wait will be up. */
+  /**
+   * When the time of an agent's wait will be up.
+   * @param {Actor} actor
+   * @param {number} position
+   */
   #deadline({ number }, position) {
     const isTimed = this.actors.some(({ phase, deadline }) => phase === "waiting" && deadline < Infinity);
     if (!isTimed) this.timeline.restart(position);
     return this.timeline.deadline(number, position);
   }
 
-  /** A wait of an agent that can't block: all checks but that one are the engine's. */
+  /**
+   * A wait of an agent that can't block: all checks but that one are the engine's.
+   * @param {Actor} actor
+   * @param {Call} call
+   */
   async #waitInVain(actor, call) {
     const [index, value] = call.operands;
     const answer = await this.#ask(actor, [index, value, 0]);
-    if ("threw" in answer) return acted(actor, textOf(answer));
+    if (answer.threw !== undefined) return acted(actor, textOf(answer));
     acted(actor, "TypeError");
     return ownLine("act TypeError");
   }
 
-  /** Asks the engine for a call that doesn't block. */
+  /**
+   * Asks the engine for a call that doesn't block.
+   * @param {Actor} actor
+   * @param {import("./script.mjs").Operand[]} operands
+   */
   async #ask(actor, operands) {
     const { method, view } = actor.calls[actor.returned];
     actor.hand.send(method, view, operands);
     return actor.hand.answered();
   }
 
-  /** Awaits that as many agents leave their waits as a notify says that it woke. */
+  /**
+   * Awaits that as many agents leave their waits as a notify says that it woke.
+   * @param {number} count
+   */
   async #awaitWoken(count) {
     const left = () => this.actors.filter((actor) => actor.phase === "waiting" && actor.hand.answer !== null);
     await until(() => left().length >= count);
     const woken = left();
     this.#checkInStep(woken);
-    if (woken.length !== count || woken.some((actor) => actor.hand.answer.answer !== "ok")) {
+    if (woken.length !== count || woken.some((actor) => actor.hand.answer?.answer !== "ok")) {
       const told = woken.map((actor) => `agent ${actor.number} with ${textOf(actor.hand.answer)}`);
       throw new EngineFault(`a notify answered ${count}, and these left their waits: ${told.join(", ") || "nobody"}`);
     }
@@ -229,16 +269,23 @@ class Run {
     }
   }
 
-  /** Nobody's time was up too early, and nobody was taken for one in the line whose wait was still to be answered. */
+  /**
+   * Nobody's time was up too early, and nobody was taken for one in the line whose wait was still to be answered.
+   * @param {Actor[]} left those whose waits have answered
+   */
   #checkInStep(left) {
     for (const { hand, deadline } of left) {
-      const isEarly = hand.answer.answer === "timed-out" && deadline < Infinity;
-      const isLate = hand.answer.answer === "not-equal" || "threw" in hand.answer;
+      const { answer } = hand;
+      const isEarly = answer?.answer === "timed-out" && deadline < Infinity;
+      const isLate = answer?.answer === "not-equal" || answer?.threw !== undefined;
       if (isEarly || isLate) throw new TooSlow();
     }
   }
 
-  /** The time of an agent's wait is up. */
+  /**
+   * The time of an agent's wait is up.
+   * @param {Actor} actor
+   */
   async #timeUp(actor) {
     if (actor.phase !== "waiting") return ownLine("stuck not-waiting");
     if (actor.calls[actor.returned].operands.length < 3) return ownLine("stuck endless");
@@ -260,28 +307,35 @@ class Run {
       if (!hand.isBusy || calls[returned].method !== "wait") continue;
       const { view, operands } = calls[returned];
       await until(() => {
-        Atomics.notify(this.views[view], operands[0]);
+        // A wait's index is a Number.
+        Atomics.notify(this.views[view], Number(operands[0]));
         return !hand.isBusy;
       }, 1_000);
     }
   }
 }
 
+/** @typedef {{ text: string, isOfEngine: boolean }} Line of a report */
+
+/** @param {Actor} actor @param {string} answer @returns {Line} */
 function acted(actor, answer) {
   actor.phase = "answered";
   actor.answer = answer;
   return engineLine(`act ${answer}`);
 }
 
+/** @param {string} text @returns {Line} */
 const engineLine = (text) => ({ text, isOfEngine: true });
+/** @param {string} text @returns {Line} */
 const ownLine = (text) => ({ text, isOfEngine: false });
 
 /**
  * An answer as a report has it.
- * @param {Answer} answer
+ * @param {Answer | null} answer
  */
 function textOf(answer) {
-  if (!("threw" in answer)) return answerText(answer.answer);
+  if (answer === null) throw new EngineFault("a call that has answered hasn't");
+  if (answer.threw === undefined) return answerText(answer.answer);
   if (answer.threw === "TypeError" || answer.threw === "RangeError") return answer.threw;
   throw new EngineFault(`a call threw ${answer.threw}: ${answer.message}`);
 }

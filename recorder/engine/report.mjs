@@ -15,6 +15,7 @@ export function reportText(script, { entries, blocks, returned }) {
   return reportOf(entries, blocks.map(hexadecimal), progress);
 }
 
+/** @param {Uint8Array} block */
 const hexadecimal = (block) => Buffer.from(block.buffer, block.byteOffset, block.byteLength).toString("hex");
 
 /**

@@ -27,9 +27,10 @@ export function readScript(bytes) {
   const tree = parse(bytes);
   const isOld = Object.hasOwn(Object(tree), "bytes");
   demandMembers(tree, [isOld ? "bytes" : "blocks", "views", "agents", "schedule"], "the script");
+  /** @type {Tree[]} */
   const blocks = isOld ? [tree.bytes] : list(tree.blocks, most.blocks, "blocks");
   demand(blocks.length > 0, "blocks is empty");
-  blocks.forEach((length, block) => demandBetween(length, 0, most.bytes, `the length of block ${block}`));
+  for (const [block, length] of blocks.entries()) demandBetween(length, 0, most.bytes, `the length of block ${block}`);
   const views = list(tree.views, most.views, "views").map((view, at) => readView(view, isOld, blocks.length, at));
   const positions = new Map(views.map((view, position) => [view.name, position]));
   demand(positions.size === views.length, "two views have one name");
@@ -38,16 +39,24 @@ export function readScript(bytes) {
   return { blocks, views, agents, schedule: moves.map((move, at) => readMove(move, agents.length, at)) };
 }
 
-/** @param {Uint8Array} bytes */
+/** @typedef {any} Tree a part of the JSON text, of which nothing is known yet */
+
+/** @param {Uint8Array} bytes @returns {Tree} */
 function parse(bytes) {
   try {
     return JSON.parse(new TextDecoder("utf-8", { fatal: true, ignoreBOM: true }).decode(bytes));
   } catch (error) {
-    throw new ScriptFault(`the script is no JSON text in UTF-8: ${error.message}`);
+    throw new ScriptFault(`the script is no JSON text in UTF-8: ${/** @type {Error} */ (error).message}`);
   }
 }
 
-/** @returns {View} */
+/**
+ * @param {Tree} tree
+ * @param {boolean} isOld whether the script has the older form
+ * @param {number} blockCount
+ * @param {number} at its position
+ * @returns {View}
+ */
 function readView(tree, isOld, blockCount, at) {
   const where = `view ${at}`;
   demandMembers(tree, ["name", "kind", ...(isOld ? [] : ["block"]), "offset", "length"], where);
@@ -60,7 +69,12 @@ function readView(tree, isOld, blockCount, at) {
   return { name, kind: KINDS.indexOf(kind), block, offset, length };
 }
 
-/** @returns {Agent} */
+/**
+ * @param {Tree} tree
+ * @param {Map<string, number>} positions of the views, by their names
+ * @param {number} at its position
+ * @returns {Agent}
+ */
 function readAgent(tree, positions, at) {
   demandMembers(tree, ["block", "calls"], `agent ${at}`);
   demand(typeof tree.block === "boolean", `agent ${at} doesn't say whether it can block`);
@@ -68,22 +82,34 @@ function readAgent(tree, positions, at) {
   return { canBlock: tree.block, calls: calls.map((call, k) => readCall(call, positions, `call ${k} of agent ${at}`)) };
 }
 
-/** @returns {Call} */
+/**
+ * @param {Tree} tree
+ * @param {Map<string, number>} positions of the views, by their names
+ * @param {string} where
+ * @returns {Call}
+ */
 function readCall(tree, positions, where) {
   const [method, name, index, ...rest] = list(tree, 5, where);
   const taken = CALLS.find((call) => call.name === method);
   demand(taken !== undefined, `${where} has a name that no call has`);
-  demand(positions.has(name), `${where} names a view that isn't there`);
+  const view = positions.get(name);
+  demand(view !== undefined, `${where} names a view that isn't there`);
   demandWhole(index, `the index of ${where}`);
   const most = taken.operands + (taken.takesLimit ? 1 : 0);
   demand(rest.length >= taken.operands && rest.length <= most, `${where} has a wrong number of elements`);
   // A limit is a Number; every operand before it may be a BigInt too.
+  /** @param {number} position */
   const isLimit = (position) => position >= taken.operands;
   const operands = rest.map((value, position) => readOperand(value, isLimit(position), `an operand of ${where}`));
-  return { method, view: positions.get(name), operands: [index, ...operands] };
+  return { method, view, operands: [index, ...operands] };
 }
 
-/** @returns {Operand} */
+/**
+ * @param {Tree} value
+ * @param {boolean} isLimit
+ * @param {string} where
+ * @returns {Operand}
+ */
 function readOperand(value, isLimit, where) {
   if (isLimit || typeof value !== "string") {
     demandWhole(value, where);
@@ -94,7 +120,12 @@ function readOperand(value, isLimit, where) {
   return spelled;
 }
 
-/** @returns {Move} */
+/**
+ * @param {Tree} tree
+ * @param {number} agentCount
+ * @param {number} at its position
+ * @returns {Move}
+ */
 function readMove(tree, agentCount, at) {
   const isTimeUp = typeof tree === "object";
   if (isTimeUp) demandMembers(tree, ["timeout"], `move ${at}`);
@@ -103,12 +134,23 @@ function readMove(tree, agentCount, at) {
   return { agent, isTimeUp };
 }
 
+/**
+ * @param {Tree} tree
+ * @param {number} most
+ * @param {string} where
+ * @returns {Tree[]}
+ */
 function list(tree, most, where) {
   demand(Array.isArray(tree), `${where}: no array`);
   demand(tree.length <= most, `${where}: more than ${most} elements`);
   return tree;
 }
 
+/**
+ * @param {Tree} tree
+ * @param {string[]} names
+ * @param {string} where
+ */
 function demandMembers(tree, names, where) {
   demand(typeof tree === "object" && tree !== null && !Array.isArray(tree), `${where} is no object`);
   const members = Object.keys(tree);
@@ -118,15 +160,27 @@ function demandMembers(tree, names, where) {
   demand(further === undefined, `${where} has a further member, ${further}`);
 }
 
+/**
+ * @param {Tree} value
+ * @param {number} least
+ * @param {number} most
+ * @param {string} where
+ */
 function demandBetween(value, least, most, where) {
   demandWhole(value, where);
   demand(value >= least && value <= most, `${where} isn't among ${least} to ${most}`);
 }
 
+/** @param {Tree} value @param {string} where */
 function demandWhole(value, where) {
   demand(isWhole(value) && !Object.is(value, -0), `${where} is no whole number within 2^53 - 1`);
 }
 
+/**
+ * @param {unknown} holds
+ * @param {string} message
+ * @returns {asserts holds}
+ */
 function demand(holds, message) {
   if (!holds) throw new ScriptFault(message);
 }

@@ -35,7 +35,10 @@ export class Timeline {
     this.ends = schedule.map((move) => (time += stretch * (move.isTimeUp ? SPARE_TIME : stepTime)));
   }
 
-  /** Begins the plan anew: the move at a position is made now. */
+  /**
+   * Begins the plan anew: the move at a position is made now.
+   * @param {number} position
+   */
   restart(position) {
     this.#begin = performance.now() - (this.ends[position - 1] ?? 0);
   }

@@ -4,9 +4,12 @@
 // calls are on, and then `{ method, view, operands }` for each call, and answers each with `{ answer }`, or with
 // `{ threw, message }` and the error's name.
 
-import { parentPort, workerData } from "node:worker_threads";
+import { parentPort as portOfParent, workerData } from "node:worker_threads";
 import { ownStateFile } from "./asleep.mjs";
 import { STAGE } from "./stage.mjs";
+
+// A worker has one.
+const parentPort = /** @type {import("node:worker_threads").MessagePort} */ (portOfParent);
 
 /** How far the call is that was sent last. */
 const stage = workerData.stage;
@@ -26,13 +29,18 @@ parentPort.on("message", (order) => {
   parentPort.postMessage(answer);
 });
 
+/** @typedef {(array: ArrayBufferView, ...operands: (number | bigint)[]) => number | bigint | string} Call */
+
+/** @param {{ method: string, view: number, operands: (number | bigint)[] }} order */
 function made({ method, view, operands }) {
   const array = views[view];
-  const call = Atomics[method];
+  // What each function takes is for the engine to check.
+  const call = /** @type {Record<string, Call>} */ (/** @type {unknown} */ (Atomics))[method];
   Atomics.store(stage, 0, STAGE.called);
   try {
     return { answer: call(array, ...operands) };
   } catch (error) {
-    return { threw: error.name, message: error.message };
+    const { name, message } = /** @type {Error} */ (error);
+    return { threw: name, message };
   }
 }

@@ -3,8 +3,10 @@
 
 import { Barrier } from "./barrier.mjs";
 
+/** @type {import("sabsim").Setup} */
 export const setup = { agents: 3, buffers: [12] };
 
+/** @type {import("sabsim").Agent} */
 export default function agent({ buffers, agents, args }) {
   const barrier = new Barrier(new Int32Array(buffers[0], 0, 2), agents);
   const done = new Int32Array(buffers[0], 8, 1);

@@ -2,8 +2,10 @@
 
 import { BoundedQueue } from "./bounded-queue.mjs";
 
+/** @type {import("sabsim").Setup} */
 export const setup = { agents: 2, buffers: [16] };
 
+/** @type {import("sabsim").Agent} */
 export default function agent({ buffers, agent, args }) {
   const queue = new BoundedQueue(new Int32Array(buffers[0]));
   const count = Number(args[0] ?? 6);

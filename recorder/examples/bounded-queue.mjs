@@ -13,7 +13,10 @@ export class BoundedQueue {
     this.capacity = words.length - SLOTS;
   }
 
-  /** The producer's: puts a value, and sleeps while the queue is full. */
+  /**
+   * The producer's: puts a value, and sleeps while the queue is full.
+   * @param {number} value
+   */
   put(value) {
     const put = Atomics.load(this.words, PUT);
     this.#sleepWhile(TAKEN, put - this.capacity);
@@ -30,11 +33,16 @@ export class BoundedQueue {
     return value;
   }
 
-  /** Sleeps as long as the other's count is this one. */
+  /**
+   * Sleeps as long as the other's count is this one.
+   * @param {number} other
+   * @param {number} count
+   */
   #sleepWhile(other, count) {
     while (Atomics.load(this.words, other) === count) Atomics.wait(this.words, other, count);
   }
 
+  /** @param {number} own @param {number} count */
   #advance(own, count) {
     Atomics.store(this.words, own, count + 1);
     Atomics.notify(this.words, own, 1);

@@ -5,8 +5,10 @@ import { ReadersWriterLock } from "./readers-writer.mjs";
 
 const WRITERS = 2;
 
+/** @type {import("sabsim").Setup} */
 export const setup = { agents: 4, buffers: [12] };
 
+/** @type {import("sabsim").Agent} */
 export default function agent({ buffers, agent, args }) {
   const lock = new ReadersWriterLock(new Int32Array(buffers[0], 0, 1));
   const pair = new Int32Array(buffers[0], 4, 2);
@@ -24,6 +26,7 @@ export default function agent({ buffers, agent, args }) {
   }
 }
 
+/** @param {Int32Array} pair @param {number} number */
 function write(pair, number) {
   demandEqual(pair);
   Atomics.store(pair, 0, number);
@@ -31,6 +34,7 @@ function write(pair, number) {
   demandEqual(pair);
 }
 
+/** @param {Int32Array} pair */
 function demandEqual(pair) {
   const [first, second] = [Atomics.load(pair, 0), Atomics.load(pair, 1)];
   if (first !== second) throw new Error(`a writer is inside: the words are ${first} and ${second}`);

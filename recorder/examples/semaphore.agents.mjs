@@ -4,8 +4,10 @@ import { Semaphore } from "./semaphore.mjs";
 
 const PERMITS = 2;
 
+/** @type {import("sabsim").Setup} */
 export const setup = { agents: 4, buffers: [8] };
 
+/** @type {import("sabsim").Agent} */
 export default function agent({ buffers, agent, args }) {
   const semaphore = new Semaphore(new Int32Array(buffers[0], 0, 1));
   const inside = new Int32Array(buffers[0], 4, 1);

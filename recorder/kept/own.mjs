@@ -25,10 +25,16 @@ export const hasOwn = uncurried(Object.prototype.hasOwnProperty);
  * @param {string | symbol} name
  * @returns {(receiver: unknown) => any}
  */
-export const slotOf = (owner, name) => uncurried(getOwnPropertyDescriptor(owner, name).get);
+export const slotOf = (owner, name) => {
+  // Each that is asked for here is a getter.
+  const { get: getter } = /** @type {{ get: Function }} */ (getOwnPropertyDescriptor(owner, name));
+  return uncurried(getter);
+};
+
+/** @typedef {{ new (...given: any[]): any, readonly prototype: any }} Constructor of any typed array */
 
 /** What all eleven typed arrays inherit from, and the prototype of theirs. */
-export const TypedArray = getPrototypeOf(Int8Array);
+export const TypedArray = /** @type {Constructor} */ (getPrototypeOf(Int8Array));
 const { prototype: typedArrays } = TypedArray;
 
 // Of a typed array, by the engine's own slots: they throw for what is none, but for `tagOf`, which is undefined then.
@@ -67,6 +73,17 @@ export function put(owner, name, value) {
 }
 
 /**
+ * Gives an object a property as another one has it, if it has it.
+ * @param {object} to
+ * @param {object} from
+ * @param {string | symbol} name
+ */
+export function copyProperty(to, from, name) {
+  const found = getOwnPropertyDescriptor(from, name);
+  if (found !== undefined) defineProperty(to, name, found);
+}
+
+/**
  * Gives a function the name and the length of the one that it stands for.
  * @template {Function} Stand
  * @param {Stand} stand
@@ -75,9 +92,6 @@ export function put(owner, name, value) {
  */
 export function likeEngine(stand, engine) {
   const names = ["name", "length"];
-  for (let at = 0; at < names.length; at += 1) {
-    const found = getOwnPropertyDescriptor(engine, names[at]);
-    if (found !== undefined) defineProperty(stand, names[at], found);
-  }
+  for (let at = 0; at < names.length; at += 1) copyProperty(stand, engine, names[at]);
   return stand;
 }

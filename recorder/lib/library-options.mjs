@@ -1,10 +1,10 @@
 // The options of the library: each is looked at before anything is started, and one that isn't known is refused.
 
-import { resolve } from "node:path";
-import { pathToFileURL } from "node:url";
 import { DEFAULT_SECONDS, SCRIPT_LIMITS } from "../script/limits.mjs";
+import { moduleUrlOf } from "./module-url.mjs";
+import { meant } from "./nearest.mjs";
 import { CHOICES, DEFAULTS, Refused } from "./run/plan.mjs";
-import { checkedAgents, checkedBlock, checkedBuffers, checkedChoice } from "./run/plan.mjs";
+import { checkedAgents, checkedBuffers, checkedChoice, checkedNoBlock } from "./run/plan.mjs";
 
 /**
  * @callback WithBuffers what is called with the buffers, when no agent runs
@@ -15,10 +15,10 @@ import { checkedAgents, checkedBlock, checkedBuffers, checkedChoice } from "./ru
 
 /**
  * @typedef {object} RecordOptions
- * @property {string | URL} agents the agents' module: a path or a URL
- * @property {number} [count] how many agents; else what the module's `setup` says
+ * @property {string | URL} module the agents' module: a URL, or a path, from the folder of the file that calls `record`
+ * @property {number} [agents] how many; else what the module's `setup` says
  * @property {number[]} [buffers] the bytes of each buffer; else what the module's `setup` says
- * @property {boolean[]} [block] which agents can block; else what the module's `setup` says, and else all
+ * @property {number[]} [noBlock] the agents that can't block; else what the module's `setup` says, and else none
  * @property {number} [seed] a whole number from 0 to 2^53 - 1; else 1
  * @property {string[]} [args] for the agents
  * @property {number} [switch] from 0 to 1: how likely it is that another agent moves next; else all moves are alike
@@ -31,23 +31,14 @@ import { checkedAgents, checkedBlock, checkedBuffers, checkedChoice } from "./ru
  * @property {"fail" | "allow"} [bounds] whether a run that meets a bound fails; else "fail"
  * @property {"run" | "real"} [clock] the time that clocks tell agents: the run's own or the machine's; else "run"
  * @property {WithBuffers} [init] fills the buffers before the run
- * @property {boolean | WithBuffers} [check] false: sabsim isn't asked; a function is called after a run that finished,
- * and what it throws fails the run, as does `false` or an error that it answers
- * @property {string | false} [sabsim] the program's path; false: it isn't asked
+ * @property {WithBuffers} [check] is called after a run that finished; what it throws fails the run, as does `false`
+ * or an error that it answers
+ * @property {string | boolean} [sabsim] the program's path, or true: it must be there; false: it isn't asked; else it
+ * is asked where it is there
  * @property {boolean} [trace] whether the outcome has its trace
  */
 
 const MOST_SECONDS = 3_600;
-
-/**
- * The URL of a module that is given by a path or a URL.
- * @param {string | URL} module
- * @returns {string}
- */
-export function moduleUrl(module) {
-  if (module instanceof URL) return module.href;
-  return module.startsWith("file:") ? module : pathToFileURL(resolve(module)).href;
-}
 
 /**
  * A check of an option that has a value.
@@ -60,21 +51,30 @@ const that = (holds, must) => (value, name) => {
   throw new Refused(`\`${name}\` must be ${must}`);
 };
 
+/** @typedef {import("./run/plan.mjs").Choices} Choices */
+
+/** @param {unknown} value */
 const isPart = (value) => typeof value === "number" && value >= 0 && value <= 1;
-const isPath = (value) => (typeof value === "string" && value !== "") || value instanceof URL;
+/** @param {unknown} value */
+const isName = (value) => typeof value === "string" && value !== "";
+/** @param {unknown} value */
+const isPath = (value) => isName(value) || value instanceof URL;
+/** @param {any} value @param {number} least @param {number} most */
 const isWhole = (value, least, most) => Number.isInteger(value) && value >= least && value <= most;
+/** @param {unknown} value */
 const areStrings = (value) => Array.isArray(value) && Array.from(value).every((each) => typeof each === "string");
 
 const part = that(isPart, "a number from 0 to 1");
 const flag = that((value) => typeof value === "boolean", "true or false");
-const choice = (value, name) => checkedChoice(name, value, `\`${name}\``);
+/** @type {(value: unknown, name: string) => string} */
+const choice = (value, name) => checkedChoice(/** @type {keyof Choices} */ (name), value, `\`${name}\``);
 
-/** What each option is checked by; what it answers is taken. */
+/** @type {Record<string, (value: unknown, name: string) => any>} what each option is checked by; its answer is taken */
 const CHECKS = {
-  agents: that(isPath, "a path or a URL"),
-  count: checkedAgents,
+  module: that(isPath, "a path or a URL"),
+  agents: checkedAgents,
   buffers: checkedBuffers,
-  block: checkedBlock,
+  noBlock: checkedNoBlock,
   seed: that((value) => isWhole(value, 0, Number.MAX_SAFE_INTEGER), "a whole number from 0 to 2^53 - 1"),
   args: (value, name) => [...that(areStrings, "an array of strings")(value, name)],
   switch: part,
@@ -86,27 +86,31 @@ const CHECKS = {
   ),
   ...Object.fromEntries(Object.keys(CHOICES).map((name) => [name, choice])),
   init: that((value) => typeof value === "function", "a function"),
-  check: that((value) => ["boolean", "function"].includes(typeof value), "true, false or a function"),
-  sabsim: that((value) => value === false || (typeof value === "string" && value !== ""), "a path or false"),
+  check: that((value) => typeof value === "function", "a function"),
+  sabsim: that((value) => typeof value === "boolean" || isName(value), "a path, true or false"),
   trace: flag,
 };
 
 const OWN_DEFAULTS = {
-  ...DEFAULTS, seed: 1, args: [], maxMoves: SCRIPT_LIMITS.moves, seconds: DEFAULT_SECONDS, check: true,
+  ...DEFAULTS, seed: 1, args: /** @type {string[]} */ ([]), maxMoves: SCRIPT_LIMITS.moves, seconds: DEFAULT_SECONDS,
 };
 
 /**
  * @param {unknown} options
- * @returns {import("./run/group.mjs").GroupOptions & Pick<RecordOptions, "seed" | "check" | "sabsim">}
+ * @param {() => string | undefined} callersFolder from which a relative path is taken, where that is known
+ * @returns {Omit<import("./run/group.mjs").GroupOptions, "fresh"> & { seed: number, sabsim?: string | boolean }}
  */
-export function checkedOptions(options) {
+export function checkedOptions(options, callersFolder) {
   if (typeof options !== "object" || options === null) throw new Refused("the options must be an object");
+  /** @type {typeof OWN_DEFAULTS & Partial<RecordOptions>} */
   const checked = { ...OWN_DEFAULTS };
   for (const [name, value] of Object.entries(options)) {
-    if (!Object.hasOwn(CHECKS, name)) throw new Refused(`there is no option \`${name}\``);
-    if (value !== undefined) checked[name] = CHECKS[name](value, name);
+    if (!Object.hasOwn(CHECKS, name)) {
+      throw new Refused(`there is no option \`${name}\`: ${meant(name, Object.keys(CHECKS))}`);
+    }
+    if (value !== undefined) Object.assign(checked, { [name]: CHECKS[name](value, name) });
   }
-  if (checked.agents === undefined) throw new Refused("`agents` is missing: it must be a path or a URL");
-  const { agents, switch: switching, ...rest } = checked;
-  return { ...rest, module: moduleUrl(agents), switching };
+  if (checked.module === undefined) throw new Refused("`module` is missing: it must be a path or a URL");
+  const { module, switch: switching, ...rest } = checked;
+  return { ...rest, module: moduleUrlOf(module, callersFolder), switching };
 }

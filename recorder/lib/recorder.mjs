@@ -1,35 +1,61 @@
 // The recorder as a library.
 
-import { DEFAULT_SABSIM, check as checkWithSabsim, foundSabsim } from "./check/sabsim.mjs";
+import { HOW_TO_BUILD, check as checkWithSabsim, sabsimFor, sabsimPlaces } from "./check/sabsim.mjs";
 import { checkedOptions } from "./library-options.mjs";
+import { folderOfCaller } from "./module-url.mjs";
 import { Group } from "./run/group.mjs";
 
 export { Refused } from "./run/plan.mjs";
 export { Difference, NoSabsim } from "./check/sabsim.mjs";
-export { moduleUrl } from "./library-options.mjs";
+export { moduleUrl } from "./module-url.mjs";
 
-/** @typedef {import("./run/group.mjs").Outcome} Outcome */
+/** @typedef {import("./run/group.mjs").Outcome & Check} Outcome */
 /** @typedef {import("./library-options.mjs").RecordOptions} RecordOptions */
 
 /**
- * Runs the agents once, under the schedule of one seed.
+ * @typedef {object} Check
+ * @property {boolean} checked whether sabsim has replayed the run, and said the same
+ * @property {string} [unchecked] why it hasn't
+ */
+
+/**
+ * Runs the agents once, under the schedule of one seed. Sabsim checks the run where it is there, unless that is said to
+ * be needed or not to be done. A relative path of the module is taken from the file whose code calls this function.
  * @param {RecordOptions} options
- * @returns {Promise<Outcome>} told whole; fails with Refused for options that can't be, and with a Difference or
- * NoSabsim where the check by sabsim fails
+ * @returns {Promise<Outcome>} told whole; fails with Refused for options that can't be, with a Difference where sabsim
+ * says something else, and with NoSabsim where it was asked for and isn't there
  */
 export async function record(options) {
-  const { seed, check, sabsim: path = DEFAULT_SABSIM, ...rest } = checkedOptions(options);
-  const sabsim = check === false || path === false ? undefined : foundSabsim(path);
-  const checkState = typeof check === "function" ? check : undefined;
-  const group = await Group.open({ ...rest, checkState, fresh: false });
+  const { seed, sabsim: asked, ...rest } = checkedOptions(options, () => folderOfCaller(record));
+  const isLeftOut = asked === false;
+  const path = typeof asked === "string" ? asked : undefined;
+  const sabsim = isLeftOut ? undefined : sabsimFor({ path, isAsked: asked === true });
+  const group = await Group.open({ ...rest, fresh: false });
   try {
-    let outcome;
-    await group.run([{ seed, whole: true }], (only) => {
-      outcome = only;
-    });
-    if (sabsim !== undefined && outcome.script !== undefined) checkWithSabsim(sabsim, outcome);
-    return outcome;
+    /** @type {import("./run/group.mjs").Outcome[]} */
+    const outcomes = [];
+    await group.run([{ seed, whole: true }], (only) => void outcomes.push(only));
+    const [outcome] = outcomes;
+    const unchecked = whyUnchecked(isLeftOut, sabsim, outcome);
+    if (unchecked !== undefined || sabsim === undefined) return { ...outcome, checked: false, unchecked };
+    checkWithSabsim(sabsim, outcome);
+    return { ...outcome, checked: true };
   } finally {
     await group.close();
   }
+}
+
+/**
+ * Why a run isn't checked by sabsim.
+ * @param {boolean} isLeftOut whether the options say that it isn't to be
+ * @param {string | undefined} sabsim
+ * @param {import("./run/group.mjs").Outcome} outcome
+ * @returns {string | undefined} undefined where nothing stands against it
+ */
+function whyUnchecked(isLeftOut, sabsim, { noScript }) {
+  if (isLeftOut) return "the options say that sabsim isn't asked";
+  if (sabsim === undefined) {
+    return `sabsim isn't built: there is none at ${sabsimPlaces().join(" or ")}; ${HOW_TO_BUILD}`;
+  }
+  return noScript === undefined ? undefined : `the run has no script: ${noScript}`;
 }

@@ -10,8 +10,12 @@ export const KINDS = Object.freeze([
   "Int8", "Uint8", "Uint8Clamped", "Int16", "Uint16", "Int32", "Uint32", "Float32", "Float64", "BigInt64", "BigUint64",
 ]);
 
-/** The constructor of each kind, by its number. */
-export const CONSTRUCTORS = Object.freeze(KINDS.map((kind) => globalThis[`${kind}Array`]));
+/** @typedef {typeof Int8Array & typeof BigInt64Array & { new (...given: any[]): any }} KindConstructor */
+
+/** The constructor of each kind, by its number. What kind an array is of is known when it runs, and not by its type. */
+export const CONSTRUCTORS = Object.freeze(KINDS.map((kind) => {
+  return /** @type {Record<string, KindConstructor>} */ (/** @type {object} */ (globalThis))[`${kind}Array`];
+}));
 
 /** How many bytes an element of each kind has, by its number. */
 export const SIZES = Object.freeze(CONSTRUCTORS.map((constructor) => constructor.BYTES_PER_ELEMENT));

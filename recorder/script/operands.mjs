@@ -13,6 +13,7 @@ const partOf = uncurried(String.prototype.slice);
 /** An argument that a script can't have. Its message says which one, and why. */
 export class OutsideProfile extends Error {
   // Without one that is written out the engine takes its arguments through the iterator of arrays.
+  /** @param {string} message */
   constructor(message) {
     super(message);
   }
@@ -23,9 +24,9 @@ const BIG_MOST = 2n ** 127n - 1n;
 
 /**
  * Whether a value is a Number that a script can have: a whole one within ±(2^53 - 1).
- * @type {(value: unknown) => boolean}
+ * @type {(value: unknown) => value is number}
  */
-export const isWhole = isSafeInteger;
+export const isWhole = /** @type {(value: unknown) => value is number} */ (isSafeInteger);
 
 /**
  * Whether a BigInt is one that a script can have: one of 128 bits.

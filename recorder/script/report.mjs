@@ -49,7 +49,8 @@ function entriesOf(transcript) {
   const at = transcript.calls.map((calls) => ({ call: 0, words: calls.length > 0 ? wordsOf(calls[0]) : [] }));
   return transcript.moves.map(({ agent }) => {
     const cursor = at[agent];
-    const entry = { agent, call: cursor.call, text: cursor.words.shift() };
+    // Each move of an agent is one of its calls'.
+    const entry = { agent, call: cursor.call, text: /** @type {string} */ (cursor.words.shift()) };
     if (cursor.words.length === 0) {
       cursor.call += 1;
       const next = transcript.calls[agent][cursor.call];

@@ -2,14 +2,9 @@
 
 const MOVES_ON_A_LINE = 24;
 
-/**
- * @param {import("../lib/run/transcript.mjs").View} view
- * @param {boolean} several whether there are several blocks
- */
-function viewText(view, several) {
-  const block = several ? ` "block": ${view.block},` : "";
-  const { name, kind, offset, length } = view;
-  return `{"name": "${name}", "kind": "${kind}",${block} "offset": ${offset}, "length": ${length}}`;
+/** @param {import("../lib/run/transcript.mjs").View} view */
+function viewText({ name, kind, block, offset, length }) {
+  return `{"name": "${name}", "kind": "${kind}", "block": ${block}, "offset": ${offset}, "length": ${length}}`;
 }
 
 /**
@@ -37,18 +32,16 @@ function listText(items) {
 }
 
 /**
- * The script of what was done: in the older form where there is one block.
+ * The script of what was done.
  * @param {import("../lib/run/transcript.mjs").Transcript} transcript
  * @returns {string}
  */
 export function scriptText(transcript) {
-  const several = transcript.lengths.length > 1;
-  const memory = several ? `"blocks": [${transcript.lengths.join(", ")}]` : `"bytes": ${transcript.lengths[0]}`;
-  const views = transcript.views.map((view) => viewText(view, several));
+  const views = transcript.views.map(viewText);
   const agents = transcript.calls.map((calls, agent) => agentText(calls, transcript.canBlock[agent]));
   return [
     "{",
-    `  ${memory},`,
+    `  "blocks": [${transcript.lengths.join(", ")}],`,
     `  "views": ${listText(views)},`,
     `  "agents": ${listText(agents)},`,
     `  "schedule": ${scheduleText(transcript.moves)}`,

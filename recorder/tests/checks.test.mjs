@@ -11,7 +11,7 @@ import { sabsim } from "../lib/check/sabsim.mjs";
 import { RECORD, SABSIM, agentsPath, temporaryFolder, withSabsim } from "./common.mjs";
 import { different, recorded, seedsTo } from "./recorded.mjs";
 
-const program = (name, options = {}) => ({ agents: agentsPath("checked"), args: [name], ...options });
+const program = (name, options = {}) => ({ module: agentsPath("checked"), args: [name], ...options });
 
 describe("init and check", { concurrency: 2, ...withSabsim }, () => {
   it("a lost update is one line to find: a run fails by its check just where the count is wrong", async () => {
@@ -101,6 +101,24 @@ describe("init and check", { concurrency: 2, ...withSabsim }, () => {
     for (const { detail } of outcomes) assert.match(detail, /^check didn't come to its end: .* for 0\.5 s$/);
   });
 
+  it("a check that doesn't end isn't called once more for the trace of its run", async (test) => {
+    const folder = temporaryFolder(test);
+    const path = join(folder, "agents.mjs");
+    writeFileSync(path, `
+      import { appendFileSync } from "node:fs";
+      export const setup = { agents: 2, buffers: [4] };
+      export default ({ buffers: [buffer] }) => Atomics.add(new Int32Array(buffer), 0, 1);
+      export const check = ([buffer], { args: [file] }) => {
+        appendFileSync(file, "called");
+        for (;;);
+      };
+    `);
+    const called = join(folder, "called");
+    const [{ ending, trace }] = await recorded({ module: path, args: [called], seconds: 0.5 }, [1]);
+    assert.deepEqual([ending, readFileSync(called, "utf8")], ["check", "called"]);
+    assert.equal(trace.trimEnd().split("\n").length, 2);
+  });
+
   it("an init or a check that isn't synchronous fails its run: nobody awaits what comes of it", async () => {
     const outcomes = await recorded(program("unfinished", { trace: true }), seedsTo(4));
     assert.deepEqual(outcomes.map(({ ending, fails, detail }) => [ending, fails, detail]), [
@@ -122,10 +140,10 @@ describe("init and check", { concurrency: 2, ...withSabsim }, () => {
     const told = [["7", "finished", ""], ["8", "check", "check answered false"],
       ["error", "check", "check answered RangeError: lost"]];
     for (const [what, ending, detail] of told) {
-      const outcome = await record({ agents: path, args: [what], sabsim: SABSIM });
+      const outcome = await record({ module: path, args: [what], sabsim: SABSIM });
       assert.deepEqual([outcome.ending, outcome.detail], [ending, detail]);
     }
-    const outcome = await record({ agents: path, args: ["7"], sabsim: SABSIM, check: () => false });
+    const outcome = await record({ module: path, args: ["7"], sabsim: SABSIM, check: () => false });
     assert.deepEqual([outcome.ending, outcome.detail], ["check", "check answered false"]);
   });
 
@@ -140,12 +158,53 @@ describe("init and check", { concurrency: 2, ...withSabsim }, () => {
       module.exports = agent;
     `);
     write("{ agents: 2, buffers: [4] }");
-    const outcome = await record({ agents: path, sabsim: SABSIM });
+    const outcome = await record({ module: path, sabsim: SABSIM });
     assert.equal(outcome.ending, "check");
     assert.match(outcome.detail, /^check threw Error: 5\n/);
-    write("{ agents: 2, buffers: [4], noBlock: [0] }");
-    const refused = /`setup` has no member noBlock: it can have agents, buffers, block$/;
-    await assert.rejects(record({ agents: path, sabsim: SABSIM }), refused);
+    const wrong = { block: /`setup` can't have a member block: is noBlock meant\?$/,
+      count: /`setup` can't have a member count: there are agents, buffers, noBlock$/ };
+    for (const [name, refused] of Object.entries(wrong)) {
+      write(`{ agents: 2, buffers: [4], ${name}: [0] }`);
+      await assert.rejects(record({ module: path, sabsim: SABSIM }), refused);
+    }
+  });
+
+  it("a name that is nearly one of a module's exports is refused, and another one isn't", async (test) => {
+    const path = join(temporaryFolder(test), "agents.mjs");
+    const agent = "export default ({ buffers: [buffer] }) => Atomics.add(new Int32Array(buffer), 0, 1);";
+    const write = (more) => writeFileSync(path, `${agent}\n${more}`);
+    const recordIt = () => record({ module: path, agents: 1, buffers: [4], sabsim: false });
+    const near = { Check: "check", checks: "check", chekc: "check", Init: "init", SETUP: "setup", set_up: "setup" };
+    for (const [name, meant] of Object.entries(near)) {
+      write(`export const ${name} = () => false;`);
+      const told = `the module exports \`${name}\`: is \`${meant}\` meant? (of what a module exports only default, ` +
+        "setup, init, check are looked at; give it another name if not)";
+      await assert.rejects(recordIt(), (error) => error instanceof Refused && error.message === told);
+    }
+    for (const name of ["unit", "int", "checker", "settings", "initial", "agents"]) {
+      write(`export const ${name} = () => false;`);
+      assert.equal((await recordIt()).ending, "finished", name);
+    }
+    write("export const check = () => true;\nexport const checks = [1];");
+    assert.equal((await recordIt()).ending, "finished");
+  });
+
+  it("setup that is no plain data is refused, and it is said what of it isn't", async (test) => {
+    const path = join(temporaryFolder(test), "agents.mjs");
+    const told = {
+      "() => ({ agents: 2 })": /`setup` must be plain data, .*, but it is a function$/m,
+      "{ agents: () => 2, buffers: [4] }": /`setup` must be plain data, .*, but its member agents is a function$/m,
+      "{ agents: 2, buffers: [() => 4] }": /plain data, .*, but its member buffers has something else in it$/m,
+      5: /^`setup` must be an object, as /,
+    };
+    for (const [setup, refused] of Object.entries(told)) {
+      writeFileSync(path, `export const setup = ${setup};\nexport default () => {};`);
+      await assert.rejects(record({ module: path, sabsim: false }), (error) => {
+        assert.ok(error instanceof Refused);
+        assert.match(error.message, refused);
+        return true;
+      });
+    }
   });
 
   it("so does one that the library is given, and what it rejects harms nobody", async () => {
@@ -156,7 +215,7 @@ describe("init and check", { concurrency: 2, ...withSabsim }, () => {
       throw new Error("nobody asks for it");
     }, () => {}];
     const options = { init: () => (checks.length === 1 ? rejects() : undefined), check: () => checks.shift()() };
-    const outcomes = await recorded({ agents: agentsPath("three-state-mutex"), trace: true, ...options }, seedsTo(3));
+    const outcomes = await recorded({ module: agentsPath("three-state-mutex"), trace: true, ...options }, seedsTo(3));
     assert.deepEqual(outcomes.map(({ ending, fails }) => [ending, fails]), [
       ["check", true], ["check", true], ["failed", true],
     ]);
@@ -166,10 +225,10 @@ describe("init and check", { concurrency: 2, ...withSabsim }, () => {
   it("with 16 agents none is left for the stores of init", async () => {
     const why = /^with 16 agents none is left for the stores of `init`/;
     const refused = (error) => error instanceof Refused && why.test(error.message);
-    await assert.rejects(record(program("lost", { count: 16, check: false })), refused);
-    const others = { agents: agentsPath("three-state-mutex"), count: 16, check: false };
+    await assert.rejects(record(program("lost", { agents: 16, sabsim: false })), refused);
+    const others = { module: agentsPath("three-state-mutex"), agents: 16, sabsim: false };
     await assert.rejects(record({ ...others, init() {} }), refused);
-    const [outcome] = await recorded(program("filled", { count: 15, check() {} }));
+    const [outcome] = await recorded(program("filled", { agents: 15, check() {} }));
     assert.equal(outcome.ending, "finished");
     // Five for each agent, and what each adds.
     assert.equal(outcome.bytes[0].slice(8), "5a000000");

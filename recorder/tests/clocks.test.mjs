@@ -8,11 +8,11 @@ import { recorded, seedsTo } from "./recorded.mjs";
 
 /** The outcomes of one program. */
 const outcomesOf = (name, seeds, options = {}) =>
-  recorded({ agents: agentsPath("clocks"), args: [name], ...options }, seeds);
+  recorded({ module: agentsPath("clocks"), args: [name], ...options }, seeds);
 
 /** The outcomes of several programs with one agent, run by run. */
 const alone = (names, options) =>
-  recorded({ agents: agentsPath("clocks"), args: names, count: 1, ...options }, seedsTo(names.length));
+  recorded({ module: agentsPath("clocks"), args: names, agents: 1, ...options }, seedsTo(names.length));
 
 /** The words of the buffer at the end. */
 const wordsOf = ({ bytes }) => new Int32Array(Uint8Array.from(Buffer.from(bytes[0], "hex")).buffer);

@@ -19,6 +19,12 @@ export const withSabsim = {
   skip: missing && process.env.SABSIM_OPTIONAL === "1" ? `sabsim isn't at ${SABSIM}` : false,
 };
 
+/** Where sabsim certainly isn't. */
+export const NOWHERE = "/nowhere/sabsim";
+
+/** An environment in which sabsim is looked for where it isn't. */
+export const WITHOUT_SABSIM = Object.freeze({ ...process.env, SABSIM: NOWHERE });
+
 /** @param {string} name of a module of agents */
 export const agentsPath = (name) => fileURLToPath(new URL(`./agents/${name}.mjs`, import.meta.url));
 
@@ -31,9 +37,9 @@ export const RECORD = fileURLToPath(new URL("../record.mjs", import.meta.url));
  * @param {object} [options]
  */
 export function recordCase(name, options = {}) {
-  const { count = 2, buffers = [12], args = [], check = false, ...rest } = options;
+  const { agents = 2, buffers = [12], args = [], ...rest } = options;
   return record({
-    agents: agentsPath("cases"), args: [name, ...args], count, buffers, check, sabsim: SABSIM, seconds: 5, ...rest,
+    module: agentsPath("cases"), args: [name, ...args], agents, buffers, sabsim: false, seconds: 5, ...rest,
   });
 }
 

@@ -93,14 +93,36 @@ describe("the program", () => {
 
   test("shows help", async () => {
     const { status, output, errors } = await runNode(ENGINE, ["--help"]);
-    assert.match(output, /Usage: node recorder\/engine\.mjs < script\.json/);
+    assert.match(output, /Usage: node recorder\/engine\.mjs \[FILE\]/);
+    assert.ok(output.split("\n").every((line) => line.length <= 120));
     assert.deepEqual([status, errors], [0, ""]);
   });
 
+  test("reads a script from a file, or from standard input where it is - or isn't named", async () => {
+    const report = readFileSync(`${EXAMPLES}/timed-wait.report`, "utf8");
+    for (const [words, input] of [[[`${EXAMPLES}/timed-wait.json`], ""], [["-"], script], [[], script]]) {
+      const { status, output } = await runNode(ENGINE, words, input);
+      assert.deepEqual([status, output], [0, report], words.join());
+    }
+  });
+
+  test("tells of a file that can't be read by its name, with status 3", async () => {
+    for (const name of [`${EXAMPLES}/none.json`, EXAMPLES, "/dev/null/none"]) {
+      const { status, output, errors } = await runNode(ENGINE, [name], script);
+      assert.ok(errors.startsWith(`engine: ${name} can't be read: E`), errors);
+      assert.deepEqual([status, output, errors.split("\n").length], [3, "", 2]);
+    }
+  });
+
   test("refuses a command line with status 2", async () => {
-    const { status, output, errors } = await runNode(ENGINE, ["script.json"]);
-    assert.match(errors, /^engine: script\.json is no option.*\n$/);
-    assert.deepEqual([status, output], [2, ""]);
+    const wrong = {
+      "--file": /^engine: --file is no option; .*\n$/, "a.json b.json": /^engine: .* one script only; .*\n$/,
+    };
+    for (const [words, told] of Object.entries(wrong)) {
+      const { status, output, errors } = await runNode(ENGINE, words.split(" "), script);
+      assert.match(errors, told);
+      assert.deepEqual([status, output], [2, ""]);
+    }
   });
 
   test("refuses a script with one line and status 1", async () => {

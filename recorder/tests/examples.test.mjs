@@ -20,12 +20,12 @@ const opinions = new Opinions();
 after(() => opinions.end());
 
 /** The outcomes of a module of agents under the seeds from 1 on, in the order of the seeds. */
-async function outcomesOf(module, last, check) {
+async function outcomesOf(module, last, checkEvery) {
   const outcomes = [];
   const fixed = { args: [], jobs: 2, maxMoves: 100_000, seconds: 10, fresh: false, sabsim: SABSIM };
-  const options = { ...fixed, module: pathToFileURL(module).href, first: 1, last, check };
+  const options = { ...fixed, module: pathToFileURL(module).href, first: 1, last, checkEvery };
   const { checked } = await recordSeeds(options, (outcome) => outcomes.push(outcome));
-  assert.equal(checked, check === 0 ? 0 : last);
+  assert.equal(checked, checkEvery === 0 ? 0 : last);
   return outcomes.sort((one, other) => one.seed - other.seed);
 }
 

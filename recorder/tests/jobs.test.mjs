@@ -23,7 +23,7 @@ function run(words, nodeWords = [], options = {}) {
 }
 
 const onLinux = { skip: existsSync("/proc/self/environ") ? false : "there is no /proc" };
-const small = (folder, body) => [agentsOf(folder, body), "--agents", "2", "--bytes", "8", "--check", "0"];
+const small = (folder, body) => [agentsOf(folder, body), "--agents", "2", "--buffers", "8", "--check", "0"];
 
 /** The processes whose environment has a word, which all children of a process inherit. */
 function processesWith(word) {
@@ -169,7 +169,7 @@ test("a call of native code that takes long holds nothing, nor does what it has 
     '  if (agent === 1) execSync("sleep 60");',
     "}",
   ].join("\n"));
-  const words = [module, "--agents", "2", "--bytes", "4", "--check", "0", "--seeds", "1", "--seconds", "1"];
+  const words = [module, "--agents", "2", "--buffers", "4", "--check", "0", "--seeds", "1", "--seconds", "1"];
   const begun = performance.now();
   const { status, stdout } = run(words, [], { env: { ...process.env, RECORDER_TEST: mark } });
   const took = performance.now() - begun;

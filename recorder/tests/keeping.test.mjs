@@ -121,7 +121,7 @@ async function until(holds) {
 }
 
 test("--out is tried before anything runs", () => {
-  const words = [RECORD, agentsPath("cases"), "--agents", "1", "--bytes", "4", "--out", "/proc/self", "--", "prints"];
+  const words = [RECORD, agentsPath("cases"), "--agents", "1", "--buffers", "4", "--out", "/proc/self", "--", "prints"];
   const { status, stdout, stderr } = spawnSync(process.execPath, words, { encoding: "utf8" });
   assert.deepEqual([status, stdout], [2, ""]);
   assert.match(stderr, /^record: --out \/proc\/self can't be used: [^\n]+\n$/);

@@ -24,7 +24,7 @@ const SIDE_BY_SIDE = 4;
 async function runsOf(name) {
   const outcomes = [];
   const options = {
-    module: new URL(name, FOLDER).href, args: [], first: 1, last: SEEDS, jobs: 1, check: CHECKED, sabsim: SABSIM,
+    module: new URL(name, FOLDER).href, args: [], first: 1, last: SEEDS, jobs: 1, checkEvery: CHECKED, sabsim: SABSIM,
     ordinary: "watch", maxMoves: 100_000, seconds: 5, fresh: false,
   };
   const { checked } = await recordSeeds(options, (outcome) => outcomes.push(outcome));
@@ -36,7 +36,7 @@ async function runsOf(name) {
 function counted(entries) {
   const counts = new Map();
   for (const [value, seed] of entries) {
-    const { count, first } = counts.get(value) ?? { count: 0, first: seed };
+    const { count, first } = counts.get(value) ?? { agents: 0, first: seed };
     counts.set(value, { count: count + 1, first });
   }
   return counts;

@@ -7,15 +7,15 @@ import { join } from "node:path";
 import { test } from "node:test";
 import { pathToFileURL } from "node:url";
 import { Difference, NoSabsim, Refused, record } from "../recorder.mjs";
-import { SABSIM, agentsOf, agentsPath, recordCase, temporaryFolder, withSabsim } from "./common.mjs";
+import { NOWHERE, SABSIM, agentsOf, agentsPath, recordCase, temporaryFolder, withSabsim } from "./common.mjs";
 
-const agents = agentsPath("cases");
+const module = agentsPath("cases");
 
 test("each option that can't be is refused, with one line that names it", async () => {
   const wrong = {
-    count: [0, 17, 1.5, "2", null],
+    agents: [0, 17, 1.5, "2", null],
     buffers: [4, [], [4, 4, 4, 4, 4], [-1], [65_537], ["4"], [4, , 4], null],
-    block: [true, [1], ["true"], [, true], null],
+    noBlock: [1, [-1], [16], ["1"], [true], [, 1], null],
     seed: [-1, 1.5, 2 ** 53, "1", 1n, NaN, null],
     args: ["abc", [1], ["a", , "b"], { 0: "a", length: 1 }, null],
     switch: ["0.5", -0.1, 1.1, NaN, true, null],
@@ -27,17 +27,17 @@ test("each option that can't be is refused, with one line that names it", async 
     bounds: ["ignore", false, null],
     clock: ["simulated", 0, null],
     init: [true, "init", null],
-    check: ["yes", 1, null],
-    sabsim: [true, "", 5, null],
+    check: ["yes", 1, true, false, null],
+    sabsim: ["", 5, null],
     trace: ["yes", 1, null],
   };
   const named = {
-    count: "number of agents", buffers: "buffer", block: "`block`",
+    agents: "number of agents", buffers: "buffer", noBlock: "`noBlock`",
     ...Object.fromEntries(Object.keys(wrong).slice(3).map((name) => [name, `\`${name}\``])),
   };
   for (const [name, values] of Object.entries(wrong)) {
     for (const value of values) {
-      await assert.rejects(record({ agents, [name]: value }), (error) => {
+      await assert.rejects(record({ module, [name]: value }), (error) => {
         assert.ok(error instanceof Refused, `${name}: ${String(value)}: ${error.stack}`);
         assert.ok(error.message.includes(named[name]), error.message);
         return !error.message.includes("\n");
@@ -46,20 +46,25 @@ test("each option that can't be is refused, with one line that names it", async 
   }
 });
 
-test("agents must be named, and options that there aren't are refused by their names", async () => {
+test("the module must be named, and options that there aren't are refused by their names", async () => {
   const refused = (why) => (error) => error instanceof Refused && why.test(error.message);
-  for (const given of [undefined, null, "agents.mjs", 5]) {
+  for (const given of [undefined, null, "module.mjs", 5]) {
     await assert.rejects(record(given), refused(/^the options must be an object$/));
   }
-  for (const given of [{}, { agents: undefined }, { agents: 5 }, { agents: "" }, { agents: null }]) {
-    await assert.rejects(record(given), refused(/^`agents` [^\n]+$/));
+  for (const given of [{}, { module: undefined }, { module: 5 }, { module: "" }, { module: null }]) {
+    await assert.rejects(record(given), refused(/^`module` [^\n]+$/));
   }
-  for (const name of ["jobs", "switching", "no-block", "module", "constructor", "__proto__x", "Seed"]) {
-    await assert.rejects(record({ agents, [name]: 1 }), (error) => {
-      assert.ok(error instanceof Refused);
-      assert.equal(error.message, `there is no option \`${name}\``);
-      return true;
-    });
+  const near = {
+    "no-block": "noBlock", Seed: "seed", switching: "switch", agent: "agents", bufers: "buffers", timeout: "timeouts",
+    max_moves: "maxMoves", race: "races", trcae: "trace",
+  };
+  for (const [name, meant] of Object.entries(near)) {
+    const told = `there is no option \`${name}\`: is ${meant} meant?`;
+    await assert.rejects(record({ module, [name]: 1 }), (error) => error instanceof Refused && error.message === told);
+  }
+  for (const name of ["jobs", "count", "constructor", "__proto__x"]) {
+    const told = new RegExp(`^there is no option \`${name}\`: there are module, agents, buffers, .*, trace$`);
+    await assert.rejects(record({ module, [name]: 1 }), refused(told));
   }
 });
 
@@ -69,15 +74,15 @@ test("an option that is undefined is one that isn't given", async () => {
 });
 
 test("a module may be given by a path or a URL", async () => {
-  const options = { count: 2, buffers: [12], args: ["addition"], check: false };
-  for (const module of [agents, pathToFileURL(agents), pathToFileURL(agents).href]) {
-    assert.equal((await record({ ...options, agents: module })).ending, "finished");
+  const options = { agents: 2, buffers: [12], args: ["addition"], sabsim: false };
+  for (const each of [module, pathToFileURL(module), pathToFileURL(module).href]) {
+    assert.equal((await record({ ...options, module: each })).ending, "finished");
   }
 });
 
 test("the outcome is whole", withSabsim, async () => {
   const { seed, ending, fails, calls, bytes, answers, script, report, state, races, scriptHolds, trace } =
-    await recordCase("addition", { check: true, seed: 9 });
+    await recordCase("addition", { sabsim: SABSIM, seed: 9 });
   assert.deepEqual([seed, ending, fails, calls, trace], [9, "finished", false, 6, undefined]);
   assert.deepEqual([bytes, state.shown], [["030000000300000000000000"], ["030000000300000000000000"]]);
   assert.deepEqual([answers, races, scriptHolds], [[["0", "1", "2"], ["0", "1", "2"]], [], "all"]);
@@ -85,19 +90,60 @@ test("the outcome is whole", withSabsim, async () => {
   assert.equal(replayed.stdout, report);
 });
 
-test("sabsim is asked unless `check` or `sabsim` is false", async (context) => {
-  const missing = "/nowhere/sabsim";
-  await assert.rejects(recordCase("addition", { check: true, sabsim: missing }), NoSabsim);
-  await assert.rejects(recordCase("addition", { check: () => {}, sabsim: missing }), NoSabsim);
-  assert.equal((await recordCase("addition", { check: false, sabsim: missing })).ending, "finished");
-  assert.equal((await recordCase("addition", { check: true, sabsim: false })).ending, "finished");
+test("sabsim is asked unless `sabsim` is false", async (context) => {
+  await assert.rejects(recordCase("addition", { sabsim: NOWHERE }), NoSabsim);
+  await assert.rejects(recordCase("addition", { check: () => {}, sabsim: NOWHERE }), NoSabsim);
+  assert.equal((await recordCase("addition", { sabsim: false })).ending, "finished");
   const lying = join(temporaryFolder(context), "lying");
   writeFileSync(lying, "#!/bin/sh\ncat > /dev/null\necho '0 0 0 begin'\n", { mode: 0o755 });
-  await assert.rejects(recordCase("addition", { check: true, sabsim: lying }), (error) => {
+  await assert.rejects(recordCase("addition", { sabsim: lying }), (error) => {
     assert.ok(error instanceof Difference);
     assert.equal(error.outcome.seed, 1);
     return true;
   });
+});
+
+/** What happens while sabsim is looked for elsewhere. @param {string} place @param {() => Promise<any>} act */
+async function withSabsimAt(place, act) {
+  const { SABSIM: before } = process.env;
+  try {
+    process.env.SABSIM = place;
+    return await act();
+  } finally {
+    if (before === undefined) delete process.env.SABSIM;
+    else process.env.SABSIM = before;
+  }
+}
+
+/** An outcome of the library's that is told without a place of sabsim. @param {object} [options] */
+const recordAddition = (options = {}) => record({ module, agents: 2, buffers: [12], args: ["addition"], ...options });
+
+test("without sabsim a run is made, and the outcome says that it wasn't checked; what asks for it is refused", () =>
+  withSabsimAt(NOWHERE, async () => {
+    for (const options of [{}, { check() {} }, { check: undefined, sabsim: undefined }]) {
+      const { ending, checked, unchecked, script } = await recordAddition(options);
+      assert.deepEqual([ending, checked], ["finished", false]);
+      assert.match(unchecked, /^sabsim isn't built: there is none at \/nowhere\/sabsim; `\.\/build`, .* sabsim$/);
+      assert.equal(JSON.parse(script).agents.length, 2);
+    }
+    for (const options of [{ sabsim: true }, { sabsim: NOWHERE }, { check() {}, sabsim: true }]) {
+      await assert.rejects(recordAddition(options), NoSabsim);
+    }
+  }));
+
+test("the outcome says whether sabsim has checked the run", withSabsim, async () => {
+  assert.equal((await recordAddition({ sabsim: SABSIM })).checked, true);
+  for (const sabsim of [true, undefined]) {
+    const found = await withSabsimAt(SABSIM, () => recordAddition({ sabsim }));
+    assert.deepEqual([found.checked, found.unchecked], [true, undefined]);
+  }
+  const left = await recordAddition({ sabsim: false });
+  assert.deepEqual([left.checked, left.unchecked], [false, "the options say that sabsim isn't asked"]);
+  // More is written between two calls than a script has calls for.
+  const { checked, unchecked, noScript } = await record({
+    module: agentsPath("big-writes"), args: ["overwhelms 400"], agents: 2, buffers: [65_536], sabsim: SABSIM,
+  });
+  assert.deepEqual([checked, unchecked], [false, `the run has no script: ${noScript}`]);
 });
 
 test("`init` fills the buffers before the run, and the script has what it wrote", withSabsim, async () => {
@@ -106,7 +152,7 @@ test("`init` fills the buffers before the run, and the script has what it wrote"
     seen.push([buffers.map((buffer) => buffer.byteLength), run]);
     new Int32Array(buffers[0]).set([40, 50, 60]);
   };
-  const { bytes, script } = await recordCase("addition", { check: true, init });
+  const { bytes, script } = await recordCase("addition", { sabsim: SABSIM, init });
   assert.deepEqual(seen, [[[12], { agents: 2, args: ["addition"] }]]);
   // Three is added to the first two words.
   assert.deepEqual(bytes, [Buffer.from(Int32Array.of(43, 53, 60).buffer).toString("hex")]);
@@ -156,7 +202,7 @@ const RACY = `
 `;
 
 test("`races` says whether a run with a data race fails", async (context) => {
-  const options = { agents: agentsOf(temporaryFolder(context), RACY), count: 2, buffers: [8], check: false };
+  const options = { module: agentsOf(temporaryFolder(context), RACY), agents: 2, buffers: [8], sabsim: false };
   const failing = await record(options);
   assert.deepEqual([failing.ending, failing.fails, failing.races.length], ["race", true, 1]);
   const allowed = await record({ ...options, races: "allow" });
@@ -165,14 +211,14 @@ test("`races` says whether a run with a data race fails", async (context) => {
 });
 
 test("`ordinary` says what is seen of reads and writes", async (context) => {
-  const options = { agents: agentsOf(temporaryFolder(context), RACY), count: 2, buffers: [8], check: false };
+  const options = { module: agentsOf(temporaryFolder(context), RACY), agents: 2, buffers: [8], sabsim: false };
   const stored = await record({ ...options, ordinary: "store" });
   assert.deepEqual([stored.ending, stored.races], ["finished", []]);
   assert.equal((await record({ ...options, ordinary: "refuse" })).ending, "failed");
 });
 
 test("`bounds` says whether a run that meets a bound fails", async () => {
-  const options = { count: 1, maxMoves: 50 };
+  const options = { agents: 1, maxMoves: 50 };
   const failing = await recordCase("spins", options);
   assert.deepEqual([failing.ending, failing.fails], ["bound", true]);
   const allowed = await recordCase("spins", { ...options, bounds: "allow" });
@@ -180,13 +226,13 @@ test("`bounds` says whether a run that meets a bound fails", async () => {
 });
 
 test("with `clock` run the same seed tells the same time, and with real the machine's", async (context) => {
-  const module = agentsOf(temporaryFolder(context), `
+  const path = agentsOf(temporaryFolder(context), `
     const words = new Int32Array(buffers[0]);
     Atomics.store(words, 0, Date.now() > 1_600_000_000_000 ? 1 : 0);
     Atomics.store(words, 1, Math.floor(Math.random() * 1_000_000_000));
   `);
   const drawn = async (clock) => {
-    const { bytes } = await record({ agents: module, count: 1, buffers: [8], check: false, clock });
+    const { bytes } = await record({ module: path, agents: 1, buffers: [8], sabsim: false, clock });
     return bytes[0];
   };
   assert.equal(await drawn("run"), await drawn("run"));
@@ -194,7 +240,7 @@ test("with `clock` run the same seed tells the same time, and with real the mach
 });
 
 test("with `timeouts` 0 a wait that can be woken isn't ended by its time, and with 1 it may be", async (context) => {
-  const module = agentsOf(temporaryFolder(context), `
+  const path = agentsOf(temporaryFolder(context), `
     const words = new Int32Array(buffers[0]);
     if (agent === 0) {
       Atomics.store(words, 1, Atomics.wait(words, 0, 0, 60_000) === "timed-out" ? 1 : 2);
@@ -205,7 +251,7 @@ test("with `timeouts` 0 a wait that can be woken isn't ended by its time, and wi
     }
   `);
   const timedOut = async (timeouts, seed) => {
-    const { bytes } = await record({ agents: module, count: 2, buffers: [8], check: false, timeouts, seed });
+    const { bytes } = await record({ module: path, agents: 2, buffers: [8], sabsim: false, timeouts, seed });
     return bytes[0].endsWith("01000000");
   };
   const firstOf = async (timeouts, last) => {

@@ -14,11 +14,11 @@ const ROUNDS = 6;
 
 /** @param {string} name */
 const recordKnown = (name, ordinary) =>
-  recorded({ agents: fileURLToPath(new URL(`./known/${name}.mjs`, import.meta.url)), ordinary }, seedsTo(20));
+  recorded({ module: fileURLToPath(new URL(`./known/${name}.mjs`, import.meta.url)), ordinary }, seedsTo(20));
 
 /** The outcomes of all programs in each of the modes, under the same seeds. With a trace each run is made once. */
 async function allModes() {
-  const options = { agents: agentsPath("modes"), trace: true };
+  const options = { module: agentsPath("modes"), trace: true };
   const outcomesOf = (ordinary) => recorded({ ...options, ordinary }, seedsTo(NAMES.length * ROUNDS));
   const [watch, store, refuse] = await Promise.all(MODES.map(outcomesOf));
   const ofName = (outcomes, name) => outcomes.filter((_, run) => run % NAMES.length === NAMES.indexOf(name));

@@ -12,7 +12,7 @@ const LARGEST = SCRIPT_LIMITS.bytes;
 
 /** The outcomes of some programs, one after the other. */
 function outcomesOf(programs, options = {}) {
-  const all = { agents: agentsPath("big-writes"), count: 1, buffers: [LARGEST], args: programs, ...options };
+  const all = { module: agentsPath("big-writes"), agents: 1, buffers: [LARGEST], args: programs, ...options };
   return recorded(all, seedsTo(programs.length));
 }
 
@@ -80,9 +80,9 @@ describe("ordinary writes that don't all fit into a script", { concurrency: 2, .
 
   it("where no script can be, the run and its races go on", async () => {
     const [[few], [many]] = await Promise.all([
-      outcomesOf(["overwhelms 1"], { count: 2 }),
+      outcomesOf(["overwhelms 1"], { agents: 2 }),
       // More than there is room for while the run goes on: 400 elements in each round.
-      outcomesOf(["overwhelms 400"], { count: 2 }),
+      outcomesOf(["overwhelms 400"], { agents: 2 }),
     ]);
     assert.deepEqual([few.ending, few.scriptHolds, few.races.length], ["race", "all", 1]);
     assert.deepEqual([many.ending, many.script, many.report], ["race", undefined, undefined]);

@@ -9,7 +9,8 @@ import { test } from "node:test";
 import { fileURLToPath } from "node:url";
 import { optionsOf, USAGE } from "../lib/command/options.mjs";
 import { Refused } from "../lib/run/plan.mjs";
-import { RECORD, SABSIM, agentsOf, agentsPath, temporaryFolder, withSabsim } from "./common.mjs";
+import { NOWHERE, RECORD, SABSIM, WITHOUT_SABSIM } from "./common.mjs";
+import { agentsOf, agentsPath, temporaryFolder, withSabsim } from "./common.mjs";
 
 /**
  * Runs the command line to its end.
@@ -21,7 +22,7 @@ function run(words, options = {}) {
   return { status, stdout, stderr };
 }
 
-const cases = (name, ...words) => [agentsPath("cases"), "--agents", "2", "--bytes", "12", ...words, "--", name];
+const cases = (name, ...words) => [agentsPath("cases"), "--agents", "2", "--buffers", "12", ...words, "--", name];
 const sabsim = ["--sabsim", SABSIM];
 
 test("where no run fails, the status is 0", withSabsim, () => {
@@ -66,10 +67,10 @@ test("the explained report that is kept ends with the agents that wait", withSab
   assert.deepEqual(waiting.map(([, agent, call]) => [agent, call]), [["1", "3"], ["0", "8"]]);
   const lines = readFileSync(join(out, "seed-93.explained"), "utf8").split("\n");
   assert.deepEqual(lines.slice(-6), [
-    "90 0 8 wait         wait(Int32, 1, 0) waits at Int32[1] behind agent 1",
+    "90 0 8 wait       wait(Int32, 1, 0) waits at Int32[1] behind agent 1",
     "block 0 000000000000000004000000",
-    "agent 0 8 of 9      waits at Int32[1] since 90, in wait(Int32, 1, 0); nobody has notified Int32[1] since",
-    "agent 1 3 of 4      waits at Int32[1] since 88, in wait(Int32, 1, 0); nobody has notified Int32[1] since",
+    "agent 0 8 of 9    waits at Int32[1] since 90, in wait(Int32, 1, 0); nobody has notified Int32[1] since",
+    "agent 1 3 of 4    waits at Int32[1] since 88, in wait(Int32, 1, 0); nobody has notified Int32[1] since",
     "agent 2 17 of 17",
     "",
   ]);
@@ -96,9 +97,9 @@ test("each wrong option is refused, with one line that names it", () => {
     [["m.mjs", "--agents", "2.0"], /--agents/],
     [["m.mjs", "--agents", ""], /--agents/],
     [["m.mjs", "--agents"], /--agents/],
-    [["m.mjs", "--bytes", "65537"], /--bytes/],
-    [["m.mjs", "--bytes", "4,"], /--bytes/],
-    [["m.mjs", "--bytes", "1,1,1,1,1"], /1 to 4 buffers/],
+    [["m.mjs", "--buffers", "65537"], /--buffers/],
+    [["m.mjs", "--buffers", "4,"], /--buffers/],
+    [["m.mjs", "--buffers", "1,1,1,1,1"], /1 to 4 buffers/],
     [["m.mjs", "--no-block", "x"], /--no-block/],
     [["m.mjs", "--seeds", "5..1"], /the last seed is before the first/],
     [["m.mjs", "--seeds", "1..2..3"], /--seeds/],
@@ -111,7 +112,10 @@ test("each wrong option is refused, with one line that names it", () => {
     [["m.mjs", "--check", "-1"], /--check/],
     [["m.mjs", "--max-moves", "100001"], /--max-moves/],
     [["m.mjs", "--seconds", "0"], /--seconds/],
-    [["m.mjs", "--wrong"], /--wrong/],
+    [["m.mjs", "--wrong"], /^there is no option --wrong: --help shows all$/],
+    [["m.mjs", "--maxMoves", "7"], /^there is no option --maxMoves: is --max-moves meant\?$/],
+    [["m.mjs", "--agent=2"], /^there is no option --agent: is --agents meant\?$/],
+    [["m.mjs", "-j", "2"], /^there is no option -j: --help shows all$/],
     [["m.mjs", "--fresh=yes"], /--fresh/],
     [["m.mjs", "--ordinary", "see"], /^--ordinary must be watch, store or refuse, but is "see"$/],
     [["m.mjs", "--ordinary"], /--ordinary/],
@@ -134,9 +138,11 @@ test("each wrong option is refused, with one line that names it", () => {
 });
 
 test("what the command line leaves out has its default", () => {
-  const { first, last, jobs, check, maxMoves, seconds, fresh, args, noBlock, switching, out } = optionsOf(["m.mjs"]);
-  assert.deepEqual([first, last, jobs, check, maxMoves, seconds], [1, 100, 1, 10, 100_000, 10]);
-  assert.deepEqual([fresh, args, noBlock, switching, out], [false, [], [], undefined, undefined]);
+  const { first, last, jobs, maxMoves, seconds, fresh, args, noBlock, switching, out } = optionsOf(["m.mjs"]);
+  assert.deepEqual([first, last, jobs, maxMoves, seconds], [1, 100, 1, 100_000, 10]);
+  assert.deepEqual([fresh, args, noBlock, switching, out], [false, [], undefined, undefined, undefined]);
+  const { sabsim: path, checkEvery, isSabsimAsked } = optionsOf(["m.mjs"]);
+  assert.deepEqual([path, checkEvery, isSabsimAsked], [undefined, 10, false]);
   const { ordinary, races, bounds, clock, timeouts, failFast } = optionsOf(["m.mjs"]);
   assert.deepEqual([ordinary, races, bounds, clock], ["watch", "fail", "fail", "run"]);
   assert.deepEqual([timeouts, failFast], [0.05, false]);
@@ -151,10 +157,12 @@ test("what the command line says is taken", () => {
 });
 
 test("help names each option that there is", () => {
-  const refused = (word) => /^Unknown option/.test(thrownBy(() => optionsOf(["m.mjs", `${word}=x`]))?.message ?? "");
+  const why = (word) => thrownBy(() => optionsOf(["m.mjs", `${word}=x`]))?.message ?? "";
+  const refused = (word) => why(word).startsWith("there is no option");
   const named = [...USAGE.matchAll(/^ {2}(--[a-z-]+)/gm)].map(([, word]) => word);
   assert.deepEqual(named.filter(refused), []);
-  for (const option of ["ordinary", "races", "bounds", "clock", "timeouts", "fail-fast", "out", "jobs", "help"]) {
+  for (const option of ["ordinary", "races", "bounds", "clock", "timeouts", "fail-fast", "out", "jobs", "buffers",
+    "check", "help"]) {
     assert.ok(named.includes(`--${option}`), option);
   }
   assert.ok(USAGE.split("\n").every((line) => line.length <= 120));
@@ -180,9 +188,10 @@ test("a wrong command line is refused with status 2 and one line", async (contex
     [["--seeds", "1"], /the agents' module is missing/],
     [[`${folder}/none.mjs`], /there is no file/],
     [[folder], /there is no file/],
-    [[module, "--bytes", "4", ...unchecked], /number of agents is missing/],
+    [[module, "--buffers", "4", ...unchecked], /number of agents is missing/],
     [[module, "--agents", "1", ...unchecked], /buffers' bytes are missing/],
-    [[module, "--agents", "1", "--bytes", "4", "--no-block", "1", ...unchecked], /--no-block 1: .* no such agent/],
+    [[module, "--agents", "1", "--buffers", "4", "--no-block", "1", ...unchecked],
+      /--no-block\) names agent 1: there is no such agent, but 0 to 0$/m],
     [[module, "--out", file], /--out .*file can't be used/],
   ];
   const ran = await Promise.all(wrong.map(([words]) => new Promise((done) => {
@@ -208,31 +217,19 @@ function workedCommands(path) {
   });
 }
 
-for (const [path, count] of [["README.md", 1], ["recorder/README.md", 2]]) {
-  test(`the worked commands of ${path} print what it says`, withSabsim, (context) => {
-    const commands = workedCommands(path);
-    assert.equal(commands.length, count);
-    for (const { words: [module, ...words], printed } of commands) {
-      const { stdout } = run([join(ROOT, module), ...words, ...sabsim], { cwd: temporaryFolder(context) });
-      // Two dots stand for lines that aren't shown.
-      const [begin, end] = printed.split(/^\.\.\n/m);
-      const shown = end === undefined ? stdout : `${stdout.slice(0, begin.length)}..\n${stdout.slice(-end.length)}`;
-      assert.equal(shown, printed);
-    }
-  });
-}
-
-test("README tells a race as the recorder does", () => {
-  const [lines] = /(?:^ {4}.*\n)+/m.exec(textOf("README.md").split("before it has read its byte:\n\n")[1]);
-  const told = lines.trim().replaceAll(/\s+/g, " ");
-  const ring = workedCommands("recorder/README.md").find(({ words: [module] }) => module.includes("ring"));
-  assert.ok(ring.printed.includes(`first failing seed: 2, race\n  ${told}\n`), told);
+test("the worked commands of recorder/README.md print what it says", withSabsim, (context) => {
+  const commands = workedCommands("recorder/README.md");
+  assert.equal(commands.length, 2);
+  for (const { words: [module, ...words], printed } of commands) {
+    const { stdout } = run([join(ROOT, module), ...words, ...sabsim], { cwd: temporaryFolder(context) });
+    assert.equal(stdout, printed);
+  }
 });
 
 test("help is on standard output, with status 0", () => {
   const { status, stdout, stderr } = run(["--help"]);
   assert.deepEqual([status, stderr], [0, ""]);
-  assert.match(stdout, /^usage: node recorder\/record\.mjs AGENTS\.mjs /);
+  assert.match(stdout, /^usage: node recorder\/record\.mjs MODULE /);
 });
 
 test("where standard output fails, the status is 3, and a line on standard error says so", async (context) => {
@@ -263,14 +260,69 @@ test("where nobody reads standard output, the status is 3, and what failed is ke
   assert.ok(readdirSync(out).includes("seed-1.json"));
 });
 
-test("without sabsim the status is 3, and with --check 0 it isn't needed", () => {
-  const missing = ["--sabsim", "/nowhere/sabsim"];
-  const { status, stdout, stderr } = run(cases("nothing", ...missing));
-  assert.deepEqual([status, stdout], [3, ""]);
-  assert.match(stderr, /^record: sabsim isn't at \/nowhere\/sabsim: build it by [^\n]+\n$/);
-  const unchecked = run(cases("waitsForEver", "--seeds", "1", "--check", "0", ...missing));
+test("where sabsim is asked for and isn't there the status is 3, and with --check 0 it isn't needed", () => {
+  const asked = [[["--sabsim", NOWHERE], {}], [["--check", "7"], { env: WITHOUT_SABSIM }]];
+  for (const [words, options] of asked) {
+    const { status, stdout, stderr } = run(cases("nothing", ...words), options);
+    assert.deepEqual([status, stdout], [3, ""]);
+    assert.match(stderr, /^record: sabsim isn't at \/nowhere\/sabsim: `\.\/build`, [^\n]+ builds sabsim; [^\n]+\n$/);
+  }
+  const unchecked = run(cases("waitsForEver", "--seeds", "1", "--check", "0", "--sabsim", NOWHERE));
   assert.equal(unchecked.status, 1);
   assert.match(unchecked.stdout, /^no run was checked$/m);
+});
+
+/** What a summary says where sabsim was looked for and not found. */
+const UNCHECKED = [
+  `nothing was checked by sabsim, which isn't built: there is none at ${NOWHERE}`,
+  "so all of this is the recorder's word alone, and the recorder isn't proved; `./build`, in the root of the " +
+    "repository, builds sabsim",
+];
+
+test("without sabsim, and without a word that asks for it, runs are made and it is said that none was checked", () => {
+  assert.deepEqual(run(cases("addition", "--seeds", "1..20"), { env: WITHOUT_SABSIM }), {
+    status: 0,
+    stdout: [
+      "20 runs: 20 finished",
+      "1 final state: how it ended, and the bytes",
+      "  20 runs finished, seed 1 the first: 030000000300000000000000",
+      ...UNCHECKED,
+      "20 runs made 120 calls of Atomics, and no ordinary read or write",
+      "",
+    ].join("\n"),
+    stderr: "",
+  });
+});
+
+test("without sabsim what it makes isn't kept, and that is said", (context) => {
+  const out = join(temporaryFolder(context), "out");
+  const words = cases("waitsForEver", "--seeds", "3..4", "--jobs", "2", "--out", out);
+  const { status, stdout, stderr } = run(words, { env: WITHOUT_SABSIM });
+  assert.deepEqual([status, stderr], [1, ""]);
+  assert.deepEqual(readdirSync(out).sort(), ["seed-3.json", "seed-3.report", "seed-3.trace.jsonl"]);
+  const lines = stdout.trimEnd().split("\n");
+  assert.ok(UNCHECKED.every((line) => lines.filter((each) => each === line).length === 1), stdout);
+  assert.ok(!stdout.includes("sabsim says"));
+  assert.deepEqual(lines.slice(-2), [
+    `kept in ${out}: seed-3.json, seed-3.report, seed-3.trace.jsonl`,
+    "not kept, since only sabsim makes them: seed-3.explained, seed-3.svg",
+  ]);
+});
+
+test("a picture that sabsim doesn't make is told of", (context) => {
+  const folder = temporaryFolder(context);
+  const half = join(folder, "half");
+  // It says the same of the run, whatever it was, and makes no picture.
+  writeFileSync(half, [
+    "#!/bin/sh", "cat > /dev/null", 'if [ "$3" = svg ]; then echo "no pictures" >&2; exit 4; fi',
+    `if [ "$2" = --format ]; then echo explained; else cat ${folder}/out/*.report; fi`, "",
+  ].join("\n"), { mode: 0o755 });
+  const unchecked = ["--seeds", "1", "--out", join(folder, "out")];
+  assert.equal(run(cases("waitsForEver", ...unchecked, "--check", "0")).status, 1);
+  const { status, stdout } = run(cases("waitsForEver", ...unchecked, "--sabsim", half));
+  assert.equal(status, 1, stdout);
+  assert.match(stdout, /^1 run checked: sabsim says the same$/m);
+  assert.ok(stdout.endsWith("\nnot kept: seed-1.svg: sabsim ended with status 4: no pictures\n"), stdout);
 });
 
 test("a difference stops everything with status 3, and is kept", (context) => {
@@ -291,23 +343,25 @@ test("arguments after -- go to the agents, and what they print goes to standard 
   const lines = printed.stderr.trimEnd().split("\n");
   assert.deepEqual(lines.map((line) => Number(line.split(" ")[3])), [0, 1, 2, 3, 4, 5]);
   const agents = agentsOf(temporaryFolder(context), "throw new Error(JSON.stringify([agent, agents, args]));");
-  const words = ["--agents", "1", "--bytes", "4", "--seeds", "1", "--check", "0", "--", "--seeds", "--", "x y"];
+  const group = ["--agents", "1", "--buffers", "4", "--seeds", "1", "--check", "0"];
+  const words = [...group, "--", "--seeds", "--", "x y"];
   assert.match(run([agents, ...words]).stdout, /agent 0 threw Error: \[0,1,\["--seeds","--","x y"\]\]/);
 });
 
 test("a module's own setup serves, and the command line goes before it", withSabsim, () => {
   const module = agentsPath("setup");
   assert.match(run([module, "--seeds", "1", ...sabsim]).stdout, /: 02000000 \| 0200000001000000$/m);
-  const longer = run([module, "--seeds", "1", "--bytes", "8,8", ...sabsim]);
+  const longer = run([module, "--seeds", "1", "--buffers", "8,8", ...sabsim]);
   assert.match(longer.stdout, /: 0200000000000000 \| 0200000001000000$/m);
-  const blocked = run([module, "--seeds", "1", "--agents", "3", "--bytes", "4,8,4", "--no-block", "0", ...sabsim]);
-  assert.match(blocked.stdout, /^1 run: 1 finished$/m);
+  const three = [module, "--seeds", "1", "--agents", "3", "--buffers", "4,8,4", "--no-block", "0"];
+  assert.match(run([...three, ...sabsim]).stdout, /^1 of 1 run failed: 1 deadlock$/m);
+  assert.match(run([...three, "--no-block", "1", ...sabsim]).stdout, /^1 run: 1 finished$/m);
 });
 
 test("a module that can't be loaded is refused with status 2", (context) => {
   const folder = temporaryFolder(context);
   writeFileSync(join(folder, "bad.mjs"), "export default 5;\n");
-  const { status, stderr } = run([join(folder, "bad.mjs"), "--agents", "1", "--bytes", "4", "--check", "0"]);
+  const { status, stderr } = run([join(folder, "bad.mjs"), "--agents", "1", "--buffers", "4", "--check", "0"]);
   assert.equal(status, 2);
   assert.match(stderr, /^record: .*bad\.mjs can't be loaded: .*no function as its default export/);
 });
@@ -322,7 +376,7 @@ test("what a worker dies of while its module is loaded is told", (context) => {
   for (const [why, code] of Object.entries(deaths)) {
     const module = join(folder, "dies.mjs");
     writeFileSync(module, `${code}\nexport default () => {};\n`);
-    const { status, stderr } = run([module, "--agents", "1", "--bytes", "4", "--check", "0"]);
+    const { status, stderr } = run([module, "--agents", "1", "--buffers", "4", "--check", "0"]);
     assert.equal(status, 2, why);
     assert.match(stderr, /^record: .*dies\.mjs can't be loaded: /);
     assert.ok(stderr.includes(why), stderr);
@@ -361,7 +415,8 @@ for (const signal of ["SIGINT", "SIGTERM", "SIGKILL"]) {
     test(`${signal} amid ${what} leaves no worker and no sabsim behind`, options, async (context) => {
       const mark = randomUUID();
       context.after(() => processesWith(mark).forEach((id) => process.kill(Number(id), "SIGKILL")));
-      const words = cases(name, "--jobs", "2", "--seeds", "1..1000000", "--check", "1", "--seconds", "3600", ...sabsim);
+      const seeds = ["--seeds", "1..1000000", "--check", "1", "--seconds", "3600"];
+      const words = cases(name, "--jobs", "2", ...seeds, ...sabsim);
       const env = { ...process.env, RECORDER_TEST: mark };
       const child = spawn(process.execPath, [RECORD, ...words], { env, stdio: ["ignore", "ignore", "pipe"] });
       const ended = new Promise((done) => {

@@ -31,11 +31,11 @@ const WAYS = [
 async function recorded(way, options) {
   const outcomes = [];
   const all = {
-    module: moduleUrl(agentsPath("random-ordinary")), args: [way], first: 1, last: 500, jobs: 2, check: 1,
+    module: moduleUrl(agentsPath("random-ordinary")), args: [way], first: 1, last: 500, jobs: 2, checkEvery: 1,
     sabsim: SABSIM, maxMoves: 100_000, seconds: 10, fresh: false, ordinary: "watch", trace: true, ...options,
   };
   const { checked } = await recordSeeds(all, (outcome) => outcomes.push(outcome));
-  assert.equal(checked, all.check * outcomes.length);
+  assert.equal(checked, all.checkEvery * outcomes.length);
   return outcomes.sort((one, other) => one.seed - other.seed);
 }
 
@@ -112,7 +112,7 @@ for (const { way, options, racy: [least, most] } of WAYS) {
 test("where no trace is wanted, and accesses are kept once, the same is told of the same runs", async () => {
   const toldOf = ({ seed, ending, detail, moves, state, races }) => ({ seed, ending, detail, moves, state, races });
   for (const { way, options } of WAYS) {
-    const few = { ...options, last: 100, check: 0 };
+    const few = { ...options, last: 100, checkEvery: 0 };
     const traced = await recorded(way, few);
     const untraced = await recorded(way, { ...few, trace: false });
     assert.deepEqual(untraced.map(toldOf), traced.map(toldOf), way);
@@ -120,7 +120,7 @@ test("where no trace is wanted, and accesses are kept once, the same is told of 
 });
 
 test("workers that are started anew go on with the lines of code of those before", async () => {
-  const few = { last: 5, check: 0, jobs: 1 };
+  const few = { last: 5, checkEvery: 0, jobs: 1 };
   const traces = async (options) => (await recorded("wild", { ...few, ...options })).map(({ trace }) => trace);
   assert.deepEqual(await traces({ fresh: true }), await traces({ fresh: false }));
 });
@@ -130,7 +130,7 @@ const NAMED_LINES = readFileSync(agentsPath("named-lines"), "utf8").split("\n");
 
 /** The sources of the ordinary reads of a run of the agents that make one. @param {string} way */
 async function sourcesOf(way) {
-  const options = { agents: agentsPath("named-lines"), args: [way], count: 1, buffers: [4, 4], check: false };
+  const options = { module: agentsPath("named-lines"), args: [way], agents: 1, buffers: [4, 4], sabsim: false };
   const { ending, detail, trace } = await record({ ...options, trace: true });
   assert.equal(ending, "finished", detail);
   const events = trace.trimEnd().split("\n").map((line) => JSON.parse(line));

@@ -43,13 +43,13 @@ async function madeOfEach(list, make) {
 async function recordText(context, text, options = {}) {
   const agents = join(temporaryFolder(context), "agents.mjs");
   writeFileSync(agents, text);
-  return record({ agents, count: 2, buffers: [16], check: false, seconds: 5, ...options });
+  return record({ module: agents, agents: 2, buffers: [16], sabsim: false, seconds: 5, ...options });
 }
 
 /** The same, where only the agent's body is given. */
 async function recordBody(context, body, options = {}) {
   const agents = agentsOf(temporaryFolder(context), body);
-  return record({ agents, count: 2, buffers: [16], check: false, seconds: 5, ...options });
+  return record({ module: agents, agents: 2, buffers: [16], sabsim: false, seconds: 5, ...options });
 }
 
 describe("work that goes on later", () => {
@@ -65,6 +65,8 @@ describe("work that goes on later", () => {
     ["process.nextTick", "process.nextTick(() => { throw new Error('never seen'); });", "process.nextTick"],
     ["a callback of fs", "fs.readFile('/', () => { throw new Error('never seen'); });", "a callback"],
     ["a promise of fs", "fs.promises.readFile('/').catch(() => { throw new Error('never seen'); });", "a promise"],
+    ["a stream of zlib", "zlib.createInflate().on('error', () => {}).end('none of it');", "a stream of zlib"],
+    ["a fetch", "fetch('data:,a').then(() => { throw new Error('never seen'); });", "a promise"],
     ["a callback of crypto", "crypto.randomBytes(4, () => { throw new Error('never seen'); });", "a callback"],
     ["a callback of dns", "dns.lookup('localhost', () => { throw new Error('never seen'); });", "a callback"],
   ];
@@ -118,6 +120,25 @@ describe("work that goes on later", () => {
     }
   });
 
+  test("what a listener of an EventTarget throws fails the run, and is told", async (context) => {
+    const listen = "const target = new EventTarget(); target.addEventListener('go', (event) => { BODY });";
+    const bodies = [
+      `${listen.replace("BODY", "throw new RangeError('mine');")} target.dispatchEvent(new Event('go')); ${call}`,
+      `${call} ${listen.replace("BODY", "null.none;")} try { target.dispatchEvent(new Event('go')); } catch {}`,
+      `${call} ${listen.replace("BODY", "throw 5;")} target.dispatchEvent(new Event('go'));`,
+    ];
+    const outcomes = await madeOfEach(bodies, (body) => recordText(context, text(body)));
+    const told = [/: RangeError: mine\n +at .*agents\.mjs:\d+:\d+/, /: TypeError: Cannot read [^\n]*\n +at /, /: 5$/];
+    outcomes.forEach(({ ending, detail }, at) => {
+      assert.equal(ending, "failed", bodies[at]);
+      assert.ok(detail.startsWith("agent 0 has a listener that threw, which nobody catches: "), detail);
+      assert.match(detail, told[at]);
+    });
+    const quiet = listen.replace("BODY", "Atomics.add(words, 0, 1);");
+    const { ending } = await recordText(context, text(`${quiet} target.dispatchEvent(new Event('go'));`));
+    assert.equal(ending, "finished");
+  });
+
   test("what has done all of its work at once is no failure", async (context) => {
     const bodies = [
       "(async () => { Atomics.add(words, 0, 1); })();",
@@ -128,8 +149,12 @@ describe("work that goes on later", () => {
       "clearTimeout(setTimeout(() => {}, 5)); clearInterval(setInterval(() => {}, 5));",
       "clearImmediate(setImmediate(() => {}));",
       "new Worker('0', { eval: true }).unref();",
+      "new Headers({ a: 'b' }); new FormData(); if (typeof Response !== 'function') throw 5;",
+      "new Response(); new Request('http://localhost/'); new Headers();",
+      "for (const end of ['inflate', 'gunzip', 'unzip', 'brotliDecompress']) " +
+        "try { zlib[`${end}Sync`](Buffer.from('none of it')); } catch (error) { if (!error.code) throw error; }",
     ];
-    const outcomes = await madeOfEach(bodies, (body) => recordText(context, text(`${body} ${call}`), { count: 1 }));
+    const outcomes = await madeOfEach(bodies, (body) => recordText(context, text(`${body} ${call}`), { agents: 1 }));
     outcomes.forEach(({ ending, detail }, at) => assert.deepEqual([ending, detail], ["finished", ""], bodies[at]));
   });
 });
@@ -145,7 +170,7 @@ describe("a patched language", withSabsim, () => {
   async function patched([what, when, how], end, ordinary) {
     const agents = new URL("./agents/patched.mjs", import.meta.url);
     agents.search = new URLSearchParams({ what, when, how });
-    const options = { agents, args: [end], seed: 7, seconds: 5, ordinary, sabsim: SABSIM };
+    const options = { module: agents, args: [end], seed: 7, seconds: 5, ordinary, sabsim: SABSIM };
     const { trace, races, ...outcome } = await record(options);
     // The stack of an error has the module's name.
     return { ...outcome, detail: outcome.detail.split("\n")[0] };
@@ -190,7 +215,7 @@ test("messages to whoever started the worker change nothing", withSabsim, async 
     }`;
   const messages = ["hello", null, undefined, { finished: true }, { failed: "no" }, { ready: true }, { ended: "no" }];
   const posts = messages.map((message) => `parentPort.postMessage(${JSON.stringify(message)});`).join(" ");
-  const options = { check: true, sabsim: SABSIM };
+  const options = { sabsim: SABSIM };
   const expected = await recordText(context, text("", ""), options);
   assert.equal(expected.ending, "finished");
   const cases = [[posts, ""], ["", posts], ["", "parentPort.close();"], ["parentPort.on('message', () => {});", posts]];
@@ -205,7 +230,7 @@ describe("arrays of the program's own", () => {
       const words = new Int32Array(buffers[0]);
       Atomics.add(words, 0, 1);
       const told = (() => { ${body} })();
-      throw new Error("told " + JSON.stringify(told));`, { count: 1, ...options });
+      throw new Error("told " + JSON.stringify(told));`, { agents: 1, ...options });
     const [, told] = /^agent 0 threw Error: told (.*)$/m.exec(outcome.detail) ?? assert.fail(outcome.detail);
     return { told: JSON.parse(told), outcome };
   }
@@ -261,7 +286,7 @@ describe("arrays of the program's own", () => {
         const slept = Atomics.wait(own, 0, 1, 50);
         const time = Date.now() - from;
         throw new Error("told " + JSON.stringify([woken, slept, time >= 140 && time < 4_000]));
-      }`, { count: 1, clock: "real", seconds: 10 });
+      }`, { agents: 1, clock: "real", seconds: 10 });
     assert.match(outcome.detail, /^agent 0 threw Error: told \["ok","timed-out",true\]$/m);
   });
 
@@ -273,7 +298,7 @@ describe("arrays of the program's own", () => {
       exports.default = function agent({ buffers, agent }) {
         Atomics.add(new Int32Array(buffers[0]), agent, 1);
       };`);
-    const outcome = await record({ agents, check: false });
+    const outcome = await record({ module: agents, sabsim: false });
     assert.deepEqual([outcome.ending, outcome.bytes], ["finished", ["01000000010000000000000000000000"]]);
   });
 });
@@ -322,7 +347,7 @@ describe("a stack that comes to its end in what an agent asks", () => {
     let depth;
     const found = [];
     const group = await Group.open({
-      module: new URL("./agents/deep.mjs", import.meta.url).href, args: [asks], count: 3, buffers: [16],
+      module: new URL("./agents/deep.mjs", import.meta.url).href, args: [asks], agents: 3, buffers: [16],
       maxMoves: 100_000, seconds: 2, fresh: false, init: ([buffer]) => new Int32Array(buffer).fill(depth, 2, 3),
     });
     try {
@@ -364,7 +389,7 @@ test("a worker that takes the place of another one begins nothing before it is t
       }
     }`);
   const group = await Group.open({
-    module: pathToFileURL(path).href, args: [], count: 2, buffers: [4], maxMoves: 100, seconds: 5, fresh: false,
+    module: pathToFileURL(path).href, args: [], agents: 2, buffers: [4], maxMoves: 100, seconds: 5, fresh: false,
   });
   const found = [];
   try {
@@ -407,7 +432,7 @@ describe("clocks", () => {
       Atomics.add(words, 0, 1);
       const between = clocks();
       if (Atomics.wait(words, 1, 0, 3_600_000) !== "timed-out") throw new Error("it was woken");
-      throw new Error("told " + JSON.stringify([before, between, clocks()]));`), { count: 1 }));
+      throw new Error("told " + JSON.stringify([before, between, clocks()]));`), { agents: 1 }));
     before.forEach((time, which) => {
       // Those that tell whole milliseconds, or seconds, may tell the same ones.
       const tells = which < 2 || which > 5 ? "parts" : "whole";
@@ -429,7 +454,7 @@ describe("clocks", () => {
         if (answer === "timed-out" && performance.now() < until) throw new Error("too early");
       }
       Atomics.notify(words, 1);`;
-    const outcomes = await madeOfEach([1, 2, 3, 4], (seed) => recordText(context, text(body), { count: 3, seed }));
+    const outcomes = await madeOfEach([1, 2, 3, 4], (seed) => recordText(context, text(body), { agents: 3, seed }));
     for (const { ending, detail } of outcomes) assert.deepEqual([ending, detail], ["finished", ""]);
   });
 
@@ -453,7 +478,7 @@ describe("clocks", () => {
       const before = clocks();
       const own = new Int32Array(new SharedArrayBuffer(4));
       Atomics.wait(own, 0, 0, 100);
-      throw new Error("told " + JSON.stringify([before, clocks()]));`), { count: 1, clock: "real" }));
+      throw new Error("told " + JSON.stringify([before, clocks()]));`), { agents: 1, clock: "real" }));
     const to = Date.now();
     const [before, after] = told;
     for (const which of [2, 3, 4]) assert.ok(before[which] >= from && after[which] <= to, `clock ${which}`);
@@ -471,7 +496,7 @@ describe("clocks", () => {
         new Date(NaN).getTime(), new Date() instanceof Date, Object.prototype.toString.call(new Date()),
         new Day(5).getTime(), new Day() instanceof Day, typeof Date(), Date.length, Date.name,
         new Date().constructor === Date, new Day().constructor === Day,
-      ]));`), { count: 1 }));
+      ]));`), { agents: 1 }));
     assert.deepEqual(told, [
       "1970-01-02T00:00:00.000Z", 29, 86_400_000, null, true, "[object Date]", 5, true, "string", 7, "Date", true, true,
     ]);
@@ -533,7 +558,7 @@ describe("random numbers", () => {
         const bytes = new Uint8Array(1_000);
         assert.equal(crypto.getRandomValues(bytes), bytes);
         assert.ok(new Set(bytes).size > 200);
-      }`, { count: 1 });
+      }`, { agents: 1 });
     assert.deepEqual([ending, detail], ["finished", ""]);
   });
 });

@@ -15,9 +15,7 @@ import { SABSIM, agentsPath } from "./common.mjs";
  * @returns {Promise<Outcome[]>} in the order of the seeds; fails with a Difference where sabsim says something else
  */
 export async function recorded(options, seeds = [1]) {
-  const { check, ...rest } = checkedOptions({ seconds: 5, ...options });
-  const checkState = typeof check === "function" ? check : undefined;
-  const group = await Group.open({ ...rest, checkState, fresh: false });
+  const group = await Group.open({ ...checkedOptions({ seconds: 5, ...options }, () => undefined), fresh: false });
   const outcomes = [];
   try {
     await group.run(seeds.map((seed) => ({ seed, whole: true })), (outcome) => outcomes.push(outcome));

@@ -10,19 +10,19 @@ import { SABSIM, agentsOf, agentsPath, recordCase, temporaryFolder, withSabsim }
 
 /** Records a module of the tests, checked by sabsim. */
 function recordChecked(name, options) {
-  return record({ agents: agentsPath(name), sabsim: SABSIM, ...options });
+  return record({ module: agentsPath(name), sabsim: SABSIM, ...options });
 }
 
 for (const part of ["accesses", "errors"]) {
   test(`${part} are answered by the standard's rules, and sabsim agrees`, withSabsim, async () => {
-    const outcome = await recordChecked("answers", { args: [part], count: 1, buffers: [32] });
+    const outcome = await recordChecked("answers", { args: [part], agents: 1, buffers: [32] });
     assert.deepEqual([outcome.ending, outcome.detail], ["finished", ""]);
   });
 }
 
 test("waits are answered by the standard's rules, and sabsim agrees", withSabsim, async () => {
   for (const seed of [1, 2, 3]) {
-    const outcome = await recordChecked("answers", { args: ["waits"], count: 2, buffers: [16], seed });
+    const outcome = await recordChecked("answers", { args: ["waits"], agents: 2, buffers: [16], seed });
     assert.deepEqual([outcome.ending, outcome.detail], ["finished", ""]);
     assert.deepEqual(outcome.answers[0], ["not-equal", "timed-out", "timed-out", "not-equal", "0", "ok"]);
   }
@@ -36,32 +36,32 @@ test("an agent that can't block gets a TypeError of its wait, and the others wai
   assert.deepEqual(outcome.bytes, ["03000000", "0300000001000000"]);
   assert.deepEqual(JSON.parse(outcome.script).blocks, [4, 8]);
   assert.deepEqual(JSON.parse(outcome.script).agents.map((agent) => agent.block), [true, false]);
-  assert.deepEqual((await recordChecked("setup", { block: [true, true] })).ending, "deadlock");
+  assert.deepEqual((await recordChecked("setup", { noBlock: [] })).ending, "deadlock");
 });
 
 test("a run in which all agents come to their end has finished", withSabsim, async () => {
-  const outcome = await recordCase("addition", { check: true });
+  const outcome = await recordCase("addition", { sabsim: SABSIM });
   assert.equal(outcome.ending, "finished");
   assert.equal(outcome.detail, "");
   assert.deepEqual(outcome.answers, [["0", "1", "2"], ["0", "1", "2"]]);
   assert.deepEqual(outcome.progress, [{ returned: 3, calls: 3 }, { returned: 3, calls: 3 }]);
   assert.deepEqual(outcome.bytes, ["030000000300000000000000"]);
   assert.equal(outcome.moves, 18);
-  const { bytes, views, agents } = JSON.parse(outcome.script);
-  assert.equal(bytes, 12);
-  assert.deepEqual(views, [{ name: "Int32", kind: "Int32", offset: 0, length: 3 }]);
+  const { blocks, views, agents } = JSON.parse(outcome.script);
+  assert.deepEqual(blocks, [12]);
+  assert.deepEqual(views, [{ name: "Int32", kind: "Int32", block: 0, offset: 0, length: 3 }]);
   assert.deepEqual(agents[1].calls, Array(3).fill(["add", "Int32", 1, 1]));
 });
 
 test("a run in which no agent calls Atomics is no pass, and its script has no calls", withSabsim, async () => {
-  const outcome = await recordCase("nothing", { check: true });
+  const outcome = await recordCase("nothing", { sabsim: SABSIM });
   assert.equal(outcome.ending, "failed");
   assert.match(outcome.detail, /^no agent has made a call of Atomics on the recorded buffers/);
   assert.deepEqual(JSON.parse(outcome.script).agents.map((agent) => agent.calls), [[], []]);
 });
 
 test("a wait that nobody ends is a deadlock, which tells who waits where", withSabsim, async () => {
-  const outcome = await recordCase("waitsForEver", { check: true });
+  const outcome = await recordCase("waitsForEver", { sabsim: SABSIM });
   assert.equal(outcome.ending, "deadlock");
   assert.equal(outcome.detail, 'agent 0 waits at byte 4 of block 0: its call 0, ["wait", "Int32", 1, 0]');
   assert.deepEqual(outcome.answers, [[null], ["0"]]);
@@ -69,17 +69,17 @@ test("a wait that nobody ends is a deadlock, which tells who waits where", withS
 });
 
 test("a wait with a timeout ends; its fraction has no effect, and isn't in the script", withSabsim, async () => {
-  const outcome = await recordCase("waitsWithTime", { check: true, count: 1 });
+  const outcome = await recordCase("waitsWithTime", { sabsim: SABSIM, agents: 1 });
   assert.equal(outcome.ending, "finished");
   assert.deepEqual(JSON.parse(outcome.script).schedule, [0, 0, { timeout: 0 }, 0]);
   assert.deepEqual(JSON.parse(outcome.script).agents[0].calls, [["wait", "Int32", 0, 0, 0]]);
 });
 
 test("an agent that throws fails the run, with its message and stack", withSabsim, async () => {
-  const atOnce = await recordCase("throwsAtOnce", { check: true });
+  const atOnce = await recordCase("throwsAtOnce", { sabsim: SABSIM });
   assert.equal(atOnce.ending, "failed");
   assert.match(atOnce.detail, /^agent 1 threw RangeError: no such luck\n +at .*cases\.mjs/);
-  const later = await recordCase("throwsLater", { check: true });
+  const later = await recordCase("throwsLater", { sabsim: SABSIM });
   assert.match(later.detail, /^agent 1 threw Error: after a call\n/);
   const noError = await recordCase("throwsNoError");
   assert.equal(noError.detail, "agent 0 threw an object");
@@ -93,7 +93,7 @@ test("what is thrown is told with its message and its causes", async (context) =
   };
   for (const [thrown, detail] of Object.entries(told)) {
     const agents = agentsOf(temporaryFolder(context), `throw ${thrown};`);
-    const outcome = await record({ agents, count: 1, buffers: [4], check: false });
+    const outcome = await record({ module: agents, agents: 1, buffers: [4], sabsim: false });
     assert.match(outcome.detail, detail);
   }
 });
@@ -105,84 +105,84 @@ test("an agent that answers a promise fails the run", async () => {
 });
 
 test("an agent that spins for ever comes to the bound of calls, or of moves", withSabsim, async () => {
-  const calls = await recordCase("spins", { check: true });
+  const calls = await recordCase("spins", { sabsim: SABSIM });
   assert.equal(calls.ending, "bound");
   assert.match(calls.detail, /^agent [01] spins at cases\.mjs:\d+:\d+: it has made 1000 calls, and goes on$/);
   assert.equal(Math.max(...calls.progress.map((agent) => agent.calls)), 1_000);
-  const moves = await recordCase("spins", { check: true, maxMoves: 100 });
+  const moves = await recordCase("spins", { sabsim: SABSIM, maxMoves: 100 });
   assert.deepEqual([moves.ending, moves.detail, moves.moves], ["bound", "more than 100 moves would be made", 99]);
 });
 
 test("an agent that makes no call comes to the bound of seconds", withSabsim, async () => {
-  const outcome = await recordCase("loops", { check: true, seconds: 1.5 });
+  const outcome = await recordCase("loops", { sabsim: SABSIM, seconds: 1.5 });
   assert.deepEqual([outcome.ending, outcome.detail], ["bound", "agent 1 has made no call for 1.5 s"]);
 });
 
 test("more typed arrays than a script can have are a bound", withSabsim, async () => {
-  const outcome = await recordCase("manyViews", { check: true, count: 1, buffers: [70] });
+  const outcome = await recordCase("manyViews", { sabsim: SABSIM, agents: 1, buffers: [70] });
   assert.deepEqual([outcome.ending, outcome.detail], ["bound", "more than 64 different typed arrays were used"]);
   assert.equal(JSON.parse(outcome.script).views.length, 64);
 });
 
 test("a script that would be too long is a bound", withSabsim, async () => {
-  const outcome = await recordCase("longCalls", { check: true, count: 16, buffers: [65_536] });
+  const outcome = await recordCase("longCalls", { sabsim: SABSIM, agents: 16, buffers: [65_536] });
   assert.deepEqual([outcome.ending, outcome.detail], ["bound", "the script would be longer than 1048576 bytes"]);
   assert.ok(outcome.script.length > 900_000 && outcome.script.length <= 1_048_576, `${outcome.script.length} bytes`);
 });
 
 test("where ordinary writes are refused they are found, with the agent and the place", withSabsim, async () => {
-  const outcome = await recordCase("writesPlainly", { check: true, ordinary: "refuse" });
+  const outcome = await recordCase("writesPlainly", { sabsim: SABSIM, ordinary: "refuse" });
   assert.equal(outcome.ending, "failed");
   assert.equal(outcome.detail, "agent 1 changed byte 6 of block 0 from 0 to 5 without a call of Atomics,"
     + ' after its call 0, ["add", "Int32", 0, 1]');
-  const atTheEnd = await recordCase("writesPlainlyAtTheEnd", { count: 1, ordinary: "refuse" });
+  const atTheEnd = await recordCase("writesPlainlyAtTheEnd", { agents: 1, ordinary: "refuse" });
   assert.equal(atTheEnd.detail, "agent 0 changed byte 8 of block 0 from 0 to 1 without a call of Atomics,"
     + " before its first call");
 });
 
 test("a worker that dies fails the run", withSabsim, async () => {
-  const outcome = await recordCase("exits", { check: true });
+  const outcome = await recordCase("exits", { sabsim: SABSIM });
   assert.equal(outcome.ending, "failed");
   assert.match(outcome.detail, /^agent 1's worker died: .*exit code 7$/);
 });
 
 test("what an agent does when its run is over changes nothing that is told", withSabsim, async () => {
-  const outcome = await recordCase("cleansUp", { check: true });
+  const outcome = await recordCase("cleansUp", { sabsim: SABSIM });
   assert.equal(outcome.ending, "deadlock");
   assert.deepEqual(outcome.bytes, ["000000000000000000000000"]);
   assert.equal(outcome.answers.flat().length, 2);
-  const endless = await recordCase("catchesAll", { check: true });
+  const endless = await recordCase("catchesAll", { sabsim: SABSIM });
   assert.match(endless.detail, /^agent 1 threw Error: the end/);
 });
 
 test("an ordinary write that the end of the stack has kept off is seen when it is made again", withSabsim, async () => {
   for (const seed of [1, 2, 3]) {
-    const { ending, detail, bytes, ordinary } = await record({ agents: agentsPath("retried"), seed, sabsim: SABSIM });
+    const { ending, detail, bytes, ordinary } = await record({ module: agentsPath("retried"), seed, sabsim: SABSIM });
     assert.deepEqual([ending, detail, bytes], ["finished", "", ["01000000", "01".repeat(60)]]);
     assert.ok(ordinary >= 60);
   }
 });
 
 test("an agent whose stack comes to its end amid a call is told of, or not harmed", withSabsim, async () => {
-  const outcome = await recordCase("deep", { check: true, count: 1, seconds: 1 });
+  const outcome = await recordCase("deep", { sabsim: SABSIM, agents: 1, seconds: 1 });
   const told = /^agent 0 (ran out of stack in|didn't come out of) a call/;
   if (outcome.ending === "failed") assert.match(outcome.detail, told);
   else assert.equal(outcome.bytes[0].slice(0, 8), "01000000");
 });
 
-test("each call outside of the profile is refused by name, even where the agent catches it", async () => {
+test("each call that no script can have is refused by name, even where the agent catches it", async () => {
   const outcomes = await Promise.all(NAMES.map((name) => {
-    return record({ agents: agentsPath("refused"), args: [name], count: 2, buffers: [16], check: false });
+    return record({ module: agentsPath("refused"), args: [name], agents: 2, buffers: [16], sabsim: false });
   }));
   outcomes.forEach(({ ending, detail }, at) => {
     assert.equal(ending, "failed", NAMES[at]);
-    const told = /^agent 1 stands outside of sabsim's profile: Error: Atomics\.[a-zA-Z]+: .*\n +at /;
+    const told = /^agent 1 made a call that the recorder can't record: Error: Atomics\.[a-zA-Z]+: .*: .*\n +at /;
     assert.match(detail, told, NAMES[at]);
   });
   const told = (name) => outcomes[NAMES.indexOf(name)].detail;
-  assert.match(told("fraction"), /Atomics\.store: the value 1\.5 isn't a whole number/);
+  assert.match(told("fraction"), /Atomics\.store: the value 1\.5 isn't a whole .*: convert it before the call$/m);
   assert.match(told("object"), /Atomics\.add: the value an object is no Number or BigInt/);
-  assert.match(told("waitAsync"), /Atomics\.waitAsync: no script can have this function/);
+  assert.match(told("waitAsync"), /Atomics\.waitAsync: no script can have this function: use Atomics\.wait$/m);
   assert.match(told("replacement"), /Atomics\.compareExchange: the replacement undefined/);
 });
 
@@ -190,50 +190,51 @@ test("the agents' Atomics look like the engine's", async (context) => {
   const agents = agentsOf(temporaryFolder(context), `
     const told = Object.getOwnPropertyNames(Atomics).map((name) => [name, Atomics[name].name, Atomics[name].length]);
     throw new Error(JSON.stringify([String(Atomics), told, Atomics.isLockFree(4)]));`);
-  const { detail } = await record({ agents, count: 1, buffers: [4], check: false });
+  const { detail } = await record({ module: agents, agents: 1, buffers: [4], sabsim: false });
   const told = Object.getOwnPropertyNames(Atomics).map((name) => [name, Atomics[name].name, Atomics[name].length]);
   assert.equal(detail.split("\n")[0], `agent 0 threw Error: ${JSON.stringify(["[object Atomics]", told, true])}`);
 });
 
 test("sixteen agents, four buffers and the greatest buffer are served", withSabsim, async () => {
-  const outcome = await recordCase("addition", { check: true, count: 16, buffers: [65_536, 0, 8, 1] });
+  const outcome = await recordCase("addition", { sabsim: SABSIM, agents: 16, buffers: [65_536, 0, 8, 1] });
   assert.equal(outcome.ending, "finished");
   assert.equal(outcome.bytes[0].slice(0, 128), "03000000".repeat(16));
 });
 
 test("options that can't be are refused", async () => {
   const cases = [
-    { count: 0 }, { count: 17 }, { count: 1.5 }, { buffers: [] }, { buffers: [65_537] }, { buffers: [-1] },
+    { agents: 0 }, { agents: 17 }, { agents: 1.5 }, { buffers: [] }, { buffers: [65_537] }, { buffers: [-1] },
     { buffers: [1, 1, 1, 1, 1] }, { seed: -1 }, { seed: 0.5 }, { maxMoves: 100_001 }, { seconds: 0 }, { switch: 2 },
-    { block: [1] },
+    { noBlock: [16] },
   ];
   for (const options of cases) {
     await assert.rejects(recordCase("nothing", options), Refused, JSON.stringify(options));
   }
   const agents = agentsPath("cases");
-  await assert.rejects(record({ agents, check: false, buffers: [4] }), /the number of agents is missing/);
-  await assert.rejects(record({ agents, check: false, count: 1 }), /the buffers' bytes are missing/);
-  await assert.rejects(record({ count: 1, buffers: [4], check: false }), Refused);
+  await assert.rejects(record({ module: agents, sabsim: false, buffers: [4] }), /the number of agents is missing/);
+  await assert.rejects(record({ module: agents, sabsim: false, agents: 1 }), /the buffers' bytes are missing/);
+  await assert.rejects(record({ agents: 1, buffers: [4], sabsim: false }), Refused);
 });
 
 test("a module that can't be loaded is refused", async (context) => {
   const folder = temporaryFolder(context);
-  const load = (agents) => record({ agents, count: 1, buffers: [4], check: false });
-  await assert.rejects(load(`${folder}/none.mjs`), /can't be loaded: .*none\.mjs/s);
+  const load = (module) => record({ module, agents: 1, buffers: [4], sabsim: false });
+  await assert.rejects(load(`${folder}/none.mjs`), /^Error: there is no file \/.*none\.mjs$/);
+  await assert.rejects(load(new URL("none.mjs", import.meta.url)), /^Error: there is no file \/.*tests\/none\.mjs$/);
   await assert.rejects(load("data:text/javascript,export const setup = 1"), Refused);
   await assert.rejects(load(new URL("data:text/javascript,export const a = 1")), /no function as its default export/);
   await assert.rejects(load(new URL("data:text/javascript,syntax error")), /SyntaxError/);
   await assert.rejects(load(new URL("data:text/javascript,throw new Error('at once')")), /at once/);
   await assert.rejects(load(new URL("data:text/javascript,process.exit(3)")), /exit code 3/);
-  const endless = { module: "data:text/javascript,for (;;);", args: [], count: 1, buffers: [4], loadSeconds: 1 };
+  const endless = { module: "data:text/javascript,for (;;);", args: [], agents: 1, buffers: [4], loadSeconds: 1 };
   await assert.rejects(Group.open(endless), /wasn't loaded within 1 s/);
 });
 
 test("a missing sabsim is told of before anything is run", async () => {
-  const options = { check: true, sabsim: "/nowhere/sabsim" };
+  const options = { sabsim: "/nowhere/sabsim" };
   await assert.rejects(recordCase("nothing", options), (error) => {
     assert.ok(error instanceof NoSabsim);
-    assert.match(error.message, /isn't at \/nowhere\/sabsim: build it by/);
+    assert.match(error.message, /isn't at \/nowhere\/sabsim: `\.\/build`, in the root of the repository, builds /);
     return true;
   });
 });
@@ -242,7 +243,7 @@ test("a difference shows both sides", async (context) => {
   const folder = temporaryFolder(context);
   const lying = `${folder}/lying`;
   writeFileSync(lying, "#!/bin/sh\ncat > /dev/null\nprintf '0 0 0 begin\\n1 0 0 act 5\\n'\n", { mode: 0o755 });
-  await assert.rejects(recordCase("addition", { check: true, count: 1, sabsim: lying }), (error) => {
+  await assert.rejects(recordCase("addition", { sabsim: SABSIM, agents: 1, sabsim: lying }), (error) => {
     assert.ok(error instanceof Difference);
     assert.equal(error.message, [
       "seed 1: the code and sabsim differ, in line 2 of the report",
@@ -252,6 +253,6 @@ test("a difference shows both sides", async (context) => {
     return true;
   });
   writeFileSync(lying, "#!/bin/sh\necho 'sabsim: 13 BadCall' >&2\nexit 1\n", { mode: 0o755 });
-  const refused = recordCase("addition", { check: true, sabsim: lying });
+  const refused = recordCase("addition", { sabsim: lying });
   await assert.rejects(refused, /status 1 on the script: sabsim: 13 BadCall/);
 });

@@ -15,7 +15,7 @@ import { SABSIM, agentsPath, recordCase, withSabsim } from "./common.mjs";
 async function outcomesOf(name, options) {
   const outcomes = [];
   const all = {
-    ...optionsOf([agentsPath(name)]), module: moduleUrl(agentsPath(name)), last: 40, check: 0, sabsim: SABSIM,
+    ...optionsOf([agentsPath(name)]), module: moduleUrl(agentsPath(name)), last: 40, checkEvery: 0, sabsim: SABSIM,
     seconds: 5, ...options,
   };
   const { checked } = await recordSeeds(all, (outcome) => outcomes.push(outcome));
@@ -30,7 +30,7 @@ const bytesOf = (outcomes) => outcomes.map((outcome) => outcome.state.shown[0]);
 const endingsOf = (outcomes) => new Set(outcomes.map((outcome) => outcome.ending));
 
 test("the lost wake-up of a naive mutex is found within 200 seeds, and sabsim agrees", withSabsim, async () => {
-  const { outcomes, checked } = await outcomesOf("naive-mutex", { last: 200, check: 10 });
+  const { outcomes, checked } = await outcomesOf("naive-mutex", { last: 200, checkEvery: 10 });
   const failing = outcomes.filter((outcome) => outcome.ending !== "finished");
   assert.ok(failing.length > 0);
   assert.deepEqual([...endingsOf(failing)], ["deadlock"]);
@@ -41,7 +41,7 @@ test("the lost wake-up of a naive mutex is found within 200 seeds, and sabsim ag
 });
 
 test("the mutex of three states comes to its end under 200 seeds, each checked", withSabsim, async () => {
-  const { outcomes, checked } = await outcomesOf("three-state-mutex", { last: 200, check: 1, jobs: 2 });
+  const { outcomes, checked } = await outcomesOf("three-state-mutex", { last: 200, checkEvery: 1, jobs: 2 });
   assert.deepEqual([...endingsOf(outcomes)], ["finished"]);
   assert.deepEqual([...new Set(bytesOf(outcomes))], ["0000000009000000"]);
   assert.equal(checked, 200);
@@ -50,7 +50,7 @@ test("the mutex of three states comes to its end under 200 seeds, each checked",
 test("random calls of all kinds, right and wrong, are answered as sabsim answers them", withSabsim, async () => {
   const seen = new Set();
   for (const start of ["1", "2"]) {
-    const { outcomes, checked } = await outcomesOf("random", { args: [start], last: 60, check: 1 });
+    const { outcomes, checked } = await outcomesOf("random", { args: [start], last: 60, checkEvery: 1 });
     assert.equal(checked, 60);
     for (const outcome of outcomes) for (const answer of outcome.answers.flat()) seen.add(answer);
   }
@@ -60,9 +60,9 @@ test("random calls of all kinds, right and wrong, are answered as sabsim answers
 });
 
 test("the same seeds give the same scripts byte for byte, whatever the jobs", withSabsim, async () => {
-  const one = await outcomesOf("naive-mutex", { check: 1, jobs: 1 });
-  const again = await outcomesOf("naive-mutex", { check: 1, jobs: 1 });
-  const four = await outcomesOf("naive-mutex", { check: 1, jobs: 4 });
+  const one = await outcomesOf("naive-mutex", { checkEvery: 1, jobs: 1 });
+  const again = await outcomesOf("naive-mutex", { checkEvery: 1, jobs: 1 });
+  const four = await outcomesOf("naive-mutex", { checkEvery: 1, jobs: 4 });
   assert.deepEqual(again.outcomes, one.outcomes);
   // Each job tells the trace of its own first failing run.
   const untraced = ({ outcomes }) => outcomes.map((outcome) => ({ ...outcome, trace: undefined }));
@@ -71,27 +71,27 @@ test("the same seeds give the same scripts byte for byte, whatever the jobs", wi
 });
 
 test("a run among others is the run that is recorded by itself, in fresh workers too", withSabsim, async () => {
-  const { outcomes } = await outcomesOf("cases", { args: ["racy"], count: 3, buffers: [12], check: 1, last: 6 });
-  const options = { args: ["racy"], count: 3, buffers: [12], check: 1, last: 6, fresh: true };
+  const { outcomes } = await outcomesOf("cases", { args: ["racy"], agents: 3, buffers: [12], checkEvery: 1, last: 6 });
+  const options = { args: ["racy"], agents: 3, buffers: [12], checkEvery: 1, last: 6, fresh: true };
   assert.deepEqual((await outcomesOf("cases", options)).outcomes, outcomes);
-  const alone = await recordCase("racy", { count: 3, seed: 5, check: true });
-  assert.deepEqual(alone, outcomes[4]);
+  const { checked, ...alone } = await recordCase("racy", { agents: 3, seed: 5, sabsim: SABSIM });
+  assert.deepEqual([alone, checked], [outcomes[4], true]);
 });
 
 test("a value that is read and written gets lost under some seeds, and under others not", async () => {
-  const { outcomes } = await outcomesOf("cases", { args: ["racy"], count: 3, buffers: [4], last: 200 });
+  const { outcomes } = await outcomesOf("cases", { args: ["racy"], agents: 3, buffers: [4], last: 200 });
   assert.deepEqual([...new Set(bytesOf(outcomes))].sort(), ["01000000", "02000000", "03000000"]);
 });
 
 test("with --switch 0 each agent comes to its end before the next one goes on", async () => {
-  const options = { args: ["racy"], count: 3, buffers: [4], last: 30, switching: 0 };
+  const options = { args: ["racy"], agents: 3, buffers: [4], last: 30, switching: 0 };
   const { outcomes } = await outcomesOf("cases", options);
   assert.deepEqual([...new Set(bytesOf(outcomes))], ["03000000"]);
 });
 
 test("state of a module stays from seed to seed, and with fresh workers it doesn't", async () => {
   const last = (outcomes) => bytesOf(outcomes).at(-1);
-  const options = { args: ["countsSeeds"], count: 1, buffers: [4], last: 5 };
+  const options = { args: ["countsSeeds"], agents: 1, buffers: [4], last: 5 };
   assert.equal(last((await outcomesOf("cases", options)).outcomes), "05000000");
   assert.equal(last((await outcomesOf("cases", { ...options, fresh: true })).outcomes), "01000000");
   // An agent that is left waiting is sent home, and its worker stays too.
@@ -104,7 +104,7 @@ test("state of a module stays from seed to seed, and with fresh workers it doesn
 test("after an agent that has gone astray the next seeds are recorded all the same", withSabsim, async () => {
   const astray = { exits: "failed", catchesAll: "failed", loops: "bound", manyViews: "bound" };
   for (const [name, ending] of Object.entries(astray)) {
-    const options = { args: [name], count: 2, buffers: [72], last: 2, seconds: 1, check: 1 };
+    const options = { args: [name], agents: 2, buffers: [72], last: 2, seconds: 1, checkEvery: 1 };
     const { outcomes } = await outcomesOf("cases", options);
     assert.deepEqual(outcomes.map((outcome) => outcome.ending), [ending, ending], name);
   }
@@ -112,6 +112,6 @@ test("after an agent that has gone astray the next seeds are recorded all the sa
 
 test("seeds begin where they are told, up to the greatest", async () => {
   const most = Number.MAX_SAFE_INTEGER;
-  const options = { args: ["racy"], count: 3, buffers: [4], first: most - 1, last: most };
+  const options = { args: ["racy"], agents: 3, buffers: [4], first: most - 1, last: most };
   assert.equal((await outcomesOf("cases", options)).outcomes.length, 2);
 });

@@ -8,7 +8,7 @@ import { placesOf, recorded, seedsTo, summaryLines } from "./recorded.mjs";
 
 /** The outcomes of some ways to go on, by their names. With a trace each run is made once, and is the next way. */
 async function outcomesOf(ways, seconds) {
-  const options = { agents: agentsPath("spins"), args: ways, trace: true, seconds };
+  const options = { module: agentsPath("spins"), args: ways, trace: true, seconds };
   const outcomes = await recorded(options, seedsTo(ways.length));
   return Object.fromEntries(ways.map((way, at) => [way, outcomes[at]]));
 }
@@ -84,7 +84,7 @@ describe("agents that go on and on", withSabsim, () => {
   });
 
   it("a bound that is allowed is no failure, and is told all the same", async () => {
-    const [outcome] = await recorded({ agents: agentsPath("spins"), args: ["load"], bounds: "allow" });
+    const [outcome] = await recorded({ module: agentsPath("spins"), args: ["load"], bounds: "allow" });
     assert.deepEqual([outcome.ending, outcome.fails, outcome.detail], ["bound", false, outcomes.load.detail]);
     const [first, ...others] = summaryLines([outcome]);
     assert.equal(first, "1 run: 1 bound (allowed)");

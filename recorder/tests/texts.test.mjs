@@ -64,16 +64,16 @@ const trace = (lengths) => ({
   ],
 });
 
-test("a script has the older form where there is one block, and else the newer", () => {
+test("a script names its blocks, and each view's, whether there is one block or several", () => {
   const agents = [{ block: true, calls: [["wait", "Int32", 0, 0, 5]] }, { block: false, calls: [] }];
   const schedule = [0, 0, { timeout: 0 }, 0];
-  const view = { name: "Int32", kind: "Int32", offset: 0, length: 1 };
-  assert.deepEqual(JSON.parse(scriptText(trace([4]))), { bytes: 4, views: [view], agents, schedule });
-  const blocks = { blocks: [4, 0], views: [{ ...view, block: 0 }], agents, schedule };
-  assert.deepEqual(JSON.parse(scriptText(trace([4, 0]))), blocks);
+  const views = [{ name: "Int32", kind: "Int32", block: 0, offset: 0, length: 1 }];
+  for (const blocks of [[4], [4, 0]]) {
+    assert.deepEqual(JSON.parse(scriptText(trace(blocks))), { blocks, views, agents, schedule });
+  }
   const empty = { lengths: [0], canBlock: [true], views: [], calls: [[]], moves: [] };
   assert.deepEqual(JSON.parse(scriptText(empty)), {
-    bytes: 0, views: [], agents: [{ block: true, calls: [] }], schedule: [],
+    blocks: [0], views: [], agents: [{ block: true, calls: [] }], schedule: [],
   });
 });
 

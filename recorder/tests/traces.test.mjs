@@ -7,6 +7,8 @@ import { join } from "node:path";
 import { fileURLToPath } from "node:url";
 import { describe, it } from "node:test";
 import { RECORD, SABSIM, agentsPath, temporaryFolder, withSabsim } from "./common.mjs";
+import { checkedOptions } from "../lib/library-options.mjs";
+import { Group } from "../lib/run/group.mjs";
 import { recorded } from "./recorded.mjs";
 import { slowRaces } from "./second-detector.mjs";
 
@@ -49,6 +51,7 @@ describe("traces", { concurrency: 2, ...withSabsim }, () => {
     const told = [...stdout.matchAll(new RegExp(`^  seed ${seed} the first, \\d+ runs?: (.*)$`, "gm"))];
     assert.ok(told.length > 0, stdout);
     assert.deepEqual(told.map(([, pair]) => pair).sort(), racingPairs(events));
+    assert.ok(events.every(({ source }) => source.startsWith("ring-frees-first.mjs:")));
     const { agents } = JSON.parse(readFileSync(join(out, `seed-${seed}.json`), "utf8"));
     const own = agents.flatMap(({ calls }) => calls.filter(([, view]) => !view.startsWith("ordinary")));
     const begun = events.filter(({ does }) => !["read", "write", "leave", "time-up"].includes(does));
@@ -56,31 +59,32 @@ describe("traces", { concurrency: 2, ...withSabsim }, () => {
   });
 
   it("the trace of a run that waits for ever has all that its agents did, with their lines", async () => {
-    const [outcome] = await recorded({ agents: agentsPath("setup"), block: [true, true], trace: true });
+    const [outcome] = await recorded({ module: agentsPath("setup"), noBlock: [], trace: true });
     assert.equal(outcome.ending, "deadlock");
     const events = eventsOf(outcome.trace);
     const waits = events.filter(({ does }) => does === "wait");
     assert.equal(waits.length, 1);
     const [{ read, write, atomic, waiters, source }] = waits;
     assert.deepEqual([read, write, atomic, waiters], [true, false, true, true]);
-    assert.match(source, /^file:.*\/setup\.mjs:\d+:\d+$/);
+    // As races name it, which is from the folder of the agents' module.
+    assert.match(source, /^setup\.mjs:\d+:\d+$/);
     assert.equal(events.filter(({ does }) => does === "leave").length, 0);
   });
 
   it("a trace has no ordinary accesses where these aren't watched", async () => {
-    const [outcome] = await recorded({ agents: knownPath("ring"), ordinary: "store", trace: true });
+    const [outcome] = await recorded({ module: knownPath("ring"), ordinary: "store", trace: true });
     assert.ok(eventsOf(outcome.trace).every(({ atomic, waiters }) => atomic || waiters));
   });
 
   it("races that are allowed are told, with their lines, and the run passes", async () => {
-    const [outcome] = await recorded({ agents: agentsPath("modes"), args: ["unlocked"], races: "allow" });
+    const [outcome] = await recorded({ module: agentsPath("modes"), args: ["unlocked"], races: "allow" });
     assert.deepEqual([outcome.ending, outcome.fails, outcome.detail], ["finished", false, ""]);
     assert.ok(outcome.races.length > 0);
     for (const { lines } of outcome.races) for (const line of lines) assert.match(line, /^modes\.mjs:\d+:\d+$/);
   });
 
   it("of a run that isn't made again as it was, races are told without their lines", async () => {
-    const [first, second] = await recorded({ agents: agentsPath("remembers") }, [1, 2]);
+    const [first, second] = await recorded({ module: agentsPath("remembers") }, [1, 2]);
     assert.equal(first.ending, "race");
     // It was made once more, and that one differs: so what it did is told, and not where.
     const [{ lines, sides }] = first.races;
@@ -94,5 +98,39 @@ describe("traces", { concurrency: 2, ...withSabsim }, () => {
     assert.ok(second.bytes[0].endsWith("0300000003000000"), second.bytes[0]);
     // After a race the lines are told at once.
     for (const line of second.races[0].lines) assert.match(line, /^remembers\.mjs:\d+:\d+$/);
+  });
+
+  /** A run, traced, with room for some thousand events that aren't calls. */
+  async function recordedInLittleRoom(way) {
+    const options = { module: agentsPath("reads-much"), args: [way], trace: true };
+    // Of a log's room 65,536 events are kept for calls.
+    const group = await Group.open({ ...checkedOptions(options), fresh: false, logEvents: 65_536 + 4_000 });
+    const outcomes = [];
+    try {
+      await group.run([{ seed: 1, whole: true }], (outcome) => outcomes.push(outcome));
+    } finally {
+      await group.close();
+    }
+    assert.equal(outcomes.length, 1);
+    return outcomes[0];
+  }
+
+  it("where a full trace has no room for all reads, races are looked for among all of them", async () => {
+    // The byte that both access is read behind the others.
+    const { ending, fails, races, ordinary, detail } = await recordedInLittleRoom("races");
+    assert.deepEqual([ending, fails, ordinary], ["race", true, 2 + 10 * 999]);
+    const [{ lines }] = races;
+    assert.deepEqual([races.length, ...lines], [1, "agent 0's read of Uint8_b0[0]", "agent 1's write of Uint8_b0[0]"]);
+    assert.match(detail, /agent 0 reads Uint8_b0\[0\], after its call 9$/);
+  });
+
+  it("its trace has what there is room for, and all calls", async () => {
+    const { ending, trace, ordinary } = await recordedInLittleRoom("passes");
+    assert.deepEqual([ending, ordinary], ["finished", 1 + 10 * 999]);
+    const does = eventsOf(trace).map((event) => event.does);
+    assert.equal(does.filter((each) => each === "add").length, 10);
+    assert.equal(does.filter((each) => each === "store").length, 1);
+    const reads = does.filter((each) => each === "read").length;
+    assert.ok(reads > 3_900 && reads <= 4_000, `${reads} reads`);
   });
 });

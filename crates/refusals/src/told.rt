@@ -26,12 +26,12 @@ pub enum Told {
 
 /// What is told in words.
 const IN_WORDS: &str = "\
-0 0 0 begin         calls store(a, 0, 300)
-1 0 0 act 300       store(a, 0, 300) changes a[0] from 0 to 44
-2 0 0 return 300    returns from store(a, 0, 300)
-3 0 1 begin         calls load(a, 0)
-4 0 1 act 44        load(a, 0) reads 44
-5 0 1 return 44     returns from load(a, 0)
+0 0 0 begin       calls store(a, 0, 300)
+1 0 0 act 300     store(a, 0, 300) changes a[0] from 0 to 44
+2 0 0 return 300  returns from store(a, 0, 300)
+3 0 1 begin       calls load(a, 0)
+4 0 1 act 44      load(a, 0) reads 44
+5 0 1 return 44   returns from load(a, 0)
 block 0 2c
 agent 0 2 of 2
 ";

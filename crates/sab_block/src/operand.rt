@@ -117,7 +117,6 @@ fn wrapped(kind: Kind, v: i128) -> u64
 }
 
 /// The whole number that the bits of an element stand for, by two's complement where the kind is signed.
-#[tactic(auto, using(crate::proofs::RawElements::value_cases))]
 fn unwrapped(kind: Kind, raw: u64) -> i128
     requires { raw < raw_count kind }
     ensures { result ≡ value kind raw }

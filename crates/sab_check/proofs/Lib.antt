@@ -2,3 +2,5 @@ pub mod Causes
 pub mod Counts
 pub mod Lines
 pub mod Names
+pub mod Walk
+pub mod Saying

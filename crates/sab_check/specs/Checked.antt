@@ -1,11 +1,15 @@
 -- What a check says of a script.
-use Rattle.std.specs.Prelude.{◌≡◌, ℕ, List, ◌++◌, codes, string_bytes}
+use Rattle.std.specs.Prelude.{◌≡◌, ℕ, List, ◌++◌, take, Option, Some, None, codes, string_bytes, if◌then◌else◌}
 use Rattle.sab_refusal.specs.declared.refusal.Refusal.{Refusal}
+use Rattle.sab_refusal.specs.declared.refusal.Refusal.TheVariants.{NotJson, Tree}
 use Rattle.sab_script.specs.Setup.{SetupParts}
 use Rattle.sab_refusal.specs.Refusal.{IsMemory, refusal_text}
 use Rattle.sab_script.specs.Script.{IsScriptOf, IsRefusedBy}
 use Rattle.sab_check.specs.declared.check.Checked.{Checked}
 use Rattle.sab_check.specs.declared.check.Checked.TheVariants.{Accepted, Refused}
+use Rattle.sab_check.specs.declared.scanning.Found.{Found}
+use Rattle.sab_check.specs.declared.spot.Spot.{Spot}
+use Rattle.sab_check.specs.Foreign.{FindsFirst, spot_after, is_by, foreign_line}
 use Rattle.sab_check.specs.Text.{accepted_text}
 
 -- the script spells one setup, and the text is what is said of it
@@ -14,12 +18,32 @@ pub record IsAccepted (script text : List ℕ) : Type 0 where
   pub spelled : IsScriptOf script setup
   pub said : text ≡ accepted_text setup
 
+abbrev pub spot : ℕ → ℕ → Spot
+spot line column = record { line = line; column = column }
+
+-- what is said of a refusal where this was found, which JSON hasn't: it is told where it stands where the reader ended,
+-- or before
+abbrev pub said_of : List ℕ → Refusal → Option Found → List ℕ
+said_of script (NotJson line column is_cut) (Some found) =
+    if is_by (spot_after (take found.at script)) (spot line column)
+    then foreign_line (spot_after (take found.at script)) found.what
+    else refusal_text (NotJson line column is_cut)
+said_of script (NotJson line column is_cut) None = refusal_text (NotJson line column is_cut)
+said_of script (Tree e) found = refusal_text (Tree e)
+
+-- what is said of a refusal: where the script is no JSON text, of the first thing in it that JSON hasn't
+abbrev pub Says : List ℕ → Refusal → List ℕ → Type 0
+Says script (NotJson line column is_cut) text =
+    (found : Option Found) × FindsFirst script found
+    × (text ≡ said_of script (NotJson line column is_cut) found ++ codes "\n")
+Says script (Tree e) text = text ≡ refusal_text (Tree e) ++ codes "\n"
+
 -- the script spells none, and the text says where and why
 pub record IsRefused (script text : List ℕ) : Type 0 where
   pub refusal : Refusal
   pub refused : IsRefusedBy script refusal
   pub known : IsMemory refusal → ⊥
-  pub said : text ≡ refusal_text refusal ++ codes "\n"
+  pub said : Says script refusal text
 
 abbrev pub IsChecked : List ℕ → Checked → Type 0
 IsChecked script (Accepted text) = IsAccepted script (string_bytes text)

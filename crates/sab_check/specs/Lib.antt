@@ -1,3 +1,4 @@
 pub mod Cause
 pub mod Text
+pub mod Foreign
 pub mod Checked

@@ -1,12 +1,15 @@
 //! From the bytes of a script to what a check says.
 
 ghost use Rattle.std.specs.Prelude.{◌≡◌, IfOk, string_bytes};
-ghost use Rattle.sab_check.specs.Checked.{IsChecked};
+ghost use Rattle.sab_check.specs.Checked.{IsChecked, Says};
 ghost use Rattle.sab_check.specs.Text.{accepted_text};
 
+use crate::foreign_line::ForeignLine;
 use crate::ok_line::push_ok;
+use crate::scanning::first_foreign;
+use crate::spot::Spot;
 use crate::warnings::push_warnings;
-use sab_script::{Setup, read_script};
+use sab_script::{Refusal, Setup, read_script};
 use std::alloc::{AllocError, Global};
 
 /// What a check says of a script, in lines.
@@ -28,9 +31,48 @@ pub fn check_script(alloc: Global, script: &[u8]) -> Result<Checked, AllocError>
             if refusal.is_memory() {
                 return Err(AllocError);
             }
-            Ok(Checked::Refused(format!(in alloc; "{refusal}\n")?))
+            Ok(Checked::Refused(refused(alloc, script, refusal)?))
         }
     }
+}
+
+/// What is said of a script that is refused.
+fn refused(alloc: Global, script: &[u8], refusal: Refusal) -> Result<String, AllocError>
+    ensures { IfOk result (λ text. Says script.now refusal (string_bytes text)) }
+{
+    match refusal {
+        Refusal::NotJson {
+            line,
+            column,
+            is_cut,
+        } => no_json(alloc, script, Spot { line, column }, is_cut),
+        Refusal::Tree(located) => format!(in alloc; "{located}\n"),
+    }
+}
+
+/// What is said of a text that isn't JSON, where reading ended there.
+#[tactic(auto, using(crate::proofs::Saying::says_foreign))]
+fn no_json(alloc: Global, script: &[u8], end: Spot, is_cut: bool) -> Result<String, AllocError>
+    ensures { IfOk result (λ text.
+        Says script.now (Refusal.NotJson end.line end.column is_cut) (string_bytes text)) }
+{
+    let refusal = Refusal::NotJson {
+        line: end.line,
+        column: end.column,
+        is_cut,
+    };
+    let Some(found) = first_foreign(script) else {
+        return format!(in alloc; "{refusal}\n");
+    };
+    let spot = Spot::after(&script[..found.at]);
+    if !spot.is_by(end) {
+        return format!(in alloc; "{refusal}\n");
+    }
+    let line = ForeignLine {
+        spot,
+        what: found.what,
+    };
+    format!(in alloc; "{line}\n")
 }
 
 /// What is said of a script that isn't refused.

@@ -4,8 +4,12 @@
 
 mod cause;
 mod check;
+mod foreign;
+mod foreign_line;
 mod judging;
 mod ok_line;
+mod scanning;
+mod spot;
 mod warning;
 mod warnings;
 

@@ -4,8 +4,8 @@ use Rattle.std.specs.Cmp.{booleans_Decides}
 use Rattle.std.specs.Option.{option_eq}
 use borrow.Author.Tests.{eqb-true}
 use Rattle.std.proofs.lemmas.Bool.{and_parts, false≢true}
-use Rattle.sab_tool.proofs.Equality.{same_share}
-use Rattle.sab_report.proofs.Equality.{same_telling}
+use Rattle.sab_race.proofs.Equality.{same_share}
+use Rattle.sab_text.proofs.Equality.{same_telling}
 use Rattle.sab_command.specs.declared.command_line.Job.{Job}
 use Rattle.sab_command.specs.declared.command_line.Job.TheVariants.{Replay, ReplayAsScript, Check, Race, RaceAsScript}
 use Rattle.sab_command.specs.contracts.command_line.JobPartialEq.TheImpl as job

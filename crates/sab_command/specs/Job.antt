@@ -2,7 +2,7 @@
 use Rattle.std.specs.Prelude.{◌≤◌, ⊤}
 use Rattle.sab_command.specs.declared.command_line.Job.{Job}
 use Rattle.sab_command.specs.declared.command_line.Job.TheVariants.{Replay, ReplayAsScript, Check, Race, RaceAsScript}
-use Rattle.sab_tool.specs.Racing.{MAX_SPINS}
+use Rattle.sab_race.specs.declared.script_moves.TheConstants.{MAX_SPINS}
 
 -- a race is asked for with at most so many steps at a wait
 abbrev pub IsWithinLimits : Job → Type 0

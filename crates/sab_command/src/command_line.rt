@@ -3,11 +3,13 @@
 ghost use Rattle.std.specs.Prelude.{◌≡◌, ◌≤◌, ◌<◌, ◌^◌, ℕ, IfOk, Some, None, true, false, codes, decimal};
 ghost use Rattle.clap.specs.Words.{first_value, found_of, one_text};
 ghost use Rattle.sab_command.specs.Job.{IsWithinLimits};
+ghost use Rattle.sab_command.specs.Source.{Names};
 
 use crate::help;
+use crate::request::{Request, Source};
 use clap::{Arg, ArgAction, ArgMatches, Command, Error, value_parser};
-use sab_report::{Format, Lines, Telling};
-use sab_tool::{MAX_SPINS, Share};
+use sab_race::{MAX_SPINS, Share};
+use sab_text::{Format, Lines, Telling};
 use std::alloc::{AllocError, Global};
 use std::convert::AsStr;
 
@@ -20,7 +22,7 @@ static FORMATS: [&str; 5] = ["plain", "explained", "json", "svg", "script"];
 /// What the program is asked for.
 #[derive(Clone, Copy, Debug, PartialEq, Eq)]
 pub enum Job {
-    /// To replay the script on standard input.
+    /// To replay the script.
     Replay {
         /// How the report is told.
         telling: Telling,
@@ -32,9 +34,9 @@ pub enum Job {
         /// Whether it is an answer of its own that some calls haven't returned.
         finish: bool,
     },
-    /// To check the script on standard input.
+    /// To check the script.
     Check,
-    /// To run the agents of the script on standard input in threads.
+    /// To run the agents of the script in threads.
     Race {
         /// How they share the simulator.
         share: Share,
@@ -60,7 +62,14 @@ pub enum Job {
     },
 }
 
-/// The command that takes besides how a report is told, and whether all calls are to return.
+/// The command that takes besides where the script is read from.
+fn with_file<'a>(alloc: Global, command: Command<'a>) -> Result<Command<'a>, AllocError> {
+    let file = Arg::new(alloc, "file").value_name("FILE").help(help::FILE);
+    command.arg(file)
+}
+
+/// The command that takes besides how a report is told, whether all calls are to return, and whether a refusal is
+/// explained.
 fn with_telling<'a>(alloc: Global, command: Command<'a>) -> Result<Command<'a>, AllocError> {
     let format = Arg::new(alloc, "format")
         .long("format")
@@ -76,7 +85,11 @@ fn with_telling<'a>(alloc: Global, command: Command<'a>) -> Result<Command<'a>, 
         .long("finish")
         .help(help::FINISH)
         .action(ArgAction::SetTrue);
-    command.arg(format)?.arg(acts)?.arg(finish)
+    let explain = Arg::new(alloc, "explain")
+        .long("explain")
+        .help(help::EXPLAIN)
+        .action(ArgAction::SetTrue);
+    command.arg(format)?.arg(acts)?.arg(finish)?.arg(explain)
 }
 
 /// The command line, with its help.
@@ -85,6 +98,7 @@ fn command<'a>(alloc: Global) -> Result<Command<'a>, AllocError> {
         .about(help::REPLAY)
         .after_help(help::REPLAY_FORMS);
     let replay = with_telling(alloc, replay)?;
+    let replay = with_file(alloc, replay)?;
     let share = Arg::new(alloc, "share")
         .long("share")
         .value_name("WAY")
@@ -109,9 +123,11 @@ fn command<'a>(alloc: Global) -> Result<Command<'a>, AllocError> {
         .arg(spins)?
         .arg(mix)?;
     let race = with_telling(alloc, race)?;
+    let race = with_file(alloc, race)?;
     let check = Command::new(alloc, "check")
         .about(help::CHECK)
         .after_help(help::CHECK_FORMS);
+    let check = with_file(alloc, check)?;
     Command::new(alloc, "sabsim")
         .version(help::VERSION)
         .about(help::ABOUT)
@@ -239,17 +255,53 @@ fn race_job(matches: &ArgMatches<'_>) -> Job
     }
 }
 
+/// Whether it is to be explained why a script is refused.
+fn explain_of(matches: &ArgMatches<'_>) -> bool
+    ensures yes { one_text (found_of matches.now) (codes "explain") ≡ Some (codes "true") → result ≡ true }
+    ensures no { one_text (found_of matches.now) (codes "explain") ≡ Some (codes "false") → result ≡ false }
+{
+    matches.get_flag("explain")
+}
+
+/// Where the script is read from: standard input where no file is given, or `-`.
+fn source_of<'a>(matches: &ArgMatches<'a>) -> Source<'a>
+    ensures { Names (first_value (found_of matches.now) (codes "file")) result }
+{
+    match matches.get_str("file") {
+        None => Source::Standard,
+        Some("-") => Source::Standard,
+        Some(name) => Source::File(name),
+    }
+}
+
 /// What the words ask for, of which the first is the program's name.
 ///
 /// An error is a request for help too, and OutOfMemory where memory ran out while the command line was built or read.
-pub fn job_of<'a, S: AsStr>(alloc: Global, words: &'a [S]) -> Result<Job, Error>
-    ensures { IfOk result IsWithinLimits }
+pub fn request_of<'a, S: AsStr>(alloc: Global, words: &'a [S]) -> Result<Request<'a>, Error>
+    ensures { IfOk result (λ request. IsWithinLimits request.job) }
 {
     let command: Command<'a> = command(alloc)?;
     let matches = command.try_get_matches_from(words)?;
     match matches.subcommand() {
-        Some(("race", matches)) => Ok(race_job(matches)),
-        Some(("replay", matches)) => Ok(replay_job(matches)),
-        _ => Ok(Job::Check),
+        Some(("race", matches)) => Ok(Request {
+            job: race_job(matches),
+            source: source_of(matches),
+            explain: explain_of(matches),
+        }),
+        Some(("replay", matches)) => Ok(Request {
+            job: replay_job(matches),
+            source: source_of(matches),
+            explain: explain_of(matches),
+        }),
+        Some((_, matches)) => Ok(Request {
+            job: Job::Check,
+            source: source_of(matches),
+            explain: false,
+        }),
+        None => Ok(Request {
+            job: Job::Check,
+            source: Source::Standard,
+            explain: false,
+        }),
     }
 }

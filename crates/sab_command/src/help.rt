@@ -13,20 +13,20 @@ Exit status:
   0  done, or help was asked for
   1  the script was refused
   2  the command line was refused
-  3  standard input or standard output failed
+  3  the script couldn't be read, or standard output failed
   4  there is no memory, or no thread
   5  with --finish, some call hasn't returned
 
 Where the status is 1, 3 or 4, standard error has one line with the fault's number
-and name, as `sabsim: 14 BadView`; but `sabsim check` tells of a script that is
-refused on standard output.
+and name, as `sabsim: 14 BadView`, and of a file that couldn't be read its name too. On
+a terminal, or with --explain, a second line tells why a script is refused, and at which
+place; but `sabsim check` tells of a script that is refused on standard output.
 
-Begin with `sabsim replay --help`, which has a script to try; where a script is refused,
-`sabsim check` tells the place.";
+Begin with `sabsim replay --help`, which has a script to try.";
 
 /// What `replay` does.
 pub(crate) const REPLAY: &str =
-    "Reads a script from standard input, makes its moves in order, and writes what each one did";
+    "Reads a script, makes its moves in order, and writes what each one did";
 
 /// What a script says, what a report says, and an example.
 pub(crate) const REPLAY_FORMS: &str = r#"The script is one JSON object, of at most 1,048,576 bytes:
@@ -58,7 +58,7 @@ agent, which of its calls it is at, and what happened:
 X is a value, ok, not-equal, timed-out, a count, TypeError or RangeError. Then come for each
 block its bytes in hexadecimal, and for each agent how many of its calls returned.
 
-With --format explained there stand behind the lines, from column 20 on, words for people: what
+With --format explained there stand behind the lines, in one column, words for people: what
 a call changed, who waits where and behind whom, whom a notify woke and who woke a waiter, why
 a call threw, and at the end where each agent stands whose calls haven't all returned. With
 --format json each line is an object with the same facts. With --acts begin and return have no
@@ -78,10 +78,13 @@ writes
   block 0 2c
   agent 0 1 of 1
 
-Exit status: 0 done, 1 the script was refused, 2 the command line was refused, 3 standard
-input or standard output failed, 4 there is no memory, 5 with --finish some call hasn't
-returned. Where it is 1, 3 or 4, standard error has one line with the fault's number and name,
-as `sabsim: 14 BadView`.
+Exit status: 0 done, 1 the script was refused, 2 the command line was refused, 3 the script
+couldn't be read or standard output failed, 4 there is no memory, 5 with --finish some call
+hasn't returned. Where it is 1, 3 or 4, standard error has one line with the fault's number and
+name, as `sabsim: 14 BadView`; and of a file that couldn't be read its name too, as
+`sabsim: 19 ReadFailed: script.json`. Where the script was refused, and standard error is a
+terminal or --explain is given, a second line tells what `sabsim check` says of it: the place,
+the fault and the reason.
 
 What the script is refused for:
    3 TooMany    more blocks, bytes, views, agents, calls or moves than above
@@ -97,7 +100,7 @@ What the script is refused for:
 
 /// What `check` does.
 pub(crate) const CHECK: &str =
-    "Reads a script from standard input, and says what it has, or where it is refused and why";
+    "Reads a script, and says what it has, or where it is refused and why";
 
 /// What a check says, and an example.
 pub(crate) const CHECK_FORMS: &str =
@@ -111,20 +114,24 @@ and what is wrong:
   agents[3].calls[37][1]: 11 BadName: no view is called "lokc"
 A place is the names of members and the indices, counted from 0, that lead to it, as in
 JavaScript; `script` is the whole; and of a text that isn't JSON it is a line and a column.
-Of several faults one is told. In what is quoted each byte that isn't ASCII that prints is
-told by its code, as \xc3, and so are a quote and a backslash.
+What JavaScript has there and JSON hasn't is told by name, as a comment or NaN. Of several
+faults one is told. In what is quoted each byte that isn't ASCII that prints is told by its
+code, as \xc3, and so are a quote and a backslash.
 
 Example:
   echo '{"blocks":[1],"views":[{"name":"a","kind":"Uint8","block":0,"offset":0,"length":null}],
   "agents":[{"block":true,"calls":[["load","a",0],["wait","a",0,0]]}],"schedule":[0,0,0]}' | sabsim check
 
 Exit status: 0 the script isn't refused, warnings or not; 1 it is refused; 2, 3 and 4 as for
-replay. Standard error has a line only where the status is 2, 3 or 4, or where the input is
+replay. Standard error has a line only where the status is 2, 3 or 4, or where the script is
 too long (18 TooLong)."#;
 
 /// What `race` does.
 pub(crate) const RACE: &str =
-    "Reads a script from standard input, runs its agents in threads, and writes what each move did";
+    "Reads a script, runs its agents in threads, and writes what each move did";
+
+/// What FILE says.
+pub(crate) const FILE: &str = "The script; standard input where it is - or isn't given";
 
 /// What `--format` chooses.
 pub(crate) const FORMAT: &str =
@@ -135,6 +142,10 @@ pub(crate) const ACTS: &str = "Leave out the lines of begin and return";
 
 /// What `--finish` asks for.
 pub(crate) const FINISH: &str = "End with status 5, after the report, if some call hasn't returned";
+
+/// What `--explain` asks for.
+pub(crate) const EXPLAIN: &str =
+    "Where the script is refused, tell the place and the reason too, as on a terminal";
 
 /// What `--share` chooses.
 pub(crate) const SHARE: &str =

@@ -3,5 +3,7 @@
 
 mod command_line;
 mod help;
+mod request;
 
-pub use command_line::{Job, job_of};
+pub use command_line::{Job, request_of};
+pub use request::{Request, Source};

@@ -1,6 +1,7 @@
 //! How `sabsim` ends: what a job came to, the exit status, and the line that tells of a fault.
 #![tactic(auto)]
 
+mod complaint;
 mod ending;
 mod fault_line;
 mod no_job;
@@ -8,6 +9,7 @@ mod no_words;
 mod outcome;
 mod status;
 
+pub use complaint::Complaint;
 pub use ending::Ending;
 pub use fault_line::FaultLine;
 pub use no_job::without_job;

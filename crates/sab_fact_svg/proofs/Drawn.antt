@@ -55,12 +55,12 @@ five_texts n a b c d =
 
 pub pieces_text : (names : List (List ℕ)) (shape : Shape) (k : ℕ) (e : Entry) (fact : Fact)
     → nodes_text (nodes (pieces_of names shape k e fact))
-    ≡ node_text (label (codes "row") 40 (row_text k) (decimal k))
+    ≡ node_text (label (codes "row") 48 (row_text k) (decimal k))
     ++ (nodes_text (nodes (bars_of shape k e.agent fact.since e.what))
     ++ (nodes_text (nodes (done_label names (label_x shape e.agent) (row_text k) fact.call e.what))
     ++ (nodes_text (nodes (change_of names shape k fact.call fact.found))
     ++ nodes_text (nodes (arrows shape k e fact.found)))))
 pieces_text names shape k e fact =
-    five_texts (label (codes "row") 40 (row_text k) (decimal k)) (bars_of shape k e.agent fact.since e.what)
+    five_texts (label (codes "row") 48 (row_text k) (decimal k)) (bars_of shape k e.agent fact.since e.what)
     (done_label names (label_x shape e.agent) (row_text k) fact.call e.what)
     (change_of names shape k fact.call fact.found) (arrows shape k e fact.found)

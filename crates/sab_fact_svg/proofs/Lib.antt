@@ -5,5 +5,6 @@ pub mod FrameTexts
 pub mod EndTexts
 pub mod Writing
 pub mod Greatest
+pub mod Room
 pub mod Named
 pub mod Telling

@@ -22,6 +22,7 @@ use Rattle.sab_fact_svg.specs.Ends.{drawn_ends, drawn_blocks}
 use Rattle.sab_fact_svg.specs.Frame.{root_attributes, root_start, background, lanes, legend}
 use Rattle.sab_fact_svg.specs.Picture.{drawn, picture_by, svg_text, DrawsEntries, Draws}
 use Rattle.sab_fact_svg.proofs.Writing.{room_then}
+use Rattle.sab_fact_svg.proofs.Room.{calls_have_room}
 use Rattle.sab_fact_svg.proofs.Named.{picture_document}
 
 -- ---- entries
@@ -173,4 +174,5 @@ draws names plan shape moves sim report standings a b c d e y chunk empty measur
       written = from_empty a y chunk (svg_text names plan report t.facts standings) empty
           (subst (Appends (append_known a chunk) y) (sym text) (rw (journal, blocks) written));
       well_formed = picture_document names plan report t.facts standings;
+      room = calls_have_room names plan (length report.schedule);
     }

@@ -16,19 +16,19 @@ root_attributes shape =
 unfoldable pub root_start : Shape → List ℕ
 root_start shape = codes "<svg" ++ attributes_text (root_attributes shape) ++ codes ">"
 
--- the colours, on a light and on a dark background: orange, sky blue and bluish green are told apart by all eyes
+-- the colours, on a light and on a dark background: orange, sky blue and bluish green are told apart by all eyes; those
+-- for a dark one stand last, and a program that doesn't know how to ask for one leaves them out
 unfoldable pub style_text : List ℕ
 style_text =
-    codes "svg{--ink:#1f2328;--dim:#656d76;--lane:#d0d7de;--paper:#fff;"
-    ++ codes "--answer:#0b5cad;--error:#b3400b;--wake:#00775a}\n"
-    ++ codes "@media (prefers-color-scheme:dark){svg{--ink:#e6edf3;--dim:#8b949e;--lane:#3d444d;--paper:#0d1117;"
-    ++ codes "--answer:#79c0ff;--error:#ff9e64;--wake:#3fd0a5}}\n"
-    ++ codes "text{font:13px ui-monospace,Menlo,Consolas,DejaVu Sans Mono,monospace;fill:var(--ink)}\n"
-    ++ codes ".head{font-weight:bold}.row{font-size:11px;text-anchor:end}.row,.dim{fill:var(--dim)}\n"
-    ++ codes ".answer{fill:var(--answer)}.error{fill:var(--error)}.paper{fill:var(--paper)}.rows{fill:url(#rows)}\n"
-    ++ codes ".band{fill:var(--lane);fill-opacity:.25}.lane{stroke:var(--lane)}.call{fill:#56b4e9}.wait{fill:#e69f00}\n"
+    codes "text{font-family:ui-monospace,Menlo,Consolas,DejaVu Sans Mono,monospace;font-size:13px;fill:#1f2328}\n"
+    ++ codes ".head{font-weight:bold}.row{font-size:11px;text-anchor:end}.row,.dim{fill:#656d76}\n"
+    ++ codes ".answer{fill:#0b5cad}.error{fill:#b3400b}.paper{fill:#fff}.rows{fill:url(#rows)}\n"
+    ++ codes ".band{fill:#d0d7de;fill-opacity:.25}.lane{stroke:#d0d7de}.call{fill:#56b4e9}.wait{fill:#e69f00}\n"
     ++ codes ".open{fill-opacity:.4;stroke-dasharray:4 3}.call.open{stroke:#56b4e9}.wait.open{stroke:#e69f00}\n"
-    ++ codes ".wake{stroke:var(--wake);stroke-width:2;marker-end:url(#tip)}.tip{fill:var(--wake)}\n"
+    ++ codes ".wake{stroke:#00775a;stroke-width:2;marker-end:url(#tip)}.tip{fill:#00775a}\n"
+    ++ codes "@media (prefers-color-scheme:dark){text{fill:#e6edf3}.row,.dim{fill:#8b949e}.answer{fill:#79c0ff}"
+    ++ codes ".error{fill:#ff9e64}\n"
+    ++ codes ".paper{fill:#0d1117}.band{fill:#3d444d}.lane{stroke:#3d444d}.wake{stroke:#3fd0a5}.tip{fill:#3fd0a5}}\n"
 
 abbrev pub style : Node
 style = element (codes "style") no_attributes (nodes (text style_text ∷ []))

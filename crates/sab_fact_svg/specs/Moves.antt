@@ -98,7 +98,7 @@ arrows shape k e found = map (arrow shape k e.agent (answer_chars e.what)) (woke
 -- the number of row k, what an entry did there, what it changed, and whom it woke
 abbrev pub pieces_of : List (List ℕ) → Shape → ℕ → Entry → Fact → List Node
 pieces_of names shape k e fact =
-    label (codes "row") 40 (row_text k) (decimal k) ∷ []
+    label (codes "row") 48 (row_text k) (decimal k) ∷ []
     ++ bars_of shape k e.agent fact.since e.what
     ++ done_label names (label_x shape e.agent) (row_text k) fact.call e.what
     ++ change_of names shape k fact.call fact.found

@@ -11,7 +11,7 @@ use Rattle.sab_fact_text.specs.Explained.{AreFacts, AreStandings, no_sinces}
 use Rattle.sab_xml.specs.Xml.{Node, element, nodes, node_text, nodes_text}
 use Rattle.sab_xml.specs.WellFormed.{IsDocument}
 use Rattle.sab_fact_svg.specs.declared.shape.Shape.{Shape}
-use Rattle.sab_fact_svg.specs.Shape.{shape_of}
+use Rattle.sab_fact_svg.specs.Shape.{shape_of, HaveRoom}
 use Rattle.sab_fact_svg.specs.Moves.{drawn_entries}
 use Rattle.sab_fact_svg.specs.Ends.{drawn_ends, drawn_blocks}
 use Rattle.sab_fact_svg.specs.Frame.{root_attributes, background, lanes, legend}
@@ -45,7 +45,8 @@ pub record DrawsEntries (names : List (List ℕ)) (plan : PlanParts) (shape : Sh
   pub are : AreFacts plan journal facts
   pub written : Appends old new (nodes_text (nodes (drawn_entries names plan shape no_sinces 0 journal facts)))
 
--- the one report of the moves fits, its picture came behind what the writer held, and the text is a document of XML
+-- the one report of the moves fits, its picture came behind what the writer held, the text is a document of XML, and
+-- no call runs into another lane
 pub record Draws (names : List (List ℕ)) (plan : PlanParts) (moves : List Move) (old new : Option (List ℕ))
     (report : ReportParts) : Type 0 where
   pub fits : Fits plan report
@@ -57,3 +58,4 @@ pub record Draws (names : List (List ℕ)) (plan : PlanParts) (moves : List Move
   pub standings_are : AreStandings plan report.journal standings
   pub written : Appends old new (svg_text names plan report facts standings)
   pub well_formed : IsDocument (svg_text names plan report facts standings)
+  pub room : HaveRoom names plan (shape_of names plan (length report.schedule))

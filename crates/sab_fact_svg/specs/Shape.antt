@@ -1,5 +1,5 @@
 -- Where things stand in a picture, in pixels: time goes down, a lane for each agent, and what changes at the right.
-use Rattle.std.specs.Prelude.{ℕ, ◌+◌, ◌*◌, max, Bool, if◌then◌else◌, List, [], ◌∷◌, length, map}
+use Rattle.std.specs.Prelude.{ℕ, ◌+◌, ◌*◌, ◌≤◌, max, Bool, if◌then◌else◌, List, [], ◌∷◌, length, map, All}
 use Rattle.std.specs.List.{list_any}
 use Rattle.sab_block.specs.Kind.{is_big}
 use Rattle.sab_block.specs.View.{kind_of}
@@ -51,10 +51,16 @@ shape_of names plan rows = record {
 
 -- the middle of an agent's lane, and where the texts in it begin
 abbrev pub lane_x : Shape → ℕ → ℕ
-lane_x shape a = 60 + shape.lane * a
+lane_x shape a = 68 + shape.lane * a
 
 abbrev pub label_x : Shape → ℕ → ℕ
 label_x shape a = lane_x shape a + 14
+
+-- in whichever lane it stands, the text of each call ends before the bars of the next one, which go 8 at most to the left
+-- of that lane's middle; behind the last lane stand the changes
+abbrev pub HaveRoom : List (List ℕ) → PlanParts → Shape → Type 0
+HaveRoom names plan shape = (a : ℕ) → All (λ (script : ScriptParts). All (λ call.
+    label_x shape a + 8 * length (call_text names call) + 8 ≤ lane_x shape (a + 1)) script.calls) plan.scripts
 
 -- where changes begin
 abbrev pub change_x : Shape → ℕ
@@ -74,8 +80,9 @@ row_text k = row_top k + 15
 abbrev pub rows_end : Shape → ℕ
 rows_end shape = row_top shape.rows
 
+-- a block's line, of 93 characters at most, has room in it too
 abbrev pub width : Shape → ℕ
-width shape = max (change_x shape + shape.change) 760
+width shape = max (change_x shape + shape.change) 800
 
 abbrev pub height : Shape → ℕ
 height shape = row_top (shape.rows + shape.blocks + 5)

@@ -20,8 +20,8 @@ use sab_fact_text::{Name, WORDS_LEN, push_words};
 use sab_sim::{Entry, Plan};
 use sab_text::Chunk;
 
-/// Where the numbers of rows end.
-const NUMBERS_END: u64 = 40;
+/// Where the numbers of rows end: one of 7 digits has room.
+const NUMBERS_END: u64 = 48;
 
 /// The most bytes of the number of a row.
 const NUMBER_LEN: usize = LABEL_LEN + 20;
@@ -85,7 +85,7 @@ fn push_pieces(
 /// Puts the number of row k last.
 fn push_number(k: u32, chunk: &mut Chunk)
     requires { length chunk.old + NUMBER_LEN ≤ Chunk.ROOM }
-    ensures bytes { chunk.new ≡ chunk.old ++ node_text (label (codes "row") 40 (shapes.row_text k) (decimal k)) }
+    ensures bytes { chunk.new ≡ chunk.old ++ node_text (label (codes "row") 48 (shapes.row_text k) (decimal k)) }
     ensures len { length chunk.new ≤ length chunk.old + NUMBER_LEN }
 {
     let k = u64::from(k);

@@ -19,16 +19,18 @@ use sab_xml::push_escaped;
 const TITLE: &[u8; 47] = b"The calls of agents, from top to bottom in time";
 
 /// The colours, on a light and on a dark background: orange, sky blue and bluish green are told apart by all eyes.
-const STYLE: &[u8; 814] = b"\
-svg{--ink:#1f2328;--dim:#656d76;--lane:#d0d7de;--paper:#fff;--answer:#0b5cad;--error:#b3400b;--wake:#00775a}
-@media (prefers-color-scheme:dark){svg{--ink:#e6edf3;--dim:#8b949e;--lane:#3d444d;--paper:#0d1117;\
---answer:#79c0ff;--error:#ff9e64;--wake:#3fd0a5}}
-text{font:13px ui-monospace,Menlo,Consolas,DejaVu Sans Mono,monospace;fill:var(--ink)}
-.head{font-weight:bold}.row{font-size:11px;text-anchor:end}.row,.dim{fill:var(--dim)}
-.answer{fill:var(--answer)}.error{fill:var(--error)}.paper{fill:var(--paper)}.rows{fill:url(#rows)}
-.band{fill:var(--lane);fill-opacity:.25}.lane{stroke:var(--lane)}.call{fill:#56b4e9}.wait{fill:#e69f00}
+///
+/// No colour is a variable, since few programs but browsers know variables. Those for a dark background stand last, and
+/// a program that doesn't know how to ask for one leaves them out.
+const STYLE: &[u8; 752] = b"\
+text{font-family:ui-monospace,Menlo,Consolas,DejaVu Sans Mono,monospace;font-size:13px;fill:#1f2328}
+.head{font-weight:bold}.row{font-size:11px;text-anchor:end}.row,.dim{fill:#656d76}
+.answer{fill:#0b5cad}.error{fill:#b3400b}.paper{fill:#fff}.rows{fill:url(#rows)}
+.band{fill:#d0d7de;fill-opacity:.25}.lane{stroke:#d0d7de}.call{fill:#56b4e9}.wait{fill:#e69f00}
 .open{fill-opacity:.4;stroke-dasharray:4 3}.call.open{stroke:#56b4e9}.wait.open{stroke:#e69f00}
-.wake{stroke:var(--wake);stroke-width:2;marker-end:url(#tip)}.tip{fill:var(--wake)}
+.wake{stroke:#00775a;stroke-width:2;marker-end:url(#tip)}.tip{fill:#00775a}
+@media (prefers-color-scheme:dark){text{fill:#e6edf3}.row,.dim{fill:#8b949e}.answer{fill:#79c0ff}.error{fill:#ff9e64}
+.paper{fill:#0d1117}.band{fill:#3d444d}.lane{stroke:#3d444d}.wake{stroke:#3fd0a5}.tip{fill:#3fd0a5}}
 ";
 
 /// The tip of an arrow, and the start of the background of rows.

@@ -11,7 +11,7 @@ pub(crate) const ROW_HEIGHT: u64 = 20;
 pub(crate) const ROWS_TOP: u64 = 56;
 
 /// The middle of the first lane.
-const LANES_LEFT: u64 = 60;
+const LANES_LEFT: u64 = 68;
 
 /// From the middle of a lane to its texts.
 const LABEL_SHIFT: u64 = 14;
@@ -25,8 +25,8 @@ const TEXT_SHIFT: u64 = 15;
 /// How many rows there are below those of moves and blocks: the agents', the legend's, and room.
 const MORE_ROWS: u64 = 5;
 
-/// The least width of a picture, which the legend has room in.
-const MIN_WIDTH: u64 = 760;
+/// The least width of a picture: the longest line of a block, of 93 characters, and the legend have room.
+const MIN_WIDTH: u64 = 800;
 
 /// The measures of a picture: widths in pixels, and how many agents, blocks and rows it has.
 #[derive(Clone, Copy)]

@@ -1,3 +1,4 @@
+pub mod Measuring
 pub mod Pieces
 pub mod Stuck
 pub mod Telling

@@ -55,72 +55,76 @@ AreFacts-push plan journal facts e fact all here = record {
 }
 
 -- the explained line of entry k, if it has one
-abbrev pub line_at : List (List ℕ) → PlanParts → Lines → List (Option ℕ) → ℕ → Entry → Fact → List ℕ
-line_at names plan lines sinces k e fact = line_if lines e.what (explained_line names plan sinces k e fact)
+abbrev pub line_at : ℕ → List (List ℕ) → PlanParts → Lines → List (Option ℕ) → ℕ → Entry → Fact → List ℕ
+line_at column names plan lines sinces k e fact =
+    line_if lines e.what (explained_line column names plan sinces k e fact)
 
-lines-push : (names : List (List ℕ)) (plan : PlanParts) (lines : Lines) (sinces : List (Option ℕ)) (k : ℕ)
+lines-push : (column : ℕ) (names : List (List ℕ)) (plan : PlanParts) (lines : Lines) (sinces : List (Option ℕ)) (k : ℕ)
     (journal : List Entry) (facts : List Fact) (e : Entry) (fact : Fact)
     → length facts ≡ length journal
-    → explained_lines names plan lines sinces k (journal ++ e ∷ []) (facts ++ fact ∷ [])
-    ≡ explained_lines names plan lines sinces k journal facts
-    ++ line_at names plan lines (sinces_after sinces k journal) (k + length journal) e fact
-lines-push names plan lines sinces k [] [] e fact h = let z : k + 0 ≡ k = omega arith in rw (z, append-nil) refl
-lines-push names plan lines sinces k [] (g ∷ facts) e fact h = absurd (omega (arith, h))
-lines-push names plan lines sinces k (f ∷ journal) [] e fact h = absurd (omega (arith, h))
-lines-push names plan lines sinces k (f ∷ journal) (g ∷ facts) e fact h =
+    → explained_lines column names plan lines sinces k (journal ++ e ∷ []) (facts ++ fact ∷ [])
+    ≡ explained_lines column names plan lines sinces k journal facts
+    ++ line_at column names plan lines (sinces_after sinces k journal) (k + length journal) e fact
+lines-push column names plan lines sinces k [] [] e fact h = let z : k + 0 ≡ k = omega arith in rw (z, append-nil) refl
+lines-push column names plan lines sinces k [] (g ∷ facts) e fact h = absurd (omega (arith, h))
+lines-push column names plan lines sinces k (f ∷ journal) [] e fact h = absurd (omega (arith, h))
+lines-push column names plan lines sinces k (f ∷ journal) (g ∷ facts) e fact h =
     let n : length facts ≡ length journal = omega (arith, h) in
     let z : k + 1 + length journal ≡ k + length (f ∷ journal) = omega arith in
-    ap (λ (t : List ℕ). line_at names plan lines sinces k f g ++ t)
-    (lines-push names plan lines (noted sinces k f) (k + 1) journal facts e fact n
-    ∙ ap (λ (m : ℕ). explained_lines names plan lines (noted sinces k f) (k + 1) journal facts
-    ++ line_at names plan lines (sinces_after (noted sinces k f) (k + 1) journal) m e fact) z)
-    ∙ sym (append_assoc (line_at names plan lines sinces k f g)
-    (explained_lines names plan lines (noted sinces k f) (k + 1) journal facts)
-    (line_at names plan lines (sinces_after (noted sinces k f) (k + 1) journal) (k + length (f ∷ journal)) e fact))
+    ap (λ (t : List ℕ). line_at column names plan lines sinces k f g ++ t)
+    (lines-push column names plan lines (noted sinces k f) (k + 1) journal facts e fact n
+    ∙ ap (λ (m : ℕ). explained_lines column names plan lines (noted sinces k f) (k + 1) journal facts
+    ++ line_at column names plan lines (sinces_after (noted sinces k f) (k + 1) journal) m e fact) z)
+    ∙ sym (append_assoc (line_at column names plan lines sinces k f g)
+    (explained_lines column names plan lines (noted sinces k f) (k + 1) journal facts)
+    (line_at column names plan lines (sinces_after (noted sinces k f) (k + 1) journal) (k + length (f ∷ journal)) e
+    fact))
 
 pub appends_none : (a : Option (List ℕ)) → Appends a a []
 appends_none None = tt
 appends_none (Some x) = sym (append-nil x)
 
 -- nothing is told of no entry
-pub told_none : (names : List (List ℕ)) (plan : PlanParts) (lines : Lines) (journal : List Entry)
-    (a : Option (List ℕ)) → journal ≡ [] → Told names plan lines journal a a
-told_none names plan lines journal a e =
+pub told_none : (column : ℕ) (names : List (List ℕ)) (plan : PlanParts) (lines : Lines) (journal : List Entry)
+    (a : Option (List ℕ)) → journal ≡ [] → Told column names plan lines journal a a
+told_none column names plan lines journal a e =
     rw e (record { facts = []; are = AreFacts-none plan; written = appends_none a })
 
 -- a line goes into the chunk, if the entry has one, and then bytes of the chunk may go out
-pub told_more : (names : List (List ℕ)) (plan : PlanParts) (lines : Lines) (journal : List Entry)
+pub told_more : (column : ℕ) (names : List (List ℕ)) (plan : PlanParts) (lines : Lines) (journal : List Entry)
     (a b y : Option (List ℕ)) (chunk : List ℕ) (sinces : List (Option ℕ)) (k : ℕ) (e : Entry) (fact : Fact)
     → length journal ≡ k → sinces ≡ sinces_after no_sinces 0 journal
-    → Told names plan lines journal a (append_known b chunk) → IsTheFact plan journal e fact
-    → Keeps (append_known b (chunk ++ line_at names plan lines sinces k e fact)) y
-    → Told names plan lines (journal ++ e ∷ []) a y
-told_more names plan lines journal a b y chunk sinces k e fact n s t f q =
+    → Told column names plan lines journal a (append_known b chunk) → IsTheFact plan journal e fact
+    → Keeps (append_known b (chunk ++ line_at column names plan lines sinces k e fact)) y
+    → Told column names plan lines (journal ++ e ∷ []) a y
+told_more column names plan lines journal a b y chunk sinces k e fact n s t f q =
     let z : 0 + length journal ≡ k = omega (arith, n) in
     record {
       facts = t.facts ++ fact ∷ [];
       are = AreFacts-push plan journal t.facts e fact t.are f;
-      written = rw (lines-push names plan lines no_sinces 0 journal t.facts e fact t.are.count, z, ← s)
-          (appends_both a (append_known b chunk) y (explained_lines names plan lines no_sinces 0 journal t.facts)
-          (line_at names plan lines sinces k e fact) t.written
-          (kept_appended b y chunk (line_at names plan lines sinces k e fact) q));
+      written = rw (lines-push column names plan lines no_sinces 0 journal t.facts e fact t.are.count, z, ← s)
+          (appends_both a (append_known b chunk) y (explained_lines column names plan lines no_sinces 0 journal t.facts)
+          (line_at column names plan lines sinces k e fact) t.written
+          (kept_appended b y chunk (line_at column names plan lines sinces k e fact) q));
     }
 
-standings_left : (names : List (List ℕ)) (ss : List (Option Standing)) (ps : List Progress) (k : ℕ) (d : Progress)
+standings_left : (column : ℕ) (names : List (List ℕ)) (ss : List (Option Standing)) (ps : List Progress) (k : ℕ)
+    (d : Progress)
     → k < length ps
-    → standing_lines names ss k (drop k ps) ≡ standing_line names k (get_or ps k d) (slice_index_or ss k None)
-    ++ standing_lines names ss (k + 1) (drop (k + 1) ps)
-standings_left names ss ps k d h = rw (drop-cons ps k d, add-one) refl
+    → standing_lines column names ss k (drop k ps)
+    ≡ standing_line column names k (get_or ps k d) (slice_index_or ss k None)
+    ++ standing_lines column names ss (k + 1) (drop (k + 1) ps)
+standings_left column names ss ps k d h = rw (drop-cons ps k d, add-one) refl
 
-pub standings_after : (a b y : Option (List ℕ)) (chunk : List ℕ) (names : List (List ℕ)) (ss : List (Option Standing))
-    (ps : List Progress) (k : ℕ) (d : Progress) (all : List ℕ)
-    → k < length ps → Appends a (append_known (append_known b chunk) (standing_lines names ss k (drop k ps))) all
-    → Keeps (append_known b (chunk ++ standing_line names k (get_or ps k d) (slice_index_or ss k None))) y
-    → Appends a (append_known y (standing_lines names ss (k + 1) (drop (k + 1) ps))) all
-standings_after a b y chunk names ss ps k d all h p q =
-    left_after a b y chunk (standing_line names k (get_or ps k d) (slice_index_or ss k None))
-    (standing_lines names ss (k + 1) (drop (k + 1) ps)) all
-    (rw (standings_left names ss ps k d h) at p) q
+pub standings_after : (column : ℕ) (a b y : Option (List ℕ)) (chunk : List ℕ) (names : List (List ℕ))
+    (ss : List (Option Standing)) (ps : List Progress) (k : ℕ) (d : Progress) (all : List ℕ)
+    → k < length ps → Appends a (append_known (append_known b chunk) (standing_lines column names ss k (drop k ps))) all
+    → Keeps (append_known b (chunk ++ standing_line column names k (get_or ps k d) (slice_index_or ss k None))) y
+    → Appends a (append_known y (standing_lines column names ss (k + 1) (drop (k + 1) ps))) all
+standings_after column a b y chunk names ss ps k d all h p q =
+    left_after a b y chunk (standing_line column names k (get_or ps k d) (slice_index_or ss k None))
+    (standing_lines column names ss (k + 1) (drop (k + 1) ps)) all
+    (rw (standings_left column names ss ps k d h) at p) q
 
 pub standing_is : (plan : PlanParts) (journal : List Entry) (a : ℕ) (s : Option Standing)
     → IfNone s (call_of plan a (returned_of journal a) ≡ None) → IfSome s (IsStanding plan journal a)
@@ -147,23 +151,25 @@ from_empty (Some x) None chunk text e p = p
 from_empty (Some x) (Some y) chunk text e p = rw (← append-nil x) (rw e at p)
 
 -- what an explainer told, and its report
-pub explains : (names : List (List ℕ)) (plan : PlanParts) (lines : Lines) (moves : List Move) (sim : SimParts)
-    (report : ReportParts) (standings : List (Option Standing)) (a y c : Option (List ℕ)) (chunk : List ℕ)
-    → chunk ≡ [] → sim.plan ≡ plan → sim.moves ≡ moves → Told names plan lines sim.journal (append_known a chunk) y
+pub explains : (column : ℕ) (names : List (List ℕ)) (plan : PlanParts) (lines : Lines) (moves : List Move)
+    (sim : SimParts) (report : ReportParts) (standings : List (Option Standing)) (a y c : Option (List ℕ)) (chunk : List ℕ)
+    → chunk ≡ [] → sim.plan ≡ plan → sim.moves ≡ moves
+    → Told column names plan lines sim.journal (append_known a chunk) y
     → AreStandings sim.plan sim.journal standings → Fits sim.plan report → IsOnly sim.plan report
     → report.schedule ≡ sim.moves → report.journal ≡ sim.journal
-    → Appends y c (block_lines 0 report.blocks ++ standing_lines names standings 0 report.agents)
-    → Explains names plan lines moves a c report
-explains names plan lines moves sim report standings a y c chunk empty p m t s fits one schedule journal w = record {
-  fits = rw (← p) fits;
-  one = rw (← p) one;
-  schedule = schedule ∙ m;
-  facts = t.facts;
-  facts_are = rw journal t.are;
-  standings = standings;
-  standings_are = rw (← p, journal) s;
-  written = from_empty a c chunk (explained_text names plan lines report t.facts standings) empty
-      (rw (journal, append_assoc) (appends_both (append_known a chunk) y c
-      (explained_lines names plan lines no_sinces 0 sim.journal t.facts)
-      (block_lines 0 report.blocks ++ standing_lines names standings 0 report.agents) t.written w));
-}
+    → Appends y c (block_lines 0 report.blocks ++ standing_lines column names standings 0 report.agents)
+    → Explains column names plan lines moves a c report
+explains column names plan lines moves sim report standings a y c chunk empty p m t s fits one schedule journal w =
+    record {
+      fits = rw (← p) fits;
+      one = rw (← p) one;
+      schedule = schedule ∙ m;
+      facts = t.facts;
+      facts_are = rw journal t.are;
+      standings = standings;
+      standings_are = rw (← p, journal) s;
+      written = from_empty a c chunk (explained_text column names plan lines report t.facts standings) empty
+          (rw (journal, append_assoc) (appends_both (append_known a chunk) y c
+          (explained_lines column names plan lines no_sinces 0 sim.journal t.facts)
+          (block_lines 0 report.blocks ++ standing_lines column names standings 0 report.agents) t.written w));
+    }

@@ -1,5 +1,5 @@
 -- The explained text of a report: its plain lines, and words behind those of entries and agents.
-use Rattle.std.specs.Prelude.{◌≡◌, ℕ, ◌+◌, ◌<◌, min, Bool, true, false, if◌then◌else◌, List, [], ◌∷◌, ◌++◌, length, drop, replicate, Option, Some, None, codes, decimal, slice_get, slice_set, slice_index_or, take}
+use Rattle.std.specs.Prelude.{◌≡◌, ℕ, ◌+◌, ◌<◌, Bool, true, false, if◌then◌else◌, List, [], ◌∷◌, ◌++◌, length, replicate, Option, Some, None, codes, decimal, slice_get, slice_set, slice_index_or, take}
 use Rattle.std.specs.Io.KnownBytes.{Appends}
 use Rattle.sab_sim.specs.declared.entry.Entry.{Entry}
 use Rattle.sab_sim.specs.declared.progress.Progress.{Progress}
@@ -18,31 +18,26 @@ use Rattle.sab_text.specs.declared.lines.Lines.{Lines}
 use Rattle.sab_text.specs.Lines.{line_if}
 use Rattle.sab_text.specs.Text.{entry_text, agent_text, agent_line, block_lines}
 use Rattle.sab_fact_text.specs.CallText.{call_text, element_text}
+use Rattle.sab_fact_text.specs.Column.{spaced}
 use Rattle.sab_fact_text.specs.FactText.{stand_text, fact_words}
 
--- spaces from a text of this length up to column 20, and two at least
-abbrev pub gap : ℕ → List ℕ
-gap n = drop (min n 18) (codes "                    ")
-
-abbrev pub spaced : List ℕ → List ℕ
-spaced plain = plain ++ gap (length plain)
-
--- the line of entry k: its plain text, and its fact in words
-abbrev pub explained_line : List (List ℕ) → PlanParts → List (Option ℕ) → ℕ → Entry → Fact → List ℕ
-explained_line names plan sinces k e fact =
-    spaced (entry_text k e) ++ fact_words names plan sinces e fact ++ codes "\n"
+-- the line of entry k: its plain text, and from a column on its fact in words
+abbrev pub explained_line : ℕ → List (List ℕ) → PlanParts → List (Option ℕ) → ℕ → Entry → Fact → List ℕ
+explained_line column names plan sinces k e fact =
+    spaced column (entry_text k e) ++ fact_words names plan sinces e fact ++ codes "\n"
 
 -- the position of each agent's last entry with an effect, after entry k
 abbrev pub noted : List (Option ℕ) → ℕ → Entry → List (Option ℕ)
 noted sinces k e = if is_stuck e.what then sinces else slice_set sinces e.agent (Some k)
 
 -- a line for each entry that has one, with its fact, of which the first is entry k
-abbrev pub explained_lines : List (List ℕ) → PlanParts → Lines → List (Option ℕ) → ℕ → List Entry → List Fact → List ℕ
-explained_lines names plan lines sinces k [] facts = []
-explained_lines names plan lines sinces k (e ∷ journal) [] = []
-explained_lines names plan lines sinces k (e ∷ journal) (fact ∷ facts) =
-    line_if lines e.what (explained_line names plan sinces k e fact)
-    ++ explained_lines names plan lines (noted sinces k e) (k + 1) journal facts
+abbrev pub explained_lines : ℕ → List (List ℕ) → PlanParts → Lines → List (Option ℕ) → ℕ → List Entry → List Fact
+    → List ℕ
+explained_lines column names plan lines sinces k [] facts = []
+explained_lines column names plan lines sinces k (e ∷ journal) [] = []
+explained_lines column names plan lines sinces k (e ∷ journal) (fact ∷ facts) =
+    line_if lines e.what (explained_line column names plan sinces k e fact)
+    ++ explained_lines column names plan lines (noted sinces k e) (k + 1) journal facts
 
 -- whether a place was notified while an agent waits there
 abbrev pub passed_text : List ℕ → Bool → List ℕ
@@ -79,25 +74,27 @@ abbrev pub standing_words : List (List ℕ) → Standing → List ℕ
 standing_words names s = standing_at (call_text names s.call) (element_text names s.call) s.since s.at
 
 -- the line of agent a, of which some calls may be left
-abbrev pub standing_line : List (List ℕ) → ℕ → Progress → Option Standing → List ℕ
-standing_line names a p None = agent_line a p
-standing_line names a p (Some s) = spaced (agent_text a p) ++ standing_words names s ++ codes "\n"
+abbrev pub standing_line : ℕ → List (List ℕ) → ℕ → Progress → Option Standing → List ℕ
+standing_line column names a p None = agent_line a p
+standing_line column names a p (Some s) = spaced column (agent_text a p) ++ standing_words names s ++ codes "\n"
 
 -- a line for each agent, of which the first is agent a
-abbrev pub standing_lines : List (List ℕ) → List (Option Standing) → ℕ → List Progress → List ℕ
-standing_lines names standings a [] = []
-standing_lines names standings a (p ∷ agents) =
-    standing_line names a p (slice_index_or standings a None) ++ standing_lines names standings (a + 1) agents
+abbrev pub standing_lines : ℕ → List (List ℕ) → List (Option Standing) → ℕ → List Progress → List ℕ
+standing_lines column names standings a [] = []
+standing_lines column names standings a (p ∷ agents) =
+    standing_line column names a p (slice_index_or standings a None)
+    ++ standing_lines column names standings (a + 1) agents
 
 -- no agent has had an entry
 abbrev pub no_sinces : List (Option ℕ)
 no_sinces = replicate 16 None
 
--- the explained text of a report, its journal by these lines
-abbrev pub explained_text : List (List ℕ) → PlanParts → Lines → ReportParts → List Fact → List (Option Standing) → List ℕ
-explained_text names plan lines report facts standings =
-    explained_lines names plan lines no_sinces 0 report.journal facts ++ block_lines 0 report.blocks
-    ++ standing_lines names standings 0 report.agents
+-- the explained text of a report, its journal by these lines, the words from this column on
+abbrev pub explained_text : ℕ → List (List ℕ) → PlanParts → Lines → ReportParts → List Fact → List (Option Standing)
+    → List ℕ
+explained_text column names plan lines report facts standings =
+    explained_lines column names plan lines no_sinces 0 report.journal facts ++ block_lines 0 report.blocks
+    ++ standing_lines column names standings 0 report.agents
 
 -- the fact is that of an entry after a journal, and no other is
 pub record IsTheFact (plan : PlanParts) (journal : List Entry) (e : Entry) (fact : Fact) : Type 0 where
@@ -111,11 +108,11 @@ pub record AreFacts (plan : PlanParts) (journal : List Entry) (facts : List Fact
       → IsTheFact plan (take k journal) e fact
 
 -- the explained lines of a journal came behind what was told
-pub record Told (names : List (List ℕ)) (plan : PlanParts) (lines : Lines) (journal : List Entry)
+pub record Told (column : ℕ) (names : List (List ℕ)) (plan : PlanParts) (lines : Lines) (journal : List Entry)
     (old new : Option (List ℕ)) : Type 0 where
   pub facts : List Fact
   pub are : AreFacts plan journal facts
-  pub written : Appends old new (explained_lines names plan lines no_sinces 0 journal facts)
+  pub written : Appends old new (explained_lines column names plan lines no_sinces 0 journal facts)
 
 -- where an agent stands after a journal, and in no other way; none where all its calls have returned
 abbrev pub IsStandingOf : PlanParts → List Entry → ℕ → Option Standing → Type 0
@@ -127,7 +124,7 @@ abbrev pub AreStandings : PlanParts → List Entry → List (Option Standing) �
 AreStandings plan journal standings = (a : ℕ) → a < 16 → IsStandingOf plan journal a (slice_index_or standings a None)
 
 -- the one report of the moves fits, and its explained text came behind what the writer held
-pub record Explains (names : List (List ℕ)) (plan : PlanParts) (lines : Lines) (moves : List Move)
+pub record Explains (column : ℕ) (names : List (List ℕ)) (plan : PlanParts) (lines : Lines) (moves : List Move)
     (old new : Option (List ℕ)) (report : ReportParts) : Type 0 where
   pub fits : Fits plan report
   pub one : IsOnly plan report
@@ -136,4 +133,4 @@ pub record Explains (names : List (List ℕ)) (plan : PlanParts) (lines : Lines)
   pub facts_are : AreFacts plan report.journal facts
   pub standings : List (Option Standing)
   pub standings_are : AreStandings plan report.journal standings
-  pub written : Appends old new (explained_text names plan lines report facts standings)
+  pub written : Appends old new (explained_text column names plan lines report facts standings)

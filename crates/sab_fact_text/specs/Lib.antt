@@ -1,3 +1,4 @@
 pub mod CallText
+pub mod Column
 pub mod FactText
 pub mod Explained

@@ -4,14 +4,17 @@ ghost use Rattle.std.specs.Prelude.{◌≡◌, ◌+◌, ◌≤◌, ◌++◌, len
 ghost use Rattle.sab_text.specs.Lines.{line_if};
 ghost use Rattle.sab_fact_text.specs.CallText.{call_text};
 ghost use Rattle.sab_fact_text.specs.FactText.{wait_text, stuck_text, done_text, return_words, called_words, fact_words};
-ghost use Rattle.sab_fact_text.specs.Explained.{spaced, explained_line};
+ghost use Rattle.sab_fact_text.specs.Column.{spaced};
+ghost use Rattle.sab_fact_text.specs.Explained.{explained_line};
 
 use crate::call_text::{CALL_LEN, push_call, push_stand};
+use crate::column::Column;
+use crate::layout::Layout;
 use crate::name::Name;
 use crate::outcome_text::push_outcome;
 use sab_explain::{Explained, Fact, Found};
 use sab_sim::{Answer, Call, Entry, Plan, What, Why};
-use sab_text::{Chunk, Line, Lines, prepend_entry};
+use sab_text::{Chunk, Line, prepend_entry};
 
 /// The most bytes of why a wait goes on.
 const WAIT_LEN: usize = 205;
@@ -22,8 +25,8 @@ const STUCK_LEN: usize = 320;
 /// The most bytes of the words of an entry: a call, and what came of it.
 pub const WORDS_LEN: usize = 1_150;
 
-/// As many spaces as there are columns before the words.
-const SPACES: &[u8; 20] = b"                    ";
+/// As many spaces as there can be columns before the words.
+const SPACES: [u8; Column::MAX] = [b' '; Column::MAX];
 
 /// Puts the line of an entry last, if it has one, with its fact in words behind it; it is entry `k` of its journal.
 ///
@@ -31,18 +34,18 @@ const SPACES: &[u8; 20] = b"                    ";
 pub fn push_explained(
     names: &[Name],
     plan: &Plan,
-    lines: Lines,
+    layout: Layout,
     sinces: &[Option<u32>],
     k: usize,
     told: &Explained,
     chunk: &mut Chunk,
 )
     requires { length chunk.old + Chunk.LINE_ROOM ≤ Chunk.ROOM }
-    ensures { chunk.new ≡ chunk.old ++ line_if lines told.now.entry.what
-        (explained_line names.now plan.now sinces.now k told.now.entry told.now.fact) }
+    ensures { chunk.new ≡ chunk.old ++ line_if layout.lines told.now.entry.what
+        (explained_line layout.column.at names.now plan.now sinces.now k told.now.entry told.now.fact) }
 {
-    if lines.has(told.entry.what) {
-        push_line(names, plan, sinces, k, &told.entry, &told.fact, chunk);
+    if layout.lines.has(told.entry.what) {
+        push_line(names, plan, layout.column, sinces, k, told, chunk);
     }
 }
 
@@ -50,30 +53,31 @@ pub fn push_explained(
 fn push_line(
     names: &[Name],
     plan: &Plan,
+    column: Column,
     sinces: &[Option<u32>],
     k: usize,
-    entry: &Entry,
-    fact: &Fact,
+    told: &Explained,
     chunk: &mut Chunk,
 )
     requires { length chunk.old + Chunk.LINE_ROOM ≤ Chunk.ROOM }
-    ensures { chunk.new ≡ chunk.old ++ explained_line names.now plan.now sinces.now k entry.now fact.now }
+    ensures { chunk.new
+        ≡ chunk.old ++ explained_line column.at names.now plan.now sinces.now k told.now.entry told.now.fact }
 {
     let mut line = Line::new();
-    prepend_entry(k, entry, &mut line);
-    push_spaced(line.bytes(), chunk);
-    push_words(names, plan, sinces, entry, fact, chunk);
+    prepend_entry(k, &told.entry, &mut line);
+    push_spaced(line.bytes(), column, chunk);
+    push_words(names, plan, sinces, &told.entry, &told.fact, chunk);
     chunk.push(b"\n");
 }
 
-/// Puts a plain text last, and spaces up to the column of the words, and two at least.
-pub(crate) fn push_spaced(plain: &[u8], chunk: &mut Chunk)
-    requires { length chunk.old + length plain.now + 20 ≤ Chunk.ROOM }
-    ensures bytes { chunk.new ≡ chunk.old ++ spaced plain.now }
-    ensures len { length chunk.new ≤ length chunk.old + length plain.now + 20 }
+/// Appends a plain text, and spaces up to the column of the words.
+pub(crate) fn push_spaced(plain: &[u8], column: Column, chunk: &mut Chunk)
+    requires { length chunk.old + length plain.now + Column.MAX ≤ Chunk.ROOM }
+    ensures bytes { chunk.new ≡ chunk.old ++ spaced column.at plain.now }
+    ensures len { length chunk.new ≤ length chunk.old + length plain.now + Column.MAX }
 {
     chunk.push(plain);
-    chunk.push(&SPACES[plain.len().min(18)..]);
+    chunk.push(&SPACES[..column.behind(plain.len())]);
 }
 
 /// Puts the words of an entry last.

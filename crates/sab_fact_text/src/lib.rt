@@ -2,9 +2,11 @@
 #![tactic(auto)]
 
 mod call_text;
+mod column;
 mod counts;
 mod explained;
 mod explaining;
+mod layout;
 mod name;
 mod outcome_text;
 mod reason_text;
@@ -13,8 +15,10 @@ mod standings;
 mod waiting_text;
 
 pub use call_text::{CALL_LEN, ELEMENT_LEN, push_call, push_element, push_name};
+pub use column::Column;
 pub use explained::{WORDS_LEN, push_explained, push_words};
 pub use explaining::{note, write_explained};
+pub use layout::Layout;
 pub use name::Name;
 pub use outcome_text::is_same;
 pub use standing::{STANDING_LEN, push_standing, push_standing_words};

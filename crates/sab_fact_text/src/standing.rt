@@ -5,6 +5,7 @@ ghost use Rattle.sab_fact_text.specs.CallText.{call_text, element_text};
 ghost use Rattle.sab_fact_text.specs.Explained.{passed_text, at_text, begun_text, waits_text, unleft_text, standing_words, standing_line};
 
 use crate::call_text::{push_call, push_element, push_stand};
+use crate::column::Column;
 use crate::explained::push_spaced;
 use crate::name::Name;
 use sab_explain::{At, Standing};
@@ -23,17 +24,18 @@ pub fn push_standing(
     a: usize,
     progress: &Progress,
     standing: Option<Standing>,
+    column: Column,
     chunk: &mut Chunk,
 )
     requires { length chunk.old + Chunk.LINE_ROOM ≤ Chunk.ROOM }
-    ensures { chunk.new ≡ chunk.old ++ standing_line names.now a progress.now standing }
+    ensures { chunk.new ≡ chunk.old ++ standing_line column.at names.now a progress.now standing }
 {
     let mut line = Line::new();
     prepend_agent(a, progress, &mut line);
     match standing {
         None => chunk.push(line.bytes()),
         Some(standing) => {
-            push_spaced(line.bytes(), chunk);
+            push_spaced(line.bytes(), column, chunk);
             push_standing_words(names, standing, chunk);
         }
     }

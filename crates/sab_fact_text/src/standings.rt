@@ -4,6 +4,7 @@ ghost use Rattle.std.specs.Prelude.{◌≡◌, ◌+◌, ◌≤◌, None, length,
 ghost use Rattle.std.specs.Io.KnownBytes.{Appends, append_known};
 ghost use Rattle.sab_fact_text.specs.Explained.{AreStandings, standing_lines};
 
+use crate::column::Column;
 use crate::name::Name;
 use crate::standing::push_standing;
 use sab_explain::{Explainer, Standing};
@@ -30,16 +31,17 @@ pub(crate) fn write_standings<W: Write>(
     names: &[Name],
     standings: &[Option<Standing>],
     agents: &[Progress],
+    column: Column,
     chunk: &mut Chunk,
     w: &mut W,
 ) -> io::Result<()>
     requires { length chunk.old + Chunk.LINE_ROOM ≤ Chunk.ROOM }
     ensures appended { OnOk result (Appends (append_known (W.contents w.old) chunk.old)
-        (append_known (W.contents w.new) chunk.new) (standing_lines names.now standings.now 0 agents.now)) }
+        (append_known (W.contents w.new) chunk.new) (standing_lines column.at names.now standings.now 0 agents.now)) }
     ensures room { OnOk result (length chunk.new + Chunk.LINE_ROOM ≤ Chunk.ROOM) }
 {
     for (a, progress) in agents.iter().enumerate() {
-        push_standing(names, a, progress, standing_at(standings, a), chunk);
+        push_standing(names, a, progress, standing_at(standings, a), column, chunk);
         chunk.make_room(w)?;
     }
     Ok(())

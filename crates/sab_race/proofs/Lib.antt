@@ -1,3 +1,3 @@
 mod UnderWay
-mod Equality
+pub mod Equality
 mod Looking

@@ -17,6 +17,7 @@ mod race_fault;
 mod rings;
 mod route;
 mod script_moves;
+mod share;
 
 pub use feeding::feed;
 pub use gate::{Gate, NoGate};
@@ -25,3 +26,4 @@ pub use mix::Mix;
 pub use race_fault::RaceFault;
 pub use rings::{run_rings, run_rings_mixed};
 pub use script_moves::{MAX_SPINS, moves};
+pub use share::Share;

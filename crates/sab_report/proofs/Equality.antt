@@ -1,33 +1,17 @@
--- Ways to tell a report, ways to race and ends that the derived `==` finds equal are the same.
+-- Ways to race and ends that the derived `==` finds equal are the same.
 use Rattle.std.proofs.Common.{◌≡◌, true, rules}
 use denote.Enum.Bare.{same_true}
 use borrow.Author.Tests.{eqb-true}
 use Rattle.std.proofs.lemmas.Bool.{and_parts}
-use Rattle.sab_text.proofs.Equality.{same_lines}
-use Rattle.sab_tool.proofs.Equality.{same_share}
+use Rattle.sab_race.proofs.Equality.{same_share}
 use Rattle.sab_report.specs.declared.ended.Ended.{Ended}
 use Rattle.sab_report.specs.contracts.ended.Ended.{the_type as ended_type}
 use Rattle.sab_report.specs.contracts.ended.EndedPartialEq.TheImpl as ended
-use Rattle.sab_report.specs.declared.format.Format.{Format}
-use Rattle.sab_report.specs.contracts.format.Format.{the_type as format_type}
-use Rattle.sab_report.specs.contracts.format.FormatPartialEq.TheImpl as format
-use Rattle.sab_report.specs.declared.format.Telling.{Telling}
-use Rattle.sab_report.specs.contracts.format.TellingPartialEq.TheImpl as telling
 use Rattle.sab_report.specs.declared.racing.Race.{Race}
 use Rattle.sab_report.specs.contracts.racing.RacePartialEq.TheImpl as race
 
 pub same_ended : (x y : Ended) → (ended.ghosts).eq x y ≡ true → x ≡ y
 same_ended = same_true ended_type (search rules)
-
-pub same_format : (x y : Format) → (format.ghosts).eq x y ≡ true → x ≡ y
-same_format = same_true format_type (search rules)
-
-pub same_telling : (x y : Telling) → (telling.ghosts).eq x y ≡ true → x ≡ y
-same_telling x y e =
-    let parts = and_parts _ _ e in
-    let format = same_format x.format y.format parts.0 in
-    let lines = same_lines x.lines y.lines parts.1 in
-    λ i. record { format = format i; lines = lines i }
 
 pub same_race : (x y : Race) → (race.ghosts).eq x y ≡ true → x ≡ y
 same_race x y e =

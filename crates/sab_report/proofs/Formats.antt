@@ -1,19 +1,22 @@
 -- The formats of a report, each as its writer tells of it.
-use Rattle.std.proofs.Common.{◌≡◌, ℕ, List, Option, refl}
+use Rattle.std.proofs.Common.{◌≡◌, ◌∙◌, ℕ, List, Option, refl, subst, sym}
 use Rattle.std.specs.Io.KnownBytes.{Appends}
 use Rattle.sab_sim.specs.declared.schedule.Move.{Move}
 use Rattle.sab_sim.specs.Plan.{PlanParts}
 use Rattle.sab_sim.specs.Report.{ReportParts}
+use Rattle.sab_text.specs.declared.lines.Lines.{Lines}
 use Rattle.sab_text.specs.Text.{text_by}
+use Rattle.sab_fact_text.specs.Column.{column_of}
 use Rattle.sab_fact_text.specs.Explained.{Explains, explained_text}
+use Rattle.sab_fact_text.proofs.Measuring.{has_room}
 use Rattle.sab_fact_json.specs.FactJson.{ExplainsAsJson}
 use Rattle.sab_fact_json.specs.Lines.{json_text}
 use Rattle.sab_fact_svg.specs.Picture.{Draws, svg_text}
 use Rattle.sab_tool.specs.Replay.{IsReplayOf}
 use Rattle.sab_tool.specs.Racing.{IsRaceOf}
-use Rattle.sab_report.specs.declared.format.Format.TheVariants.{Plain, Explained, Json, Svg}
-use Rattle.sab_report.specs.declared.format.Telling.{Telling}
-use Rattle.sab_report.specs.Telling.{Tells, TellsMoves}
+use Rattle.sab_text.specs.declared.format.Format.TheVariants.{Plain, Explained, Json, Svg}
+use Rattle.sab_text.specs.declared.format.Telling.{Telling}
+use Rattle.sab_report.specs.Telling.{Tells, TellsMoves, IsColumnOf}
 use Rattle.sab_report.specs.Racing.{TellsRace}
 
 -- a plain text that was written is a telling
@@ -37,20 +40,39 @@ pub raced_plainly : (telling : Telling) (names : List (List ℕ)) (plan : PlanPa
 raced_plainly telling names plan spins report old new is r w =
     record { is_its = r; told = plain telling names plan report old new is w }
 
+-- one report alone has these moves, so what was measured is its column
+pub is_its_column : (plan : PlanParts) (moves : List Move) (report : ReportParts) (column : ℕ)
+    → IsReplayOf plan moves report → column ≡ column_of report → IsColumnOf plan moves column
+is_its_column plan moves report column r is other o =
+    let same : other ≡ report = r.one other o.fits (o.schedule ∙ sym r.schedule) in
+    rw same is
+
+pub in_its_column : (column : ℕ) (names : List (List ℕ)) (plan : PlanParts) (lines : Lines) (moves : List Move)
+    (old new : Option (List ℕ)) (report : ReportParts) → IsColumnOf plan moves column
+    → Explains column names plan lines moves old new report
+    → Explains (column_of report) names plan lines moves old new report
+in_its_column column names plan lines moves old new report is x =
+    let its : column ≡ column_of report = is report (record { fits = x.fits; schedule = x.schedule; one = x.one }) in
+    subst (λ (c : ℕ). Explains c names plan lines moves old new report) its x
+
 pub told_explained : (telling : Telling) (names : List (List ℕ)) (plan : PlanParts) (moves : List Move)
     (report : ReportParts) (old new : Option (List ℕ)) → telling.format ≡ Explained
-    → Explains names plan telling.lines moves old new report → TellsMoves telling names plan moves old new report
+    → Explains (column_of report) names plan telling.lines moves old new report
+    → TellsMoves telling names plan moves old new report
 told_explained telling names plan moves report old new is x = record {
   is_its = record { fits = x.fits; schedule = x.schedule; one = x.one };
   told = record {
-    text = explained_text names plan telling.lines report x.facts x.standings;
-    text_is = rw is (record {
-      facts = x.facts;
-      facts_are = x.facts_are;
-      standings = x.standings;
-      standings_are = x.standings_are;
-      is_its = refl;
-    });
+    text = explained_text (column_of report) names plan telling.lines report x.facts x.standings;
+    text_is = rw is (
+      record {
+        facts = x.facts;
+        facts_are = x.facts_are;
+        standings = x.standings;
+        standings_are = x.standings_are;
+        is_its = refl;
+      },
+      has_room report (column_of report) refl,
+    );
     written = x.written;
   };
 }

@@ -6,7 +6,7 @@ use Rattle.sab_sim.specs.Report.{ReportParts}
 use Rattle.sab_tool.specs.declared.tool_fault.ToolFault.{ToolFault}
 use Rattle.sab_tool.specs.declared.tool_fault.ToolFault.TheVariants.{WriteFailed}
 use Rattle.sab_tool.specs.Racing.{IsRaceOf, IsUnraced}
-use Rattle.sab_report.specs.declared.format.Telling.{Telling}
+use Rattle.sab_text.specs.declared.format.Telling.{Telling}
 use Rattle.sab_report.specs.Telling.{Tells}
 
 -- the report of a race of the plan was told

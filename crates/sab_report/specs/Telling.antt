@@ -8,6 +8,7 @@ use Rattle.sab_explain.specs.declared.fact.Fact.{Fact}
 use Rattle.sab_explain.specs.declared.standing.Standing.{Standing}
 use Rattle.sab_text.specs.declared.lines.Lines.{Lines}
 use Rattle.sab_text.specs.Text.{text_by}
+use Rattle.sab_fact_text.specs.Column.{column_of, HasRoom}
 use Rattle.sab_fact_text.specs.Explained.{AreFacts, AreStandings, explained_text}
 use Rattle.sab_fact_json.specs.Lines.{json_text}
 use Rattle.sab_fact_json.specs.ReadsBack.{LinesReadBack}
@@ -16,9 +17,9 @@ use Rattle.sab_fact_svg.specs.Picture.{svg_text}
 use Rattle.sab_tool.specs.declared.tool_fault.ToolFault.{ToolFault}
 use Rattle.sab_tool.specs.declared.tool_fault.ToolFault.TheVariants.{OutOfMemory, WriteFailed}
 use Rattle.sab_tool.specs.Replay.{IsReplayOf}
-use Rattle.sab_report.specs.declared.format.Format.{Format}
-use Rattle.sab_report.specs.declared.format.Format.TheVariants.{Plain, Explained, Json, Svg}
-use Rattle.sab_report.specs.declared.format.Telling.{Telling}
+use Rattle.sab_text.specs.declared.format.Format.{Format}
+use Rattle.sab_text.specs.declared.format.Format.TheVariants.{Plain, Explained, Json, Svg}
+use Rattle.sab_text.specs.declared.format.Telling.{Telling}
 
 -- the facts of the report's entries and where its agents stand in the end make this text
 pub record IsByFacts (text_of : List Fact → List (Option Standing) → List ℕ) (plan : PlanParts) (report : ReportParts)
@@ -29,12 +30,13 @@ pub record IsByFacts (text_of : List Fact → List (Option Standing) → List �
   pub standings_are : AreStandings plan report.journal standings
   pub is_its : text ≡ text_of facts standings
 
--- the text of a report in a format, by the names of the plan's views; each line of JSON reads back as its tree, and a
--- picture is a document of XML
+-- the text of a report in a format, by the names of the plan's views; words stand in one column, each line of JSON
+-- reads back as its tree, and a picture is a document of XML
 abbrev pub IsTextIn : Format → Lines → List (List ℕ) → PlanParts → ReportParts → List ℕ → Type 0
 IsTextIn Plain lines names plan report text = text ≡ text_by lines report
 IsTextIn Explained lines names plan report text =
-    IsByFacts (explained_text names plan lines report) plan report text
+    IsByFacts (explained_text (column_of report) names plan lines report) plan report text
+    × HasRoom report (column_of report)
 IsTextIn Json lines names plan report text =
     IsByFacts (json_text names lines report) plan report text × LinesReadBack names
 IsTextIn Svg lines names plan report text = IsByFacts (svg_text names plan report) plan report text × IsDocument text
@@ -51,6 +53,10 @@ pub record TellsMoves (telling : Telling) (names : List (List ℕ)) (plan : Plan
     (old new : Option (List ℕ)) (report : ReportParts) : Type 0 where
   pub is_its : IsReplayOf plan moves report
   pub told : Tells telling names plan report old new
+
+-- the words of the one report of the moves begin at this column
+abbrev pub IsColumnOf : PlanParts → List Move → ℕ → Type 0
+IsColumnOf plan moves column = (report : ReportParts) → IsReplayOf plan moves report → column ≡ column_of report
 
 -- there was no memory and nothing was written, or a write failed
 abbrev pub IsTellingFault : Option (List ℕ) → Option (List ℕ) → ToolFault → Type 0

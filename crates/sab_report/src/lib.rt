@@ -3,14 +3,12 @@
 
 mod ended;
 mod explaining;
-mod format;
 mod names;
 mod racing;
 mod replaying;
 mod telling;
 
 pub use ended::Ended;
-pub use format::{Format, Telling};
 pub use racing::{Race, race_as};
 pub use replaying::replay_as;
-pub use sab_text::Lines;
+pub use sab_text::{Format, Lines, Telling};

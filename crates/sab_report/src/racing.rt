@@ -9,12 +9,11 @@ ghost use Rattle.sab_report.specs.Racing.{TellsRace, IsTellingRaceFault};
 ghost use Rattle.sab_report.specs.Reporting.{RacesAs};
 
 use crate::ended::Ended;
-use crate::format::{Format, Telling};
 use crate::names::names_of;
 use crate::telling::tell_moves;
 use sab_fact_text::Name;
 use sab_sim::{Plan, Report};
-use sab_text::{Lines, write_report};
+use sab_text::{Format, Lines, Telling, write_report};
 use sab_tool::{MAX_SPINS, Share, ToolFault, race_plan, setup_of};
 use std::alloc::Global;
 use std::io::Write;

@@ -5,9 +5,9 @@ ghost use Rattle.sab_tool.specs.Replay.{IsReplayFault};
 ghost use Rattle.sab_report.specs.Reporting.{ReplaysAs};
 
 use crate::ended::Ended;
-use crate::format::Telling;
 use crate::names::names_of;
 use crate::telling::tell_moves;
+use sab_text::Telling;
 use sab_tool::{ToolFault, setup_of};
 use std::alloc::Global;
 use std::io::Write;

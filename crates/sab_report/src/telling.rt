@@ -9,10 +9,9 @@ ghost use Rattle.sab_tool.specs.Replay.{IsReplayOf};
 ghost use Rattle.sab_report.specs.Telling.{TellsMoves, IsTellingFault};
 
 use crate::explaining::{draw, explain, explain_as_json};
-use crate::format::{Format, Telling};
 use sab_fact_text::Name;
 use sab_sim::{Move, Plan, Report};
-use sab_text::{Lines, write_report};
+use sab_text::{Format, Lines, Telling, write_report};
 use sab_tool::{ToolFault, replay_moves};
 use std::alloc::Global;
 use std::io::Write;

@@ -6,7 +6,7 @@ use Rattle.sab_sim.specs.Report.{ReportParts}
 use Rattle.sab_script.specs.Setup.{SetupParts}
 use Rattle.sab_kept.specs.Keeping.{KeepsRun}
 use Rattle.sab_report.specs.declared.ended.Ended.{Ended}
-use Rattle.sab_report.specs.declared.format.Telling.{Telling}
+use Rattle.sab_text.specs.declared.format.Telling.{Telling}
 use Rattle.sab_report.specs.Telling.{Tells}
 use Rattle.sab_report.specs.Reporting.{ReplaysAs, RacesAs}
 

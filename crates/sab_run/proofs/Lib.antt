@@ -1,3 +1,3 @@
 pub mod Flushed
-pub mod Checks
 pub mod KeptRaces
+pub mod Given

@@ -3,8 +3,11 @@
 ghost use Rattle.std.specs.Prelude.{◌≡◌, ◌≤◌, Some, IfOk, IfErr, IfSome, OnOk};
 ghost use Rattle.std.specs.Io.KnownBytes.{Appends, IsAtEnd};
 ghost use Rattle.sab_command.specs.Job.{IsWithinLimits};
-ghost use Rattle.sab_run.specs.Running.{RunsGiven, IsRunFault, IsUnwritten};
+ghost use Rattle.sab_run.specs.Explaining.{IsExplanation};
+ghost use Rattle.sab_run.specs.Running.{Runs, RunsGiven, IsFaultOf, IsRunFault, IsUnwritten};
 
+use crate::explaining::explanation_of;
+use crate::failure::Failure;
 use sab_check::{Checked, check_script};
 use sab_command::Job;
 use sab_ending::Outcome;
@@ -23,24 +26,54 @@ use std::thread::Threads;
 /// TooLong where the reader gave more than [`MAX_INPUT`](sab_tool::MAX_INPUT) bytes, ReadFailed where a read failed,
 /// and WriteFailed where a write or the flush failed; nothing is said then of how much was written. Every other fault
 /// is that of the script's replay or race, or want of memory, and nothing was written. A check of a script that is
-/// refused isn't answered by its fault: what is written tells it.
+/// refused isn't answered by its fault: what is written tells it. Where the script is refused, and that is to be
+/// explained, the failure has what a check says of it.
+#[tactic(auto, using(crate::proofs::Given::ran, crate::proofs::Given::failed, crate::proofs::Given::explained, crate::proofs::Given::unread))]
 pub fn run<T: Threads + Wait + Sync + AllocGlobal + RandomSource, R: Read, W: Write>(
     rt: &T,
     job: Job,
+    explain: bool,
     input: &mut R,
     output: &mut W,
-) -> Result<Outcome, ToolFault>
+) -> Result<Outcome, Failure>
     requires { IsWithinLimits job }
     ensures ok { IfOk result (λ outcome. IfSome (R.remaining input.old)
         (RunsGiven job outcome (W.contents output.old) (W.contents output.new))) }
     ensures end { OnOk result (IsAtEnd (R.remaining input.new)) }
-    ensures err { IfErr result (IsRunFault (R.remaining input.old) job (W.contents output.old) (W.contents output.new)) }
+    ensures err { IfErr result (λ failure. IsRunFault (R.remaining input.old) job
+        (W.contents output.old) (W.contents output.new) failure.fault) }
+    ensures unwritten { IfErr result (λ failure.
+        IsUnwritten (W.contents output.old) (W.contents output.new) failure.fault) }
+    ensures why { IfErr result (λ failure. IfSome (R.remaining input.old) (λ script.
+        IsExplanation explain failure.fault script failure.explanation)) }
+{
+    let alloc = rt.alloc();
+    let script = read_input(alloc, input)?;
+    match run_script(rt, job, script.as_slice(), output) {
+        Ok(outcome) => Ok(outcome),
+        Err(fault) => {
+            let explanation = explanation_of(alloc, explain, fault, script.as_slice());
+            Err(Failure { fault, explanation })
+        }
+    }
+}
+
+/// Does it with a script, which isn't too long.
+fn run_script<T: Threads + Wait + Sync + AllocGlobal + RandomSource, W: Write>(
+    rt: &T,
+    job: Job,
+    script: &[u8],
+    output: &mut W,
+) -> Result<Outcome, ToolFault>
+    requires { IsWithinLimits job }
+    ensures ok { IfOk result (λ outcome. Runs job outcome (W.contents output.old) (W.contents output.new) script.now) }
+    ensures err { IfErr result (IsFaultOf job (W.contents output.old) (W.contents output.new) script.now) }
     ensures unwritten { IfErr result (IsUnwritten (W.contents output.old) (W.contents output.new)) }
 {
     match job {
-        Job::Replay { telling, finish } => replay(rt.alloc(), telling, finish, input, output),
-        Job::ReplayAsScript { finish } => keep(rt.alloc(), finish, input, output),
-        Job::Check => check(rt.alloc(), input, output),
+        Job::Replay { telling, finish } => replay(rt.alloc(), telling, finish, script, output),
+        Job::ReplayAsScript { finish } => keep(rt.alloc(), finish, script, output),
+        Job::Check => check(rt.alloc(), script, output),
         Job::Race {
             share,
             spins,
@@ -50,7 +83,7 @@ pub fn run<T: Threads + Wait + Sync + AllocGlobal + RandomSource, R: Read, W: Wr
         } => {
             let seed = seed_of(rt, mix);
             let how = Race { share, spins, seed };
-            race(rt, how, telling, finish, input, output)
+            race(rt, how, telling, finish, script, output)
         }
         Job::RaceAsScript {
             share,
@@ -59,69 +92,60 @@ pub fn run<T: Threads + Wait + Sync + AllocGlobal + RandomSource, R: Read, W: Wr
             finish,
         } => {
             let seed = seed_of(rt, mix);
-            keep_raced(rt, Race { share, spins, seed }, finish, input, output)
+            keep_raced(rt, Race { share, spins, seed }, finish, script, output)
         }
     }
 }
 
-/// Replays the script that a reader gives.
+/// Replays a script.
 #[tactic(auto, using(crate::proofs::Flushed::flushed))]
-fn replay<R: Read, W: Write>(
+fn replay<W: Write>(
     alloc: Global,
     telling: Telling,
     finish: bool,
-    input: &mut R,
+    script: &[u8],
     output: &mut W,
 ) -> Result<Outcome, ToolFault>
-    ensures ok { IfOk result (λ outcome. IfSome (R.remaining input.old)
-        (RunsGiven (Job.Replay telling finish) outcome (W.contents output.old) (W.contents output.new))) }
-    ensures end { OnOk result (IsAtEnd (R.remaining input.new)) }
-    ensures err { IfErr result (IsRunFault (R.remaining input.old) (Job.Replay telling finish)
-        (W.contents output.old) (W.contents output.new)) }
+    ensures ok { IfOk result (λ outcome. Runs (Job.Replay telling finish) outcome
+        (W.contents output.old) (W.contents output.new) script.now) }
+    ensures err { IfErr result (IsFaultOf (Job.Replay telling finish)
+        (W.contents output.old) (W.contents output.new) script.now) }
     ensures unwritten { IfErr result (IsUnwritten (W.contents output.old) (W.contents output.new)) }
 {
-    let script = read_input(alloc, input)?;
-    let ended = replay_as(alloc, script.as_slice(), telling, output)?;
+    let ended = replay_as(alloc, script, telling, output)?;
     output.flush().map_err(|_| ToolFault::WriteFailed)?;
     Ok(Outcome::of_run(ended, finish))
 }
 
 /// Replays it, and writes it as a script.
 #[tactic(auto, using(crate::proofs::Flushed::flushed_kept))]
-fn keep<R: Read, W: Write>(
+fn keep<W: Write>(
     alloc: Global,
     finish: bool,
-    input: &mut R,
+    script: &[u8],
     output: &mut W,
 ) -> Result<Outcome, ToolFault>
-    ensures ok { IfOk result (λ outcome. IfSome (R.remaining input.old)
-        (RunsGiven (Job.ReplayAsScript finish) outcome (W.contents output.old) (W.contents output.new))) }
-    ensures end { OnOk result (IsAtEnd (R.remaining input.new)) }
-    ensures err { IfErr result (IsRunFault (R.remaining input.old) (Job.ReplayAsScript finish)
-        (W.contents output.old) (W.contents output.new)) }
+    ensures ok { IfOk result (λ outcome. Runs (Job.ReplayAsScript finish) outcome
+        (W.contents output.old) (W.contents output.new) script.now) }
+    ensures err { IfErr result (IsFaultOf (Job.ReplayAsScript finish)
+        (W.contents output.old) (W.contents output.new) script.now) }
     ensures unwritten { IfErr result (IsUnwritten (W.contents output.old) (W.contents output.new)) }
 {
-    let script = read_input(alloc, input)?;
-    let report = keep_replay(alloc, script.as_slice(), output)?;
+    let report = keep_replay(alloc, script, output)?;
     output.flush().map_err(|_| ToolFault::WriteFailed)?;
     Ok(Outcome::of_run(Ended::of(&report), finish))
 }
 
-/// Checks the script that a reader gives.
+/// Checks a script.
 #[tactic(auto)]
-fn check<R: Read, W: Write>(
-    alloc: Global,
-    input: &mut R,
-    output: &mut W,
-) -> Result<Outcome, ToolFault>
-    ensures ok { IfOk result (λ outcome. IfSome (R.remaining input.old)
-        (RunsGiven Job.Check outcome (W.contents output.old) (W.contents output.new))) }
-    ensures end { OnOk result (IsAtEnd (R.remaining input.new)) }
-    ensures err { IfErr result (IsRunFault (R.remaining input.old) Job.Check (W.contents output.old) (W.contents output.new)) }
+fn check<W: Write>(alloc: Global, script: &[u8], output: &mut W) -> Result<Outcome, ToolFault>
+    ensures ok { IfOk result (λ outcome. Runs Job.Check outcome
+        (W.contents output.old) (W.contents output.new) script.now) }
+    ensures err { IfErr result (IsFaultOf Job.Check
+        (W.contents output.old) (W.contents output.new) script.now) }
     ensures unwritten { IfErr result (IsUnwritten (W.contents output.old) (W.contents output.new)) }
 {
-    let script = read_input(alloc, input)?;
-    match check_script(alloc, script.as_slice())? {
+    match check_script(alloc, script)? {
         Checked::Accepted(text) => {
             tell(text.as_str(), output)?;
             Ok(Outcome::Done)
@@ -159,62 +183,46 @@ fn seed_of(rt: &impl RandomSource, mix: Option<u64>) -> u64
     }
 }
 
-/// Runs the agents of the script that a reader gives in threads.
+/// Runs the agents of a script in threads.
 #[tactic(auto, using(crate::proofs::Flushed::flushed_race))]
-fn race<T: Threads + Wait + Sync + AllocGlobal, R: Read, W: Write>(
+fn race<T: Threads + Wait + Sync + AllocGlobal, W: Write>(
     rt: &T,
     how: Race,
     telling: Telling,
     finish: bool,
-    input: &mut R,
+    script: &[u8],
     output: &mut W,
 ) -> Result<Outcome, ToolFault>
     requires { how.spins ≤ MAX_SPINS }
-    ensures ok { IfOk result (λ outcome. IfSome (R.remaining input.old) (RunsGiven
-        (Job.Race how.share how.spins (Some how.seed) telling finish) outcome
-        (W.contents output.old) (W.contents output.new))) }
-    ensures end { OnOk result (IsAtEnd (R.remaining input.new)) }
-    ensures err { IfErr result (IsRunFault (R.remaining input.old)
-        (Job.Race how.share how.spins (Some how.seed) telling finish)
-        (W.contents output.old) (W.contents output.new)) }
+    ensures ok { IfOk result (λ outcome. Runs (Job.Race how.share how.spins (Some how.seed) telling finish) outcome
+        (W.contents output.old) (W.contents output.new) script.now) }
+    ensures err { IfErr result (IsFaultOf (Job.Race how.share how.spins (Some how.seed) telling finish)
+        (W.contents output.old) (W.contents output.new) script.now) }
     ensures unwritten { IfErr result (IsUnwritten (W.contents output.old) (W.contents output.new)) }
 {
     let alloc = rt.alloc();
-    let script = read_input(alloc, input)?;
-    let ended = race_as(rt, alloc, script.as_slice(), how, telling, output)?;
+    let ended = race_as(rt, alloc, script, how, telling, output)?;
     output.flush().map_err(|_| ToolFault::WriteFailed)?;
     Ok(Outcome::of_run(ended, finish))
 }
 
 /// Runs them, and writes the script with the schedule that came about.
-fn keep_raced<T: Threads + Wait + Sync + AllocGlobal, R: Read, W: Write>(
+fn keep_raced<T: Threads + Wait + Sync + AllocGlobal, W: Write>(
     rt: &T,
     how: Race,
     finish: bool,
-    input: &mut R,
+    script: &[u8],
     output: &mut W,
 ) -> Result<Outcome, ToolFault>
     requires { how.spins ≤ MAX_SPINS }
-    ensures ok { IfOk result (λ outcome. IfSome (R.remaining input.old) (RunsGiven
-        (Job.RaceAsScript how.share how.spins (Some how.seed) finish) outcome
-        (W.contents output.old) (W.contents output.new))) }
-    ensures end { OnOk result (IsAtEnd (R.remaining input.new)) }
-    ensures err { IfErr result (IsRunFault (R.remaining input.old)
-        (Job.RaceAsScript how.share how.spins (Some how.seed) finish)
-        (W.contents output.old) (W.contents output.new)) }
+    ensures ok { IfOk result (λ outcome. Runs (Job.RaceAsScript how.share how.spins (Some how.seed) finish) outcome
+        (W.contents output.old) (W.contents output.new) script.now) }
+    ensures err { IfErr result (IsFaultOf (Job.RaceAsScript how.share how.spins (Some how.seed) finish)
+        (W.contents output.old) (W.contents output.new) script.now) }
     ensures unwritten { IfErr result (IsUnwritten (W.contents output.old) (W.contents output.new)) }
 {
     let alloc = rt.alloc();
-    let script = read_input(alloc, input)?;
-    let report = keep_race(
-        rt,
-        alloc,
-        script.as_slice(),
-        how.share,
-        how.spins,
-        how.seed,
-        output,
-    )?;
+    let report = keep_race(rt, alloc, script, how.share, how.spins, how.seed, output)?;
     output.flush().map_err(|_| ToolFault::WriteFailed)?;
     Ok(Outcome::of_run(Ended::of(&report), finish))
 }

@@ -1,9 +1,25 @@
--- Choices of lines that the derived `==` finds equal are the same.
+-- Choices of lines, formats and ways to tell a report that the derived `==` finds equal are the same.
 use Rattle.std.proofs.Common.{◌≡◌, true, rules}
 use denote.Enum.Bare.{same_true}
+use Rattle.std.proofs.lemmas.Bool.{and_parts}
 use Rattle.sab_text.specs.declared.lines.Lines.{Lines}
 use Rattle.sab_text.specs.contracts.lines.Lines.{the_type as lines_type}
 use Rattle.sab_text.specs.contracts.lines.LinesPartialEq.TheImpl as lines
+use Rattle.sab_text.specs.declared.format.Format.{Format}
+use Rattle.sab_text.specs.contracts.format.Format.{the_type as format_type}
+use Rattle.sab_text.specs.contracts.format.FormatPartialEq.TheImpl as format
+use Rattle.sab_text.specs.declared.format.Telling.{Telling}
+use Rattle.sab_text.specs.contracts.format.TellingPartialEq.TheImpl as telling
 
 pub same_lines : (x y : Lines) → (lines.ghosts).eq x y ≡ true → x ≡ y
 same_lines = same_true lines_type (search rules)
+
+pub same_format : (x y : Format) → (format.ghosts).eq x y ≡ true → x ≡ y
+same_format = same_true format_type (search rules)
+
+pub same_telling : (x y : Telling) → (telling.ghosts).eq x y ≡ true → x ≡ y
+same_telling x y e =
+    let parts = and_parts _ _ e in
+    let format = same_format x.format y.format parts.0 in
+    let lines = same_lines x.lines y.lines parts.1 in
+    λ i. record { format = format i; lines = lines i }

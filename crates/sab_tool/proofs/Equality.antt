@@ -1,15 +1,9 @@
--- Equality of refusals and of ways of sharing: values that the derived `==` finds equal are the same.
+-- Equality of refusals: values that the derived `==` finds equal are the same.
 use Rattle.std.proofs.Common.{◌≡◌, true, rules}
 use denote.Enum.Bare.{same_true}
-use Rattle.sab_tool.specs.declared.share.Share.{Share}
 use Rattle.sab_tool.specs.declared.tool_fault.ToolFault.{ToolFault}
-use Rattle.sab_tool.specs.contracts.share.Share.{the_type as share_type}
-use Rattle.sab_tool.specs.contracts.share.SharePartialEq.TheImpl as share
 use Rattle.sab_tool.specs.contracts.tool_fault.ToolFault.{the_type as tool_fault_type}
 use Rattle.sab_tool.specs.contracts.tool_fault.ToolFaultPartialEq.TheImpl as tool_fault
-
-pub same_share : (x y : Share) → (share.ghosts).eq x y ≡ true → x ≡ y
-same_share = same_true share_type (search rules)
 
 pub same_tool_fault : (x y : ToolFault) → (tool_fault.ghosts).eq x y ≡ true → x ≡ y
 same_tool_fault = same_true tool_fault_type (search rules)

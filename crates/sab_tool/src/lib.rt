@@ -7,15 +7,13 @@ mod racing;
 mod replaying;
 mod report;
 mod script;
-mod share;
 mod tool_fault;
 
 pub use input::{MAX_INPUT, read_input};
 pub use racing::{race_bytes, race_mixed, race_plan};
 pub use replaying::{replay_bytes, replay_moves};
 pub use report::write_report;
-pub use sab_race::MAX_SPINS;
+pub use sab_race::{MAX_SPINS, Share};
 pub use sab_script::{MAX_MOVES, ReadFault, Setup, ViewSpec, read_setup};
 pub use script::setup_of;
-pub use share::Share;
 pub use tool_fault::ToolFault;

@@ -5,9 +5,8 @@ ghost use Rattle.sab_tool.specs.Racing.{IsRaceOf, IsUnraced, Races, IsRaceFault}
 
 use crate::report::write_report;
 use crate::script::setup_of;
-use crate::share::Share;
 use crate::tool_fault::ToolFault;
-use sab_race::{MAX_SPINS, Mix, run_locked, run_rings_mixed};
+use sab_race::{MAX_SPINS, Mix, Share, run_locked, run_rings_mixed};
 use sab_sim::{Plan, Report};
 use std::alloc::Global;
 use std::io::Write;

@@ -1,14 +1,18 @@
 //! Runs scripts of agents that share blocks of bytes, by their schedule or in threads.
 #![tactic(auto)]
 
-use sab_command::job_of;
+ghost use Rattle.sab_command.specs.Job.{IsWithinLimits};
+
+use sab_command::{Request, Source, request_of};
 use sab_ending::{Ending, FaultLine, without_job, without_words};
-use sab_run::run;
-use std::io;
+use sab_run::{Failure, run};
+use std::io::IsTerminal;
 use std::process::ExitCode;
 use std::random::RandomSource;
+use std::rt::Files;
 use std::sync::Wait;
 use std::thread::Threads;
+use std::{fs, io};
 
 /// The words of the command line, of which the first is the program's name.
 fn words(rt: &(impl std::rt::Env + AllocGlobal)) -> io::Result<Vec<String>> {
@@ -16,25 +20,61 @@ fn words(rt: &(impl std::rt::Env + AllocGlobal)) -> io::Result<Vec<String>> {
     Ok(words)
 }
 
-/// Does what the words ask for, between standard input and standard output.
-fn obey(
-    rt: &(impl Print + Eprint + Input + AllocGlobal + Threads + Wait + Sync + RandomSource),
-    words: &[String],
-) -> Ending {
-    match job_of(rt.alloc(), words) {
-        Ok(job) => Ending::of_job(run(rt, job, &mut rt.reader(), &mut io::writer(rt))),
-        Err(error) => without_job(rt, &error),
+/// Does what is asked for, from the script's source to standard output, and says on standard error where it fails.
+///
+/// Why a script is refused is told on a terminal too.
+fn perform<R: Print + Eprint + Input + Files + AllocGlobal + Threads + Wait + Sync + RandomSource>(
+    rt: &R,
+    request: Request<'_>,
+    is_terminal: bool,
+) -> Ending
+    requires { IsWithinLimits request.job }
+{
+    let job = request.job;
+    let explain = request.explain || is_terminal;
+    let answer = match request.source {
+        Source::Standard => run(rt, job, explain, &mut rt.reader(), &mut io::writer(rt)),
+        Source::File(name) => match fs::open(rt, name) {
+            Ok(mut file) => run(rt, job, explain, &mut file, &mut io::writer(rt)),
+            Err(error) => Err(Failure::of_open(&error)),
+        },
+    };
+    match answer {
+        Ok(outcome) => Ending::of_job(Ok(outcome)),
+        Err(failure) => {
+            let complaint = failure.complaint(request.source);
+            let _ = eprint!(rt; "{complaint}");
+            Ending::of_job(Err(failure.fault))
+        }
     }
 }
 
-fn main(rt: HostRuntime) -> ExitCode {
-    let ending = match words(&rt) {
-        Ok(words) => obey(&rt, words.as_slice()),
-        Err(error) => without_words(&rt, &error),
-    };
+/// Says on standard error of a fault that came before any job, and answers how the program ends.
+fn told(rt: &impl Eprint, ending: Ending) -> Ending {
     if let Ending::Failed(fault) = ending {
         let line = FaultLine(fault);
         let _ = eprintln!(rt; "{line}");
     }
+    ending
+}
+
+/// Does what the words ask for.
+fn obey(
+    rt: &(impl Print + Eprint + Input + Files + AllocGlobal + Threads + Wait + Sync + RandomSource),
+    words: &[String],
+    is_terminal: bool,
+) -> Ending {
+    match request_of(rt.alloc(), words) {
+        Ok(request) => perform(rt, request, is_terminal),
+        Err(error) => told(rt, without_job(rt, &error)),
+    }
+}
+
+fn main(rt: HostRuntime) -> ExitCode {
+    let is_terminal = rt.stderr().is_terminal();
+    let ending = match words(&rt) {
+        Ok(words) => obey(&rt, words.as_slice(), is_terminal),
+        Err(error) => told(&rt, without_words(&rt, &error)),
+    };
     ExitCode::from(ending.status())
 }

@@ -1,7 +1,7 @@
 //! Command lines that are read or refused.
 
 use clap::error::ErrorKind;
-use sab_command::{Job, job_of};
+use sab_command::{Job, Source, request_of};
 use sab_report::{Format, Lines, Telling};
 use sab_tool::Share;
 use std::alloc::Global;
@@ -14,9 +14,54 @@ const PLAIN: Telling = Telling {
 
 /// Whether the words ask for just this job.
 fn asks(alloc: Global, words: &[&str], job: Job) -> bool {
-    match job_of(alloc, words) {
-        Ok(found) => found == job,
+    match request_of(alloc, words) {
+        Ok(request) => request.job == job,
         Err(_) => false,
+    }
+}
+
+/// Whether the words ask for a script of the file of this name, or of standard input where it is none, and for an
+/// explanation or for none.
+fn asks_of(alloc: Global, words: &[&str], file: Option<&str>, explain: bool) -> bool {
+    let Ok(request) = request_of(alloc, words) else {
+        return false;
+    };
+    let is_found = match request.source {
+        Source::Standard => file.is_none(),
+        Source::File(name) => file == Some(name),
+    };
+    is_found && request.explain == explain
+}
+
+#[test]
+fn a_command_line_says_where_the_script_is(rt: HostRuntime) {
+    let table: [(&[&str], Option<&str>, bool); 11] = [
+        (&["sabsim", "replay"], None, false),
+        (&["sabsim", "replay", "-"], None, false),
+        (&["sabsim", "replay", "a.json"], Some("a.json"), false),
+        (
+            &["sabsim", "replay", "--explain", "a.json"],
+            Some("a.json"),
+            true,
+        ),
+        (&["sabsim", "replay", "./-", "--explain"], Some("./-"), true),
+        (&["sabsim", "replay", "--", "--acts"], Some("--acts"), false),
+        (&["sabsim", "check"], None, false),
+        (&["sabsim", "check", "-"], None, false),
+        (&["sabsim", "check", "a b"], Some("a b"), false),
+        (
+            &["sabsim", "race", "--share", "lock", "a.json"],
+            Some("a.json"),
+            false,
+        ),
+        (
+            &["sabsim", "race", "-", "--explain", "--share", "ring"],
+            None,
+            true,
+        ),
+    ];
+    for (words, file, explain) in table {
+        assert!(rt; asks_of(rt.alloc(), words, file, explain), "{words:?}");
     }
 }
 
@@ -96,7 +141,7 @@ fn a_command_line_is_read(rt: HostRuntime) {
 
 /// Whether the words are refused for this reason, and are to be told so on this device.
 fn is_refused(alloc: Global, words: &[&str], kind: ErrorKind, to_stderr: bool) -> bool {
-    match job_of(alloc, words) {
+    match request_of(alloc, words) {
         Ok(_) => false,
         Err(error) => error.kind() == kind && error.use_stderr() == to_stderr,
     }
@@ -104,11 +149,11 @@ fn is_refused(alloc: Global, words: &[&str], kind: ErrorKind, to_stderr: bool) -
 
 #[test]
 fn another_command_line_is_refused(rt: HostRuntime) {
-    let table: [(&[&str], ErrorKind, bool); 16] = [
+    let table: [(&[&str], ErrorKind, bool); 17] = [
         (&["sabsim"], ErrorKind::MissingSubcommand, true),
         (&["sabsim", "play"], ErrorKind::InvalidSubcommand, true),
         (
-            &["sabsim", "replay", "script.json"],
+            &["sabsim", "replay", "script.json", "script.json"],
             ErrorKind::UnknownArgument,
             true,
         ),
@@ -138,7 +183,12 @@ fn another_command_line_is_refused(rt: HostRuntime) {
             true,
         ),
         (
-            &["sabsim", "check", "script.json"],
+            &["sabsim", "check", "script.json", "-"],
+            ErrorKind::UnknownArgument,
+            true,
+        ),
+        (
+            &["sabsim", "check", "--explain"],
             ErrorKind::UnknownArgument,
             true,
         ),

@@ -14,17 +14,17 @@ const WOKEN: &str = r#"{"blocks":[4],
 
 /// What is told of it.
 const ITS_STORY: &str = "\
-0 0 0 begin         calls wait(m, 0, 0)
-1 0 0 wait          wait(m, 0, 0) waits at m[0], first in line
-2 1 0 begin         calls add(m, 0, 1)
-3 1 0 act 0         add(m, 0, 1) changes m[0] from 0 to 1
-4 1 0 return 0      returns from add(m, 0, 1)
-5 1 1 begin         calls notify(m, 0, 1)
-6 1 1 act 1         notify(m, 0, 1) wakes agent 0, which waited at m[0] since 1
-7 0 0 leave ok      wait(m, 0, 0) was woken by 6
-8 1 1 return 1      returns from notify(m, 0, 1)
+0 0 0 begin     calls wait(m, 0, 0)
+1 0 0 wait      wait(m, 0, 0) waits at m[0], first in line
+2 1 0 begin     calls add(m, 0, 1)
+3 1 0 act 0     add(m, 0, 1) changes m[0] from 0 to 1
+4 1 0 return 0  returns from add(m, 0, 1)
+5 1 1 begin     calls notify(m, 0, 1)
+6 1 1 act 1     notify(m, 0, 1) wakes agent 0, which waited at m[0] since 1
+7 0 0 leave ok  wait(m, 0, 0) was woken by 6
+8 1 1 return 1  returns from notify(m, 0, 1)
 block 0 01000000
-agent 0 0 of 1      hasn't returned from wait(m, 0, 0)
+agent 0 0 of 1  hasn't returned from wait(m, 0, 0)
 agent 1 2 of 2
 ";
 

@@ -3,11 +3,12 @@
 ghost use Rattle.sab_command.specs.Job.{IsWithinLimits};
 
 use crate::scripts::{STORE_AND_LOAD, report_of};
-use sab_command::Job;
+use sab_command::{Job, Source};
 use sab_ending::Outcome;
 use sab_report::{Format, Lines, Telling};
-use sab_run::run;
+use sab_run::{Failure, run};
 use sab_tool::{Share, ToolFault};
+use std::alloc::Global;
 use std::io;
 use std::io::Write;
 use std::random::RandomSource;
@@ -62,9 +63,9 @@ fn reports_to<R: AllocGlobal + Threads + Wait + Sync + RandomSource>(
         is_flushed: false,
         is_stuck,
     };
-    let is_right = match run(rt, job, &mut input, &mut output) {
+    let is_right = match run(rt, job, false, &mut input, &mut output) {
         Ok(outcome) => outcome == Outcome::Done && output.is_flushed,
-        Err(fault) => is_stuck && fault == ToolFault::WriteFailed,
+        Err(failure) => is_stuck && failure.fault == ToolFault::WriteFailed,
     };
     Ok(is_right && output.taken == report)
 }
@@ -110,7 +111,7 @@ fn checked<R: AllocGlobal + Threads + Wait + Sync + RandomSource>(
         is_flushed: false,
         is_stuck,
     };
-    let outcome = match run(rt, Job::Check, &mut input, &mut output) {
+    let outcome = match run(rt, Job::Check, false, &mut input, &mut output) {
         Ok(outcome) if output.is_flushed => Some(outcome),
         _ => None,
     };
@@ -138,7 +139,60 @@ fn a_check_without_room_for_what_it_says_fails(rt: HostRuntime) {
         let mut room = [0; 8];
         let mut input = script.as_bytes();
         let mut rest = room.as_mut_slice();
-        let answer = run(&rt, Job::Check, &mut input, &mut rest);
-        assert!(rt; answer == Err(ToolFault::WriteFailed));
+        let answer = run(&rt, Job::Check, false, &mut input, &mut rest);
+        let fault = answer.err().map(|failure| failure.fault);
+        assert!(rt; fault == Some(ToolFault::WriteFailed));
     }
+}
+
+/// What is said of a replay of a script that is refused, where the script is read from a file.
+fn complaint<R: AllocGlobal + Threads + Wait + Sync + RandomSource>(
+    rt: &R,
+    script: &str,
+    explain: bool,
+) -> Result<String, Fail> {
+    let mut input = script.as_bytes();
+    let mut output = Vec::new(rt.alloc());
+    let job = Job::Replay {
+        telling: PLAIN,
+        finish: false,
+    };
+    match run(rt, job, explain, &mut input, &mut output) {
+        Ok(_) => Err(Fail::new("it isn't refused")),
+        Err(failure) => {
+            let complaint = failure.complaint(Source::File("script.json"));
+            Ok(complaint.to_string(rt.alloc())?)
+        }
+    }
+}
+
+#[test]
+fn a_refusal_is_explained_where_that_is_asked_for(rt: HostRuntime) -> Result<(), Fail> {
+    let short = complaint(&rt, "[1", false)?;
+    assert!(rt; short.as_str() == "sabsim: 16 NotJson\n");
+    let long = complaint(&rt, "[1", true)?;
+    let told = "sabsim: 16 NotJson\nline 1, column 2: 16 NotJson: the text ends too early\n";
+    assert!(rt; long.as_str() == told);
+    let tree = complaint(&rt, "[]", true)?;
+    let told = "sabsim: 10 BadShape\nscript: 10 BadShape: an object is called for\n";
+    assert!(rt; tree.as_str() == told);
+    Ok(())
+}
+
+/// What is said of a file of this name that isn't there.
+fn unopened(alloc: Global, name: &str) -> Result<String, Fail> {
+    let failure = Failure::of_open(&io::ErrorKind::NotFound.into());
+    Ok(failure.complaint(Source::File(name)).to_string(alloc)?)
+}
+
+#[test]
+fn a_file_that_cannot_be_opened_is_named_in_one_line(rt: HostRuntime) -> Result<(), Fail> {
+    let alloc = rt.alloc();
+    let named = unopened(alloc, "d\u{e9}j\u{e0} vu.json")?;
+    assert!(rt; named.as_str() == "sabsim: 19 ReadFailed: d\u{e9}j\u{e0} vu.json\n");
+    let unnamed = unopened(alloc, "two\nlines")?;
+    assert!(rt; unnamed.as_str() == "sabsim: 19 ReadFailed\n");
+    let failure = Failure::of_open(&io::ErrorKind::OutOfMemory.into());
+    assert!(rt; failure.fault == ToolFault::OutOfMemory);
+    Ok(())
 }

@@ -20,7 +20,8 @@ export function foundBy(answer) {
  */
 export function leftOpen(answer, who) {
   if (answer === null || (typeof answer !== "object" && typeof answer !== "function")) return undefined;
-  if (typeof answer.then === "function") return `answered a promise, but ${who} must be synchronous`;
-  if (typeof answer.next === "function") return "answered an iterator, whose code nobody runs: it is a generator";
+  const answered = /** @type {Record<string, unknown>} */ (answer);
+  if (typeof answered.then === "function") return `answered a promise, but ${who} must be synchronous`;
+  if (typeof answered.next === "function") return "answered an iterator, whose code nobody runs: it is a generator";
   return undefined;
 }

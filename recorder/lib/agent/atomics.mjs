@@ -10,6 +10,7 @@ const { wait: WAIT, notify: NOTIFY, compareExchange: COMPARE_EXCHANGE } = CALL_N
 const { isNaN } = Number;
 
 /** @typedef {import("../run/records.mjs").Call} Call */
+/** @typedef {Record<string, any>} Functions an Atomics: its functions by their names */
 
 /**
  * @typedef {object} Asking how the calls of one agent are made
@@ -17,7 +18,7 @@ const { isNaN } = Number;
  * @property {() => boolean} isRecording whether the agent's part in a run goes on
  * @property {(call: Call, view: object) => unknown} make blocks until it is the agent's turn
  * @property {(milliseconds: number) => boolean} sleep lets time pass in a wait that nobody can end; whether it did
- * @property {(why: string) => never} refuse ends the run, for a call outside of the profile
+ * @property {(why: string) => never} refuse ends the run, for a call that no script can have
  */
 
 /**
@@ -33,7 +34,7 @@ function operandName(call, place) {
 /**
  * What a script has for a call.
  * @param {number} call
- * @param {unknown[]} given
+ * @param {any[]} given
  * @param {object} view the typed array, as the engine knows it
  * @param {number} block
  * @returns {Call}
@@ -52,10 +53,10 @@ function callOf(call, given, view, block) {
 /**
  * A call on an array of the program's own. A wait there that has a timeout is how code sleeps; nobody else has the
  * array, so it takes only the run's time.
- * @param {typeof Atomics} engine
+ * @param {Functions} engine
  * @param {Asking} asking
  * @param {string} name
- * @param {unknown[]} given
+ * @param {any[]} given
  */
 function privately(engine, asking, name, given) {
   const own = engine[name];
@@ -70,9 +71,10 @@ function privately(engine, asking, name, given) {
 
 /**
  * One function of the agents' Atomics.
- * @param {typeof Atomics} engine
+ * @param {Functions} engine
  * @param {Asking} asking
  * @param {number} call
+ * @returns {(...given: any[]) => unknown}
  */
 function recorded(engine, asking, call) {
   const { name } = CALLS[call];
@@ -88,7 +90,7 @@ function recorded(engine, asking, call) {
       asked = callOf(call, given, view, block);
     } catch (problem) {
       if (!(problem instanceof OutsideProfile)) throw problem;
-      return asking.refuse(`Atomics.${name}: ${problem.message}`);
+      return asking.refuse(`Atomics.${name}: ${problem.message}: convert it before the call`);
     }
     return asking.make(asked, view);
   };
@@ -96,15 +98,16 @@ function recorded(engine, asking, call) {
 
 /**
  * A function that no script can have: refused on a recorded buffer.
- * @param {typeof Atomics} engine
+ * @param {Functions} engine
  * @param {Asking} asking
  * @param {string} name
+ * @returns {(...given: any[]) => unknown}
  */
 function outside(engine, asking, name) {
   return (...given) => {
     const view = unwrapped(given[0]);
     const isRecorded = kindOf(view) >= 0 && asking.blockOf(bufferOf(view)) >= 0;
-    if (isRecorded) return asking.refuse(`Atomics.${name}: no script can have this function`);
+    if (isRecorded) return asking.refuse(`Atomics.${name}: no script can have this function: use Atomics.wait`);
     given[0] = view;
     return apply(engine[name], engine, given);
   };
@@ -121,9 +124,11 @@ const HARMLESS = ["isLockFree", "pause"];
  * @returns {typeof Atomics}
  */
 export function recordedAtomics(engine, asking) {
+  const own = /** @type {Functions} */ (/** @type {object} */ (engine));
+  /** @type {Functions} */
   const kept = {};
-  for (const name of Object.getOwnPropertyNames(engine)) kept[name] = engine[name];
-  const made = {};
+  for (const name of Object.getOwnPropertyNames(own)) kept[name] = own[name];
+  const made = /** @type {typeof Atomics} */ ({});
   for (const name of Object.keys(kept)) {
     let value = kept[name];
     if (name in CALL_NUMBERS) value = likeEngine(recorded(kept, asking, CALL_NUMBERS[name]), value);

@@ -2,7 +2,9 @@
 
 import { CALLS, CALL_NUMBERS, CONSTRUCTORS } from "../../script/kinds.mjs";
 
-const FUNCTIONS = Object.freeze(CALLS.map((call) => Atomics[call.name]));
+/** @type {Record<string, Function>} */
+const functions = /** @type {any} */ (Atomics);
+const FUNCTIONS = Object.freeze(CALLS.map((call) => functions[call.name]));
 const ELEMENTS = Object.freeze(CONSTRUCTORS.map((Kind) => [new Kind(1), new Kind(1)]));
 const { wait: WAIT, notify: NOTIFY } = CALL_NUMBERS;
 
@@ -10,7 +12,7 @@ const { wait: WAIT, notify: NOTIFY } = CALL_NUMBERS;
  * Makes a call. A wait has no time, and a notify wakes nobody: who waits is the board's.
  * @param {import("../run/records.mjs").Call} call
  * @param {object} view
- * @returns {unknown} what the engine answers
+ * @returns {any} what the engine answers: a value, or of a wait a word
  */
 export function engineCall({ call, index, operands }, view) {
   const make = FUNCTIONS[call];

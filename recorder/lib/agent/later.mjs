@@ -5,19 +5,24 @@
 import { createHook } from "node:async_hooks";
 import util from "node:util";
 import { promiseHooks } from "node:v8";
-import { uncurried } from "../../kept/own.mjs";
+import {
+  apply, defineProperty, getOwnPropertyDescriptor, uncurried, weakHas, weakSet,
+} from "../../kept/own.mjs";
 import { framesHere } from "./sources.mjs";
 import { withoutOwn } from "./stack.mjs";
 
 const { inspect } = util;
+const { WeakMap: EngineWeakMap } = globalThis;
 const startsWith = uncurried(String.prototype.startsWith);
 const endsWith = uncurried(String.prototype.endsWith);
 const indexOf = uncurried(String.prototype.indexOf);
 const partOf = uncurried(String.prototype.slice);
 
+/** @type {Readonly<Record<string, string>>} what goes on later, by the type of node's resource */
 const WORDS = Object.freeze({
   Microtask: "queueMicrotask", TickObject: "process.nextTick", STATWATCHER: "a callback",
 });
+/** @type {Readonly<Record<string, string>>} likewise, of what can be cleared */
 const TIMERS = Object.freeze({ Timeout: "a timer", Immediate: "setImmediate" });
 const CALLBACKS = Object.freeze(["CALLBACK", "REQ", "WRAP"]);
 
@@ -27,6 +32,19 @@ const JOB = "REQUEST";
 // What node itself does later for a warning, and for a worker that was started: nothing of the agent's.
 const HARMLESS = Object.freeze(["node:internal/process/warning", "node:internal/worker"]);
 
+// What zlib does at once is done by a stream of its own, which leaves a tick behind where it fails.
+const ZLIB = Object.freeze({ type: "ZLIB", file: "node:zlib", atOnce: "zlibBufferSync", making: "syncBufferWrapper" });
+
+// A listener's error is thrown once more by a tick, where nobody catches it.
+const LISTENERS = Object.freeze({
+  type: "TickObject", file: "node:internal/event_target", throwing: "emitUncaughtException",
+});
+
+// Globals that node loads when they are asked for first. What their code does then is nothing of the agent's.
+const LOADED_LATE = Object.freeze([
+  "FormData", "Headers", "Request", "Response", "MessageEvent", "WebSocket", "EventSource", "CloseEvent",
+]);
+
 // The frames of this file stand before those of who calls.
 const OWN = import.meta.url;
 
@@ -34,15 +52,43 @@ const SHOWN = Object.freeze({ depth: 0, customInspect: false, compact: true, bre
 const REJECTED = "{ <rejected> ";
 const HOOKS = ", [Symbol(async_id_symbol)]";
 
-/** Where the reason ends in what node shows of a promise: before what its hooks have put there. @param {string} text */
+/**
+ * Where the reason ends in what node shows of a promise: before what its hooks have put there.
+ * @param {string} text
+ */
 function endOf(text) {
   const found = indexOf(text, HOOKS);
   return found < 0 ? text.length - 2 : found;
 }
 
+/** Whether a tick throws what a listener of an EventTarget has thrown. */
+function isListenersTick() {
+  const frames = framesHere();
+  for (let at = 0; at < frames.length; at += 1) {
+    if (frames[at].getFileName() !== LISTENERS.file) continue;
+    return frames[at].getFunctionName() === LISTENERS.throwing;
+  }
+  return false;
+}
+
+/**
+ * What a function throws.
+ * @param {Function} act
+ * @returns {{ thrown?: unknown }}
+ */
+function thrownBy(act) {
+  try {
+    act();
+    return {};
+  } catch (thrown) {
+    return { thrown };
+  }
+}
+
 /** @param {string} type of node's resources @returns {string | undefined} what goes on later, in words */
 function wordFor(type) {
   if (type === "TickObject" && isHarmlessTick()) return undefined;
+  if (type === ZLIB.type) return isMadeForZlib() ? undefined : "a stream of zlib";
   const word = WORDS[type];
   if (word !== undefined) return word;
   for (let at = 0; at < CALLBACKS.length; at += 1) {
@@ -51,41 +97,79 @@ function wordFor(type) {
   return undefined;
 }
 
+/**
+ * Whether a frame is of what zlib does at once.
+ * @param {NodeJS.CallSite} frame
+ */
+function isZlibAtOnce(frame) {
+  if (frame.getFileName() !== ZLIB.file) return false;
+  const name = frame.getFunctionName();
+  return name === ZLIB.atOnce || name === ZLIB.making;
+}
+
+/** Whether a stream of zlib is made by zlib itself, for what it does at once. */
+function isMadeForZlib() {
+  const frames = framesHere();
+  for (let at = 0; at < frames.length; at += 1) {
+    if (isZlibAtOnce(frames[at])) return true;
+  }
+  return false;
+}
+
 /** Whether `process.nextTick` is called by one of node's own files that do no harm there. */
 function isHarmlessTick() {
   const frames = framesHere();
   for (let at = 0; at < frames.length; at += 1) {
     const file = frames[at].getFileName();
     if (file === HARMLESS[0] || file === HARMLESS[1]) return true;
+    if (isZlibAtOnce(frames[at])) return true;
     if (file !== OWN && typeof file === "string" && !startsWith(file, "node:")) return false;
   }
   return false;
 }
 
 export class Later {
+  /** It notes from now on which promises something comes after, so it is made before the agents' module is loaded. */
   constructor() {
     this.isWatching = false;
-    /** What surely goes on later, in words. @type {string | undefined} */
+    /** @type {string | undefined} what surely goes on later, in words */
     this.found = undefined;
-    /** The promises that were settled. */
+    /** @type {Promise<unknown>[]} the promises that were settled */
     this.settled = [];
-    /** The last job that was begun: one that is done later has somebody to tell. @type {object | undefined} */
+    /** @type {unknown[]} what listeners of an EventTarget threw */
+    this.thrown = [];
+    /** @type {any} the last job that was begun: one that is done later has somebody to tell */
     this.job = undefined;
-    /** The timers that were set, and what each is in words. @type {{ timer: object, word: string }[]} */
+    /** @type {WeakMap<object, boolean>} the promises that something comes after, whenever that was said */
+    this.awaited = new EngineWeakMap();
+    /** @type {{ timer: any, word: string }[]} the timers that were set, and what each is in words */
     this.timers = [];
-    createHook({ init: (_id, type, _trigger, resource) => this.#note(type, resource) }).enable();
     promiseHooks.onInit((_promise, parent) => {
-      if (parent !== undefined && this.isWatching) this.found ??= "a promise";
+      if (parent === undefined) return;
+      weakSet(this.awaited, parent, true);
+      if (this.isWatching) this.found ??= "a promise";
     });
     promiseHooks.onSettled((promise) => {
-      if (this.isWatching) this.settled[this.settled.length] = promise;
+      if (!this.isWatching) return;
+      if (weakHas(this.awaited, promise)) this.found ??= "a promise";
+      this.settled[this.settled.length] = promise;
     });
+    this.#leaveLoading();
+  }
+
+  /**
+   * Notes timers and callbacks too, from now on. Nothing gets to the worker's event loop any more: there node's own
+   * part of this hook calls methods that the agents' module may have patched.
+   */
+  enable() {
+    createHook({ init: (_id, type, _trigger, resource) => this.#note(type, resource) }).enable();
   }
 
   /** An agent's code begins. */
   begin() {
     this.found = undefined;
     this.settled = [];
+    this.thrown = [];
     this.job = undefined;
     this.timers = [];
     this.isWatching = true;
@@ -113,6 +197,11 @@ export class Later {
     return found;
   }
 
+  /** @returns {string | undefined} the first error that a listener threw, which its EventTarget keeps to itself */
+  thrownByListener() {
+    return this.thrown.length === 0 ? undefined : withoutOwn(inspect(this.thrown[0], SHOWN));
+  }
+
   /** @returns {string | undefined} why a promise was rejected, where nobody handles that */
   rejected() {
     for (let at = 0; at < this.settled.length; at += 1) {
@@ -123,11 +212,48 @@ export class Later {
     return undefined;
   }
 
+  /** Lets node load what it loads late, without a note of it. */
+  #leaveLoading() {
+    for (let at = 0; at < LOADED_LATE.length; at += 1) {
+      const found = getOwnPropertyDescriptor(globalThis, LOADED_LATE[at]);
+      if (found?.get === undefined) continue;
+      const { get } = found;
+      found.get = () => this.#aside(() => apply(get, globalThis, []));
+      defineProperty(globalThis, LOADED_LATE[at], found);
+    }
+  }
+
+  /**
+   * Does something that is no part of the agent's code.
+   * @template T
+   * @param {() => T} act
+   * @returns {T}
+   */
+  #aside(act) {
+    const { isWatching } = this;
+    this.isWatching = false;
+    try {
+      return act();
+    } finally {
+      this.isWatching = isWatching;
+    }
+  }
+
+  /**
+   * @param {string} type of node's resource
+   * @param {any} resource of which node's own names are known
+   */
   #note(type, resource) {
     if (!this.isWatching || this.found !== undefined) return;
     const word = TIMERS[type];
     if (word !== undefined) {
       this.timers[this.timers.length] = { timer: resource, word };
+      return;
+    }
+    if (type === LISTENERS.type && isListenersTick()) {
+      // All that this tick does is to throw.
+      const { thrown } = thrownBy(resource.callback);
+      this.thrown[this.thrown.length] = thrown;
       return;
     }
     if (!endsWith(type, JOB)) {

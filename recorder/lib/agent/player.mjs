@@ -4,7 +4,7 @@
 
 import { JOIN, LEAVE, MAKE, TIME_UP } from "../board/journal.mjs";
 import { PHASE, WORD } from "../board/layout.mjs";
-import { CALLS, CALL_NUMBERS, SIZES } from "../../script/kinds.mjs";
+import { CALL_NUMBERS, SIZES } from "../../script/kinds.mjs";
 import { SCRIPT_LIMITS } from "../../script/limits.mjs";
 import { FLAG, NO_CALL, READ, WRITE } from "../run/log.mjs";
 import { byteOf } from "../run/memory.mjs";
@@ -59,9 +59,9 @@ export class Player {
     this.isOver = false;
     /** Whether it is in a call of Atomics. It stays so where an exception ends the call amid its way. */
     this.isInside = false;
-    /** The last call, for messages. @type {Call | undefined} */
+    /** @type {Call | undefined} the last call, for messages */
     this.last = undefined;
-    /** The views that the script has, by their keys: the length of each one's name. @type {Map<number, number>} */
+    /** @type {Map<number, number>} the views that the script has, by their keys: the length of each one's name */
     this.views = new EngineMap();
     this.repeats = new Repeats(table.lengths);
     this.accesses = 0;
@@ -69,7 +69,10 @@ export class Player {
     this.since = 0;
   }
 
-  /** Waits until there is something to begin. @returns {number} one of the board's `ORDER` */
+  /**
+   * Waits until there is something to begin.
+   * @returns {number} one of the board's `ORDER`
+   */
   awaitOrder() {
     const { board } = this.table;
     this.started = board.turn.awaitStart(this.agent, this.started);
@@ -203,6 +206,11 @@ export class Player {
     board.turn.leave(this.agent);
   }
 
+  /**
+   * @param {Call} call
+   * @param {object} view
+   * @param {number} source
+   */
   #access(call, view, source) {
     const value = this.#tried(call, source, () => {
       const from = byteOf(call);
@@ -215,14 +223,24 @@ export class Player {
     return this.#answer(value, MAKE);
   }
 
-  /** The engine's notify makes the checks and wakes nobody: no thread waits in the engine's own line. */
+  /**
+   * The engine's notify makes the checks and wakes nobody: no thread waits in the engine's own line.
+   * @param {Call} call
+   * @param {object} view
+   * @param {number} source
+   */
   #notify(call, view, source) {
     this.#tried(call, source, () => engineCall(call, view));
     this.#log(MAKE, call, FLAG.WAITERS, source);
     return this.#answer(this.table.board.line.notify(call.block, byteOf(call), call.limit), MAKE);
   }
 
-  /** The engine's wait makes the checks and compares, with no time at all. */
+  /**
+   * The engine's wait makes the checks and compares, with no time at all.
+   * @param {Call} call
+   * @param {object} view
+   * @param {number} source
+   */
   #wait(call, view, source) {
     const { board, canBlock, records, stores } = this.table;
     const word = this.#tried(call, source, () => {
@@ -241,7 +259,7 @@ export class Player {
     this.#log(JOIN, call, flags, source);
     board.did(this.agent, JOIN);
     board.line.join(this.agent, call.block, byteOf(call), call.limit !== undefined);
-    if (call.limit !== undefined) board.clock.setDeadline(this.agent, call.milliseconds);
+    if (call.limit !== undefined) board.clock.setDeadline(this.agent, call.milliseconds ?? call.limit);
     this.#untilTurn();
     const isWoken = board.line.phase(this.agent) === PHASE.WOKEN;
     if (!isWoken) board.clock.reachDeadline(this.agent);
@@ -270,6 +288,12 @@ export class Player {
     }
   }
 
+  /**
+   * @param {number} event
+   * @param {Call} call
+   * @param {number} flags
+   * @param {number} source
+   */
   #log(event, call, flags, source) {
     const from = byteOf(call);
     this.table.log.append(
@@ -279,7 +303,7 @@ export class Player {
 
   /**
    * Writes down the call's answer; the agent's code goes on.
-   * @template T
+   * @template {number | bigint | string} T
    * @param {T} answer
    * @param {number} event
    * @returns {T}
@@ -353,6 +377,7 @@ export class Player {
   /**
    * Takes what the writes that were seen have changed in a block. Those that go on from each other are taken together,
    * whether the log has joined them or not: a script doesn't depend on that.
+   * @param {number} block
    */
   #takeSeen(block) {
     const { log } = this.table;
@@ -374,12 +399,21 @@ export class Player {
     this.#takeStretch(block, from, to, kind);
   }
 
+  /**
+   * @param {number} block
+   * @param {number} from
+   * @param {number} to
+   * @param {number} kind
+   */
   #takeStretch(block, from, to, kind) {
     const { log, stores } = this.table;
     if (from < to) stores.takeWritten(this.agent, log.length, block, from, to, kind);
   }
 
-  /** Ends the run where the script could not have the call. */
+  /**
+   * Ends the run where the script could not have the call.
+   * @param {Call} call
+   */
   #stayWithin(call) {
     const { calls, views, text } = SCRIPT_LIMITS;
     const { board, lengths } = this.table;
@@ -394,6 +428,7 @@ export class Player {
     }
   }
 
+  /** @param {number} most */
   #meetsCalls(most) {
     if (this.table.records.endsAlike(this.made)) this.#spins(`it has made ${most} calls, and goes on`);
     const source = sourceHere();
@@ -408,7 +443,7 @@ export class Player {
     return this.#bound(`agent ${this.agent} spins${where}: ${what}`);
   }
 
-  /** @returns {never} */
+  /** @param {string} detail @returns {never} */
   #bound(detail) {
     return this.#end("bound", detail);
   }
@@ -430,7 +465,7 @@ export class Player {
     this.#end("failed", `agent ${this.agent} ran out of stack in a call of Atomics`);
   }
 
-  /** @returns {never} */
+  /** @param {import("../board/end.mjs").Ended} ending @param {string} detail @returns {never} */
   #end(ending, detail) {
     this.table.board.journal.countOrdinary(this.agent, this.accesses);
     this.table.board.end.end(ending, detail);
@@ -449,11 +484,17 @@ export class Player {
     return this.table.board.words[WORD.TELLS_SOURCES] === 1 ? this.table.sources.here() : 0;
   }
 
-  /** What code that has ended has left undone, or untold. @param {string} who @returns {string | undefined} */
+  /**
+   * What code that has ended has left undone, or untold.
+   * @param {string} who
+   * @returns {string | undefined}
+   */
   #undone(who) {
     const { later } = this.table;
     const goesOn = later.left();
     if (goesOn !== undefined) return laterText(goesOn, who);
+    const thrown = later.thrownByListener();
+    if (thrown !== undefined) return `has a listener that threw, which nobody catches: ${thrown}`;
     const rejected = later.rejected();
     return rejected === undefined ? undefined : `left a rejected promise, which nobody handles: ${rejected}`;
   }
@@ -461,7 +502,7 @@ export class Player {
   /** @param {import("../run/memory.mjs").Change} change */
   #changeText({ block, byte, was, is }) {
     const { agent, made, last, table } = this;
-    const when = made === 0
+    const when = last === undefined || made === 0
       ? "before its first call"
       : `after its call ${made - 1}, ${callText(viewName(table.lengths, last), last)}`;
     const what = `agent ${agent} changed byte ${byte} of block ${block} from ${was} to ${is}`;
@@ -470,10 +511,17 @@ export class Player {
   }
 }
 
-/** Whether a call's index is one of its view's. @param {Call} call */
+/**
+ * Whether a call's index is one of its view's.
+ * @param {Call} call
+ */
 const isWithin = (call) => call.index >= 0 && call.index < call.length;
 
-/** What an access does to its element: whether it reads and writes it. */
+/**
+ * What an access does to its element: whether it reads and writes it.
+ * @param {Call} call
+ * @param {number | bigint} value that it answers
+ */
 function effectOf(call, value) {
   if (call.call === LOAD) return FLAG.READS;
   if (call.call === STORE) return FLAG.WRITES;

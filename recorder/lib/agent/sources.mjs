@@ -29,6 +29,7 @@ const COLUMNS = 2 ** 24;
 const RECORDER = new URL("../../", import.meta.url).href;
 const OWN = [`${RECORDER}lib/`, `${RECORDER}script/`, `${RECORDER}kept/`, "node:"];
 
+/** @type {(error: Error, frames: NodeJS.CallSite[]) => NodeJS.CallSite[]} */
 const sites = (_error, frames) => frames;
 
 /**
@@ -43,6 +44,7 @@ export function framesHere(from = framesHere, most = MOST_FRAMES) {
     // Neither throws where the agents' code has made them constant: then no frames are known.
     set(EngineError, "stackTraceLimit", most);
     set(EngineError, "prepareStackTrace", sites);
+    /** @type {{ stack?: any }} */
     const holder = {};
     captureStackTrace(holder, from);
     const { stack } = holder;
@@ -54,6 +56,7 @@ export function framesHere(from = framesHere, most = MOST_FRAMES) {
   }
 }
 
+/** @param {string} file */
 function isOwn(file) {
   for (let at = 0; at < OWN.length; at += 1) {
     if (begins(file, OWN[at])) return true;
@@ -61,9 +64,10 @@ function isOwn(file) {
   return false;
 }
 
-/** For each file whether it is one of the agents' code. @type {Map<string, boolean>} */
+/** @type {Map<string, boolean>} for each file whether it is one of the agents' code */
 const agentsFiles = new EngineMap();
 
+/** @param {string | null} file */
 function isAgents(file) {
   if (typeof file !== "string") return false;
   const known = mapGet(agentsFiles, file);
@@ -73,7 +77,10 @@ function isAgents(file) {
   return found;
 }
 
-/** The innermost of some frames that is of the agents' code. @param {NodeJS.CallSite[]} frames */
+/**
+ * The innermost of some frames that is of the agents' code.
+ * @param {NodeJS.CallSite[]} frames
+ */
 function firstOfAgents(frames) {
   for (let at = 0; at < frames.length; at += 1) {
     if (isAgents(frames[at].getFileName())) return frames[at];
@@ -111,15 +118,18 @@ export class Sources {
   constructor(memory) {
     this.used = new Int32Array(memory, 0, 1);
     this.text = new Uint8Array(memory, 4);
-    /** The numbers of each file's positions. @type {Map<string, Map<number, number>>} */
+    /** @type {Map<string, Map<number, number>>} the numbers of each file's positions */
     this.files = new EngineMap();
-    /** The numbers of those that are written down, by their lines. @type {Map<string, number>} */
+    /** @type {Map<string, number>} the numbers of those that are written down, by their lines */
     this.lines = new EngineMap();
     this.count = 0;
     this.#takeOver(bufferFrom(memory, 4, this.used[0]));
   }
 
-  /** Takes over what a worker before this one has written down. @param {Buffer} written */
+  /**
+   * Takes over what a worker before this one has written down.
+   * @param {Buffer} written
+   */
   #takeOver(written) {
     const text = decode(written, "utf8");
     for (let at = 0; at < text.length;) {
@@ -135,7 +145,7 @@ export class Sources {
     const frame = agentsFrame(here);
     if (frame === undefined) return UNKNOWN;
     const numbers = this.#numbersOf(frame.getFileName());
-    const position = frame.getLineNumber() * COLUMNS + frame.getColumnNumber();
+    const position = (frame.getLineNumber() ?? 0) * COLUMNS + (frame.getColumnNumber() ?? 0);
     const known = mapGet(numbers, position);
     if (known !== undefined) return known;
     const line = `${spelled(frame)}\n`;
@@ -144,6 +154,7 @@ export class Sources {
     return number;
   }
 
+  /** @param {string | null} file */
   #numbersOf(file) {
     const known = mapGet(this.files, file);
     if (known !== undefined) return known;
@@ -152,7 +163,11 @@ export class Sources {
     return numbers;
   }
 
-  /** Writes a position down. @param {string} line @returns {number} its number */
+  /**
+   * Writes a position down.
+   * @param {string} line
+   * @returns {number} its number
+   */
   #added(line) {
     const room = this.text.length - this.used[0];
     // A character takes three bytes at most.

@@ -23,6 +23,7 @@ const EPOCH = 946_684_800_000;
  */
 export function simulateTime(now) {
   const today = () => floor(EPOCH + now());
+  /** @type {typeof Date} */
   const Simulated = new EngineProxy(EngineDate, {
     construct(target, given, made) {
       const parts = given.length === 0 ? [today()] : given;
@@ -41,6 +42,7 @@ export function simulateTime(now) {
 /** @param {() => number} now */
 function simulateProcess(now) {
   const nanoseconds = () => big(floor(now() * 1e6));
+  /** @type {(before?: [number, number]) => [number, number]} */
   const hrtime = (before) => {
     const time = floor(now() * 1e6);
     const seconds = floor(time / 1e9);
@@ -93,7 +95,7 @@ export function simulateChance(chance) {
   put(Math, "random", likeEngine(() => chance.fraction(), Math.random));
   const { webcrypto } = crypto;
   const fillView = webcrypto.getRandomValues;
-  const getRandomValues = likeEngine((view) => {
+  const getRandomValues = likeEngine((/** @type {ArrayBufferView} */ view) => {
     // The engine's own makes the checks, and its numbers are overwritten.
     apply(fillView, webcrypto, [view]);
     chance.fill(new Uint8Array(view.buffer, view.byteOffset, view.byteLength));
@@ -107,18 +109,21 @@ export function simulateChance(chance) {
   simulateNodeChance(chance);
 }
 
-/** Those of node's module alone. @param {Chance} chance */
+/**
+ * Those of node's module alone.
+ * @param {Chance} chance
+ */
 function simulateNodeChance(chance) {
   const { randomBytes, randomInt, randomFillSync } = crypto;
-  put(crypto, "randomBytes", likeEngine((size, done) => {
+  put(crypto, "randomBytes", likeEngine((/** @type {number} */ size, /** @type {unknown} */ done) => {
     if (done !== undefined) return apply(randomBytes, crypto, [size, done]);
     const bytes = bytesFrom(size);
     chance.fill(bytes);
     return bytes;
   }, randomBytes));
-  put(crypto, "randomFillSync", likeEngine((view, offset = 0, size = undefined) => {
+  put(crypto, "randomFillSync", likeEngine((/** @type {any} */ view, offset = 0, size = undefined) => {
     apply(randomFillSync, crypto, size === undefined ? [view, offset] : [view, offset, size]);
-    const each = isView(view) ? view.BYTES_PER_ELEMENT ?? 1 : 1;
+    const each = isView(view) ? /** @type {any} */ (view).BYTES_PER_ELEMENT ?? 1 : 1;
     const bytes = isView(view)
       ? new Uint8Array(view.buffer, view.byteOffset, view.byteLength)
       : new Uint8Array(view);
@@ -126,7 +131,8 @@ function simulateNodeChance(chance) {
     for (let at = offset * each; at < to; at += 1) bytes[at] = chance.random.next() >>> 24;
     return view;
   }, randomFillSync));
-  put(crypto, "randomInt", likeEngine((least, most, done) => {
+  /** @type {(least: number, most?: any, done?: unknown) => unknown} */
+  const randomIntOf = (least, most, done) => {
     const from = typeof most === "number" ? least : 0;
     const to = typeof most === "number" ? most : least;
     const callback = typeof most === "function" ? most : done;
@@ -134,15 +140,20 @@ function simulateNodeChance(chance) {
     if (!isSafeInteger(from) || !isSafeInteger(to)) throw new TypeError("the bounds must be safe integers");
     if (to <= from || to - from >= 2 ** 48) throw new RangeError("the bounds are out of order, or too far apart");
     return from + floor(chance.fraction() * (to - from));
-  }, randomInt));
+  };
+  put(crypto, "randomInt", likeEngine(randomIntOf, randomInt));
 }
 
-/** A version 4 UUID. @param {Chance} chance */
+/**
+ * A version 4 UUID.
+ * @param {Chance} chance
+ */
 function uuidOf(chance) {
   const bytes = bytesFrom(16);
   chance.fill(bytes);
   bytes[6] = (bytes[6] & 0x0f) | 0x40;
   bytes[8] = (bytes[8] & 0x3f) | 0x80;
+  /** @param {number} from @param {number} to */
   const part = (from, to) => hexOf(bytes, "hex", from, to);
   return `${part(0, 4)}-${part(4, 6)}-${part(6, 8)}-${part(8, 10)}-${part(10, 16)}`;
 }

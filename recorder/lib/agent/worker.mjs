@@ -19,13 +19,13 @@ import { shown } from "../../script/operands.mjs";
 import { recordedAtomics } from "./atomics.mjs";
 import { Later } from "./later.mjs";
 import { watchOrdinary } from "./ordinary/watch.mjs";
-import { put, uncurried } from "../../kept/own.mjs";
+import { ownKeys, put, uncurried } from "../../kept/own.mjs";
 import { Player } from "./player.mjs";
 import { Sources } from "./sources.mjs";
 import { withoutOwn } from "./stack.mjs";
 import { Chance, simulateChance, simulateTime } from "./time.mjs";
 
-const { Error: EngineError, String: text } = globalThis;
+const { Error: EngineError, String: text, structuredClone: cloned } = globalThis;
 const includes = uncurried(String.prototype.includes);
 const plainTitle = uncurried(Error.prototype.toString);
 
@@ -44,7 +44,10 @@ function titleOf(error) {
   }
 }
 
-/** An error's stack without the recorder's frames, where its code has left it one. @param {Error} error */
+/**
+ * An error's stack without the recorder's frames, where its code has left it one.
+ * @param {Error} error
+ */
 function stackOf(error) {
   try {
     return withoutOwn(text(error.stack ?? ""));
@@ -53,7 +56,10 @@ function stackOf(error) {
   }
 }
 
-/** Something else than an error of this realm, with its message where it has one. @param {any} thrown */
+/**
+ * Something else than an error of this realm, with its message where it has one.
+ * @param {any} thrown
+ */
 function shownWithMessage(thrown) {
   const message = typeof thrown === "object" && thrown !== null ? thrown.message : undefined;
   return typeof message === "string" ? `an object with the message "${message}"` : shown(thrown);
@@ -62,7 +68,11 @@ function shownWithMessage(thrown) {
 // A cause has a cause in turn, perhaps without an end.
 const MOST_CAUSES = 3;
 
-/** What an error was caused by, where it says so. @param {Error} error @param {number} depth how many came before */
+/**
+ * What an error was caused by, where it says so.
+ * @param {Error} error
+ * @param {number} depth how many came before
+ */
 function causeOf(error, depth) {
   const { cause } = error;
   return cause === undefined || depth === MOST_CAUSES ? "" : `\ncaused by ${described(cause, depth + 1)}`;
@@ -89,6 +99,7 @@ function described(thrown, depth = 0) {
 // A worker's own streams are written by its event loop, which never comes to its turn again. What agents print goes to
 // standard error at once: standard output is the recorder's.
 function printAtOnce() {
+  /** @param {string | Uint8Array} chunk */
   const printed = (chunk) => {
     try {
       writeSync(2, chunk);
@@ -100,12 +111,31 @@ function printAtOnce() {
   for (const name of ["stdout", "stderr"]) {
     const stream = new Writable({ write: (chunk, _encoding, done) => done(printed(chunk) ? null : undefined) });
     // The stream's own way of writing goes on later, for a callback.
-    put(stream, "write", (chunk) => printed(chunk));
+    put(stream, "write", printed);
     Object.defineProperty(process, name, { value: stream, configurable: true });
   }
 }
 
-const { port, agent: number, args, ordinary, clock, module: file } = workerData;
+const NO_AGENT = "it has no function as its default export, as `export default function agent({ buffers }) { .. }`";
+
+/**
+ * @typedef {object} Given what a worker is started with
+ * @property {import("node:worker_threads").MessagePort} port
+ * @property {number} agent
+ * @property {string[]} args
+ * @property {"watch" | "store" | "refuse"} ordinary
+ * @property {"run" | "real"} clock
+ * @property {string} module the URL of the agents' module
+ */
+
+/**
+ * @typedef {object} Handed what it gets when all workers have loaded that module
+ * @property {ReturnType<typeof import("../run/group.mjs").memoryOf>} memory
+ * @property {import("../run/plan.mjs").Plan} plan
+ * @property {import("../board/strategy.mjs").Rules} rules
+ */
+
+const { port, agent: number, args, ordinary, clock, module: file } = /** @type {Given} */ (workerData);
 
 /**
  * How the agent's calls are made; none can be while its module is being loaded.
@@ -114,6 +144,7 @@ const { port, agent: number, args, ordinary, clock, module: file } = workerData;
 const self = { player: undefined, buffers: [] };
 const chance = new Chance(number);
 
+/** @param {unknown} buffer */
 const blockOf = (buffer) => {
   for (let block = 0; block < self.buffers.length; block += 1) {
     if (self.buffers[block] === buffer) return block;
@@ -123,42 +154,100 @@ const blockOf = (buffer) => {
 
 const isRecording = () => self.player !== undefined && self.player.isPlaying;
 
-/** Ends the run, and says where. @param {string} why */
-const refuse = (why) => self.player.refuse(`stands outside of sabsim's profile: ${described(new EngineError(why))}`);
+/** @returns {Player} who is there before the agent's code runs */
+function playing() {
+  const { player } = self;
+  if (player === undefined) throw new EngineError("the agent has no part in a run yet");
+  return player;
+}
+
+/**
+ * Ends the run, and says where.
+ * @param {string} what was done, as it is said of an agent
+ * @param {string} why
+ */
+const refuse = (what, why) =>
+  playing().refuse(`${what} that the recorder can't record: ${described(new EngineError(why))}`);
 
 /** @type {import("./atomics.mjs").Asking} */
 const asking = {
   blockOf,
   isRecording,
-  make: (call, view) => self.player.make(call, view),
+  make: (call, view) => playing().make(call, view),
   sleep: (milliseconds) => {
     if (clock !== "run") return false;
-    self.player.doze(milliseconds);
+    playing().doze(milliseconds);
     return true;
   },
-  refuse,
+  refuse: (why) => refuse("made a call", why),
 };
 
 /** @type {import("./ordinary/watch.mjs").Watching} */
 const watching = {
   blockOf,
   seen: (place, from, to, writes) => {
-    if (isRecording()) self.player.seen(place, from, to, writes);
+    const { player } = self;
+    if (player !== undefined && player.isPlaying) player.seen(place, from, to, writes);
   },
   refuse: (why) => {
-    if (isRecording()) return refuse(why);
+    if (isRecording()) return refuse("did something", why);
     throw new EngineError(why);
   },
 };
 
-/** Replaces what shows an agent the world. */
+/**
+ * Replaces what shows an agent the world.
+ * @returns {Later} what notes from now on what is left for later
+ */
 function furnish() {
   printAtOnce();
-  if (clock === "run") simulateTime(() => (isRecording() ? self.player.look() : 0));
+  if (clock === "run") simulateTime(() => (isRecording() ? playing().look() : 0));
   simulateChance(chance);
   if (ordinary === "watch") watchOrdinary(watching);
   globalThis.Atomics = recordedAtomics(Atomics, asking);
   syncBuiltinESMExports();
+  return new Later();
+}
+
+/**
+ * Makes sure that a module's `setup` can be handed on.
+ * @param {any} setup
+ * @throws {Error} which says what of it is no plain data
+ */
+function needsPlain(setup) {
+  const must = "`setup` must be plain data, as { agents: 2, buffers: [12] }";
+  if (typeof setup === "function") throw new EngineError(`${must}, but it is a function`);
+  if (typeof setup !== "object" || setup === null) return;
+  const keys = ownKeys(setup);
+  for (let at = 0; at < keys.length; at += 1) {
+    const value = setup[keys[at]];
+    try {
+      cloned(value);
+    } catch {
+      const what = typeof value === "function" ? "is a function" : "has something else in it";
+      throw new EngineError(`${must}, but its member ${text(keys[at])} ${what}`);
+    }
+  }
+}
+
+/**
+ * The names under which a module exports something, and those of its agent's own properties.
+ * @param {object} module
+ * @param {Function} agent
+ * @returns {string[]}
+ */
+function namesIn(module, agent) {
+  /** @type {string[]} */
+  const names = [];
+  const owners = [module, agent];
+  for (let owner = 0; owner < owners.length; owner += 1) {
+    const keys = ownKeys(owners[owner]);
+    for (let at = 0; at < keys.length; at += 1) {
+      const key = keys[at];
+      if (typeof key === "string") names[names.length] = key;
+    }
+  }
+  return names;
 }
 
 /**
@@ -171,10 +260,11 @@ async function loaded() {
     // A compiled CommonJS module has its exports in its default export.
     const isCompiled = typeof found.default === "object" && typeof found.default?.default === "function";
     const module = isCompiled ? found.default : found;
-    if (typeof module.default !== "function") throw new EngineError("it has no function as its default export");
+    if (typeof module.default !== "function") throw new EngineError(NO_AGENT);
     const { default: agent } = module;
     // A CommonJS module that exports a function has the others as its properties.
     const { init = agent.init, check = agent.check, setup = agent.setup } = module;
+    /** @type {Record<string, unknown>} */
     const others = { init, check };
     const names = ["init", "check"];
     for (let at = 0; at < names.length; at += 1) {
@@ -183,7 +273,9 @@ async function loaded() {
         throw new EngineError(`its export ${names[at]} is no function`);
       }
     }
-    port.postMessage({ setup, hasInit: init !== undefined, hasCheck: check !== undefined });
+    needsPlain(setup);
+    const there = { hasInit: init !== undefined, hasCheck: check !== undefined };
+    port.postMessage({ setup, names: namesIn(module, agent), ...there });
     return { default: agent, init, check };
   } catch (problem) {
     port.postMessage({ failed: described(problem) });
@@ -193,9 +285,11 @@ async function loaded() {
 
 /**
  * The agent's player, over the memory that the group shares.
- * @param {object} handed
+ * @param {Handed} handed
+ * @param {Later} later
  */
-function playerOf({ memory, plan, rules }) {
+function playerOf({ memory, plan, rules }, later) {
+  later.enable();
   const board = new Board(memory.board, rules);
   const buffers = new Memory(memory.buffers, memory.copies);
   return new Player(number, {
@@ -205,7 +299,7 @@ function playerOf({ memory, plan, rules }) {
     stores: new Stores(memory.stores, board.words, buffers),
     records: new Records(memory.records[number]),
     sources: new Sources(memory.sources[number]),
-    later: new Later(),
+    later,
     chance,
     lengths: plan.buffers,
     canBlock: plan.canBlock[number],
@@ -215,17 +309,19 @@ function playerOf({ memory, plan, rules }) {
 
 /**
  * Does what it is ordered, again and again.
- * @param {Awaited<ReturnType<typeof loaded>>} module
+ * @param {NonNullable<Awaited<ReturnType<typeof loaded>>>} module
  * @param {number} agents how many
  */
 function serve(module, agents) {
-  const { player } = self;
+  const player = playing();
   const buffers = () => {
+    /** @type {unknown[]} */
     const list = [];
     for (let block = 0; block < self.buffers.length; block += 1) list[block] = self.buffers[block];
     return list;
   };
   const words = () => {
+    /** @type {string[]} */
     const list = [];
     for (let at = 0; at < args.length; at += 1) list[at] = args[at];
     return list;
@@ -235,15 +331,16 @@ function serve(module, agents) {
     const own = { agents, args: words() };
     const play = () => module.default({ buffers: buffers(), agent: number, agents, args: words() });
     if (order === ORDER.PLAY) player.play(play, described);
-    else player.serve(() => (order === ORDER.INIT ? module.init : module.check)(buffers(), own), described);
+    else player.serve(() => (order === ORDER.INIT ? module.init : module.check)?.(buffers(), own), described);
   }
 }
 
 async function main() {
+  /** @type {Promise<Handed>} */
   const handed = new Promise((done) => {
     port.once("message", done);
   });
-  furnish();
+  const later = furnish();
   const module = await loaded();
   if (module === undefined) {
     port.close();
@@ -251,7 +348,7 @@ async function main() {
   }
   const given = await handed;
   self.buffers = given.memory.buffers;
-  self.player = playerOf(given);
+  self.player = playerOf(given, later);
   port.postMessage({ ready: true });
   serve(module, given.plan.agents);
 }

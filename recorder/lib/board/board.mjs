@@ -123,6 +123,7 @@ export class Board {
     this.clock.advance(EVENTS[event].moves);
   }
 
+  /** @param {number} order */
   #prepare(order) {
     const { words } = this;
     this.end.begin();
@@ -139,6 +140,7 @@ export class Board {
     return false;
   }
 
+  /** @param {Line} line */
   #somebodyWaits(line) {
     for (let agent = 0; agent < this.rules.agents; agent += 1) {
       if (line.waits(agent)) return true;

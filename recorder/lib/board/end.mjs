@@ -18,6 +18,7 @@ const GOES_ON = 0;
 const ENDED = 1;
 const ASKED = 2;
 
+/** @param {Ended} ending */
 const numberOf = (ending) => {
   let number = 0;
   while (ENDINGS[number] !== ending) number += 1;
@@ -107,6 +108,7 @@ export class End {
     return { ending: ENDINGS[this.words[WORD.ENDING]], detail };
   }
 
+  /** @param {Ended} ending @param {string} detail */
   #tell(ending, detail) {
     this.words[WORD.TEXT_LENGTH] = encode(encoder, detail, this.text).written;
     this.words[WORD.ENDING] = numberOf(ending);

@@ -51,7 +51,10 @@ const AGENT_WORDS = 16;
  */
 export const wordOf = (agent, word) => AGENTS + AGENT_WORDS * agent + word;
 
-/** How many words there are for so many agents. @param {number} agents */
+/**
+ * How many words there are for so many agents.
+ * @param {number} agents
+ */
 export const wordsFor = (agents) => AGENTS + AGENT_WORDS * agents;
 
 /** What an agent is at. */
@@ -65,6 +68,9 @@ export const ORDER = Object.freeze({ PLAY: 0, INIT: 1, CHECK: 2 });
 
 // The word TURN: nobody's, or an agent's while its own code runs (even) or while it is in a call of Atomics (odd).
 export const NOBODY = -1;
+/** @param {number} agent */
 export const inCode = (agent) => 2 * agent;
+/** @param {number} agent */
 export const inCall = (agent) => 2 * agent + 1;
+/** @param {number} turn */
 export const agentOf = (turn) => turn >> 1;

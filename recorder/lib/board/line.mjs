@@ -90,7 +90,11 @@ export class Line {
     return phase === PHASE.WAITS || phase === PHASE.WAITS_TIMED;
   }
 
-  /** @returns {number} the agent that has waited longest at a place, or -1 */
+  /**
+   * @param {number} block
+   * @param {number} byte
+   * @returns {number} the agent that has waited longest at a place, or -1
+   */
   #oldest(block, byte) {
     const { words } = this;
     let oldest = -1;
@@ -103,6 +107,7 @@ export class Line {
     return oldest;
   }
 
+  /** @param {number} agent */
   #ticket(agent) {
     return this.words[wordOf(agent, AGENT_WORD.TICKET)];
   }

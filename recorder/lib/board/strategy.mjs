@@ -79,6 +79,7 @@ export class Strategy {
     }
   }
 
+  /** @param {number} agent */
   #add(agent) {
     this.able[this.count] = agent;
     this.count += 1;
@@ -95,7 +96,7 @@ export class Strategy {
     return able[other < last ? other : other + 1];
   }
 
-  /** @returns {number} where an agent stands among those that can move, or -1 */
+  /** @param {number} agent @returns {number} where it stands among those that can move, or -1 */
   #place(agent) {
     for (let at = 0; at < this.count; at += 1) {
       if (this.able[at] === agent) return at;

@@ -187,10 +187,12 @@ export class Turn {
     }
   }
 
+  /** @param {number} agent */
   #reason(agent) {
     return this.reasons.subarray(agent * REASON_BYTES, (agent + 1) * REASON_BYTES);
   }
 
+  /** @param {number} seconds */
   #endSilent(seconds) {
     // An agent that makes ordinary accesses comes to the end by itself.
     this.end.ask();

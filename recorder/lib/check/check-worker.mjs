@@ -1,7 +1,10 @@
 // A thread that checks runs, one after the other.
 
-import { parentPort, workerData } from "node:worker_threads";
+import { parentPort as portOfParent, workerData } from "node:worker_threads";
 import { NoSabsim, differenceOf } from "./sabsim.mjs";
+
+// A worker has one.
+const parentPort = /** @type {import("node:worker_threads").MessagePort} */ (portOfParent);
 
 parentPort.on("message", (outcome) => {
   try {

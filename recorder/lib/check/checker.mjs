@@ -27,7 +27,7 @@ export class Checker {
   }
 
   /**
-   * @param {Pick<import("../run/group.mjs").Outcome, "seed" | "script" | "report">} outcome
+   * @param {import("./sabsim.mjs").Scripted} outcome
    * @returns {Promise<void>} fails with a Difference where there is one
    */
   async check(outcome) {

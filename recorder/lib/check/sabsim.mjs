@@ -2,13 +2,17 @@
 
 import { spawnSync } from "node:child_process";
 import { accessSync, constants, statSync } from "node:fs";
-import { fileURLToPath } from "node:url";
 import { firstDifference } from "../../script/report.mjs";
+import { programPath } from "../program.mjs";
 
 /** @typedef {import("../run/group.mjs").Outcome} Outcome */
+/** @typedef {Pick<Outcome, "seed" | "script" | "report">} Scripted what a check needs of an outcome */
 
-/** Where the built program lies in the repository. */
-export const DEFAULT_SABSIM = fileURLToPath(new URL("../../../crates/sabsim/out/sabsim", import.meta.url));
+/** Where the program lies: in the package, or where the repository builds it. */
+export const DEFAULT_SABSIM = programPath();
+
+/** How it comes to be there, in words. */
+export const HOW_TO_BUILD = "`./build`, in the root of the repository, builds sabsim";
 
 // The longest report has 100,000 lines, and the bytes of four blocks.
 const MOST_OUTPUT = 2 ** 26;
@@ -21,7 +25,7 @@ export class NoSabsim extends Error {}
 export class Difference extends Error {
   /**
    * @param {string} message both sides
-   * @param {Outcome} outcome
+   * @param {Scripted} outcome with its script and report
    * @param {string} replayed what sabsim wrote
    */
   constructor(message, outcome, replayed) {
@@ -32,19 +36,50 @@ export class Difference extends Error {
 }
 
 /**
- * Makes sure that the program is there.
+ * Where the program is looked for, where nobody says where it is: at the place that SABSIM of the environment names,
+ * else in the repository.
+ * @returns {string[]} the first place first
+ */
+export function sabsimPlaces() {
+  const { SABSIM: named = "" } = process.env;
+  return named === "" ? [DEFAULT_SABSIM] : [named];
+}
+
+/**
+ * Whether a file that can be run is there.
  * @param {string} path
- * @returns {string} the path
+ */
+function isProgram(path) {
+  try {
+    accessSync(path, constants.X_OK);
+    return statSync(path).isFile();
+  } catch {
+    return false;
+  }
+}
+
+/**
+ * Makes sure that the program is there.
+ * @param {string} [path] where it must be; else it must be at one of its places
+ * @returns {string} its path
+ * @throws {NoSabsim}
  */
 export function foundSabsim(path) {
-  try {
-    if (!statSync(path).isFile()) throw new Error("no file");
-    accessSync(path, constants.X_OK);
-    return path;
-  } catch {
-    const build = "`cd crates/sabsim && rt run -- --help`";
-    throw new NoSabsim(`sabsim isn't at ${path}: build it by ${build} in the repository, or say where it is`);
-  }
+  const places = path === undefined ? sabsimPlaces() : [path];
+  const found = places.find(isProgram);
+  if (found !== undefined) return found;
+  throw new NoSabsim(`sabsim isn't at ${places.join(" or ")}: ${HOW_TO_BUILD}; or say where it is`);
+}
+
+/**
+ * The program that is to check runs, where there is one.
+ * @param {{ path?: string, isAsked: boolean }} wanted where it must be, if somebody says it; and whether the checks are
+ * asked for by a word of their own
+ * @returns {string | undefined} undefined: it is at none of its places, and nobody has asked for it
+ * @throws {NoSabsim} where it was asked for and isn't there
+ */
+export function sabsimFor({ path, isAsked }) {
+  return isAsked || path !== undefined ? foundSabsim(path) : sabsimPlaces().find(isProgram);
 }
 
 /**
@@ -55,7 +90,8 @@ export function foundSabsim(path) {
  * @returns {{ status: number | null, output: string, errors: string }}
  */
 export function sabsim(path, words, input) {
-  const options = { input, encoding: "utf8", maxBuffer: MOST_OUTPUT, timeout: MOST_MILLISECONDS };
+  const encoding = /** @type {const} */ ("utf8");
+  const options = { input, encoding, maxBuffer: MOST_OUTPUT, timeout: MOST_MILLISECONDS };
   const { error, status, stdout, stderr } = spawnSync(path, words, options);
   // A program that ends before it has read all is told of by its status.
   if (error !== undefined && error.code !== "EPIPE") throw new NoSabsim(`${path} can't be run: ${error.message}`);
@@ -65,10 +101,10 @@ export function sabsim(path, words, input) {
 /**
  * Replays a run, and compares every answer, how far each agent came, and the bytes at the end.
  * @param {string} path of sabsim
- * @param {Outcome} outcome with its script and report
+ * @param {Scripted} outcome with its script and report
  * @returns {{ message: string, replayed: string } | undefined} how they differ
  */
-export function differenceOf(path, { seed, script, report }) {
+export function differenceOf(path, { seed, script = "", report = "" }) {
   const { status, output, errors } = sabsim(path, ["replay"], script);
   if (status !== 0) {
     const message = `seed ${seed}: sabsim ended with status ${status} on the script: ${errors.trim()}`;
@@ -87,7 +123,7 @@ export function differenceOf(path, { seed, script, report }) {
 /**
  * The same, in this thread.
  * @param {string} path
- * @param {Outcome} outcome
+ * @param {Scripted} outcome with its script and report
  * @throws {Difference}
  */
 export function check(path, outcome) {

@@ -16,6 +16,7 @@ export class Interrupted extends Error {
 export class Interruption {
   constructor() {
     this.controller = new AbortController();
+    /** @param {NodeJS.Signals} signal */
     this.stop = (signal) => {
       // A second one ends the process at once.
       this.#forget();

@@ -8,6 +8,9 @@ import { Refused } from "../run/plan.mjs";
 /** A file couldn't be written. */
 export class NotKept extends Error {}
 
+/** @param {unknown} error of node's */
+const messageOf = (error) => /** @type {Error} */ (error).message;
+
 export class Keeper {
   /**
    * Makes the folder where it isn't there, and tries whether a file can be written.
@@ -15,15 +18,15 @@ export class Keeper {
    */
   constructor(folder) {
     this.folder = folder;
-    /** The files that lie there by this keeper. @type {string[]} */
+    /** @type {string[]} the files that lie there by this keeper */
     this.names = [];
-    /** The seed of the failing run that is kept. @type {number | undefined} */
+    /** @type {number | undefined} the seed of the failing run that is kept */
     this.seed = undefined;
     try {
       mkdirSync(folder, { recursive: true });
       rmSync(this.#writeAside("sabsim"));
     } catch (error) {
-      throw new Refused(`--out ${folder} can't be used: ${error.message}`);
+      throw new Refused(`--out ${folder} can't be used: ${messageOf(error)}`);
     }
   }
 
@@ -35,7 +38,7 @@ export class Keeper {
   keepLowest({ seed, script, report, trace }) {
     const texts = { json: script, report, "trace.jsonl": trace };
     const isEmpty = Object.values(texts).every((text) => text === undefined);
-    if (this.seed < seed || isEmpty) return;
+    if ((this.seed !== undefined && this.seed < seed) || isEmpty) return;
     const before = this.names;
     this.keepAll(seed, texts);
     this.seed = seed;
@@ -67,7 +70,7 @@ export class Keeper {
     } catch (error) {
       if (aside !== undefined) rmSync(aside, { force: true });
       const there = this.names.length === 0 ? "nothing" : this.names.join(", ");
-      throw new NotKept(`${path} can't be written: ${error.message}; kept there: ${there}`);
+      throw new NotKept(`${path} can't be written: ${messageOf(error)}; kept there: ${there}`);
     }
     if (!this.names.includes(name)) this.names = [...this.names, name];
   }
@@ -79,7 +82,7 @@ export class Keeper {
       try {
         rmSync(path, { force: true });
       } catch (error) {
-        throw new NotKept(`${path} can't be removed: ${error.message}`);
+        throw new NotKept(`${path} can't be removed: ${messageOf(error)}`);
       }
       this.names = this.names.filter((each) => each !== name);
     }

@@ -1,17 +1,18 @@
 // The command line.
 
 import { parseArgs } from "node:util";
-import { DEFAULT_CHECK, DEFAULT_SECONDS, SCRIPT_LIMITS } from "../../script/limits.mjs";
+import { DEFAULT_CHECK_EVERY, DEFAULT_SECONDS, SCRIPT_LIMITS } from "../../script/limits.mjs";
+import { nearest } from "../nearest.mjs";
 import { checkedAgents, checkedBuffers, checkedChoice, DEFAULT_TIMEOUTS, Refused } from "../run/plan.mjs";
-import { DEFAULT_SABSIM } from "../check/sabsim.mjs";
 
-export const USAGE = `usage: node recorder/record.mjs AGENTS.mjs [options] [-- arguments for the agents]
+export const USAGE = `usage: node recorder/record.mjs MODULE [options] [-- arguments for the agents]
 
 Runs the agents of a module under seeded schedules, and keeps the first run that fails as a script for sabsim.
 
   --agents N      how many agents; else the module's \`setup\` says it
-  --bytes N,..    the bytes of each buffer, one to four; else the module's \`setup\` says it
-  --no-block A    agent A can't block: its Atomics.wait throws TypeError; may be given more than once
+  --buffers N,..  the bytes of each buffer, one to four; else the module's \`setup\` says it
+  --no-block A    agent A can't block: its Atomics.wait throws TypeError; may be given more than once; else the module's
+                  \`setup\` says it
   --seeds A..B    the seeds, or one seed (1..100)
   --switch P      how likely it is, from 0 to 1, that another agent moves next; else all moves are alike
   --timeouts P    in how many of the draws, from 0 to 1, the end of a timed wait is offered while something else can
@@ -25,19 +26,22 @@ Runs the agents of a module under seeded schedules, and keeps the first run that
   --out DIR       where the first failing run's script and report are kept; nothing is written without it
   --jobs N        how many groups of workers run side by side (1)
   --fresh         starts the agents' workers anew for each seed
-  --check N       checks with sabsim every run that fails, and one in N of the others; 0: none at all (${DEFAULT_CHECK})
   --max-moves M   how many moves a run may have (${SCRIPT_LIMITS.moves})
   --seconds S     for how long an agent may make no call (${DEFAULT_SECONDS})
-  --sabsim PATH   the built program (crates/sabsim/out/sabsim in the repository)
+  --sabsim PATH   the built program (what SABSIM of the environment names, or crates/sabsim/out/sabsim in the
+                  repository)
+  --check N       sabsim checks every run that fails, and one in N of the others; 0: none at all
+                  (${DEFAULT_CHECK_EVERY}; none where sabsim isn't built, which the summary says)
   --help          this text
 
 Status: 0 no run failed, 1 some did, 2 the command line or the module was refused, 3 the code and sabsim differ, sabsim
-isn't there, a file or standard output can't be written, or a job's process ended.
+was asked for and isn't there, a file or standard output can't be written, or a job's process ended.
 `;
 
+/** @type {Record<string, { type: "string" | "boolean", multiple?: boolean }>} */
 const SHAPE = {
   agents: { type: "string" },
-  bytes: { type: "string" },
+  buffers: { type: "string" },
   "no-block": { type: "string", multiple: true },
   seeds: { type: "string" },
   switch: { type: "string" },
@@ -50,10 +54,10 @@ const SHAPE = {
   out: { type: "string" },
   jobs: { type: "string" },
   fresh: { type: "boolean" },
-  check: { type: "string" },
   "max-moves": { type: "string" },
   seconds: { type: "string" },
   sabsim: { type: "string" },
+  check: { type: "string" },
   help: { type: "boolean" },
 };
 
@@ -97,14 +101,26 @@ function seedsOf(text) {
   return { first, last };
 }
 
-/** The words of a command line, by option. @param {string[]} words */
+/**
+ * The words of a command line, by option.
+ * @param {string[]} words
+ */
 function parsed(words) {
+  const { tokens } = parseArgs({ args: words, options: SHAPE, allowPositionals: true, strict: false, tokens: true });
+  const other = tokens.find(({ kind, name }) => kind === "option" && !Object.hasOwn(SHAPE, name ?? ""));
+  if (other !== undefined) {
+    const near = nearest(other.name ?? "", Object.keys(SHAPE));
+    const instead = near === undefined ? "--help shows all" : `is --${near} meant?`;
+    throw new Refused(`there is no option ${other.rawName}: ${instead}`);
+  }
   try {
     return parseArgs({ args: words, options: SHAPE, allowPositionals: true, strict: true });
   } catch (error) {
-    throw new Refused(error.message.split("\n")[0]);
+    throw new Refused(/** @type {Error} */ (error).message.split("\n")[0]);
   }
 }
+
+/** @typedef {Extract<ReturnType<typeof optionsOf>, { help: false }>} Options */
 
 /**
  * What a command line asks for.
@@ -113,13 +129,13 @@ function parsed(words) {
 export function optionsOf(words) {
   const end = words.indexOf("--");
   const { values, positionals } = parsed(end < 0 ? words : words.slice(0, end));
-  if (values.help) return { help: true };
+  if (values.help) return { help: /** @type {const} */ (true) };
   if (positionals.length !== 1) {
     const why = positionals.length === 0 ? "the agents' module is missing" : "there may be one module of agents only";
     throw new Refused(`${why}; --help shows more`);
   }
   return {
-    help: false,
+    help: /** @type {const} */ (false),
     module: positionals[0],
     args: end < 0 ? [] : words.slice(end + 1),
     ...groupOf(values),
@@ -129,17 +145,26 @@ export function optionsOf(words) {
   };
 }
 
-/** Who runs, and on what. @param {Record<string, any>} values by option */
-function groupOf({ agents, bytes, "no-block": noBlock = [] }) {
-  const lengths = bytes?.split(",").map((text) => whole(text, "bytes", 0, SCRIPT_LIMITS.bytes));
+/**
+ * Who runs, and on what.
+ * @param {Record<string, any>} values by option
+ */
+function groupOf({ agents, buffers, "no-block": noBlock }) {
+  const most = SCRIPT_LIMITS.agents - 1;
+  /** @type {string[] | undefined} */
+  const texts = buffers?.split(",");
+  const lengths = texts?.map((text) => whole(text, "buffers", 0, SCRIPT_LIMITS.bytes));
   return {
-    count: agents === undefined ? undefined : checkedAgents(whole(agents, "agents", 1, SCRIPT_LIMITS.agents)),
+    agents: agents === undefined ? undefined : checkedAgents(whole(agents, "agents", 1, SCRIPT_LIMITS.agents)),
     buffers: lengths === undefined ? undefined : checkedBuffers(lengths),
-    noBlock: noBlock.map((text) => whole(text, "no-block", 0, SCRIPT_LIMITS.agents - 1)),
+    noBlock: /** @type {string[] | undefined} */ (noBlock)?.map((text) => whole(text, "no-block", 0, most)),
   };
 }
 
-/** What holds in a run. @param {Record<string, any>} values by option */
+/**
+ * What holds in a run.
+ * @param {Record<string, any>} values by option
+ */
 function rulesOf({ switch: switching, timeouts, ordinary, races, bounds, clock, "max-moves": maxMoves, seconds }) {
   const most = SCRIPT_LIMITS.moves;
   return {
@@ -154,15 +179,19 @@ function rulesOf({ switch: switching, timeouts, ordinary, races, bounds, clock, 
   };
 }
 
-/** How the runs are made, checked and kept. @param {Record<string, any>} values by option */
-function workOf({ out, jobs, fresh = false, check, "fail-fast": failFast = false, sabsim = DEFAULT_SABSIM }) {
+/**
+ * How the runs are made, checked and kept.
+ * @param {Record<string, any>} values by option
+ */
+function workOf({ out, jobs, fresh = false, "fail-fast": failFast = false, sabsim, check: every }) {
   if (out === "") throw new Refused("--out must name a folder");
   return {
     out,
     jobs: jobs === undefined ? 1 : whole(jobs, "jobs", 1, MOST_JOBS),
     fresh,
     failFast,
-    check: check === undefined ? DEFAULT_CHECK : whole(check, "check", 0, Number.MAX_SAFE_INTEGER),
     sabsim,
+    checkEvery: every === undefined ? DEFAULT_CHECK_EVERY : whole(every, "check", 0, Number.MAX_SAFE_INTEGER),
+    isSabsimAsked: every !== undefined,
   };
 }

@@ -9,6 +9,7 @@ export class NotPrinted extends Error {}
  */
 export function print(text) {
   return new Promise((done, fail) => {
+    /** @param {Error} error */
     const failed = (error) => fail(new NotPrinted(`standard output can't be written: ${error.message}`));
     process.stdout.once("error", failed);
     process.stdout.write(text, (error) => {

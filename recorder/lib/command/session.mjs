@@ -1,6 +1,6 @@
 // What the command line does: many runs, a summary of them, and the first failing one kept.
 
-import { Difference, sabsim } from "../check/sabsim.mjs";
+import { Difference, sabsim, sabsimFor, sabsimPlaces } from "../check/sabsim.mjs";
 import { preloads } from "../seeds/node-words.mjs";
 import { recordSeeds } from "../seeds/seeds.mjs";
 import { Interrupted, Interruption } from "./interruption.mjs";
@@ -14,15 +14,21 @@ import { Summary } from "./summary.mjs";
 const PICTURES = ["explained", "svg"];
 
 export class Session {
-  /** @param {ReturnType<typeof import("./options.mjs").optionsOf>} options with the URL of the module */
+  /** @param {import("./options.mjs").Options} options with the URL of the module */
   constructor(options) {
-    this.options = options;
+    const { checkEvery, sabsim: path, isSabsimAsked: isAsked } = options;
+    /** Where sabsim is; undefined: it isn't asked. */
+    this.sabsim = checkEvery === 0 ? undefined : sabsimFor({ path, isAsked });
+    this.options = { ...options, checkEvery: this.sabsim === undefined ? 0 : checkEvery, sabsim: this.sabsim };
     this.wanted = options.last - options.first + 1;
     this.keeper = options.out === undefined ? undefined : new Keeper(options.out);
     this.summary = new Summary({
-      ordinary: options.ordinary, races: options.races, checks: options.check > 0,
+      ordinary: options.ordinary, races: options.races, checks: this.sabsim !== undefined,
+      missing: checkEvery > 0 && this.sabsim === undefined ? sabsimPlaces() : undefined,
       preloads: preloads([...process.execArgv, process.env.NODE_OPTIONS ?? ""]),
     });
+    /** @type {string[]} what isn't kept though there is a script to make it from, and why */
+    this.leftOut = [];
     this.progress = new Progress(this.wanted);
     this.interruption = new Interruption();
   }
@@ -32,7 +38,9 @@ export class Session {
    * @returns {Promise<{ failed: boolean, problems: unknown[] }>} whether a run failed; what went wrong besides
    */
   async run() {
+    /** @type {unknown[]} */
     const problems = [];
+    /** @param {() => unknown} step */
     const attempt = async (step) => {
       try {
         await step();
@@ -50,6 +58,7 @@ export class Session {
   }
 
   async #record() {
+    /** @param {Outcome} outcome */
     const onOutcome = (outcome) => {
       this.summary.add(outcome);
       this.progress.show(this.summary);
@@ -68,17 +77,27 @@ export class Session {
     if (stopped instanceof Difference) {
       const { outcome: { seed, script, report }, replayed } = stopped;
       this.keeper.keepAll(seed, { json: script, report, "sabsim-report": replayed });
-    } else if (this.keeper.seed !== undefined && this.options.check > 0) {
-      this.#keepPictures(this.summary.failing);
+    } else if (this.keeper.seed !== undefined) {
+      this.#keepPictures(this.keeper, this.summary.failing);
     }
   }
 
-  /** @param {Outcome} outcome */
-  #keepPictures({ seed, script }) {
-    if (script === undefined || this.keeper.seed !== seed) return;
+  /**
+   * @param {Keeper} keeper
+   * @param {Outcome | undefined} outcome of the first failing run
+   */
+  #keepPictures(keeper, outcome) {
+    if (outcome?.script === undefined || keeper.seed !== outcome.seed) return;
+    const { seed, script } = outcome;
+    if (this.sabsim === undefined) {
+      const names = PICTURES.map((format) => `seed-${seed}.${format}`);
+      this.leftOut.push(`not kept, since only sabsim makes them: ${names.join(", ")}`);
+      return;
+    }
     for (const format of PICTURES) {
-      const { status, output } = sabsim(this.options.sabsim, ["replay", "--format", format], script);
-      if (status === 0) this.keeper.keepAll(seed, { [format]: output });
+      const { status, output, errors } = sabsim(this.sabsim, ["replay", "--format", format], script);
+      if (status === 0) keeper.keepAll(seed, { [format]: output });
+      else this.leftOut.push(`not kept: seed-${seed}.${format}: sabsim ended with status ${status}: ${errors.trim()}`);
     }
   }
 
@@ -88,8 +107,10 @@ export class Session {
     if (stopped !== undefined && !interrupted && this.summary.runs === 0) return;
     const why = interrupted ? stopped.message : "stopped";
     const stop = stopped === undefined ? undefined : { why, wanted: this.wanted };
-    const { folder, names = [] } = this.keeper ?? {};
-    const kept = names.length === 0 ? "" : `kept in ${folder}: ${names.join(", ")}\n`;
-    await print(this.summary.text(stop) + kept);
+    const { keeper } = this;
+    const isKept = keeper !== undefined && keeper.names.length > 0;
+    const kept = isKept ? [`kept in ${keeper.folder}: ${keeper.names.join(", ")}`] : [];
+    const more = [...kept, ...this.leftOut].map((line) => `${line}\n`);
+    await print(this.summary.text(stop) + more.join(""));
   }
 }

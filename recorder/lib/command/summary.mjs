@@ -1,6 +1,7 @@
 // What is told of many runs. It doesn't depend on the order in which their outcomes come. Of the runs little is kept,
 // so that there can be any number of them; the first failing one alone is kept whole.
 
+import { HOW_TO_BUILD } from "../check/sabsim.mjs";
 import { Tally } from "./tally.mjs";
 import { counted, digits, listed } from "./words.mjs";
 
@@ -11,6 +12,7 @@ import { counted, digits, listed } from "./words.mjs";
  * @property {"watch" | "store" | "refuse"} ordinary how ordinary reads and writes were seen
  * @property {"fail" | "allow"} races
  * @property {boolean} checks whether runs are checked
+ * @property {string[]} [missing] where sabsim was looked for, where it isn't there and so nothing is checked
  * @property {boolean} [preloads] whether node's own words load code before the recorder
  */
 
@@ -38,11 +40,12 @@ const UNSEEN_BEFORE =
 
 export class Summary {
   /** @param {SummaryOptions} options */
-  constructor({ ordinary, races, checks, preloads = false }) {
+  constructor({ ordinary, races, checks, missing, preloads = false }) {
     this.ordinary = ordinary;
     this.preloads = preloads;
     this.races = races;
     this.checks = checks;
+    this.missing = missing;
     this.runs = 0;
     this.failed = 0;
     this.checked = 0;
@@ -53,6 +56,7 @@ export class Summary {
     /** How many scripts hold some of the ordinary writes only. */
     this.parts = 0;
     this.endings = { failing: new Tally(), passing: new Tally() };
+    /** @type {Record<"failing" | "passing", Tally<{ ending: string, shown: string[] }>>} */
     this.states = { failing: new Tally(), passing: new Tally() };
     this.pairs = new Tally();
     this.scriptless = new Tally();
@@ -73,7 +77,7 @@ export class Summary {
     this.#addScript(outcome);
     if (!fails) return;
     this.failed += 1;
-    if (!(this.failing?.seed < seed)) this.failing = outcome;
+    if (this.failing === undefined || this.failing.seed >= seed) this.failing = outcome;
   }
 
   /** Takes note that one more run was checked, and that sabsim says the same. */
@@ -90,7 +94,7 @@ export class Summary {
     if (stop !== undefined) lines.push(`${stop.why} after ${digits(this.runs)} of ${counted(stop.wanted, "run")}`);
     if (this.runs > 0) {
       lines.push(this.#endingLine(), ...this.#failingLines(), ...this.#raceLines(), ...this.#stateLines());
-      lines.push(this.#checkLine(), ...this.#scriptLines(), this.#accessLine(), ...this.#unseenLines());
+      lines.push(...this.#checkLines(), ...this.#scriptLines(), this.#accessLine(), ...this.#unseenLines());
     }
     return lines.map((line) => `${line}\n`).join("");
   }
@@ -117,9 +121,14 @@ export class Summary {
     return this.failed === this.runs ? first : `${first}; ${passing}`;
   }
 
+  /**
+   * @param {string[]} order
+   * @param {Tally<unknown>} tally
+   * @param {(ending: string) => string} textOf
+   */
   #endings(order, tally, textOf) {
     const there = order.filter((ending) => tally.entries.has(ending));
-    return there.map((ending) => `${digits(tally.entries.get(ending).runs)} ${textOf(ending)}`).join(", ");
+    return there.map((ending) => `${digits(tally.entries.get(ending)?.runs ?? 0)} ${textOf(ending)}`).join(", ");
   }
 
   #failingLines() {
@@ -153,8 +162,10 @@ export class Summary {
     return [`${counted(states.length, "final state")}: how it ended, and the bytes`, ...lines.map(indented)];
   }
 
-  #checkLine() {
-    return this.checked === 0 ? "no run was checked" : `${counted(this.checked, "run")} checked: sabsim says the same`;
+  #checkLines() {
+    if (this.missing !== undefined) return uncheckedLines(this.missing);
+    if (this.checked === 0) return ["no run was checked"];
+    return [`${counted(this.checked, "run")} checked: sabsim says the same`];
   }
 
   #scriptLines() {
@@ -183,8 +194,20 @@ export class Summary {
   }
 }
 
+/**
+ * What is said where sabsim isn't there.
+ * @param {string[]} places where it was looked for
+ */
+const uncheckedLines = (places) => [
+  `nothing was checked by sabsim, which isn't built: there is none at ${places.join(" or ")}`,
+  `so all of this is the recorder's word alone, and the recorder isn't proved; ${HOW_TO_BUILD}`,
+];
+
 /** @param {string} line */
 const indented = (line) => `  ${line}`;
 
-/** An ending of a run that doesn't fail. @param {string} ending */
+/**
+ * An ending of a run that doesn't fail.
+ * @param {string} ending
+ */
 const passingText = (ending) => (ending === "finished" ? ending : `${ending} (allowed)`);

@@ -24,7 +24,8 @@ export class Tally {
   add(key, seed, about) {
     const entry = this.entries.get(key);
     if (entry === undefined) {
-      this.entries.set(key, { key, runs: 1, first: seed, about });
+      // Where nothing is told of the runs, T is undefined.
+      this.entries.set(key, { key, runs: 1, first: seed, about: /** @type {T} */ (about) });
       return;
     }
     entry.runs += 1;

@@ -25,7 +25,10 @@ import { ownCalls } from "./transcript.mjs";
  * @property {[Side, Side]} sides the one that was made first before the other
  */
 
-/** What an access's flags say. */
+/**
+ * What an access's flags say.
+ * @param {number} flags
+ */
 function accessOf(flags) {
   if ((flags & FLAG.READS) && (flags & FLAG.WRITES)) return "read and write";
   return flags & FLAG.WRITES ? "write" : "read";
@@ -50,13 +53,17 @@ class Teller {
     this.transcript = transcript;
     this.module = module;
     /** The name of each agent's source positions; the ones made out so far. */
-    this.names = run.records.map(() => []);
+    this.names = run.records.map(() => /** @type {string[]} */ ([]));
     this.sources = sources;
-    /** Each agent's own calls, likewise. */
+    /** @type {ReturnType<typeof ownCalls>[]} each agent's own calls, likewise */
     this.calls = [];
   }
 
-  /** What a race calls an access: its line of code, or what it did. @param {number} event @param {number} byte */
+  /**
+   * What a race calls an access: its line of code, or what it did.
+   * @param {number} event
+   * @param {number} byte
+   */
   line(event, byte) {
     const { log, lengths } = this.run;
     const agent = log.agentAt(event);
@@ -83,7 +90,11 @@ class Teller {
     };
   }
 
-  /** One side in words. @param {number} position in the log @param {Side} side */
+  /**
+   * One side in words.
+   * @param {number} position in the log
+   * @param {Side} side
+   */
   text(position, { agent, atomic, call, element, source }) {
     const calls = this.#ownCalls(agent);
     const where = source === null ? "" : ` at ${source}`;
@@ -92,7 +103,7 @@ class Teller {
     return `agent ${agent} ${deedOf(event)} ${element}${where}, ${whenOf(event, calls.length)}`;
   }
 
-  /** @returns {string | null} */
+  /** @param {number} agent @param {number} number @returns {string | null} */
   #source(agent, number) {
     const place = this.sources[agent]?.[number] ?? "";
     if (place === "") return null;
@@ -100,6 +111,7 @@ class Teller {
     return this.names[agent][number];
   }
 
+  /** @param {number} agent */
   #ownCalls(agent) {
     this.calls[agent] ??= ownCalls(this.transcript, agent);
     return this.calls[agent];
@@ -115,17 +127,20 @@ class Teller {
 export function racesTold(telling) {
   const teller = new Teller(telling);
   const { log, records } = telling.run;
+  /** @type {Told[]} */
   const told = [];
   const pairs = new Set();
   for (const { one, other, byte } of racesOf(log, records.length)) {
-    const lines = [teller.line(one, byte), teller.line(other, byte)].sort();
-    const key = lines.join(" ");
+    const [first, second] = [teller.line(one, byte), teller.line(other, byte)].sort();
+    const key = `${first} ${second}`;
     if (pairs.has(key)) continue;
     pairs.add(key);
     if (told.length === MOST_TOLD) continue;
-    const sides = [teller.side(one, byte), teller.side(other, byte)];
-    told.push({ lines, text: `${teller.text(one, sides[0])}; ${teller.text(other, sides[1])}`, sides });
+    const [side, otherSide] = [teller.side(one, byte), teller.side(other, byte)];
+    const text = `${teller.text(one, side)}; ${teller.text(other, otherSide)}`;
+    told.push({ lines: [first, second], text, sides: [side, otherSide] });
   }
-  if (pairs.size > told.length) told.at(-1).text += `\nand ${pairs.size - told.length} more`;
+  const last = told.at(-1);
+  if (last !== undefined && pairs.size > told.length) last.text += `\nand ${pairs.size - told.length} more`;
   return told;
 }

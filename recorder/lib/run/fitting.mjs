@@ -44,7 +44,11 @@ function touchedBytes(log, lengths) {
   return touched;
 }
 
-/** Whether a call touches a byte of a store. @param {Uint8Array[]} touched @param {Store} store */
+/**
+ * Whether a call touches a byte of a store.
+ * @param {Uint8Array[]} touched
+ * @param {Store} store
+ */
 function isTouched(touched, store) {
   const marks = touched[store.block];
   for (let byte = store.byte; byte < endOf(store); byte += 1) {
@@ -67,6 +71,7 @@ function joined(stores) {
     if (group === undefined) groups.set(key, [store]);
     else group.push(store);
   }
+  /** @type {Store[]} */
   const all = [];
   for (const group of groups.values()) addJoined(all, group);
   return all;
@@ -75,7 +80,11 @@ function joined(stores) {
 /** What was last written to each byte of a block, while the stores of one group are joined. */
 const written = new Uint8Array(SCRIPT_LIMITS.bytes);
 
-/** Adds those of one group. @param {Store[]} all @param {Store[]} stores */
+/**
+ * Adds those of one group.
+ * @param {Store[]} all
+ * @param {Store[]} stores
+ */
 function addJoined(all, stores) {
   const [{ position, agent, block }] = stores;
   const places = placesOf(stores);
@@ -89,7 +98,12 @@ function addJoined(all, stores) {
   }
 }
 
-/** Whether an aligned element begins at one of the places and ends before a gap. */
+/**
+ * Whether an aligned element begins at one of the places and ends before a gap.
+ * @param {Int32Array} places
+ * @param {number} at
+ * @param {number} size
+ */
 const isWhole = (places, at, size) => places[at] % size === 0 && places[at + size - 1] === places[at] + size - 1;
 
 /**
@@ -112,7 +126,11 @@ function placesOf(stores) {
   return isRising ? places : places.sort().filter((place, at) => at === 0 || places[at - 1] !== place);
 }
 
-/** How many calls each agent makes by itself, and how many moves are made. @param {import("./log.mjs").Log} log */
+/**
+ * How many calls each agent makes by itself, and how many moves are made.
+ * @param {import("./log.mjs").Log} log
+ * @param {number} agents how many
+ */
 function countsOf(log, agents) {
   const calls = Array.from({ length: agents }, () => 0);
   let moves = 0;
@@ -155,6 +173,9 @@ function spelled(transcript) {
 /**
  * The bytes at the end as a script leaves them: those that a call touches are the run's; another one is what the last
  * store has left there.
+ * @param {string[]} final
+ * @param {Uint8Array[]} touched
+ * @param {Store[]} stores
  */
 function bytesLeft(final, touched, stores) {
   const blocks = final.map((hex, block) => {
@@ -180,13 +201,16 @@ function bytesLeft(final, touched, stores) {
  */
 export function fitted(run, stores, initial, final) {
   const touched = touchedBytes(run.log, run.lengths);
+  /** @param {Store[]} list */
   const ofTouched = (list) => joined(list.filter((store) => isTouched(touched, store)));
   const all = stores.list();
+  /** @type {{ holds: "all" | "touched", list: () => Store[][] }[]} */
   const choices = [
     { holds: "all", list: () => [all, initial] },
     { holds: "all", list: () => [joined(all), joined(initial)] },
     { holds: "touched", list: () => [ofTouched(all), ofTouched(initial)] },
   ];
+  /** @type {string | undefined} */
   let noScript = "too many ordinary writes were made to bytes that calls touch";
   if (stores.isLost()) return { transcript: transcriptOf(run, []), noScript };
   const counts = countsOf(run.log, run.canBlock.length);

@@ -5,7 +5,7 @@ import { Sources } from "../agent/sources.mjs";
 import { Board } from "../board/board.mjs";
 import { SCRIPT_LIMITS } from "../../script/limits.mjs";
 import { Log } from "./log.mjs";
-import { DEFAULTS, planOf, Refused } from "./plan.mjs";
+import { DEFAULTS, needsRightNames, planOf, Refused } from "./plan.mjs";
 import { Records } from "./records.mjs";
 import { Stores } from "./stores.mjs";
 import { Thread } from "./thread.mjs";
@@ -42,16 +42,15 @@ import { Thread } from "./thread.mjs";
  * @property {boolean} whole whether answers, script and report are told even of a run that finishes
  */
 
-/** @typedef {(buffers: SharedArrayBuffer[], about: { agents: number, args: string[] }) => void} OfBuffers */
+/** @typedef {(buffers: SharedArrayBuffer[], about: { agents: number, args: string[] }) => unknown} OfBuffers */
 
 /**
  * @typedef {object} GroupOptions
  * @property {string} module the URL of the agents' module
  * @property {string[]} args for the agents
- * @property {number} [count] how many agents
+ * @property {number} [agents] how many
  * @property {number[]} [buffers] their bytes
- * @property {boolean[]} [block] which agents can block
- * @property {number[]} [noBlock] agents that can't
+ * @property {number[]} [noBlock] agents that can't block
  * @property {number} [switching]
  * @property {number} [timeouts] in how many draws the end of a timed wait is offered while something else can move
  * @property {number} maxMoves
@@ -63,9 +62,10 @@ import { Thread } from "./thread.mjs";
  * @property {"run" | "real"} [clock] which time agents are told
  * @property {boolean} [trace] whether each run's trace is told
  * @property {OfBuffers} [init] fills the buffers before each run, in place of the module's
- * @property {OfBuffers} [checkState] throws where the buffers aren't right after a run that finished, in place of the
- * module's `check`
+ * @property {OfBuffers} [check] throws where the buffers aren't right after a run that finished, in place of the
+ * module's
  * @property {number} [loadSeconds] how long the module may take to be loaded
+ * @property {number} [logEvents] how many events the log has room for; as `Log.memory` has it where it isn't given
  */
 
 const DEFAULT_LOAD_SECONDS = 30;
@@ -94,17 +94,29 @@ async function within(promise, seconds) {
 /**
  * The memory that a group shares.
  * @param {import("./plan.mjs").Plan} plan
+ * @param {number} [logEvents] how many events its log has room for
  */
-function memoryOf({ agents, buffers }) {
+export function memoryOf({ agents, buffers }, logEvents) {
   return {
     board: Board.memory(),
-    log: Log.memory(),
+    log: Log.memory(logEvents),
     stores: Stores.memory(buffers),
     sources: Array.from({ length: agents }, () => Sources.memory()),
     buffers: buffers.map((bytes) => new SharedArrayBuffer(bytes)),
     copies: buffers.map((bytes) => new SharedArrayBuffer(bytes)),
     records: Array.from({ length: agents }, () => Records.memory()),
   };
+}
+
+/**
+ * A part of a group, which is there when it has started.
+ * @template Part
+ * @param {Part | undefined} part
+ * @returns {Part}
+ */
+function started(part) {
+  if (part === undefined) throw new Error("the group of workers hasn't started");
+  return part;
 }
 
 export class Group {
@@ -131,6 +143,14 @@ export class Group {
     this.agents = [];
     /** @type {Thread | undefined} */
     this.referee = undefined;
+    /** @type {import("./plan.mjs").Plan | undefined} */
+    this.plan = undefined;
+    /** @type {import("../board/strategy.mjs").Rules | undefined} */
+    this.rules = undefined;
+    /** @type {ReturnType<typeof memoryOf> | undefined} */
+    this.memory = undefined;
+    /** @type {Board | undefined} */
+    this.board = undefined;
   }
 
   /**
@@ -139,17 +159,18 @@ export class Group {
    * @param {(outcome: Outcome) => void} onOutcome
    */
   async run(seeds, onOutcome) {
-    this.referee.post({ seeds });
+    const referee = started(this.referee);
+    referee.post({ seeds });
     for (;;) {
-      const { message, ended } = await this.referee.next();
+      const { message, ended } = await referee.next();
       if (ended !== undefined) throw new Error(`the referee's worker failed: ${ended}`);
       if (message.finished) return;
       if (message.outcome) onOutcome(message.outcome);
       if (message.replace) {
-        await Promise.all(message.replace.map((agent) => this.#replace(agent)));
-        this.referee.post({ replaced: true });
+        await Promise.all(message.replace.map((/** @type {number} */ agent) => this.#replace(agent)));
+        referee.post({ replaced: true });
       }
-      if (message.ask) this.referee.post({ problem: this.#askedHere(message.ask) });
+      if (message.ask) referee.post({ problem: this.#askedHere(message.ask) });
     }
   }
 
@@ -160,6 +181,7 @@ export class Group {
 
   async #start() {
     const told = await this.#load(0);
+    needsRightNames(told.names);
     this.plan = planOf(this.options, told.setup);
     const { switching, timeouts, maxMoves } = this.options;
     this.rules = { agents: this.plan.agents, switching, timeouts, maxMoves };
@@ -167,7 +189,7 @@ export class Group {
     if (options.init !== undefined && this.plan.agents === SCRIPT_LIMITS.agents) {
       throw new Refused(`with ${SCRIPT_LIMITS.agents} agents none is left for the stores of \`init\`: give one less`);
     }
-    this.memory = memoryOf(this.plan);
+    this.memory = memoryOf(this.plan, this.options.logEvents);
     this.board = new Board(this.memory.board, this.rules);
     const { memory, plan, rules } = this;
     this.referee = new Thread(GROUP_WORKER, { memory, plan, rules, options }, { ownPort: true });
@@ -176,14 +198,18 @@ export class Group {
     await Promise.all(this.agents.map((_, agent) => this.#hand(agent)));
   }
 
-  /** What the referee goes by. @param {{ hasInit: boolean, hasCheck: boolean }} module */
+  /**
+   * What the referee goes by.
+   * @param {{ hasInit: boolean, hasCheck: boolean }} module
+   */
   #refereeOptions({ hasInit, hasCheck }) {
-    const { module, seconds, fresh, init, checkState, trace, ordinary, races, bounds } = this.options;
+    const { module, seconds, fresh, init, check, trace, ordinary, races, bounds } = this.options;
+    /** @type {(own: OfBuffers | undefined, isTheirs: boolean) => "library" | "module" | undefined} */
     const whose = (own, isTheirs) => {
       if (own !== undefined) return "library";
       return isTheirs ? "module" : undefined;
     };
-    const asked = { init: whose(init, hasInit), check: whose(checkState, hasCheck) };
+    const asked = { init: whose(init, hasInit), check: whose(check, hasCheck) };
     return { module, seconds, fresh, trace, ordinary, races, bounds, ...asked };
   }
 
@@ -193,11 +219,11 @@ export class Group {
    * @returns {string} what went wrong in it, as "threw ..", or nothing
    */
   #askedHere(name) {
-    const { init, checkState, args } = this.options;
-    const { buffers } = this.memory;
+    const { init, check, args } = this.options;
+    const { buffers } = started(this.memory);
     try {
-      const call = name === "init" ? init : checkState;
-      const answer = call([...buffers], { agents: this.plan.agents, args: [...args] });
+      const call = name === "init" ? init : check;
+      const answer = call?.([...buffers], { agents: started(this.plan).agents, args: [...args] });
       // That it is a promise is told; what it comes to isn't anybody's.
       Promise.resolve(answer).catch(() => {});
       return leftOpen(answer, "it") ?? foundBy(answer) ?? "";
@@ -212,13 +238,13 @@ export class Group {
     await this.agents[agent].stop();
     await this.#load(agent);
     await this.#hand(agent);
-    this.board.turn.arrive(agent);
+    started(this.board).turn.arrive(agent);
   }
 
   /**
    * Starts an agent's worker.
    * @param {number} agent
-   * @returns {Promise<{ setup: unknown, hasInit: boolean, hasCheck: boolean }>} what its module exports
+   * @returns {Promise<{ setup: unknown, names: string[], hasInit: boolean, hasCheck: boolean }>} what its module has
    */
   async #load(agent) {
     const { module, args, ordinary, clock } = this.options;
@@ -234,7 +260,7 @@ export class Group {
   async #hand(agent) {
     const thread = this.agents[agent];
     const { memory, plan, rules } = this;
-    thread.onEnd = (why) => this.board.turn.die(agent, why);
+    thread.onEnd = (why) => started(this.board).turn.die(agent, why);
     thread.post({ memory, plan, rules });
     const { ended } = await this.#told(thread);
     if (ended !== undefined) throw new Refused(`${this.options.module} can't be loaded: its worker ended (${ended})`);

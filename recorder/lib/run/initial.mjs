@@ -12,6 +12,7 @@ const UINT8 = KINDS.indexOf("Uint8");
  * @returns {import("./stores.mjs").Store[]} words where they are whole, and else bytes; none where all is zero
  */
 export function initialStores(memory, agent) {
+  /** @type {import("./stores.mjs").Store[]} */
   const stores = [];
   memory.real.forEach((real, block) => {
     const whole = real.length - (real.length % SIZES[INT32]);

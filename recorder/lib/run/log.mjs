@@ -142,34 +142,42 @@ export class Log {
 
   // Of one event.
 
+  /** @param {number} event */
   whatAt(event) {
     return this.events[event * EACH + HEAD] & WHAT;
   }
 
+  /** @param {number} event */
   agentAt(event) {
     return (this.events[event * EACH + HEAD] >> AGENT_BITS) & 15;
   }
 
+  /** @param {number} event */
   kindAt(event) {
     return (this.events[event * EACH + HEAD] >> KIND_BITS) & 15;
   }
 
+  /** @param {number} event */
   flagsAt(event) {
     return this.events[event * EACH + HEAD] >> FLAG_BITS;
   }
 
+  /** @param {number} event */
   blockAt(event) {
     return this.events[event * EACH + BLOCK];
   }
 
+  /** @param {number} event */
   fromAt(event) {
     return this.events[event * EACH + FROM];
   }
 
+  /** @param {number} event */
   toAt(event) {
     return this.events[event * EACH + TO];
   }
 
+  /** @param {number} event */
   sourceAt(event) {
     return this.events[event * EACH + SOURCE];
   }

@@ -15,7 +15,7 @@ import { viewName } from "./spelling.mjs";
  * @returns {string}
  */
 export function sourceName(source, module) {
-  const [, file, rest] = /^(.*?)((?::\d+){0,2})$/.exec(source);
+  const [, file = source, rest = ""] = /^(.*?)((?::\d+){0,2})$/.exec(source) ?? [];
   const url = file.startsWith("/") ? pathToFileURL(file).href : file;
   if (!url.startsWith("file:") || !module.startsWith("file:")) return source;
   return `${posix.relative(posix.dirname(fileURLToPath(module)), fileURLToPath(url))}${rest}`;

@@ -2,27 +2,44 @@
 // leave something open from the export `setup` of the agents' module. And what can be chosen for it by a word.
 
 import { SCRIPT_LIMITS } from "../../script/limits.mjs";
+import { meant, slipOf } from "../nearest.mjs";
 
 /** What was asked for can't be: a sentence says why. The command line answers it with status 2. */
 export class Refused extends Error {}
 
-/** What can be chosen by a word: the words of each option; the first one serves where none is given. */
-export const CHOICES = Object.freeze({
+/**
+ * @typedef {object} Choices what can be chosen by a word
+ * @property {"watch" | "store" | "refuse"} ordinary what is done with ordinary reads and writes
+ * @property {"fail" | "allow"} races whether a run with a data race fails
+ * @property {"fail" | "allow"} bounds whether a run that meets a bound fails
+ * @property {"run" | "real"} clock which time agents are told
+ */
+
+/** @typedef {{ readonly [Option in keyof Choices]: readonly Choices[Option][] }} Words */
+
+/** The words of each option that is chosen by a word; the first one serves where none is given. */
+export const CHOICES = Object.freeze(/** @type {Words} */ ({
   ordinary: Object.freeze(["watch", "store", "refuse"]),
   races: Object.freeze(["fail", "allow"]),
   bounds: Object.freeze(["fail", "allow"]),
   clock: Object.freeze(["run", "real"]),
-});
+}));
 
 /** In how many of the draws the end of a timed wait is offered, where nothing else is asked for. */
 export const DEFAULT_TIMEOUTS = 0.05;
 
 // What a module's `setup` can say.
-const SETUP = ["agents", "buffers", "block"];
+const SETUP = ["agents", "buffers", "noBlock"];
+
+// What a module of agents can export besides its agent.
+const EXPORTS = ["setup", "init", "check"];
 
 /** What holds in a run where nothing else is asked for. */
 export const DEFAULTS = Object.freeze({
-  ...Object.fromEntries(Object.entries(CHOICES).map(([name, [first]]) => [name, first])),
+  ordinary: CHOICES.ordinary[0],
+  races: CHOICES.races[0],
+  bounds: CHOICES.bounds[0],
+  clock: CHOICES.clock[0],
   timeouts: DEFAULT_TIMEOUTS,
   trace: false,
 });
@@ -34,18 +51,23 @@ export const DEFAULTS = Object.freeze({
  * @property {boolean[]} canBlock of each agent
  */
 
-const isWithin = (value, least, most) => Number.isInteger(value) && value >= least && value <= most;
+/** @type {(value: unknown, least: number, most: number) => value is number} */
+const isWithin = (value, least, most) => {
+  return typeof value === "number" && Number.isInteger(value) && value >= least && value <= most;
+};
 
 /**
- * @param {keyof typeof CHOICES} option
+ * @template {keyof Choices} Option
+ * @param {Option} option
  * @param {unknown} value undefined: it wasn't given
  * @param {string} name of the option, as who gives it writes it
- * @returns {string}
+ * @returns {Choices[Option]}
  */
 export function checkedChoice(option, value, name) {
-  const words = CHOICES[option];
+  const words = /** @type {readonly Choices[Option][]} */ (CHOICES[option]);
   if (value === undefined) return words[0];
-  if (words.includes(value)) return value;
+  const found = words.find((word) => word === value);
+  if (found !== undefined) return found;
   const others = words.slice(0, -1).join(", ");
   const given = typeof value === "string" ? `, but is "${value}"` : "";
   throw new Refused(`${name} must be ${others} or ${words.at(-1)}${given}`);
@@ -57,7 +79,7 @@ export function checkedChoice(option, value, name) {
  */
 export function checkedAgents(agents) {
   if (agents === undefined) {
-    throw new Refused("the number of agents is missing: give --agents, or `setup` in the module");
+    throw new Refused("the number of agents is missing: give `agents` (--agents), or `setup` in the module");
   }
   if (isWithin(agents, 1, SCRIPT_LIMITS.agents)) return agents;
   throw new Refused(`the number of agents must be from 1 to ${SCRIPT_LIMITS.agents}`);
@@ -69,7 +91,7 @@ export function checkedAgents(agents) {
  */
 export function checkedBuffers(buffers) {
   if (buffers === undefined) {
-    throw new Refused("the buffers' bytes are missing: give --bytes, or `setup` in the module");
+    throw new Refused("the buffers' bytes are missing: give `buffers` (--buffers), or `setup` in the module");
   }
   const { blocks, bytes } = SCRIPT_LIMITS;
   if (!Array.isArray(buffers) || !isWithin(buffers.length, 1, blocks)) {
@@ -81,43 +103,58 @@ export function checkedBuffers(buffers) {
 }
 
 /**
- * @param {unknown} block
- * @returns {boolean[] | undefined}
+ * @param {unknown} noBlock
+ * @returns {number[]}
  */
-export function checkedBlock(block) {
-  if (block === undefined) return undefined;
-  if (!Array.isArray(block) || Array.from(block).some((can) => typeof can !== "boolean")) {
-    throw new Refused("`block` must be an array of true and false, one for each agent");
+export function checkedNoBlock(noBlock) {
+  const most = SCRIPT_LIMITS.agents - 1;
+  if (!Array.isArray(noBlock) || !Array.from(noBlock).every((agent) => isWithin(agent, 0, most))) {
+    throw new Refused(`\`noBlock\` must be an array of the numbers of agents, each from 0 to ${most}`);
   }
-  return [...block];
+  return [...noBlock];
 }
 
 /**
- * @param {unknown} block
+ * @param {unknown} noBlock undefined: all can block
  * @param {number} agents
- * @returns {boolean[]}
+ * @returns {boolean[]} of each agent whether it can block
  */
-function canBlockOf(block, agents) {
-  const given = checkedBlock(block) ?? [];
-  return Array.from({ length: agents }, (_, agent) => given[agent] ?? true);
+function canBlockOf(noBlock, agents) {
+  const given = noBlock === undefined ? [] : checkedNoBlock(noBlock);
+  const other = given.find((agent) => agent >= agents);
+  if (other !== undefined) {
+    throw new Refused(`\`noBlock\` (--no-block) names agent ${other}: there is no such agent, but 0 to ${agents - 1}`);
+  }
+  return Array.from({ length: agents }, (_, agent) => !given.includes(agent));
 }
 
 /**
  * The plan of some options and a module's `setup`. What the options give goes before what the setup gives.
- * @param {{ count?: number, buffers?: number[], block?: boolean[], noBlock?: number[] }} options
+ * @param {{ agents?: number, buffers?: number[], noBlock?: number[] }} options
  * @param {unknown} setup
  * @returns {Plan}
  */
 export function planOf(options, setup) {
-  const given = setup ?? {};
+  const given = /** @type {Partial<Record<string, unknown>>} */ (setup ?? {});
+  if (typeof given !== "object") throw new Refused("`setup` must be an object, as { agents: 2, buffers: [12] }");
   const other = Object.keys(given).find((name) => !SETUP.includes(name));
-  if (other !== undefined) throw new Refused(`\`setup\` has no member ${other}: it can have ${SETUP.join(", ")}`);
-  const agents = checkedAgents(options.count ?? given.agents);
+  if (other !== undefined) throw new Refused(`\`setup\` can't have a member ${other}: ${meant(other, SETUP)}`);
+  const agents = checkedAgents(options.agents ?? given.agents);
   const buffers = checkedBuffers(options.buffers ?? given.buffers);
-  const canBlock = canBlockOf(options.block ?? given.block, agents);
-  for (const agent of options.noBlock ?? []) {
-    if (!isWithin(agent, 0, agents - 1)) throw new Refused(`--no-block ${agent}: there is no such agent`);
-    canBlock[agent] = false;
+  return { agents, buffers, canBlock: canBlockOf(options.noBlock ?? given.noBlock, agents) };
+}
+
+/**
+ * Refuses a module that exports something by a name that is nearly one of those that are looked for: it wouldn't be
+ * found, and its runs would pass.
+ * @param {string[]} names
+ * @throws {Refused}
+ */
+export function needsRightNames(names) {
+  for (const name of names) {
+    const near = slipOf(name, EXPORTS.filter((each) => !names.includes(each)));
+    if (near === undefined) continue;
+    const others = `of what a module exports only default, ${EXPORTS.join(", ")} are looked at`;
+    throw new Refused(`the module exports \`${name}\`: is \`${near}\` meant? (${others}; give it another name if not)`);
   }
-  return { agents, buffers, canBlock };
 }

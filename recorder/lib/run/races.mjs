@@ -50,7 +50,11 @@ const ENOUGH = -2;
 const WRITES = 1;
 const READS = 2;
 
-/** An access's sort: what it does, and its size where it is atomic, which fixes its bytes; else 0. */
+/**
+ * An access's sort: what it does, and its size where it is atomic, which fixes its bytes; else 0.
+ * @param {number} flags
+ * @param {number} size
+ */
 const sortOf = (flags, size) => {
   const does = (flags & FLAG.WRITES ? WRITES : 0) | (flags & FLAG.READS ? READS : 0);
   return (flags & FLAG.ATOMIC ? size << 2 : 0) | does;
@@ -92,6 +96,10 @@ export class Judge {
     this.accesses = new Numbers();
     this.left = new Numbers();
     this.run = 0;
+    this.agents = 0;
+    this.clocks = new Int32Array(0);
+    /** @type {Map<number, number>} for each place of waiters, the clock that the last one left */
+    this.lines = new Map();
   }
 
   /**
@@ -113,7 +121,12 @@ export class Judge {
     }
   }
 
-  /** @returns {boolean} whether to go on */
+  /**
+   * @param {Log} log
+   * @param {number} event
+   * @param {OnRace} onRace
+   * @returns {boolean} whether to go on
+   */
   #step(log, event, onRace) {
     const flags = log.flagsAt(event);
     const agent = log.agentAt(event);
@@ -129,7 +142,11 @@ export class Judge {
     return true;
   }
 
-  /** An agent takes over what a clock knows. */
+  /**
+   * An agent takes over what a clock knows.
+   * @param {number} agent
+   * @param {number | undefined} clock
+   */
   #merge(agent, clock) {
     if (clock === undefined) return;
     const { agents, clocks } = this;
@@ -140,7 +157,7 @@ export class Judge {
     }
   }
 
-  /** @returns {number} the clock that an agent leaves behind; its time goes on */
+  /** @param {number} agent @returns {number} the clock that it leaves behind; its time goes on */
   #leave(agent) {
     const { agents, clocks, left } = this;
     const at = left.take(agents);
@@ -149,7 +166,12 @@ export class Judge {
     return at;
   }
 
-  /** An atomic read: it learns from the atomic writes of the same bytes that it reads a byte from. */
+  /**
+   * An atomic read: it learns from the atomic writes of the same bytes that it reads a byte from.
+   * @param {number} agent
+   * @param {number} first
+   * @param {number} last
+   */
   #learn(agent, first, last) {
     let before = -1;
     for (let byte = first; byte < last; byte += 1) {
@@ -160,6 +182,12 @@ export class Judge {
     }
   }
 
+  /**
+   * @param {number} agent
+   * @param {number} flags
+   * @param {number} first
+   * @param {number} last
+   */
   #write(agent, flags, first, last) {
     const { written, sizes } = this;
     const clock = flags & FLAG.ATOMIC ? this.#leave(agent) : NONE;
@@ -169,7 +197,16 @@ export class Judge {
     }
   }
 
-  /** An access meets what is remembered of each of its bytes, and is remembered. */
+  /**
+   * An access meets what is remembered of each of its bytes, and is remembered.
+   * @param {Log} log
+   * @param {number} event
+   * @param {number} agent
+   * @param {number} flags
+   * @param {number} first
+   * @param {number} last
+   * @param {OnRace} onRace
+   */
   #access(log, event, agent, flags, first, last, onRace) {
     const { runs, heads, written, run, accesses } = this;
     const sort = sortOf(flags, last - first);
@@ -203,7 +240,15 @@ export class Judge {
     return true;
   }
 
-  /** @returns {number} the remembered access of the agent that is alike, or `NONE`, or `ENOUGH` */
+  /**
+   * @param {number} event
+   * @param {number} agent
+   * @param {number} sort
+   * @param {number} source
+   * @param {number} byte
+   * @param {OnRace} onRace
+   * @returns {number} the remembered access of the agent that is alike, or `NONE`, or `ENOUGH`
+   */
   #meet(event, agent, sort, source, byte, onRace) {
     const { items } = this.accesses;
     const clock = agent * this.agents;
@@ -220,7 +265,11 @@ export class Judge {
   }
 }
 
-/** Whether two accesses to a byte conflict: one writes, and they aren't both atomic on the same bytes. */
+/**
+ * Whether two accesses to a byte conflict: one writes, and they aren't both atomic on the same bytes.
+ * @param {number} one the sort of one
+ * @param {number} other that of the other
+ */
 function conflict(one, other) {
   if (((one | other) & WRITES) === 0) return false;
   return one >> 2 === 0 || other >> 2 === 0 || one >> 2 !== other >> 2;
@@ -228,7 +277,10 @@ function conflict(one, other) {
 
 const judge = new Judge();
 
-/** Whether all accesses are atomic and of one size: these never race, since their ranges are the same or disjoint. */
+/**
+ * Whether all accesses are atomic and of one size: these never race, since their ranges are the same or disjoint.
+ * @param {Log} log
+ */
 function areAlike(log) {
   let size = 0;
   for (let event = 0; event < log.length; event += 1) {
@@ -279,6 +331,7 @@ class Lines {
     return (((place << DEED_BITS) | (log.flagsAt(event) & DEEDS)) << AGENT_BITS) | log.agentAt(event);
   }
 
+  /** @param {number} event */
   #viewOf(event) {
     const key = viewKey(this.log.at(event));
     const known = this.views.get(key);
@@ -313,6 +366,7 @@ class Pairs {
  * @returns {Race[]} in the order of their later accesses
  */
 export function racesOf(log, agents) {
+  /** @type {Race[]} */
   const races = [];
   const lines = new Lines(log);
   const pairs = new Pairs();

@@ -23,6 +23,7 @@ function splitmix32(start) {
   };
 }
 
+/** @param {number} word @param {number} by */
 const rotate = (word, by) => (word << by) | (word >>> (32 - by));
 
 /** A generator of pseudo-random numbers, fixed by its words. */

@@ -25,6 +25,7 @@ const { asIntN, asUintN } = BigInt;
 /** What a call can answer besides a value, as a report spells it. A word's position is its number in a record. */
 const WORDS = Object.freeze(["ok", "not-equal", "timed-out", "TypeError", "RangeError"]);
 
+/** @param {string} word */
 const numberOf = (word) => {
   let number = 0;
   while (WORDS[number] !== word) number += 1;
@@ -166,6 +167,8 @@ export class Records {
   /**
    * Whether two calls are the same function on the same element, and come to the same. A load may find something else
    * each time; who writes and is answered something else comes on.
+   * @param {number} one
+   * @param {number} other
    */
   #isAlike(one, other) {
     const { words, numbers } = this;
@@ -176,6 +179,7 @@ export class Records {
     return words[one * WORDS_EACH + CALL] === LOAD || this.#isAnsweredAlike(one, other);
   }
 
+  /** @param {number} one @param {number} other */
   #isAnsweredAlike(one, other) {
     const tag = this.words[one * WORDS_EACH + ANSWER];
     if (tag !== this.words[other * WORDS_EACH + ANSWER]) return false;
@@ -183,7 +187,7 @@ export class Records {
     return this.#read(one, ANSWER_VALUE, tag) === this.#read(other, ANSWER_VALUE, tag);
   }
 
-  /** @returns {string | null} */
+  /** @param {number} position @param {number} tag @returns {string | null} */
   #spelled(position, tag) {
     if (tag === NONE) return null;
     if (tag >= FIRST_WORD) return WORDS[tag - FIRST_WORD];
@@ -207,7 +211,12 @@ export class Records {
     return BIG;
   }
 
-  /** @returns {number | bigint} */
+  /**
+   * @param {number} position
+   * @param {number} at
+   * @param {number} tag
+   * @returns {number | bigint}
+   */
   #read(position, at, tag) {
     if (tag === NUMBER) return this.numbers[position * NUMBERS_EACH + at];
     const big = position * BIGS_EACH + 2 * at;

@@ -13,7 +13,7 @@ import { fitted } from "./fitting.mjs";
 import { initialStores } from "./initial.mjs";
 import { Log } from "./log.mjs";
 import { Memory } from "./memory.mjs";
-import { withSourceNames } from "./places.mjs";
+import { sourceName, withSourceNames } from "./places.mjs";
 import { isRacy } from "./races.mjs";
 import { Records } from "./records.mjs";
 import { Stores } from "./stores.mjs";
@@ -33,11 +33,34 @@ import { ownCalls, transcriptOf, waitingText } from "./transcript.mjs";
  * @property {{ agent: number, block: number, byte: number }[]} waiting who waits where, in order of arrival
  */
 
+/**
+ * @typedef {object} RefereeOptions
+ * @property {string} module the URL of the agents' module
+ * @property {number} seconds for how long an agent may make no call
+ * @property {boolean} fresh
+ * @property {boolean} trace
+ * @property {"watch" | "store" | "refuse"} ordinary
+ * @property {"fail" | "allow"} races
+ * @property {"fail" | "allow"} bounds
+ * @property {"library" | "module" | undefined} init whose it is, if there is one
+ * @property {"library" | "module" | undefined} check likewise
+ */
+
+/**
+ * @typedef {object} Given what this thread is started with
+ * @property {import("node:worker_threads").MessagePort} port
+ * @property {ReturnType<typeof import("./group.mjs").memoryOf>} memory
+ * @property {import("./plan.mjs").Plan} plan
+ * @property {import("../board/strategy.mjs").Rules} rules
+ * @property {RefereeOptions} options
+ */
+
 // How long an agent has to come back after its run has ended, before its worker is started anew.
 const GRACE_MILLISECONDS = 200;
 const SHOWN_DIGITS = 48;
+const ENDLESS = "didn't come to its end";
 
-const { port, memory: shared, plan, rules, options } = workerData;
+const { port, memory: shared, plan, rules, options } = /** @type {Given} */ (workerData);
 const board = new Board(shared.board, rules);
 const memory = new Memory(shared.buffers, shared.copies);
 const log = new Log(shared.log, board.words, WORD.EVENTS);
@@ -52,7 +75,11 @@ let tellsNext = options.trace;
 /** Whether the trace of a failing run was made already, or tried: a later seed's isn't kept. */
 let isTraced = false;
 
-/** What another thread answers to a message. @param {object} message @returns {Promise<any>} */
+/**
+ * What another thread answers to a message.
+ * @param {object} message
+ * @returns {Promise<any>}
+ */
 function answered(message) {
   return new Promise((done) => {
     port.once("message", done);
@@ -71,10 +98,13 @@ async function asked(name) {
   board.turn.awaitEnd(options.seconds);
   const { ending, detail } = board.end.told();
   if (!board.turn.isBack(0, GRACE_MILLISECONDS)) await answered({ replace: [0] });
-  return ending === "finished" ? detail : `didn't come to its end: ${detail}`;
+  return ending === "finished" ? detail : `${ENDLESS}: ${detail}`;
 }
 
-/** Sends the agents home. @returns {number[]} those that can't run again */
+/**
+ * Sends the agents home.
+ * @returns {number[]} those that can't run again
+ */
 function sentHome() {
   board.dismiss();
   return agents.filter((agent) => !board.turn.isBack(agent, GRACE_MILLISECONDS));
@@ -115,7 +145,11 @@ const whoWaits = () => board.line.waiting().map((agent) => ({ agent, ...board.li
 /** How many calls of Atomics were begun. */
 const callCount = () => agents.reduce((sum, agent) => sum + board.journal.progress(agent).calls, 0);
 
-/** How a run ends, with what is known when its agents are home. @param {Made} made @returns {Promise<Made>} */
+/**
+ * How a run ends, with what is known when its agents are home.
+ * @param {Made} found
+ * @returns {Promise<Made>}
+ */
 async function judged(found) {
   if (found.ending !== "finished") return found;
   if (callCount() === 0) {
@@ -127,17 +161,37 @@ async function judged(found) {
   return found.racy && options.races === "fail" ? { ...found, ending: "race" } : found;
 }
 
+/**
+ * How a run ends that was made once more. A check that has come to no end before isn't called again: it would take as
+ * long again.
+ * @param {Made} again
+ * @param {Made} found the run as it was made before
+ * @returns {Promise<Made>}
+ */
+async function judgedAgain(again, { ending, detail }) {
+  const isEndless = ending === "check" && detail.startsWith(`check ${ENDLESS}`);
+  return isEndless && again.ending === "finished" ? { ...again, ending, detail } : judged(again);
+}
+
 /** @param {Made} found */
 const isFailing = ({ ending }) => ending !== "finished" && !(ending === "bound" && options.bounds === "allow");
 
-/** The bytes at the end: their hash, with the ending's, and their beginnings. @param {Made} found */
+/**
+ * The bytes at the end: their hash, with the ending's, and their beginnings.
+ * @param {Made} found
+ */
 function stateOf({ ending, bytes }) {
   const hash = createHash("sha256").update(`${ending} ${bytes.join(" ")}`).digest("base64");
   const shown = bytes.map((hex) => (hex.length > SHOWN_DIGITS ? `${hex.slice(0, SHOWN_DIGITS)}…` : hex));
   return { hash, shown };
 }
 
-/** What is told of each run. @param {number} seed @param {Made} found @returns {Outcome} */
+/**
+ * What is told of each run.
+ * @param {number} seed
+ * @param {Made} found
+ * @returns {Outcome}
+ */
 function briefly(seed, found) {
   return {
     seed,
@@ -159,7 +213,7 @@ function briefly(seed, found) {
  * @param {Made} found
  */
 function tellWhole(outcome, found) {
-  const { transcript, script, holds, bytes, noScript } = fitted(run, stores, found.initial, found.bytes);
+  const { transcript, script, holds, bytes = [], noScript } = fitted(run, stores, found.initial, found.bytes);
   if (outcome.ending === "deadlock") outcome.detail = waitingText(found.waiting, transcript);
   outcome.bytes = found.bytes;
   outcome.answers = agents.map((agent) => ownCalls(transcript, agent).map((call) => call.answer));
@@ -172,14 +226,22 @@ function tellWhole(outcome, found) {
   outcome.report = reportText(transcript, bytes);
 }
 
-/** The races of the run that was made last. */
+/**
+ * The races of the run that was made last.
+ * @param {boolean} tellsSources
+ */
 function tellRaces(tellsSources) {
   const list = tellsSources ? sources.map((each) => each.list()) : [];
   return racesTold({ run, transcript: transcriptOf(run, []), sources: list, module: options.module });
 }
 
-/** Whether two runs of a seed did the same. @param {Outcome} one @param {Outcome} other */
+/**
+ * Whether two runs of a seed did the same.
+ * @param {Outcome} one
+ * @param {Outcome} other
+ */
 function areAlike(one, other) {
+  /** @param {Outcome} outcome */
   const parts = ({ ending, moves, calls, state }) => [ending, moves, calls, state.hash].join(" ");
   return parts(one) === parts(other);
 }
@@ -211,16 +273,27 @@ async function addSources(outcome, found, hasSources) {
   // Who didn't come back made no call for long, and would take as long again.
   if (found.gone.length > 0) return;
   const again = await made(outcome.seed, true);
-  const same = areAlike(briefly(outcome.seed, await judged(again)), outcome);
+  const same = areAlike(briefly(outcome.seed, await judgedAgain(again, found)), outcome);
   await replaced(options.fresh ? agents : again.gone);
   if (same) tellSources(outcome, wantsTrace);
 }
 
-/** The races and the trace of the run that was made last, whose accesses have told their lines. */
+/**
+ * The races and the trace of the run that was made last, whose accesses have told their lines.
+ * @param {Outcome} outcome
+ * @param {boolean} wantsTrace
+ */
 function tellSources(outcome, wantsTrace) {
   outcome.races = options.ordinary === "watch" ? tellRaces(true) : [];
-  if (wantsTrace) outcome.trace = traceText(log, sources.map((each) => each.list()));
+  if (wantsTrace) outcome.trace = traceText(log, sources.map(namesOf));
 }
+
+/**
+ * The names of an agent's positions, as races tell them, by their numbers.
+ * @param {Sources} each
+ */
+const namesOf = (each) =>
+  each.list().map((/** @type {string} */ place) => (place === "" ? "" : sourceName(place, options.module)));
 
 /**
  * The outcome of a seed.

@@ -33,7 +33,7 @@ const LOST = 2;
 const UINT8 = KINDS.indexOf("Uint8");
 const INT32 = KINDS.indexOf("Int32");
 
-/** The unsigned kinds, by how many bytes they have. */
+/** @type {Readonly<Record<number, number>>} the unsigned kinds, by how many bytes they have */
 const UNSIGNED = Object.freeze({ 1: UINT8, 2: KINDS.indexOf("Uint16"), 4: KINDS.indexOf("Uint32"),
   8: KINDS.indexOf("BigUint64") });
 
@@ -178,7 +178,14 @@ export class Stores {
     return isOrdered ? stores : stores.sort((one, other) => one.position - other.position);
   }
 
-  /** Takes one element, where it has changed. */
+  /**
+   * Takes one element, where it has changed.
+   * @param {number} agent
+   * @param {number} position
+   * @param {number} block
+   * @param {number} byte
+   * @param {number} kind
+   */
   #take(agent, position, block, byte, kind) {
     const real = this.buffers.real[block];
     const known = this.buffers.known[block];
@@ -195,6 +202,13 @@ export class Stores {
     }
   }
 
+  /**
+   * @param {number} agent
+   * @param {number} position
+   * @param {number} block
+   * @param {number} byte
+   * @param {number} kind
+   */
   #push(agent, position, block, byte, kind) {
     const { entries, bytes, words } = this;
     if (words[WORD.STORES] === ROOM) {
@@ -213,6 +227,13 @@ export class Stores {
     words[WORD.STORES] += 1;
   }
 
+  /**
+   * @param {number} agent
+   * @param {number} position
+   * @param {number} block
+   * @param {number} from
+   * @param {number} to
+   */
   #drop(agent, position, block, from, to) {
     for (let byte = from; byte < to; byte += 1) this.dropped[this.firsts[block] + byte] = ((position << 4) | agent) + 1;
   }
@@ -239,6 +260,11 @@ export class Stores {
     words[WORD.STORES] = kept;
   }
 
+  /**
+   * @param {number} block
+   * @param {number} from
+   * @param {number} to
+   */
   #isTouched(block, from, to) {
     for (let byte = from; byte < to; byte += 1) {
       if (this.touched[this.firsts[block] + byte] === this.run) return true;
@@ -247,7 +273,11 @@ export class Stores {
   }
 }
 
-/** How many bytes the largest aligned element has that begins at a byte and ends at another one at the latest. */
+/**
+ * How many bytes the largest aligned element has that begins at a byte and ends at another one at the latest.
+ * @param {number} byte
+ * @param {number} to
+ */
 function largestAt(byte, to) {
   let size = 8;
   while (byte % size !== 0 || byte + size > to) size /= 2;

@@ -19,27 +19,34 @@ function told(thrown) {
   }
 }
 
+const NO_PORTS = { port1: undefined, port2: undefined };
+
+/** @typedef {{ message?: any, ended?: string }} Item a message, or why there is none any more */
+
 export class Thread {
   /**
    * @param {URL} file
    * @param {object} workerData
-   * @param {{ ownPort?: boolean }} [options] with `ownPort` messages go by a port that is `workerData.port` there: code
+   * @param {{ ownPort?: boolean }} options with `ownPort` messages go by a port that is `workerData.port` there: code
    * that shares the worker, and its `parentPort` with it, can't listen in or answer
    */
   constructor(file, workerData, { ownPort = false } = {}) {
-    const { port1, port2 } = ownPort ? new MessageChannel() : {};
-    const given = ownPort ? { workerData: { ...workerData, port: port2 }, transferList: [port2] } : { workerData };
-    this.worker = new Worker(file, given);
+    const { port1, port2 } = ownPort ? new MessageChannel() : NO_PORTS;
+    const own = { workerData: { ...workerData, port: port2 }, transferList: port2 === undefined ? [] : [port2] };
+    this.worker = new Worker(file, ownPort ? own : { workerData });
     /** Where messages come from and go to. */
     this.port = port1 ?? this.worker;
+    /** @type {Item[]} */
     this.inbox = [];
-    /** @type {((item: { message?: any, ended?: string }) => void) | undefined} */
+    /** @type {((item: Item) => void) | undefined} */
     this.waiting = undefined;
-    /** What it threw, where that has ended it. @type {unknown} */
+    /** @type {unknown} what it threw, where that has ended it */
     this.error = undefined;
-    /** Why it has ended, if it has. @type {string | undefined} */
+    /** @type {string | undefined} why it has ended, if it has */
     this.ended = undefined;
+    /** @type {(why: string) => void} */
     this.onEnd = () => {};
+    /** @type {string | undefined} */
     let died;
     this.port.on("message", (message) => this.#put({ message }));
     this.worker.on("error", (error) => {
@@ -61,10 +68,11 @@ export class Thread {
 
   /**
    * The next message; one of `ended` where there is none any more.
-   * @returns {Promise<{ message?: any, ended?: string }>}
+   * @returns {Promise<Item>}
    */
   next() {
-    if (this.inbox.length > 0) return Promise.resolve(this.inbox.shift());
+    const first = this.inbox.shift();
+    if (first !== undefined) return Promise.resolve(first);
     if (this.ended !== undefined) return Promise.resolve({ ended: this.ended });
     return new Promise((done) => {
       this.waiting = done;
@@ -88,12 +96,16 @@ export class Thread {
     return ended;
   }
 
-  /** Takes what was sent before the end, and closes the port. */
+  /**
+   * Takes what was sent before the end, and closes the port.
+   * @param {import("node:worker_threads").MessagePort} port
+   */
   #drain(port) {
     for (let item = receiveMessageOnPort(port); item !== undefined; item = receiveMessageOnPort(port)) this.#put(item);
     port.close();
   }
 
+  /** @param {Item} item */
   #put(item) {
     if (this.waiting === undefined) {
       this.inbox.push(item);

@@ -5,7 +5,10 @@ import { LEAVE, TIME_UP } from "../board/journal.mjs";
 import { CALLS } from "../../script/kinds.mjs";
 import { FLAG, NO_CALL, WRITE } from "./log.mjs";
 
-/** What an event is called. @param {import("./log.mjs").LogEvent} event */
+/**
+ * What an event is called.
+ * @param {import("./log.mjs").LogEvent} event
+ */
 function nameOf({ what, method }) {
   if (what === LEAVE) return "leave";
   if (what === TIME_UP) return "time-up";

@@ -71,7 +71,7 @@ class Writer {
     this.own = canBlock.map(() => 0);
     /** @type {Move[]} */
     this.moves = [];
-    /** The names of the views of stores, by whose they are: of each block's kinds. @type {Map<string, string[]>} */
+    /** @type {Map<string, string[]>} the names of the views of stores, by whose they are: of each block's kinds */
     this.storeNames = new Map();
   }
 
@@ -100,10 +100,16 @@ class Writer {
     this.addMoves(agent, EVENTS[0].moves, false);
   }
 
-  /** The name of a view that stores have, which the script gets with its first one. */
+  /**
+   * The name of a view that stores have, which the script gets with its first one.
+   * @param {string} whose
+   * @param {number} kind
+   * @param {number} block
+   */
   #storeName(whose, kind, block) {
-    if (!this.storeNames.has(whose)) this.storeNames.set(whose, []);
-    const names = this.storeNames.get(whose);
+    const known = this.storeNames.get(whose);
+    const names = known ?? [];
+    if (known === undefined) this.storeNames.set(whose, names);
     const number = block * KINDS.length + kind;
     if (names[number] === undefined) {
       const range = { kind, block, offset: 0, length: Math.floor(this.lengths[block] / SIZES[kind]) };
@@ -137,6 +143,7 @@ export function transcriptOf({ log, records, lengths, canBlock }, stores, initia
   const writer = new Writer(lengths, initial.length === 0 ? canBlock : [...canBlock, true]);
   for (const store of initial) writer.addStore(store, "init");
   let next = 0;
+  /** @param {number} position */
   const addStores = (position) => {
     for (; next < stores.length && stores[next].position <= position; next += 1) {
       writer.addStore(stores[next], "ordinary");

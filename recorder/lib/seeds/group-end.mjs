@@ -3,9 +3,10 @@
 
 /**
  * Ends a process, and all of its group.
- * @param {number} id of the process that leads the group
+ * @param {number | undefined} id of the process that leads the group; undefined: it has never begun
  */
 export function endGroup(id) {
+  if (id === undefined) return;
   try {
     // Windows has no such groups.
     process.kill(process.platform === "win32" ? id : -id, "SIGKILL");

@@ -13,9 +13,9 @@ export class InOrder {
     this.next = first;
     this.onOutcome = onOutcome;
     this.onCheck = onCheck;
-    /** Outcomes that came before those of lower seeds. @type {Map<number, Outcome>} */
+    /** @type {Map<number, Outcome>} outcomes that came before those of lower seeds */
     this.early = new Map();
-    /** The seeds of such runs that were checked. @type {Set<number>} */
+    /** @type {Set<number>} the seeds of such runs that were checked */
     this.checked = new Set();
     /** The seed of the last outcome that is told. */
     this.last = Infinity;
@@ -41,6 +41,7 @@ export class InOrder {
   /** @param {number} seed */
   #tell(seed) {
     const outcome = this.early.get(seed);
+    if (outcome === undefined) return;
     this.early.delete(seed);
     this.next = seed + 1;
     if (seed > this.last) return;

@@ -7,18 +7,24 @@ import { packed } from "./remote-job.mjs";
 /** @type {Job | undefined} */
 let job;
 
-/** @param {object} request @returns {Promise<unknown>} */
+/** @param {import("./remote-job.mjs").Message} message */
+function send(message) {
+  // It is forked, and so can send.
+  process.send?.(message);
+}
+
+/** @param {import("./remote-job.mjs").Request} request @returns {Promise<unknown>} */
 async function answerTo(request) {
-  if (request.open !== undefined) job = await Job.open(request.open, (seed) => process.send({ checked: seed }));
-  if (request.run !== undefined) await job.run(request.run, (outcome) => process.send({ outcome }));
-  return request.finish === undefined ? undefined : job.finish();
+  if (request.open !== undefined) job = await Job.open(request.open, (seed) => send({ checked: seed }));
+  if (request.run !== undefined) await job?.run(request.run, (outcome) => send({ outcome }));
+  return request.finish === undefined ? undefined : job?.finish();
 }
 
 process.on("disconnect", () => endGroup(process.pid));
 process.on("message", async (request) => {
   try {
-    process.send({ done: await answerTo(request) });
+    send({ done: await answerTo(request) });
   } catch (error) {
-    process.send({ failed: packed(error) });
+    send({ failed: packed(error) });
   }
 });

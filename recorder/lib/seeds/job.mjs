@@ -7,7 +7,7 @@ import { foundSabsim } from "../check/sabsim.mjs";
 /**
  * @typedef {object} CheckOptions
  * @property {boolean} checks whether runs that are told whole are checked
- * @property {string} sabsim the program's path
+ * @property {string} [sabsim] the program's path
  */
 
 // How many checks may wait before more runs are made.
@@ -35,6 +35,7 @@ export class Job {
     this.onCheck = onCheck;
     /** @type {Set<Promise<void>>} */
     this.checks = new Set();
+    /** @type {unknown} */
     this.failure = undefined;
   }
 
@@ -45,11 +46,13 @@ export class Job {
    * @returns {Promise<void>} fails where a check has failed
    */
   async run(seeds, onOutcome) {
-    while (this.checks.size > 0 && this.checker.waiting > MOST_WAITING) await Promise.race(this.checks);
+    const { checker } = this;
+    const isBehind = () => checker !== undefined && checker.waiting > MOST_WAITING;
+    while (this.checks.size > 0 && isBehind()) await Promise.race(this.checks);
     await this.group.run(seeds, (outcome) => {
       if (this.failure !== undefined) return;
       onOutcome(outcome);
-      if (this.checker !== undefined && outcome.script !== undefined) this.#check(outcome);
+      if (checker !== undefined && outcome.script !== undefined) this.#check(checker, outcome);
     });
     if (this.failure !== undefined) throw this.failure;
   }
@@ -60,13 +63,17 @@ export class Job {
     if (this.failure !== undefined) throw this.failure;
   }
 
-  /** @param {import("../run/group.mjs").Outcome} outcome of which a check needs little: the rest isn't kept for it */
-  #check({ seed, script, report }) {
+  /**
+   * @param {Checker} checker
+   * @param {import("../run/group.mjs").Outcome} outcome of which a check needs little: the rest isn't kept for it
+   */
+  #check(checker, { seed, script, report }) {
     const agreed = () => this.onCheck(seed);
+    /** @param {unknown} failure */
     const fail = (failure) => {
       this.failure ??= failure;
     };
-    const checked = this.checker.check({ seed, script, report });
+    const checked = checker.check({ seed, script, report });
     const checking = checked.then(agreed, fail).finally(() => this.checks.delete(checking));
     this.checks.add(checking);
   }

@@ -10,28 +10,54 @@ import { jobWords } from "./node-words.mjs";
 
 /** @typedef {import("../run/group.mjs").Outcome} Outcome */
 
+/**
+ * @typedef {object} Request what a job's process is asked for: one of these
+ * @property {Parameters<typeof import("./job.mjs").Job.open>[0]} [open]
+ * @property {import("../run/group.mjs").Wanted[]} [run]
+ * @property {true} [finish]
+ */
+
+/**
+ * @typedef {object} Message what it answers: one of these
+ * @property {number} [checked] the seed of a run that sabsim says the same of
+ * @property {Outcome} [outcome]
+ * @property {Packed} [failed]
+ * @property {unknown} [done]
+ */
+
+/**
+ * @typedef {object} Packed an error as a message
+ * @property {string} [kind] undefined: it is a defect
+ * @property {string} message
+ * @property {import("../check/sabsim.mjs").Scripted} [outcome] of a difference
+ * @property {string} [replayed] of a difference
+ */
+
 const PROGRAM = fileURLToPath(new URL("./job-process.mjs", import.meta.url));
 
 /** The process of a job has ended, by itself or by others. */
 export class LostJob extends Error {}
 
+/** @type {Record<string, { new (message: string): Error }>} */
 const KINDS = { Refused, NoSabsim, LostJob };
 
 /**
  * An error as a message.
  * @param {unknown} error
+ * @returns {Packed}
  */
 export function packed(error) {
   if (error instanceof Difference) {
     return { kind: "Difference", message: error.message, outcome: error.outcome, replayed: error.replayed };
   }
   const kind = Object.keys(KINDS).find((name) => error instanceof KINDS[name]);
-  return { kind, message: kind === undefined ? String(error?.stack ?? error) : error.message };
+  if (!(error instanceof Error)) return { kind, message: String(error) };
+  return { kind, message: kind === undefined ? error.stack ?? String(error) : error.message };
 }
 
-/** @param {ReturnType<typeof packed>} message */
-function unpacked({ kind, message, outcome, replayed }) {
-  if (kind === "Difference") return new Difference(message, outcome, replayed);
+/** @param {Packed} packed */
+function unpacked({ kind = "", message, outcome, replayed = "" }) {
+  if (kind === "Difference" && outcome !== undefined) return new Difference(message, outcome, replayed);
   return new (KINDS[kind] ?? Error)(message);
 }
 
@@ -42,10 +68,11 @@ export class RemoteJob {
     const stdio = ["ignore", "inherit", "inherit", "ipc"];
     const execArgv = jobWords(process.execArgv);
     this.child = fork(PROGRAM, { stdio, execArgv, serialization: "advanced", detached: true, windowsHide: true });
-    /** What is done with messages while a request is under way. @type {((message: object) => void) | undefined} */
+    /** @type {((message: Message) => void) | undefined} what is done with messages while a request is under way */
     this.onMessage = undefined;
-    /** Why its process is no more. @type {string | undefined} */
+    /** @type {string | undefined} why its process is no more */
     this.lost = undefined;
+    /** @type {Promise<void>} */
     this.gone = new Promise((done) => this.#watch(done));
     this.child.on("message", (message) => this.#take(message));
   }
@@ -83,6 +110,7 @@ export class RemoteJob {
 
   /** @param {() => void} done is called when the process is no more, and all that it has sent was taken */
   #watch(done) {
+    /** @param {string} message */
     const lose = (message) => {
       this.lost = message;
       this.onMessage?.({ failed: { kind: "LostJob", message } });
@@ -101,35 +129,38 @@ export class RemoteJob {
     });
   }
 
-  /** @param {object} message */
+  /** @param {Message} message */
   #take(message) {
     if (message.checked === undefined) this.onMessage?.(message);
     else this.onCheck(message.checked);
   }
 
   /**
-   * @param {object} request
+   * @param {Request} request
    * @param {(outcome: Outcome) => void} [onOutcome]
    * @returns {Promise<any>}
    */
   #ask(request, onOutcome) {
     return new Promise((done, fail) => {
+      /** @type {(settle: (value: unknown) => void, value: unknown) => void} */
       const end = (settle, value) => {
         this.onMessage = undefined;
         settle(value);
       };
-      this.onMessage = (message) => {
+      /** @param {Message} message */
+      const onMessage = (message) => {
         try {
-          if (message.outcome !== undefined) onOutcome(message.outcome);
+          if (message.outcome !== undefined) onOutcome?.(message.outcome);
           else if (message.failed !== undefined) throw unpacked(message.failed);
           else end(done, message.done);
         } catch (problem) {
           end(fail, problem);
         }
       };
+      this.onMessage = onMessage;
       // Where it can't be sent, the process is about to end, and its exit tells it.
       if (this.lost === undefined) this.child.send(request, () => {});
-      else this.onMessage({ failed: { kind: "LostJob", message: this.lost } });
+      else onMessage({ failed: { kind: "LostJob", message: this.lost } });
     });
   }
 }

@@ -13,8 +13,8 @@ export { LostJob } from "./remote-job.mjs";
  * @property {number} first seed
  * @property {number} last seed
  * @property {number} jobs how many groups work side by side, each in a process of its own
- * @property {number} check every run that fails is checked, and one in so many of the others; 0: none at all
- * @property {string} sabsim the program's path
+ * @property {number} checkEvery every run that fails is checked, and one in so many of the others; 0: none at all
+ * @property {string} [sabsim] the program's path; it isn't needed where nothing is checked
  * @property {boolean} [failFast] whether the first failing run is the last
  */
 
@@ -65,17 +65,17 @@ class Row {
  * one that fails is the last.
  * @param {import("../run/group.mjs").GroupOptions & SeedsOptions} options
  * @param {(outcome: Outcome) => void} onOutcome
- * @param {Listening} [listening]
+ * @param {Listening} listening
  * @returns {Promise<{ checked: number }>} how many runs were checked; fails at the first difference, where a job's
  * process was lost, and where it is to stop, with the reason for that
  */
 export async function recordSeeds(options, onOutcome, { onCheck = () => {}, signal } = {}) {
-  const { first, last, check, sabsim, failFast = false } = options;
-  if (check > 0) foundSabsim(sabsim);
+  const { first, last, checkEvery, sabsim, failFast = false } = options;
+  if (checkEvery > 0) foundSabsim(sabsim);
   let checked = 0;
   const count = last - first + 1;
   const batch = failFast ? 1 : Math.max(1, Math.min(BATCH, Math.ceil(count / options.jobs)));
-  const row = new Row(first, last, check, batch);
+  const row = new Row(first, last, checkEvery, batch);
   const told = listener(first, failFast, row, onOutcome, (seed) => {
     checked += 1;
     onCheck(seed);
@@ -83,7 +83,7 @@ export async function recordSeeds(options, onOutcome, { onCheck = () => {}, sign
   const needed = Math.min(options.jobs, Math.ceil(count / batch));
   const jobs = Array.from({ length: needed }, () => new RemoteJob(told.addCheck));
   try {
-    await unlessStopped(signal, recordAll(jobs, { ...options, checks: check > 0 }, row, told.add));
+    await unlessStopped(signal, recordAll(jobs, { ...options, checks: checkEvery > 0 }, row, told.add));
   } finally {
     await Promise.all(jobs.map((job) => job.close()));
     told.finish();
@@ -103,11 +103,11 @@ function listener(first, failFast, row, onOutcome, onCheck) {
   if (!failFast) return { add: onOutcome, addCheck: onCheck, finish() {} };
   const inOrder = new InOrder(first, onOutcome, onCheck);
   return {
-    add(outcome) {
+    add(/** @type {Outcome} */ outcome) {
       if (outcome.fails) row.stop();
       inOrder.add(outcome);
     },
-    addCheck: (seed) => inOrder.addCheck(seed),
+    addCheck: (/** @type {number} */ seed) => inOrder.addCheck(seed),
     finish: () => inOrder.finish(),
   };
 }
@@ -149,7 +149,7 @@ async function recordAll(jobs, options, row, onOutcome) {
  */
 async function settled(promises) {
   const all = await Promise.allSettled(promises);
-  const failures = all.filter((each) => each.status === "rejected").map((each) => each.reason);
+  const failures = all.flatMap((each) => (each.status === "rejected" ? [each.reason] : []));
   const worst = failures.find((failure) => !(failure instanceof LostJob));
   if (worst !== undefined) throw worst;
   if (failures.length === 0) return;
@@ -188,7 +188,7 @@ async function runBatch(job, seeds, onOutcome) {
     });
   } catch (failure) {
     if (!(failure instanceof LostJob) || made === seeds.length) throw failure;
-    const [from, to] = [seeds[made].seed, seeds.at(-1).seed];
+    const [from, to] = [seeds[made].seed, seeds[seeds.length - 1].seed];
     const missing = from === to ? `of seed ${from}` : `of the seeds ${from} to ${to}`;
     throw new LostJob(`${failure.message}, and nothing is told ${missing}`);
   }

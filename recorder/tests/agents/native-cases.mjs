@@ -149,6 +149,13 @@ const WORKING = {
       new vm.Script("buffer.slice(0, 1).byteLength").runInContext(context),
       new vm.Script("ArrayBuffer.isView(new Uint8Array(buffer))").runInNewContext({ buffer })];
   }, { reads: [0, 3], writes: [] }],
+  "code that vm has compiled before": [whole, (buffer) => {
+    const cachedData = new vm.Script("7").createCachedData();
+    class Own extends vm.Script {}
+    return [new Own("new Int8Array(buffer)[0]", "a.js").runInNewContext({ buffer }), new Own("1") instanceof vm.Script,
+      new vm.Script("7", { cachedData }).cachedDataRejected, vm.compileFunction("return 7")(),
+      vm.compileFunction("return a", ["a"], { cachedData: undefined })(5)];
+  }, { reads: [0], writes: [] }],
   "a buffer's slice": [whole, (buffer) => new Uint8Array(buffer.slice(3, -50)), { reads: range(3, 14), writes: [] }],
   "a buffer's slice of nothing": [whole, (buffer) => buffer.slice(9, 3), untouched],
 };
@@ -236,6 +243,8 @@ const REFUSED = {
   "zlib.deflate": [bytes, (array) => zlib.deflate(array, () => {})],
   "execFileSync's input": [bytes, (array) => childProcess.execFileSync("cat", { input: array })],
   "Response": [bytes, (array) => new Response(array)],
+  "cachedData of vm.Script": [bytes, (array) => new vm.Script("1", { cachedData: array })],
+  "cachedData of vm.compileFunction": [view, (cachedData) => vm.compileFunction("1", [], { cachedData })],
   "fetch": [bytes, (array) => fetch("http://localhost", { method: "POST", body: array })],
 };
 

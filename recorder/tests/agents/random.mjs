@@ -3,7 +3,7 @@
 
 import { CALLS } from "../../script/kinds.mjs";
 
-export const setup = { agents: 4, buffers: [32, 16], block: [true, true, false] };
+export const setup = { agents: 4, buffers: [32, 16], noBlock: [2] };
 
 const KINDS = [
   Int8Array, Uint8Array, Uint8ClampedArray, Int16Array, Uint16Array, Int32Array, Uint32Array, Float32Array,

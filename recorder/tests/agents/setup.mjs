@@ -1,6 +1,6 @@
 // Agents that say themselves how many they are.
 
-export const setup = { agents: 2, buffers: [4, 8], block: [true, false] };
+export const setup = { agents: 2, buffers: [4, 8], noBlock: [1] };
 
 export default function agent({ buffers, agent: number, agents, args }) {
   const own = new Int32Array(buffers[number]);

@@ -13,13 +13,18 @@ const call = uncurried(Function.prototype.call);
 const reverseElements = uncurried(TypedArray.prototype.reverse);
 const sortElements = uncurried(TypedArray.prototype.sort);
 
-/** An array of a species is filled one by one, as agents' code would: a watched one tells it. */
+/**
+ * An array of a species is filled one by one, as agents' code would: a watched one tells it.
+ * @param {any} array
+ * @param {any} values
+ * @param {number} count
+ */
 function filled(array, values, count) {
   for (let index = 0; index < count; index += 1) array[index] = values[index];
   return array;
 }
 
-/** Methods that answer an array. */
+/** @type {Record<string, import("./patch.mjs").WatchedMethod>} methods that answer an array */
 export const ANSWERING = {
   map(watched, self, callback, thisArgument) {
     needsFunction(callback);

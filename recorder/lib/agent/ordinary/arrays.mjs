@@ -3,8 +3,8 @@
 
 import { KINDS, kindOf } from "../../../script/kinds.mjs";
 import {
-  TypedArray, apply, bufferOf, byteLengthOf, construct, defineProperty, get, getOwnPropertyDescriptor,
-  getPrototypeOf, hasOwn, lengthOf, likeEngine, offsetOf, ownKeys, put, setPrototypeOf, tagOf, uncurried,
+  TypedArray, apply, bufferOf, byteLengthOf, construct, copyProperty, get, getPrototypeOf, hasOwn, lengthOf, likeEngine,
+  offsetOf, ownKeys, put, setPrototypeOf, tagOf, uncurried,
 } from "../../../kept/own.mjs";
 import { ANSWERING } from "./answering.mjs";
 import { blockNumber, refused } from "./context.mjs";
@@ -24,15 +24,16 @@ const { from: arrayFrom } = EngineArray;
 const call = uncurried(Function.prototype.call);
 const { iterator, toStringTag } = Symbol;
 
+/** @type {boolean[]} whether the elements of each kind are BigInts */
 const BIG = [];
 for (let kind = 0; kind < KINDS.length; kind += 1) BIG[kind] = typeof new ENGINE[kind](1)[0] === "bigint";
 
 /**
  * What a constructor makes of an object.
  * @param {number} kind
- * @param {object} first
- * @param {unknown} second
- * @param {unknown} third
+ * @param {any} first
+ * @param {any} second
+ * @param {any} third
  * @param {Function} target whose prototype the array has
  */
 function madeOf(kind, first, second, third, target) {
@@ -54,6 +55,11 @@ function madeOf(kind, first, second, third, target) {
 function standInOf(kind) {
   const Engine = ENGINE[kind];
   const { name } = Engine;
+  /**
+   * @param {any} first
+   * @param {any} second
+   * @param {any} third
+   */
   const StandIn = function (first, second, third) {
     if (new.target === undefined) throw new EngineTypeError(`Constructor ${name} requires 'new'`);
     if ((typeof first === "object" && first !== null) || typeof first === "function") {
@@ -66,11 +72,12 @@ function standInOf(kind) {
   const keys = ownKeys(Engine);
   for (let at = 0; at < keys.length; at += 1) {
     const key = keys[at];
-    if (key !== "name" && key !== "length") defineProperty(StandIn, key, getOwnPropertyDescriptor(Engine, key));
+    if (key !== "name" && key !== "length") copyProperty(StandIn, Engine, key);
   }
   return StandIn;
 }
 
+/** @param {unknown} value */
 function isStandIn(value) {
   for (let kind = 0; kind < standIns.length; kind += 1) {
     if (standIns[kind] === value) return true;
@@ -78,7 +85,13 @@ function isStandIn(value) {
   return false;
 }
 
-/** `from` and `of` for a class of the agents', which may make watched arrays. */
+/**
+ * `from` and `of` for a class of the agents', which may make watched arrays.
+ * @param {Function} constructor
+ * @param {any[]} values
+ * @param {unknown} mapper
+ * @param {unknown} thisArgument
+ */
 function filledBy(constructor, values, mapper, thisArgument) {
   const made = arrayBy(constructor, [values.length]);
   for (let index = 0; index < values.length; index += 1) {
@@ -90,6 +103,7 @@ function filledBy(constructor, values, mapper, thisArgument) {
 /**
  * A private array without its iterator: the engine takes its elements one by one, faster than by an iterator that isn't
  * its own.
+ * @param {any} source
  */
 function withoutIterator(source) {
   const tag = tagOf(source);
@@ -101,6 +115,11 @@ function withoutIterator(source) {
 
 function replaceStatics() {
   replace(TypedArray, "from", (engine) => ({
+    /**
+     * @param {unknown} source
+     * @param {unknown} mapper
+     * @param {unknown} thisArgument
+     */
     method(source, mapper, thisArgument) {
       if (isStandIn(this)) return call(engine, this, withoutIterator(source), mapper, thisArgument);
       if (typeof this !== "function") return apply(engine, this, arguments);
@@ -109,6 +128,7 @@ function replaceStatics() {
     },
   }).method);
   replace(TypedArray, "of", (engine) => ({
+    /** @param {any[]} values */
     method(...values) {
       if (isStandIn(this) || typeof this !== "function") return apply(engine, this, values);
       return filledBy(this, values, undefined, undefined);
@@ -162,15 +182,19 @@ function replaceGetters() {
   }));
 }
 
+/** @param {Record<string, import("./patch.mjs").WatchedMethod>} methods */
 function replaceAll(methods) {
-  const names = ownKeys(methods);
+  const names = Object.keys(methods);
   for (let at = 0; at < names.length; at += 1) {
     const name = names[at];
     replace(typedArrays, name, (engine) => forWatched(engine, methods[name]));
   }
 }
 
-/** What this engine has besides isn't known here. `toString` asks the array's own `join`. */
+/**
+ * What this engine has besides isn't known here. `toString` asks the array's own `join`.
+ * @param {object} owner
+ */
 function refuseOthers(owner) {
   const names = ownKeys(owner);
   for (let at = 0; at < names.length; at += 1) {
@@ -187,6 +211,10 @@ function replaceMethods() {
   replaceAll(ANSWERING);
   replaceAll(WRITING);
   replace(typedArrays, "set", (engine) => ({
+    /**
+     * @param {unknown} source
+     * @param {unknown} offset
+     */
     method(source, offset) {
       if (watchedOf(this) === undefined && watchedOf(source) === undefined) return apply(engine, this, arguments);
       return setFrom(this, source, offset);
@@ -198,12 +226,14 @@ function replaceMethods() {
 
 /** The typed arrays that this engine has besides the eleven kinds: there is no script for them. */
 function refuseOtherKinds() {
-  const names = ownKeys(globalThis);
+  const realm = /** @type {Record<string, unknown>} */ (globalThis);
+  const names = ownKeys(realm);
   for (let at = 0; at < names.length; at += 1) {
     const name = names[at];
     if (typeof name !== "string" || !/^[A-Z]\w*Array$/.test(name)) continue;
-    const Engine = globalThis[name];
+    const Engine = realm[name];
     if (typeof Engine !== "function" || getPrototypeOf(Engine) !== TypedArray || isStandIn(Engine)) continue;
+    /** @param {unknown[]} given */
     const check = (given) => {
       if (blockNumber(given[0]) >= 0) refused(`a ${name} was made on a recorded buffer`);
       return given;
@@ -215,6 +245,7 @@ function refuseOtherKinds() {
 /** The engine's own way to seal a typed array isn't what it asks of a proxy. */
 function replaceSeal() {
   replace(Object, "seal", (engine) => ({
+    /** @param {unknown} value */
     method(value) {
       const watched = watchedOf(value);
       if (watched === undefined) return engine(value);

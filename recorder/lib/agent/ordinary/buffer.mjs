@@ -24,15 +24,30 @@ const setBytes = uncurried(EngineBytes.prototype.set);
 
 const WORDS = ["ascii", "base64", "base64url", "latin1", "hex", "ucs2", "utf8"];
 
+/** @param {unknown} value */
 const whole = (value) => (value === undefined ? 0 : wholeOf(value));
 
-/** A private Buffer of as many bytes, each zero. */
+/**
+ * A private Buffer of as many bytes, each zero.
+ * @param {number} count
+ * @returns {Buffer}
+ */
 const zeros = (count) => apply(alloc, EngineBuffer, [count]);
 
-/** The bytes of a stretch of the engine's array, as a view. */
+/**
+ * The bytes of a stretch of the engine's array, as a view.
+ * @param {object} real
+ * @param {number} from
+ * @param {number} to
+ */
 const bytesOf = (real, from, to) => new EngineBytes(bufferOf(real), offsetOf(real) + from, to - from);
 
-/** A private Buffer with a stretch of a watched one, told as read. */
+/**
+ * A private Buffer with a stretch of a watched one, told as read.
+ * @param {Watched} watched
+ * @param {number} from
+ * @param {number} to
+ */
 function copied(watched, from, to) {
   const copy = zeros(to - from);
   tell(watched, from, to, false);
@@ -41,13 +56,23 @@ function copied(watched, from, to) {
 }
 
 /**
+ * @callback BytesMethod a method of a watched Buffer
+ * @param {Function} engine the engine's own
+ * @param {Watched} watched
+ * @param {any[]} given
+ * @param {object} self the receiver, as agents hold it
+ * @returns {unknown}
+ */
+
+/**
  * A method that goes another way where the receiver is watched. Such take any array's bytes; here its elements have to
  * be bytes.
  * @param {Function} engine
- * @param {(engine: Function, watched: Watched, given: unknown[], self: object) => unknown} method
+ * @param {BytesMethod} method
  * @param {Function} [otherwise] what is called where it isn't
  */
 const forBytes = (engine, method, otherwise = engine) => ({
+  /** @param {any[]} given */
   method(...given) {
     const watched = watchedOf(this);
     if (watched === undefined) return apply(otherwise, this, given);
@@ -56,14 +81,20 @@ const forBytes = (engine, method, otherwise = engine) => ({
   },
 }).method;
 
-/** Writes a stretch of a private Buffer into a watched one, at the same place; told as written. */
+/**
+ * Writes a stretch of a private Buffer into a watched one, at the same place; told as written.
+ * @param {Watched} watched
+ * @param {Buffer} bytes
+ * @param {number} from
+ * @param {number} to
+ */
 function written(watched, bytes, from, to) {
   if (from >= to) return;
   tell(watched, from, to, true);
   setBytes(watched.real, bytesOf(bytes, from, to), from);
 }
 
-/** `toString`, whose range may be anything. */
+/** @type {BytesMethod} `toString`, whose range may be anything */
 function textOf(engine, watched, given) {
   const { length } = watched;
   const encoding = given[0];
@@ -76,7 +107,7 @@ function textOf(engine, watched, given) {
   return to <= from ? "" : apply(engine, copied(watched, from, to), [encoding]);
 }
 
-/** The methods that make a text of a stretch. */
+/** @type {BytesMethod} the methods that make a text of a stretch */
 function textSlice(engine, watched, given) {
   const { length } = watched;
   const from = whole(given[0]);
@@ -86,7 +117,7 @@ function textSlice(engine, watched, given) {
   return apply(engine, copied(watched, from, to), []);
 }
 
-/** Those that write a text: how many bytes they will write is tried in a private Buffer. */
+/** @type {BytesMethod} those that write a text: how many bytes they will write is tried in a private Buffer */
 function textWrite(engine, watched, given) {
   const bytes = zeros(watched.length);
   const count = apply(engine, bytes, given);
@@ -95,6 +126,7 @@ function textWrite(engine, watched, given) {
   return count;
 }
 
+/** @type {BytesMethod} */
 function filled(engine, watched, given, self) {
   const bytes = zeros(watched.length);
   apply(engine, bytes, madePrivate(given));
@@ -104,14 +136,25 @@ function filled(engine, watched, given, self) {
   return self;
 }
 
-/** An array as long as another one, to try in it what a method would do. */
+/**
+ * An array as long as another one, to try in it what a method would do.
+ * @param {unknown} value
+ */
 const likeness = (value) => {
   const watched = watchedOf(value);
   if (watched === undefined) return tagOf(value) === "Uint8Array" ? new EngineBytes(lengthOf(value)) : value;
   return new ENGINE[watched.kind](watched.length);
 };
 
-/** `copy`, where one of the two is watched. */
+/**
+ * `copy`, where one of the two is watched.
+ * @param {Function} engine
+ * @param {unknown} source
+ * @param {unknown} target
+ * @param {unknown} targetStart
+ * @param {unknown} sourceStart
+ * @param {unknown} sourceEnd
+ */
 function copiedTo(engine, source, target, targetStart, sourceStart, sourceEnd) {
   const to = whole(targetStart);
   const from = whole(sourceStart);
@@ -124,10 +167,15 @@ function copiedTo(engine, source, target, targetStart, sourceStart, sourceEnd) {
   return apply(engine, unwrapped(source), [unwrapped(target), to, from, end]);
 }
 
-/** A method that only reads, of its receiver and of what it is given. */
+/**
+ * A method that only reads, of its receiver and of what it is given.
+ * @param {Function} engine
+ */
 const reading = (engine) => ({
+  /** @param {any[]} given */
   method(...given) {
     if (watchedOf(this) === undefined) return apply(engine, this, madePrivate(given));
+    /** @type {unknown[]} */
     const all = [this];
     for (let at = 0; at < given.length; at += 1) all[at + 1] = given[at];
     const made = madePrivate(all);
@@ -136,14 +184,19 @@ const reading = (engine) => ({
   },
 }).method;
 
-/** A method that answers another Buffer on the same memory. */
+/**
+ * A method that answers another Buffer on the same memory.
+ * @param {Function} engine
+ */
 const parting = (engine) => ({
+  /** @param {any[]} given */
   method(...given) {
     const answer = apply(engine, this, given);
     return tagOf(answer) === undefined || watchedOf(this) === undefined ? answer : wrappedArray(answer);
   },
 }).method;
 
+/** @type {(size: number) => (engine: Function) => Function} */
 const swapping = (size) => (engine) => forBytes(engine, (_engine, watched, _given, self) => {
   if (watched.length % size !== 0) return apply(engine, zeros(watched.length), []);
   tellAll(watched, false);
@@ -152,17 +205,22 @@ const swapping = (size) => (engine) => forBytes(engine, (_engine, watched, _give
   return self;
 });
 
-/** How node shows a Buffer: that of a private copy. */
+/** @type {BytesMethod} how node shows a Buffer: that of a private copy */
 const shown = (engine, watched, given) => apply(engine, privateView(watched), given);
 
+/** @param {Function} engine */
 const copyingTo = (engine) => ({
-  method(target, targetStart, sourceStart, sourceEnd) {
-    if (watchedOf(this) === undefined && watchedOf(target) === undefined) return apply(engine, this, arguments);
-    return copiedTo(engine, this, target, targetStart, sourceStart, sourceEnd);
+  /** @param {any[]} given */
+  method(...given) {
+    if (watchedOf(this) === undefined && watchedOf(given[0]) === undefined) return apply(engine, this, given);
+    return copiedTo(engine, this, given[0], given[1], given[2], given[3]);
   },
 }).method;
 
-/** `fill` of a private Buffer may be given a watched one. */
+/**
+ * `fill` of a private Buffer may be given a watched one.
+ * @param {Function} engine
+ */
 const filling = (engine) => forBytes(engine, filled, copying(engine));
 
 function replaceMethods() {
@@ -183,9 +241,10 @@ function replaceMethods() {
   replace(buffers, "copy", copyingTo);
 }
 
-/** @param {typeof import("node:buffer")} module */
+/** @param {typeof import("node:buffer").default} module */
 function replaceStatics(module) {
   replace(EngineBuffer, "from", (engine) => ({
+    /** @param {any[]} given */
     method(...given) {
       const answer = apply(engine, this, blockNumber(given[0]) < 0 ? madePrivate(given) : given);
       return wrappedArray(answer);
@@ -199,16 +258,17 @@ function replaceStatics(module) {
 
 /**
  * Patches node's Buffer.
- * @param {typeof import("node:buffer")} module
+ * @param {typeof import("node:buffer").default} module
  */
 export function watchNodeBuffer(module) {
   replaceMethods();
   replaceStatics(module);
-  const Blobs = ["Blob", "File"];
+  const Blobs = /** @type {const} */ (["Blob", "File"]);
   for (let at = 0; at < Blobs.length; at += 1) {
     const name = Blobs[at];
-    if (typeof module[name] !== "function") continue;
-    const StandIn = constructing(module[name], madePrivate);
+    const Engine = module[name];
+    if (typeof Engine !== "function") continue;
+    const StandIn = constructing(Engine, madePrivate);
     put(module, name, StandIn);
     if (name in globalThis) put(globalThis, name, StandIn);
   }

@@ -13,7 +13,7 @@ import { anyWatchedOf } from "./watched.mjs";
 /**
  * A clone of recorded memory.
  * @param {Function} engine
- * @param {object} value a watched array or view, or a recorded buffer
+ * @param {any} value a watched array or view, or a recorded buffer
  * @param {unknown} options
  */
 function clonedMemory(engine, value, options) {
@@ -27,17 +27,22 @@ function clonedMemory(engine, value, options) {
 }
 
 function watchClones() {
-  replaceNeeded(globalThis, "structuredClone", (engine) => function (value, options) {
-    if (isRecorded(value)) return clonedMemory(engine, value, options);
-    if (reaches(value, WHOLLY, true)) refused("structuredClone was given an object that holds recorded memory");
-    return apply(engine, undefined, arguments);
-  });
+  replaceNeeded(globalThis, "structuredClone", (engine) => ({
+    /** @param {any[]} given */
+    method(...given) {
+      const value = given[0];
+      if (isRecorded(value)) return clonedMemory(engine, value, given[1]);
+      if (reaches(value, WHOLLY, true)) refused("structuredClone was given an object that holds recorded memory");
+      return apply(engine, undefined, given);
+    },
+  }).method);
 }
 
-/** @param {typeof import("node:worker_threads")} threads */
+/** @param {typeof import("node:worker_threads").default} threads */
 function watchMessages(threads) {
+  /** @param {string} what */
   const message = (what) => refusing(what, WHOLLY, true);
-  const classes = ["MessagePort", "BroadcastChannel", "Worker"];
+  const classes = /** @type {const} */ (["MessagePort", "BroadcastChannel", "Worker"]);
   for (let at = 0; at < classes.length; at += 1) {
     const name = classes[at];
     replaceNeeded(threads[name].prototype, "postMessage", message(`postMessage of a ${name}`));
@@ -48,7 +53,7 @@ function watchMessages(threads) {
 
 /**
  * Patches what clones values.
- * @param {typeof import("node:worker_threads")} threads
+ * @param {typeof import("node:worker_threads").default} threads
  */
 export function watchCloning(threads) {
   watchClones();

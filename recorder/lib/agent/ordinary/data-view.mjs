@@ -2,7 +2,7 @@
 // to its bytes, so each of them tells what it reads or writes.
 
 import {
-  apply, construct, create, defineProperty, getOwnPropertyDescriptor, getPrototypeOf, likeEngine, ownKeys, put,
+  apply, construct, copyProperty, create, getPrototypeOf, likeEngine, ownKeys, put,
   uncurried, viewBufferOf, viewLengthOf, viewOffsetOf,
 } from "../../../kept/own.mjs";
 import { blockNumber, refused } from "./context.mjs";
@@ -17,7 +17,7 @@ const startsWith = uncurried(String.prototype.startsWith);
 
 const OUTSIDE = "Offset is outside the bounds of the DataView";
 
-/** The bytes that each accessor's value has; others aren't known here. */
+/** @type {Record<string, number>} the bytes that each accessor's value has; others aren't known here */
 const SIZES = {
   Int8: 1, Uint8: 1, Int16: 2, Uint16: 2, Int32: 4, Uint32: 4, Float32: 4, Float64: 8, BigInt64: 8, BigUint64: 8,
 };
@@ -35,15 +35,28 @@ export function wrappedView(real, block) {
   return standIn;
 }
 
-/** Where a value of a size stands that is asked for; it must be within the view. */
+/**
+ * Where a value of a size stands that is asked for; it must be within the view.
+ * @param {{ length: number }} watched
+ * @param {number} at
+ * @param {number} size
+ */
 function placeOf({ length }, at, size) {
   if (at + size > length) throw new EngineRangeError(OUTSIDE);
   return at;
 }
 
+/**
+ * @param {Function} engine
+ * @param {number} size
+ */
 const getterOf = (engine, size) => {
   const read = uncurried(engine);
   return {
+    /**
+     * @param {unknown} offset
+     * @param {unknown} isLittle
+     */
     method(offset, isLittle) {
       const watched = watchedView(this);
       if (watched === undefined) return read(this, offset, isLittle);
@@ -54,9 +67,19 @@ const getterOf = (engine, size) => {
   }.method;
 };
 
+/**
+ * @param {Function} engine
+ * @param {number} size
+ * @param {boolean} big
+ */
 const setterOf = (engine, size, big) => {
   const write = uncurried(engine);
   return {
+    /**
+     * @param {unknown} offset
+     * @param {unknown} value
+     * @param {unknown} isLittle
+     */
     method(offset, value, isLittle) {
       const watched = watchedView(this);
       if (watched === undefined) return write(this, offset, value, isLittle);
@@ -70,7 +93,7 @@ const setterOf = (engine, size, big) => {
 };
 
 function replaceAccessors() {
-  const names = ownKeys(SIZES);
+  const names = Object.keys(SIZES);
   for (let at = 0; at < names.length; at += 1) {
     const name = names[at];
     replace(views, `get${name}`, (engine) => getterOf(engine, SIZES[name]));
@@ -80,7 +103,7 @@ function replaceAccessors() {
 
 /**
  * The getter of what a view has.
- * @param {(real: DataView) => unknown} slot
+ * @param {(real: object) => unknown} slot
  * @param {"buffer" | "offset" | "length"} kept its name in what is known of a watched one
  */
 const slotGetter = (slot, kept) => () => ({
@@ -103,9 +126,10 @@ function refuseOthers() {
     const name = names[at];
     if (typeof name !== "string" || !/^[gs]et/.test(name) || SIZES[name.slice(3)] !== undefined) continue;
     replace(views, name, (engine) => ({
-      method() {
+      /** @param {any[]} given */
+      method(...given) {
         if (watchedView(this) !== undefined) refused(`${engine.name} of a DataView was called`);
-        return apply(engine, this, arguments);
+        return apply(engine, this, given);
       },
     }).method);
   }
@@ -116,13 +140,18 @@ export function watchDataView() {
   replaceAccessors();
   replaceSlots();
   refuseOthers();
+  /**
+   * @param {unknown} buffer
+   * @param {unknown} offset
+   * @param {unknown} length
+   */
   const StandIn = function (buffer, offset, length) {
     if (new.target === undefined) throw new EngineTypeError("Constructor DataView requires 'new'");
     const target = new.target === StandIn ? EngineDataView : new.target;
     return wrappedView(construct(EngineDataView, [buffer, offset, length], target), blockNumber(buffer));
   };
   likeEngine(StandIn, EngineDataView);
-  defineProperty(StandIn, "prototype", getOwnPropertyDescriptor(EngineDataView, "prototype"));
+  copyProperty(StandIn, EngineDataView, "prototype");
   put(views, "constructor", StandIn);
   put(globalThis, "DataView", StandIn);
 }

@@ -13,10 +13,20 @@ const EngineProxy = Proxy;
 // The traps of a watched array are what is known of it. They are short, since each access comes through them.
 class Elements extends Watched {
   // Without one that is written out the engine takes its arguments through the iterator of arrays.
+  /**
+   * @param {any} real
+   * @param {import("./context.mjs").Place} place
+   * @param {number} size
+   */
   constructor(real, place, size) {
     super(real, place, size);
   }
 
+  /**
+   * @param {any} target
+   * @param {string | symbol} key
+   * @param {unknown} receiver
+   */
   get(target, key, receiver) {
     if (typeof key === "string") {
       const index = indexIn(key, this.length);
@@ -30,6 +40,12 @@ class Elements extends Watched {
     return get(target, key, receiver);
   }
 
+  /**
+   * @param {any} target
+   * @param {string | symbol} key
+   * @param {any} value
+   * @param {unknown} receiver
+   */
   set(target, key, value, receiver) {
     if (typeof key !== "string") return set(target, key, value, receiver);
     const index = indexIn(key, this.length);
@@ -43,18 +59,34 @@ class Elements extends Watched {
     return true;
   }
 
-  /** The write goes to another object, which may inherit from this one. */
+  /**
+   * The write goes to another object, which may inherit from this one.
+   * @param {object} target
+   * @param {string} key
+   * @param {unknown} value
+   * @param {unknown} receiver
+   * @param {number} index that the key is, or -1
+   */
   setElsewhere(target, key, value, receiver, index) {
     if (index >= 0) this.tellElement(index, false);
     return set(target, key, value, receiver);
   }
 
+  /**
+   * @param {object} target
+   * @param {string | symbol} key
+   */
   getOwnPropertyDescriptor(target, key) {
     const index = typeof key === "string" ? indexIn(key, this.length) : -1;
     if (index >= 0) this.tellElement(index, false);
     return getOwnPropertyDescriptor(target, key);
   }
 
+  /**
+   * @param {object} target
+   * @param {string | symbol} key
+   * @param {PropertyDescriptor} descriptor
+   */
   defineProperty(target, key, descriptor) {
     const index = typeof key === "string" ? indexIn(key, this.length) : -1;
     if (index >= 0 && hasOwn(descriptor, "value") && isOfElement(descriptor)) {
@@ -64,6 +96,10 @@ class Elements extends Watched {
     return defineProperty(target, key, descriptor);
   }
 
+  /**
+   * @param {number} index
+   * @param {boolean} writes
+   */
   tellElement(index, writes) {
     const from = this.offset + index * this.size;
     watching.seen(this.place, from, from + this.size, writes);
@@ -72,24 +108,32 @@ class Elements extends Watched {
 // What agents add to Object.prototype is no trap.
 setPrototypeOf(Watched.prototype, null);
 
-/** Whose property was asked for last: the getters of what an array has look here first. @type {Watched} */
+/** @type {Watched} whose property was asked for last: the getters of what an array has look here first */
 export let last = new Watched({}, { block: -1, kind: -1, offset: 0, length: 0 }, 1);
 last.standIn = {};
 
-/** An element is neither hidden nor fixed; the engine refuses what would make it so, and writes nothing. */
+/**
+ * An element is neither hidden nor fixed; the engine refuses what would make it so, and writes nothing.
+ * @param {PropertyDescriptor} descriptor
+ */
 const isOfElement = (descriptor) => !(isFalse(descriptor, "configurable") || isFalse(descriptor, "enumerable")
   || isFalse(descriptor, "writable"));
+/** @param {PropertyDescriptor} descriptor @param {"configurable" | "enumerable" | "writable"} name */
 const isFalse = (descriptor, name) => hasOwn(descriptor, name) && !descriptor[name];
 
 const { String: text } = globalThis;
 
-/** Whether a key is a number as it is printed: those are never properties of a typed array, but for its elements. */
+/**
+ * Whether a key is a number as it is printed: those are never properties of a typed array, but for its elements.
+ * @param {string} key
+ */
 const isNumeric = (key) => key === "-0" || text(+key) === key;
 
 /**
  * What agents get for an array of the engine: itself, or a watched one where it stands on a recorded buffer.
- * @param {object} real one of the typed arrays
+ * @param {any} real one of the typed arrays
  * @param {number} block of its buffer, or -1
+ * @returns {any}
  */
 export function wrapped(real, block) {
   if (block < 0) return real;
@@ -99,7 +143,10 @@ export function wrapped(real, block) {
   return standIn;
 }
 
-/** What agents get for an array, whatever its buffer is. @param {object} real */
+/**
+ * What agents get for an array, whatever its buffer is.
+ * @param {object} real
+ */
 export const wrappedArray = (real) => wrapped(real, blockNumber(bufferOf(real)));
 
 /**
@@ -107,10 +154,15 @@ export const wrappedArray = (real) => wrapped(real, blockNumber(bufferOf(real)))
  * of the agents makes of it.
  */
 class Listed {
+  /** @param {import("./watched.mjs").WatchedArray} watched */
   constructor(watched) {
     this.watched = watched;
   }
 
+  /**
+   * @param {any} target
+   * @param {string} key
+   */
   get(target, key) {
     const { watched } = this;
     if (key === "length") return watched.length;
@@ -122,8 +174,9 @@ class Listed {
 }
 setPrototypeOf(Listed.prototype, null);
 
-/** @param {Watched} watched @returns {object} an array-like, for an iterator */
+/** @param {import("./watched.mjs").WatchedArray} watched @returns {object} an array-like, for an iterator */
 export function listed(watched) {
-  if (watched.elements === undefined) watched.elements = new EngineProxy(watched.real, new Listed(watched));
-  return watched.elements;
+  const elements = watched.elements ?? new EngineProxy(watched.real, new Listed(watched));
+  watched.elements = elements;
+  return elements;
 }

@@ -1,6 +1,6 @@
 // Functions of node and the engine that see through no watched array: what is done where recorded memory is given them.
 
-import { apply, construct, isArray, put } from "../../../kept/own.mjs";
+import { apply, construct, isArray, put, setPrototypeOf } from "../../../kept/own.mjs";
 import { refused } from "./context.mjs";
 import { SHALLOW, WHOLLY, mirrored, reaches } from "./reach.mjs";
 import { anyWatchedOf, tellAll, unwrapped } from "./watched.mjs";
@@ -34,21 +34,32 @@ export function madePrivate(given, depth = WHOLLY) {
   return given;
 }
 
-/** Private copies are given, which are told as reads. @param {Function} engine */
+/**
+ * Private copies are given, which are told as reads.
+ * @param {Function} engine
+ */
 export const copying = (engine) => ({
+  /** @param {any[]} given */
   method(...given) {
     return apply(engine, this, madePrivate(given));
   },
 }).method;
 
-/** Likewise of what is given itself, where that may be any object. @param {Function} engine */
+/**
+ * Likewise of what is given itself, where that may be any object.
+ * @param {Function} engine
+ */
 export const copyingGiven = (engine) => ({
+  /** @param {any[]} given */
   method(...given) {
     return apply(engine, this, madePrivate(given, 0));
   },
 }).method;
 
-/** What a function writes: the engine's own array, told as written. A list has several. */
+/**
+ * What a function writes: the engine's own array, told as written. A list has several.
+ * @param {unknown} value
+ */
 function writable(value) {
   const watched = anyWatchedOf(value);
   if (watched === undefined) return value;
@@ -56,14 +67,19 @@ function writable(value) {
   return watched.real;
 }
 
+/** @param {unknown[]} list */
 function eachWritable(list) {
   const made = [];
   for (let at = 0; at < list.length; at += 1) made[at] = writable(list[at]);
   return made;
 }
 
-/** The engine's own array is given, which is told as written, or a list of such. @param {Function} engine */
+/**
+ * The engine's own array is given, which is told as written, or a list of such.
+ * @param {Function} engine
+ */
 export const writing = (engine) => ({
+  /** @param {any[]} given */
   method(...given) {
     if (!anyReaches(given, SHALLOW)) return apply(engine, this, given);
     const reals = [];
@@ -79,8 +95,12 @@ export const writing = (engine) => ({
   },
 }).method;
 
-/** The engine's own arrays are given, and nothing of them is read. @param {Function} engine */
+/**
+ * The engine's own arrays are given, and nothing of them is read.
+ * @param {Function} engine
+ */
 export const looking = (engine) => ({
+  /** @param {any[]} given */
   method(...given) {
     for (let at = 0; at < given.length; at += 1) given[at] = unwrapped(given[at]);
     return apply(engine, this, given);
@@ -92,8 +112,10 @@ export const looking = (engine) => ({
  * @param {string} what the function is called
  * @param {number} [depth]
  * @param {boolean} [suspicious]
+ * @returns {(engine: Function) => Function}
  */
 export const refusing = (what, depth = SHALLOW, suspicious = false) => (engine) => ({
+  /** @param {any[]} given */
   method(...given) {
     if (anyReaches(given, depth, suspicious)) refused(`${what} was given recorded memory`);
     return apply(engine, this, given);
@@ -104,17 +126,25 @@ export const refusing = (what, depth = SHALLOW, suspicious = false) => (engine) 
  * A class whose constructor is given something else, or nothing.
  * @param {Function} engine
  * @param {(given: unknown[]) => unknown[]} make what is given in the place of what was
+ * @returns {Function}
  */
 export const constructing = (engine, make) => {
-  const StandIn = new EngineProxy(engine, {
-    __proto__: null,
+  /** @type {ProxyHandler<Function>} */
+  const traps = {
     construct: (target, given, newTarget) => construct(target, make(given), newTarget === StandIn ? target : newTarget),
-  });
+  };
+  setPrototypeOf(traps, null);
+  /** @type {Function} */
+  const StandIn = new EngineProxy(engine, traps);
   put(engine.prototype, "constructor", StandIn);
   return StandIn;
 };
 
-/** For a constructor: ends the run where recorded memory is given. @param {string} what */
+/**
+ * For a constructor: ends the run where recorded memory is given.
+ * @param {string} what
+ * @returns {(given: unknown[]) => unknown[]}
+ */
 export const refusingGiven = (what) => (given) => {
   if (anyReaches(given, WHOLLY, true)) refused(`${what} was given recorded memory`);
   return given;

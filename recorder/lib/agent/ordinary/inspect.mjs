@@ -30,9 +30,12 @@ const SHOWN = {
 const includes = uncurried(String.prototype.includes);
 
 /** Node's options where nobody gives others. */
-const { get: defaults } = getOwnPropertyDescriptor(util.inspect, "defaultOptions");
+const { get: defaults } = /** @type {{ get: Function }} */ (getOwnPropertyDescriptor(util.inspect, "defaultOptions"));
 
-/** Whether options leave no way of a value's own, or look into proxies. */
+/**
+ * Whether options leave no way of a value's own, or look into proxies.
+ * @param {any} options
+ */
 const isPlain = (options) =>
   typeof options === "object" && options !== null && (options.customInspect === false || !!options.showProxy);
 
@@ -48,7 +51,9 @@ function looksThrough(given, place, format) {
   return typeof given[format] === "string" && includes(given[format], "%o");
 }
 
+/** @type {(place: number, format: number) => (engine: Function) => Function} */
 const showing = (place, format) => (engine) => ({
+  /** @param {any[]} given */
   method(...given) {
     return apply(engine, this, looksThrough(given, place, format) ? madePrivate(given) : given);
   },

@@ -24,7 +24,7 @@ const EngineBytes = Uint8Array;
 const setBytes = uncurried(EngineBytes.prototype.set);
 const subarray = uncurried(EngineBytes.prototype.subarray);
 
-// What these read, they read before they answer.
+/** @type {Record<string, string[]>} what these read, they read before they answer */
 const READING = {
   fs: ["writeSync", "writevSync", "writeFileSync", "appendFileSync"],
   crypto: [
@@ -43,14 +43,19 @@ const READING = {
   ],
 };
 
-// These write.
+/** @type {Record<string, string[]>} these write */
 const WRITING = {
   fs: ["readSync", "readvSync"],
   crypto: ["getRandomValues", "randomFillSync"],
 };
 
-/** What a module has under names that begin with a small letter, and isn't named in a list. */
+/**
+ * What a module has under names that begin with a small letter, and isn't named in a list.
+ * @param {object} owner
+ * @param {(string[] | undefined)[]} lists
+ */
 function otherFunctions(owner, lists) {
+  /** @type {string[]} */
   const names = [];
   const keys = ownKeys(owner);
   for (let at = 0; at < keys.length; at += 1) {
@@ -61,14 +66,22 @@ function otherFunctions(owner, lists) {
   return names;
 }
 
+/**
+ * @param {(string[] | undefined)[]} lists
+ * @param {string} name
+ */
 function isIn(lists, name) {
   for (let at = 0; at < lists.length; at += 1) {
-    if (lists[at] !== undefined && lists[at].includes(name)) return true;
+    if (lists[at]?.includes(name)) return true;
   }
   return false;
 }
 
-/** A module whose functions may go on after they have answered: those that aren't named end the run. */
+/**
+ * A module whose functions may go on after they have answered: those that aren't named end the run.
+ * @param {string} word its name
+ * @param {object} module
+ */
 function guardModule(word, module) {
   const lists = [READING[word], WRITING[word]];
   replaceEach(module, otherFunctions(module, lists), (engine, name) => refusing(`${word}.${name}`)(engine));
@@ -76,7 +89,10 @@ function guardModule(word, module) {
   if (WRITING[word] !== undefined) replaceEach(module, WRITING[word], writing);
 }
 
-/** The methods of classes that a module exports: what they are given is read at once. */
+/**
+ * The methods of classes that a module exports: what they are given is read at once.
+ * @param {Record<string, any>} module
+ */
 function guardClasses(module) {
   const names = Object.keys(module).filter((name) => /^[A-Z]/.test(name) && typeof module[name] === "function");
   for (const name of names) {
@@ -107,7 +123,10 @@ function watchStreams() {
   replaceEach(stringDecoder.StringDecoder.prototype, ["write", "end"], copying);
 }
 
-/** Whether an assertion holds is known without a look at elements; one that fails shows them. */
+/**
+ * Whether an assertion holds is known without a look at elements; one that fails shows them.
+ * @type {Record<string, (one: unknown, other: unknown) => boolean>}
+ */
 const HOLDS = {
   equal: (one, other) => one == other || (one !== one && other !== other),
   notEqual: (one, other) => !HOLDS.equal(one, other),
@@ -123,7 +142,7 @@ function watchAssertions() {
       if (READING.assert.includes(engine.name)) return copying(engine);
       const holds = HOLDS[engine.name];
       if (holds === undefined) return engine;
-      return (...given) => {
+      return (/** @type {unknown[]} */ ...given) => {
         if (given.length >= 2 && holds(given[0], given[1])) return undefined;
         return apply(engine, undefined, madePrivate(given));
       };
@@ -131,8 +150,15 @@ function watchAssertions() {
   }
 }
 
-/** How many bytes a text takes is tried in a private array, so that those alone are told. */
+/**
+ * How many bytes a text takes is tried in a private array, so that those alone are told.
+ * @param {Function} engine
+ */
 const encodingInto = (engine) => ({
+  /**
+   * @param {unknown} text
+   * @param {unknown} target
+   */
   method(text, target) {
     const watched = watchedOf(target);
     const isBytes = watched !== undefined && tagOf(watched.real) === "Uint8Array";
@@ -167,6 +193,7 @@ function watchValues() {
 
 /** What marks a time may hold a clone of a value. */
 function watchMarks() {
+  /** @type {(engine: Function, name: string) => Function} */
   const guarded = (engine, name) => refusing(`performance.${name}`, WHOLLY, true)(engine);
   replaceEach(Object.getPrototypeOf(performance), ["mark", "measure"], guarded);
   const StandIn = constructing(perfHooks.PerformanceMark, refusingGiven("a PerformanceMark"));
@@ -180,6 +207,7 @@ function watchFetching() {
     const found = Object.getOwnPropertyDescriptor(globalThis, name);
     if (found?.get === undefined) continue;
     const { get } = found;
+    /** @type {Function | undefined} */
     let made;
     found.get = () => {
       if (made === undefined) made = constructing(apply(get, globalThis, []), refusingGiven(`a ${name}`));

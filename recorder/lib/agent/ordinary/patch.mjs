@@ -1,15 +1,21 @@
 // Puts functions in the place of the engine's own.
 
-import { apply, defineProperty, getOwnPropertyDescriptor, likeEngine, ownKeys, put } from "../../../kept/own.mjs";
+import {
+  apply, copyProperty, defineProperty, getOwnPropertyDescriptor, likeEngine, ownKeys, put,
+} from "../../../kept/own.mjs";
 import { watchedOf } from "./watched.mjs";
 
 const { Error: EngineError } = globalThis;
 
-/** Gives a function all that the one has that it stands for: its name, its length, and what node keeps there. */
+/**
+ * Gives a function all that the one has that it stands for: its name, its length, and what node keeps there.
+ * @param {Function} stand
+ * @param {Function} engine
+ */
 function dressed(stand, engine) {
   const keys = ownKeys(engine);
   for (let at = 0; at < keys.length; at += 1) {
-    if (keys[at] !== "prototype") defineProperty(stand, keys[at], getOwnPropertyDescriptor(engine, keys[at]));
+    if (keys[at] !== "prototype") copyProperty(stand, engine, keys[at]);
   }
   return stand;
 }
@@ -29,7 +35,7 @@ export function replace(owner, name, make) {
 
 /**
  * Likewise for a function by which recorded memory would get where nothing is seen: it must be where it is looked for.
- * @param {object} owner
+ * @param {Record<string, any>} owner
  * @param {string} name
  * @param {(engine: Function) => Function} make
  */
@@ -43,8 +49,9 @@ export function replaceNeeded(owner, name, make) {
 /**
  * Puts functions in the place of some of an owner's.
  * @param {object} owner
- * @param {readonly string[]} names
- * @param {(engine: Function, name: string) => Function} make
+ * @template {string | symbol} Name
+ * @param {readonly Name[]} names
+ * @param {(engine: Function, name: Name) => Function} make
  */
 export function replaceEach(owner, names, make) {
   for (let at = 0; at < names.length; at += 1) replace(owner, names[at], (engine) => make(engine, names[at]));
@@ -54,23 +61,39 @@ export function replaceEach(owner, names, make) {
  * Puts a getter in the place of an owner's own one.
  * @param {object} owner
  * @param {string | symbol} name
- * @param {(engine: Function) => { get: Function }} make
+ * @param {(engine: Function) => { readonly asked: unknown }} make an object whose getter `asked` serves in its place
  */
 export function replaceGetter(owner, name, make) {
   const found = getOwnPropertyDescriptor(owner, name);
   if (found === undefined || found.get === undefined) return;
-  found.get = likeEngine(getOwnPropertyDescriptor(make(found.get), "asked").get, found.get);
+  const { get: asked } = /** @type {{ get: () => any }} */ (getOwnPropertyDescriptor(make(found.get), "asked"));
+  found.get = likeEngine(asked, found.get);
   defineProperty(owner, name, found);
 }
 
 /**
+ * @callback WatchedMethod a method of typed arrays, for a watched one
+ * @param {import("./watched.mjs").WatchedArray} watched
+ * @param {any} self the receiver, as agents hold it
+ * @param {any} first
+ * @param {any} second
+ * @param {any} third
+ * @param {number} count how many arguments were given
+ * @returns {unknown}
+ */
+
+/**
  * A method of the engine, which goes another way where the receiver is watched.
  * @param {Function} engine
- * @param {(watched: import("./watched.mjs").Watched, self: object, first: any, second: any, third: any, count: number)
- *   => unknown} method
+ * @param {WatchedMethod} method
  */
 export function forWatched(engine, method) {
   return {
+    /**
+     * @param {any} first
+     * @param {any} second
+     * @param {any} third
+     */
     method(first, second, third) {
       const watched = watchedOf(this);
       if (watched === undefined) return apply(engine, this, arguments);

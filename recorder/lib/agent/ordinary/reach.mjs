@@ -1,8 +1,8 @@
 // Finds recorded memory in what a native function is given, and copies of it that are private.
 
 import {
-  create, defineProperty, getOwnPropertyDescriptor, getPrototypeOf, hasOwn, isArray, lengthOf, mapGet, mapSet, ownKeys,
-  setPrototypeOf, sharedLengthOf, tagOf, uncurried,
+  copyProperty, create, defineProperty, getOwnPropertyDescriptor, getPrototypeOf, hasOwn, isArray, lengthOf, mapGet,
+  mapSet, ownKeys, setPrototypeOf, sharedLengthOf, tagOf, uncurried,
 } from "../../../kept/own.mjs";
 import { blockNumber, watching } from "./context.mjs";
 import { DATA_VIEW, ENGINE, WHOLE_BUFFER, anyWatchedOf, tellAll } from "./watched.mjs";
@@ -23,12 +23,19 @@ const setHas = uncurried(EngineSet.prototype.has);
 export const SHALLOW = 2;
 export const WHOLLY = Infinity;
 
+/** @param {unknown} value @returns {value is object} */
 const isObject = (value) => (typeof value === "object" && value !== null) || typeof value === "function";
 
-/** Whether a value is itself recorded memory. @param {unknown} value */
+/**
+ * Whether a value is itself recorded memory.
+ * @param {unknown} value
+ */
 export const isRecorded = (value) => anyWatchedOf(value) !== undefined || blockNumber(value) >= 0;
 
-/** Whether a value has nothing in it that a function would look at. */
+/**
+ * Whether a value has nothing in it that a function would look at.
+ * @param {unknown} value
+ */
 const isLeaf = (value) => !isObject(value) || tagOf(value) !== undefined || isView(value);
 
 /**
@@ -39,7 +46,7 @@ const isLeaf = (value) => !isObject(value) || tagOf(value) !== undefined || isVi
  */
 function eachWithin(object, visit) {
   if (object instanceof EngineMap) {
-    mapEach(object, (value, key) => {
+    mapEach(object, (/** @type {unknown} */ value, /** @type {unknown} */ key) => {
       visit(key);
       visit(value);
     });
@@ -67,6 +74,7 @@ export function reaches(value, depth, suspicious = false) {
   if (isRecorded(value)) return true;
   if (depth === 0 || isLeaf(value)) return false;
   const met = new EngineSet();
+  /** @type {(inner: any, left: number) => boolean} */
   const look = (inner, left) => {
     if (isRecorded(inner)) return true;
     if (left === 0 || isLeaf(inner) || typeof inner === "function" || setHas(met, inner)) return false;
@@ -80,14 +88,23 @@ export function reaches(value, depth, suspicious = false) {
   return look(value, depth);
 }
 
-/** Tells that a whole recorded buffer is read. @param {object} buffer @param {number} block */
+/**
+ * Tells that a whole recorded buffer is read.
+ * @param {object} buffer
+ * @param {number} block
+ */
 export function tellBuffer(buffer, block) {
   const length = sharedLengthOf(buffer);
   if (length === 0) return;
   watching.seen({ block, kind: WHOLE_BUFFER, offset: 0, length }, 0, length, false);
 }
 
-/** A private buffer as long as another one, with the bytes of a stretch of it, and else zeros. */
+/**
+ * A private buffer as long as another one, with the bytes of a stretch of it, and else zeros.
+ * @param {any} buffer
+ * @param {number} offset
+ * @param {number} length
+ */
 function bytesOf(buffer, offset, length) {
   const copy = new EngineShared(sharedLengthOf(buffer));
   setElements(new EngineBytes(copy), new EngineBytes(buffer, offset, length), offset);
@@ -107,7 +124,7 @@ export function privateBuffer(buffer) {
  * A private copy of a watched array or view, which stands where that stands in its buffer. It tells that all of it is
  * read.
  * @param {import("./watched.mjs").Watched} watched
- * @param {object} [buffer] another one than what is made
+ * @param {SharedArrayBuffer} [buffer] another one than what is made
  */
 export function privateView(watched, buffer) {
   const { real, kind, offset, length, size, standIn } = watched;
@@ -125,19 +142,22 @@ function privateCopy(value) {
   return watched === undefined ? privateBuffer(value) : privateView(watched);
 }
 
-/** The properties that an agent's code has given an array, besides its elements. */
+/**
+ * The properties that an agent's code has given an array, besides its elements.
+ * @param {object} from
+ * @param {object} to
+ */
 function copyExtras(from, to) {
   const keys = ownKeys(from);
   const first = tagOf(from) === undefined ? 0 : lengthOf(from);
-  for (let at = first; at < keys.length; at += 1) {
-    defineProperty(to, keys[at], getOwnPropertyDescriptor(from, keys[at]));
-  }
+  for (let at = first; at < keys.length; at += 1) copyProperty(to, from, keys[at]);
 }
 
 /**
  * A value with private copies of all recorded memory that it reaches. What reaches none is itself.
  * @param {any} value
  * @param {Map<object, object>} made the copies of objects, so that each has one
+ * @returns {any}
  */
 export function mirrored(value, made) {
   const known = isObject(value) ? mapGet(made, value) : undefined;
@@ -154,6 +174,7 @@ export function mirrored(value, made) {
   return copy;
 }
 
+/** @param {object} value */
 function emptyLike(value) {
   if (value instanceof EngineMap) return setPrototyped(new EngineMap(), value);
   if (value instanceof EngineSet) return setPrototyped(new EngineSet(), value);
@@ -161,19 +182,32 @@ function emptyLike(value) {
   return create(getPrototypeOf(value));
 }
 
+/**
+ * @template {object} Copy
+ * @param {Copy} copy
+ * @param {object} value
+ */
 function setPrototyped(copy, value) {
   setPrototypeOf(copy, getPrototypeOf(value));
   return copy;
 }
 
+/**
+ * @param {object} value
+ * @param {object} copy
+ * @param {Map<object, object>} made
+ */
 function fillMirror(value, copy, made) {
   if (value instanceof EngineMap) {
-    mapEach(value, (inner, key) => mapSet(copy, mirrored(key, made), mirrored(inner, made)));
+    /** @type {(inner: unknown, key: unknown) => void} */
+    const put = (inner, key) => mapSet(copy, mirrored(key, made), mirrored(inner, made));
+    mapEach(value, put);
   }
-  if (value instanceof EngineSet) setEach(value, (inner) => setAdd(copy, mirrored(inner, made)));
+  if (value instanceof EngineSet) setEach(value, (/** @type {unknown} */ inner) => setAdd(copy, mirrored(inner, made)));
   const keys = ownKeys(value);
   for (let at = 0; at < keys.length; at += 1) {
     const found = getOwnPropertyDescriptor(value, keys[at]);
+    if (found === undefined) continue;
     if (hasOwn(found, "value")) found.value = mirrored(found.value, made);
     defineProperty(copy, keys[at], found);
   }

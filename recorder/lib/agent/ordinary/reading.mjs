@@ -6,6 +6,8 @@ import { listed } from "./elements.mjs";
 import { needsFunction, positionOf, wholeOf } from "./numbers.mjs";
 import { copied, read } from "./stretches.mjs";
 
+/** @typedef {import("./watched.mjs").WatchedArray} WatchedArray */
+
 const { TypeError: EngineTypeError } = globalThis;
 const { min } = Math;
 const { prototype: arrays } = Array;
@@ -18,6 +20,11 @@ const entriesOf = uncurried(arrays.entries);
 
 /**
  * Goes through the elements until the callback's answer is as wanted.
+ * @param {WatchedArray} watched
+ * @param {object} self
+ * @param {unknown} callback
+ * @param {unknown} thisArgument
+ * @param {boolean} wanted
  * @returns {number} the index of that element, or -1
  */
 function sought(watched, self, callback, thisArgument, wanted) {
@@ -29,7 +36,15 @@ function sought(watched, self, callback, thisArgument, wanted) {
   return -1;
 }
 
-/** Likewise for `find` and its like, which answer the element too. @returns {{ index: number, value: any }} */
+/**
+ * Likewise for `find` and its like, which answer the element too.
+ * @param {WatchedArray} watched
+ * @param {object} self
+ * @param {unknown} callback
+ * @param {unknown} thisArgument
+ * @param {number} step
+ * @returns {{ index: number, value: any }}
+ */
 function found(watched, self, callback, thisArgument, step) {
   needsFunction(callback);
   const { length } = watched;
@@ -40,7 +55,15 @@ function found(watched, self, callback, thisArgument, step) {
   return { index: -1, value: undefined };
 }
 
-/** What `reduce` and `reduceRight` answer. */
+/**
+ * What `reduce` and `reduceRight` answer.
+ * @param {WatchedArray} watched
+ * @param {object} self
+ * @param {unknown} callback
+ * @param {unknown} first
+ * @param {number} count
+ * @param {number} step
+ */
 function reduced(watched, self, callback, first, count, step) {
   needsFunction(callback);
   const { length } = watched;
@@ -57,10 +80,20 @@ function reduced(watched, self, callback, first, count, step) {
   return value;
 }
 
+/** @typedef {(one: unknown, other: unknown) => boolean} Equals */
+
+/** @type {Equals} */
 const same = (one, other) => one === other;
+/** @type {Equals} */
 const sameOrNaN = (one, other) => one === other || (one !== one && other !== other);
 
-/** The first index, from a position on, of an element that equals a value; or -1. */
+/**
+ * The first index, from a position on, of an element that equals a value; or -1.
+ * @param {WatchedArray} watched
+ * @param {unknown} value
+ * @param {unknown} position
+ * @param {Equals} equals
+ */
 function firstEqual(watched, value, position, equals) {
   const { length } = watched;
   if (length === 0) return -1;
@@ -70,7 +103,7 @@ function firstEqual(watched, value, position, equals) {
   return -1;
 }
 
-/** Methods that read, and change nothing. */
+/** @type {Record<string, import("./patch.mjs").WatchedMethod>} methods that read, and change nothing */
 export const READING = {
   at(watched, _self, position) {
     const whole = wholeOf(position);
@@ -108,6 +141,7 @@ export const READING = {
     const between = separator === undefined ? "," : `${separator}`;
     return joinElements(copied(watched, 0, watched.length), between);
   },
+  /** @type {import("./patch.mjs").WatchedMethod} */
   toLocaleString(watched, _self, locales, options) {
     const { length } = watched;
     let joined = "";

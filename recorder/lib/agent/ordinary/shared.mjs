@@ -12,7 +12,10 @@ const EngineBytes = Uint8Array;
 const { species } = Symbol;
 const setElements = uncurried(EngineBytes.prototype.set);
 
-/** The constructor of what `slice` answers. @param {object} buffer */
+/**
+ * The constructor of what `slice` answers.
+ * @param {any} buffer as agents may have changed it
+ */
 function speciesOf(buffer) {
   const { constructor } = buffer;
   if (constructor === undefined) return EngineShared;
@@ -22,7 +25,11 @@ function speciesOf(buffer) {
   return constructor[species] ?? EngineShared;
 }
 
-/** The buffer that `slice` answers, by the receiver's species. */
+/**
+ * The buffer that `slice` answers, by the receiver's species.
+ * @param {object} buffer
+ * @param {number} count of bytes
+ */
 function answered(buffer, count) {
   const made = construct(speciesOf(buffer), [count]);
   if (sharedLengthOf(made) < count || made === buffer) {
@@ -31,7 +38,13 @@ function answered(buffer, count) {
   return made;
 }
 
-/** Tells that bytes of a buffer are accessed, where it is recorded. */
+/**
+ * Tells that bytes of a buffer are accessed, where it is recorded.
+ * @param {object} buffer
+ * @param {number} from
+ * @param {number} to
+ * @param {boolean} writes
+ */
 function tellBytes(buffer, from, to, writes) {
   const block = blockNumber(buffer);
   if (block < 0 || from >= to) return;
@@ -41,6 +54,11 @@ function tellBytes(buffer, from, to, writes) {
 /** Patches what there is of shared buffers in this realm. */
 export function watchBuffers() {
   replaceNeeded(EngineShared.prototype, "slice", () => ({
+    /**
+     * @this {any}
+     * @param {unknown} begin
+     * @param {unknown} end
+     */
     method(begin, end) {
       const length = sharedLengthOf(this);
       const from = positionOf(begin, length, 0);
@@ -53,5 +71,5 @@ export function watchBuffers() {
       return made;
     },
   }).method);
-  replaceNeeded(ArrayBuffer, "isView", (engine) => (value) => engine(unwrapped(value)));
+  replaceNeeded(ArrayBuffer, "isView", (engine) => (/** @type {unknown} */ value) => engine(unwrapped(value)));
 }

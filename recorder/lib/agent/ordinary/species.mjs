@@ -8,8 +8,9 @@ const { species } = EngineSymbol;
 const begins = uncurried(String.prototype.startsWith);
 
 /** The constructors that agents get, by their kind. */
-export const standIns = [];
+export const standIns = /** @type {Function[]} */ ([]);
 
+/** @param {unknown} value */
 const isObject = (value) => (typeof value === "object" && value !== null) || typeof value === "function";
 
 /**
@@ -26,12 +27,14 @@ function speciesOf(self, kind) {
   return found === undefined || found === null || found === standIns[kind] ? undefined : found;
 }
 
+/** @param {string} tag of a typed array */
 const isBig = (tag) => begins(tag, "Big");
 
 /**
  * A new typed array of a constructor of the agents'.
  * @param {Function} constructor
  * @param {unknown[]} given
+ * @returns {any}
  */
 export function arrayBy(constructor, given) {
   const made = construct(constructor, given);
@@ -66,6 +69,11 @@ export function partOf(watched, self, given) {
   return sameContents(watched, arrayBy(constructor, given));
 }
 
+/**
+ * @template {object} Made
+ * @param {import("./watched.mjs").Watched} watched
+ * @param {Made} made
+ */
 function sameContents(watched, made) {
   if (isBig(tagOf(unwrapped(made))) === watched.big) return made;
   throw new EngineTypeError("Content type of the species' array differs from the receiver's");

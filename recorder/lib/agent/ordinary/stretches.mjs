@@ -4,13 +4,14 @@ import { bufferOf, lengthOf, TypedArray, uncurried } from "../../../kept/own.mjs
 import { ENGINE, tell, unwrapped, watchedOf } from "./watched.mjs";
 
 /** @typedef {import("./watched.mjs").Watched} Watched */
+/** @typedef {import("./watched.mjs").WatchedArray} WatchedArray */
 
 /** The engine's own `set`. */
 export const setElements = uncurried(TypedArray.prototype.set);
 
 /**
  * Reads an element.
- * @param {Watched} watched
+ * @param {WatchedArray} watched
  * @param {number} index
  */
 export function read(watched, index) {

@@ -12,7 +12,9 @@ export const DATA_VIEW = KINDS.length;
 export const WHOLE_BUFFER = KINDS.length + 1;
 
 /** The number and the bytes of an element of each kind, by the name of its constructor. */
+/** @type {Record<string, number>} */
 const kindNumbers = create(null);
+/** @type {number[]} */
 const sizes = [];
 for (let kind = 0; kind < KINDS.length; kind += 1) {
   kindNumbers[`${KINDS[kind]}Array`] = kind;
@@ -27,17 +29,29 @@ const EngineView = DataView;
 /** What is known of an array, by what stands for it in the agents' code. */
 const arrays = new WeakMap();
 
+/** Answers the object itself, so that what is made of it is that object with a field more. */
+const Same = /** @type {{ new (object: object): object }} */ (/** @type {unknown} */ (
+  /** @param {object} object */
+  function (object) {
+    return object;
+  }
+));
+
 /** What stands for a DataView has a field, which costs private ones less. */
-class Marked extends (function (object) {
-  return object;
-}) {
+class Marked extends Same {
+  /** @type {Watched} */
   #watched;
 
+  /**
+   * @param {object} object
+   * @param {Watched} watched
+   */
   constructor(object, watched) {
     super(object);
     this.#watched = watched;
   }
 
+  /** @param {object} view @returns {Watched | undefined} */
   static of(view) {
     return #watched in view ? view.#watched : undefined;
   }
@@ -46,7 +60,7 @@ class Marked extends (function (object) {
 /** A watched array or DataView. */
 export class Watched {
   /**
-   * @param {object} real the engine's own
+   * @param {any} real the engine's own; of which type its elements are goes by the kind
    * @param {import("./context.mjs").Place} place
    * @param {number} size bytes of an element
    */
@@ -58,16 +72,25 @@ export class Watched {
     this.length = place.length;
     this.kind = place.kind;
     this.big = place.kind === FIRST_BIG || place.kind === FIRST_BIG + 1;
-    /** What agents see as its buffer. @type {object} */
+    /** @type {any} what agents see as its buffer */
     this.buffer = undefined;
-    /** What agents hold. @type {object | undefined} */
+    /** @type {any} what agents hold */
     this.standIn = undefined;
-    /** The same elements, for the engine's iterators. @type {object | undefined} */
+    /** @type {object | undefined} the same elements, for the engine's iterators */
     this.elements = undefined;
   }
 }
 
-/** A view on a recorded buffer itself, in place of one on another object that has its memory. */
+/** @typedef {Watched & { tellElement(index: number, writes: boolean): void }} WatchedArray that tells each element */
+
+/**
+ * A view on a recorded buffer itself, in place of one on another object that has its memory.
+ * @param {object} real
+ * @param {object} buffer
+ * @param {{ new (buffer: any, offset: number, length: number): object }} Engine
+ * @param {number} offset
+ * @param {number} length
+ */
 function onOriginal(real, buffer, Engine, offset, length) {
   const original = originalOf(buffer);
   if (original === buffer) return real;
@@ -77,9 +100,10 @@ function onOriginal(real, buffer, Engine, offset, length) {
 }
 
 /**
+ * @template {Watched} Kept
  * @param {object} real one of the typed arrays
  * @param {number} block
- * @param {typeof Watched} Kind what is made of it
+ * @param {{ new (real: any, place: import("./context.mjs").Place, size: number): Kept }} Kind what is made of it
  */
 export function arrayOn(real, block, Kind) {
   const kind = kindNumbers[tagOf(real)];
@@ -124,7 +148,7 @@ export function keepView(watched, standIn) {
 /**
  * What is known of a typed array that agents hold, or undefined where it isn't watched.
  * @param {unknown} value
- * @returns {Watched | undefined}
+ * @returns {WatchedArray | undefined}
  */
 export const watchedOf = (value) => weakGet(arrays, value);
 

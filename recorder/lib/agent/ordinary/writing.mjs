@@ -16,7 +16,7 @@ const reverseElements = uncurried(typedArrays.reverse);
 const sortElements = uncurried(typedArrays.sort);
 const moveElements = uncurried(typedArrays.copyWithin);
 
-/** Methods that write. */
+/** @type {Record<string, import("./patch.mjs").WatchedMethod>} methods that write */
 export const WRITING = {
   fill(watched, self, value, begin, end) {
     const { length, big, real } = watched;
@@ -82,7 +82,12 @@ export function setFrom(target, source, offset) {
   return undefined;
 }
 
-/** Element by element: each is asked for, which may call agents' code. */
+/**
+ * Element by element: each is asked for, which may call agents' code.
+ * @param {any} target
+ * @param {unknown} source
+ * @param {number} at
+ */
 function setFromObject(target, source, at) {
   const list = toObject(needsObject(source));
   const count = lengthFrom(list.length);

@@ -5,7 +5,8 @@ use Rattle.sab_fact_text.proofs.explaining.write_explained.Goals as goal
 
 pub returns : goal.returns
 returns g c =
-    explains c.args.names.now c.args.explainer.plan c.args.lines c.args.schedule.now c.write_moves.new.explainer
+    explains c.args.layout.column.at c.args.names.now c.args.explainer.plan c.args.layout.lines c.args.schedule.now
+    c.write_moves.new.explainer
     c.finish-report.result
     c.standings_of-standings.result (g.W.Write.contents c.args.w.now)
     (append_known (g.W.Write.contents c.write_moves.new.w) c.write_moves.new.chunk)

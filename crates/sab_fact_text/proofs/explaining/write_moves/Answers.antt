@@ -14,9 +14,9 @@ loop-k-preserved g c =
     let position : c.loop-k.k ≡ 0 + length c.loop-k.explainer.journal = omega (arith, c.loop-k.invariant.count) in
     let plan : c.plan-plan.result.now ≡ c.args.explainer.now.plan = c.plan-plan.ensures
     ∙ (ap (λ (s : SimParts). s.plan) c.sim.ensures ∙ (c.step.ensures.plan ∙ c.loop-k.invariant.plan)) in
-    let line : c.push_explained.new.chunk ≡ c.loop-k.chunk ++ line_at c.args.names.now c.args.explainer.now.plan
-    c.args.lines c.loop-k.sinces c.loop-k.k c.in-Ok.told.entry c.in-Ok.told.fact
-    = subst (λ (p : PlanParts). c.push_explained.new.chunk ≡ c.loop-k.chunk ++ line_at c.args.names.now p c.args.lines
+    let line : c.push_explained.new.chunk ≡ c.loop-k.chunk ++ line_at c.args.layout.column.at c.args.names.now
+    c.args.explainer.now.plan c.args.layout.lines c.loop-k.sinces c.loop-k.k c.in-Ok.told.entry c.in-Ok.told.fact
+    = subst (λ (p : PlanParts). c.push_explained.new.chunk ≡ c.loop-k.chunk ++ line_at c.args.layout.column.at c.args.names.now p c.args.layout.lines
     c.loop-k.sinces c.loop-k.k c.in-Ok.told.entry c.in-Ok.told.fact) plan c.push_explained.ensures in
     record {
       plan = c.step.ensures.plan ∙ c.loop-k.invariant.plan;
@@ -39,7 +39,8 @@ loop-k-preserved g c =
           (c.note.ensures ∙ ap (λ (n : ℕ). noted c.loop-k.sinces n c.in-Ok.told.entry) position);
       reserved = omega (arith, c.step.ensures.reserved, c.loop-k.invariant.reserved);
       told =
-          rw c.in-Ok.ensures.journal (told_more c.args.names.now c.args.explainer.now.plan c.args.lines c.loop-k.explainer.journal _
+          rw c.in-Ok.ensures.journal (told_more c.args.layout.column.at c.args.names.now
+          c.args.explainer.now.plan c.args.layout.lines c.loop-k.explainer.journal _
           (g.W.Write.contents c.loop-k.w)
           (append_known (g.W.Write.contents c.make_room.new.w) c.make_room.new.self) c.loop-k.chunk c.loop-k.sinces
           c.loop-k.k c.in-Ok.told.entry c.in-Ok.told.fact

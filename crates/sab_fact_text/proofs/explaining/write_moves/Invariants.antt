@@ -12,7 +12,8 @@ invariant-loop-k g l = record {
   count : length l.explainer.journal ≡ l.k;
   sinces : l.sinces ≡ sinces_after no_sinces 0 l.explainer.journal;
   reserved : length l.schedule ≤ l.explainer.reserved + l.k;
-  told : Told l.names l.fn.explainer.plan l.lines l.explainer.journal (append_known (g.W.Write.contents l.fn.w) l.fn.chunk)
+  told : Told l.layout.column.at l.names l.fn.explainer.plan l.layout.lines l.explainer.journal
+      (append_known (g.W.Write.contents l.fn.w) l.fn.chunk)
       (append_known (g.W.Write.contents l.w) l.chunk);
   room : length l.chunk + LINE_ROOM ≤ ROOM;
 }

@@ -8,7 +8,7 @@ abbrev pub invariant-loop-a : goal.invariant-loop-a
 invariant-loop-a g l = record {
   told : Appends (append_known (g.W.Write.contents l.fn.w) l.fn.chunk)
       (append_known (append_known (g.W.Write.contents l.w) l.chunk)
-      (standing_lines l.names l.standings l.a (drop l.a l.agents)))
-      (standing_lines l.names l.standings 0 l.agents);
+      (standing_lines l.column.at l.names l.standings l.a (drop l.a l.agents)))
+      (standing_lines l.column.at l.names l.standings 0 l.agents);
   room : length l.chunk + LINE_ROOM ≤ ROOM;
 }

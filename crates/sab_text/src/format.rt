@@ -1,6 +1,6 @@
 //! How a report is told.
 
-use sab_text::Lines;
+use crate::lines::Lines;
 
 /// The formats of a report.
 #[derive(Clone, Copy, Debug, PartialEq, Eq, Hash)]

@@ -1,0 +1,26 @@
+//! The line of a text that has what JSON hasn't.
+
+use crate::foreign::Foreign;
+use crate::spot::Spot;
+use std::fmt;
+
+/// What JSON hasn't, and where it stands.
+#[derive(Clone, Copy)]
+pub(crate) struct ForeignLine {
+    /// Where it stands.
+    pub spot: Spot,
+    /// What it is.
+    pub what: Foreign,
+}
+
+impl fmt::Display for ForeignLine {
+    ghost use Rattle.std.specs.Prelude.{Some};
+    ghost use Rattle.sab_check.specs.Foreign.{foreign_line};
+
+    ghost output = { λ line. Some (foreign_line line.spot line.what) };
+
+    fn fmt<W: fmt::Write>(&self, f: &mut fmt::Formatter<W>) -> fmt::Result {
+        let (line, column, what) = (self.spot.line, self.spot.column, self.what);
+        write!(f, "line {line}, column {column}: 16 NotJson: {what}")
+    }
+}

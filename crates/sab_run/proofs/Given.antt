@@ -1,0 +1,51 @@
+-- A job of the script that a reader gave.
+use Rattle.std.proofs.Common.{◌≡◌, ℕ, ◌≤◌, Bool, List, length, Option, Some, None, IfSome, subst, arith}
+use Rattle.sab_tool.specs.declared.input.TheConstants.{MAX_INPUT}
+use Rattle.sab_tool.specs.declared.tool_fault.ToolFault.{ToolFault}
+use Rattle.sab_tool.specs.declared.tool_fault.ToolFault.TheVariants.{OutOfMemory, TooLong, ReadFailed}
+use Rattle.sab_tool.specs.Input.{IsInputFault}
+use Rattle.sab_command.specs.declared.command_line.Job.{Job}
+use Rattle.sab_ending.specs.declared.outcome.Outcome.{Outcome}
+use Rattle.sab_run.specs.declared.failure.Explanation.{Explanation}
+use Rattle.sab_run.specs.declared.failure.Explanation.TheVariants.{Untold}
+use Rattle.sab_run.specs.Explaining.{IsExplanation}
+use Rattle.sab_run.specs.Running.{Runs, RunsGiven, IsFaultOf}
+
+-- what the job came to
+pub ran : (known old new : Option (List ℕ)) (job : Job) (outcome : Outcome) (input script : List ℕ)
+    → IfSome known (λ bytes. input ≡ bytes) → script ≡ input → length input ≤ MAX_INPUT
+    → Runs job outcome old new script → IfSome known (RunsGiven job outcome old new)
+ran None old new job outcome input script all same few done = tt
+ran (Some bytes) old new job outcome input script all same few done =
+    subst (λ (s : List ℕ). RunsGiven job outcome old new s) all
+    (few, subst (λ (s : List ℕ). Runs job outcome old new s) same done)
+
+-- what it is refused for
+pub failed : (known old new : Option (List ℕ)) (job : Job) (fault : ToolFault) (input script : List ℕ)
+    → IfSome known (λ bytes. input ≡ bytes) → script ≡ input → length input ≤ MAX_INPUT
+    → IsFaultOf job old new script fault
+    → IfSome known (λ s. (length s ≤ MAX_INPUT) × IsFaultOf job old new s fault)
+failed None old new job fault input script all same few refused = tt
+failed (Some bytes) old new job fault input script all same few refused =
+    subst (λ (s : List ℕ). (length s ≤ MAX_INPUT) × IsFaultOf job old new s fault) all
+    (few, subst (λ (s : List ℕ). IsFaultOf job old new s fault) same refused)
+
+-- what is told besides
+pub explained : (known : Option (List ℕ)) (is_asked : Bool) (fault : ToolFault) (input script : List ℕ)
+    (told : Explanation) → IfSome known (λ bytes. input ≡ bytes) → script ≡ input
+    → IsExplanation is_asked fault script told → IfSome known (λ s. IsExplanation is_asked fault s told)
+explained None is_asked fault input script told all same e = tt
+explained (Some bytes) is_asked fault input script told all same e =
+    subst (λ (s : List ℕ). IsExplanation is_asked fault s told) all
+    (subst (λ (s : List ℕ). IsExplanation is_asked fault s told) same e)
+
+-- of an input that can't be had nothing else is told
+pub unread : (known : Option (List ℕ)) (is_asked : Bool) (fault : ToolFault) → IsInputFault known fault
+    → IfSome known (λ s. IsExplanation is_asked fault s Untold)
+unread None is_asked fault h = tt
+unread (Some bytes) is_asked OutOfMemory h = λ asked status few.
+    let bad : ◌≡◌ {A = ℕ} 4 1 = status in absurd (omega (arith, bad))
+unread (Some bytes) is_asked ReadFailed h = λ asked status few.
+    let bad : ◌≡◌ {A = ℕ} 3 1 = status in absurd (omega (arith, bad))
+unread (Some bytes) is_asked TooLong h = λ asked status few. absurd (omega (arith, h, few))
+unread (Some bytes) is_asked _ h = absurd h

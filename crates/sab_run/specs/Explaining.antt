@@ -1,0 +1,23 @@
+-- Why a script is refused, as a check tells it.
+use Rattle.std.specs.Prelude.{◌≡◌, ℕ, ◌≤◌, List, length, Bool, true, Option, Some, None, String, string_bytes, ⊤}
+use Rattle.std.specs.declared.alloc.Global.{Global}
+use Rattle.sab_tool.specs.declared.input.TheConstants.{MAX_INPUT}
+use Rattle.sab_tool.specs.declared.tool_fault.ToolFault.{ToolFault}
+use Rattle.sab_check.specs.Checked.{IsAccepted, IsRefused}
+use Rattle.sab_ending.specs.Status.{status_after}
+use Rattle.sab_run.specs.declared.failure.Explanation.{Explanation}
+use Rattle.sab_run.specs.declared.failure.Explanation.TheVariants.{Untold, NoMemory, Told}
+
+-- what a check says of a script that it refuses, or none where it doesn't refuse the script
+abbrev pub IsExplained : List ℕ → Option (String Global) → Type 0
+IsExplained script None = (text : List ℕ) × IsAccepted script text
+IsExplained script (Some text) = IsRefused script (string_bytes text)
+
+-- it is told why the script is refused exactly where that is asked for, the script itself is refused with the fault, and
+-- there is memory: a script that is too long isn't checked
+abbrev pub IsExplanation : Bool → ToolFault → List ℕ → Explanation → Type 0
+IsExplanation is_asked fault script Untold =
+    is_asked ≡ true → status_after fault ≡ 1 → length script ≤ MAX_INPUT → (text : List ℕ) × IsAccepted script text
+IsExplanation is_asked fault script NoMemory = ⊤
+IsExplanation is_asked fault script (Told text) =
+    (is_asked ≡ true) × (status_after fault ≡ 1) × IsRefused script (string_bytes text)

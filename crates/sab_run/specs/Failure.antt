@@ -1,0 +1,29 @@
+-- Why a job isn't done.
+use Rattle.std.specs.Prelude.{◌≡◌, ◌⊎◌, ◌≢◌, ℕ, List, [], Option, Some, None, true, string_bytes, ⊤}
+use Rattle.std.specs.List.{list_any}
+use Rattle.std.specs.Borrow.{Bor}
+use Rattle.std.specs.Char.{is_ascii_control}
+use Rattle.sab_tool.specs.declared.tool_fault.ToolFault.{ToolFault}
+use Rattle.sab_tool.specs.declared.tool_fault.ToolFault.TheVariants.{ReadFailed}
+use Rattle.sab_command.specs.declared.request.Source.{Source}
+use Rattle.sab_command.specs.declared.request.Source.TheVariants.{Standard, File}
+use Rattle.sab_run.specs.declared.failure.Explanation.{Explanation}
+use Rattle.sab_run.specs.declared.failure.Explanation.TheVariants.{Untold, NoMemory, Told}
+use Rattle.sab_run.specs.declared.failure.Failure.{Failure}
+
+-- a fault of which nothing else is told
+abbrev pub untold : ToolFault → Failure
+untold fault = record { fault = fault; explanation = Untold }
+
+-- what a check says, where that is told
+abbrev pub explanation_text : Explanation → List ℕ
+explanation_text Untold = []
+explanation_text NoMemory = []
+explanation_text (Told text) = string_bytes text
+
+-- a file is named exactly where a read failed and it is one, and its name has no control characters
+abbrev pub TellsFile : Source → ToolFault → Option (Bor (List ℕ)) → Type 0
+TellsFile Standard fault None = ⊤
+TellsFile Standard fault (Some told) = ⊥
+TellsFile (File name) fault None = (fault ≢ ReadFailed) ⊎ (list_any is_ascii_control name.now ≡ true)
+TellsFile (File name) fault (Some told) = (fault ≡ ReadFailed) × (told.now ≡ name.now)

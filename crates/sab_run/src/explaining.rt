@@ -1,0 +1,39 @@
+//! Why a script is refused.
+
+ghost use Rattle.std.specs.Prelude.{IfOk};
+ghost use Rattle.sab_run.specs.Explaining.{IsExplained, IsExplanation};
+
+use crate::failure::Explanation;
+use sab_check::{Checked, check_script};
+use sab_ending::Ending;
+use sab_tool::ToolFault;
+use std::alloc::{AllocError, Global};
+
+/// What a check says of a script that it refuses, which is a line; none of a script that it doesn't refuse.
+pub fn explain_script(alloc: Global, script: &[u8]) -> Result<Option<String>, AllocError>
+    ensures { IfOk result (IsExplained script.now) }
+{
+    match check_script(alloc, script)? {
+        Checked::Accepted(_) => Ok(None),
+        Checked::Refused(text) => Ok(Some(text)),
+    }
+}
+
+/// What is told besides the fault that a script's job ended with, where it is asked for or isn't.
+pub(crate) fn explanation_of(
+    alloc: Global,
+    is_asked: bool,
+    fault: ToolFault,
+    script: &[u8],
+) -> Explanation
+    ensures { IsExplanation is_asked fault script.now result }
+{
+    if !is_asked || Ending::Failed(fault).status() != 1 {
+        return Explanation::Untold;
+    }
+    match explain_script(alloc, script) {
+        Ok(Some(text)) => Explanation::Told(text),
+        Ok(None) => Explanation::Untold,
+        Err(_) => Explanation::NoMemory,
+    }
+}

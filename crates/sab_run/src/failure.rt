@@ -1,0 +1,105 @@
+//! Why a job isn't done.
+
+ghost use Rattle.std.specs.Prelude.{◌≡◌, ◌≢◌};
+ghost use Rattle.std.specs.List.{list_any};
+ghost use Rattle.std.specs.Char.{is_ascii_control};
+ghost use Rattle.std.specs.IoError.{error_kind};
+ghost use Rattle.sab_run.specs.Failure.{TellsFile, explanation_text, untold};
+
+use sab_command::Source;
+use sab_ending::Complaint;
+use sab_tool::ToolFault;
+use std::io::{Error, ErrorKind};
+
+/// What is told of a refusal besides its fault.
+#[derive(Drop)]
+pub enum Explanation {
+    /// Nothing: it isn't asked for, or the fault isn't one of the script, or a check doesn't refuse the script.
+    Untold,
+    /// There is no memory for it.
+    NoMemory,
+    /// What a check says of the script, which it refuses: a line.
+    Told(String),
+}
+
+/// Why a job isn't done.
+#[derive(Drop)]
+pub struct Failure {
+    /// The fault.
+    pub fault: ToolFault,
+    /// What is told besides.
+    pub explanation: Explanation,
+}
+
+impl Failure {
+    /// That of a file that can't be opened: OutOfMemory where there is no memory for it, and else ReadFailed.
+    pub fn of_open(error: &Error) -> Failure
+        ensures memory { error_kind error.now ≡ ErrorKind.OutOfMemory → result ≡ untold ToolFault.OutOfMemory }
+        ensures other { error_kind error.now ≢ ErrorKind.OutOfMemory → result ≡ untold ToolFault.ReadFailed }
+    {
+        if error.kind() == ErrorKind::OutOfMemory {
+            return Failure::from(ToolFault::OutOfMemory);
+        }
+        Failure::from(ToolFault::ReadFailed)
+    }
+
+    /// What the program says of it, where the script is read from this source.
+    ///
+    /// A file is named where it can't be opened or read, unless its name has control characters.
+    pub fn complaint<'a>(&'a self, source: Source<'a>) -> Complaint<'a>
+        ensures fault { result.fault ≡ self.now.fault }
+        ensures file { TellsFile source.entry self.now.fault result.file }
+        ensures why { result.why.now ≡ explanation_text self.now.explanation }
+    {
+        Complaint {
+            fault: self.fault,
+            file: file_of(source, self.fault),
+            why: text_of(&self.explanation),
+        }
+    }
+}
+
+/// The name of the file that failed, if it is told.
+fn file_of<'a>(source: Source<'a>, fault: ToolFault) -> Option<&'a str>
+    ensures { TellsFile source.entry fault result }
+{
+    let Source::File(name) = source else {
+        return None;
+    };
+    if fault != ToolFault::ReadFailed || has_control(name) {
+        return None;
+    }
+    Some(name)
+}
+
+/// Whether a name has control characters, so that it isn't a part of one line.
+fn has_control(name: &str) -> bool
+    ensures { result ≡ list_any is_ascii_control name.now }
+{
+    name.as_bytes().iter().any(|byte| byte.is_ascii_control())
+}
+
+/// What a check says, if that is told.
+fn text_of(explanation: &Explanation) -> &str
+    ensures { result.now ≡ explanation_text explanation.now }
+{
+    match explanation {
+        Explanation::Told(text) => text.as_str(),
+        Explanation::Untold => "",
+        Explanation::NoMemory => "",
+    }
+}
+
+impl From<ToolFault> for Failure {
+    ghost use Rattle.std.specs.Prelude.{◌≡◌};
+    ghost use Rattle.sab_run.specs.Failure.{untold};
+
+    ghost from_gives = { λ fault failure. failure ≡ untold fault };
+
+    fn from(fault: ToolFault) -> Failure {
+        Failure {
+            fault,
+            explanation: Explanation::Untold,
+        }
+    }
+}

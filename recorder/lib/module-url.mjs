@@ -1,0 +1,79 @@
+// Where the agents' module is: by a URL, or by a path, which may be relative to the file that calls the library.
+
+import { statSync } from "node:fs";
+import { dirname, isAbsolute, resolve } from "node:path";
+import { fileURLToPath, pathToFileURL } from "node:url";
+import { framesHere } from "./agent/sources.mjs";
+import { Refused } from "./run/plan.mjs";
+
+// The library itself: what calls its functions is looked for.
+const OWN = [new URL("./", import.meta.url).href, new URL("../recorder.mjs", import.meta.url).href, "node:"];
+
+// Code that is typed in has no file: it is taken to be in the working directory, as node itself takes it.
+const TYPED_IN = /^(\[eval|\[stdin|REPL\d)/;
+
+/**
+ * The folder of the file that has called a function.
+ * @param {Function} called
+ * @returns {string | undefined} undefined where the innermost code that isn't node's or the library's is of no file
+ */
+export function folderOfCaller(called) {
+  const files = framesHere(called).map((frame) => frame.getFileName());
+  const file = files.find((each) => typeof each === "string" && !OWN.some((own) => each.startsWith(own)));
+  if (typeof file !== "string") return undefined;
+  if (file.startsWith("file:")) return dirname(fileURLToPath(file));
+  if (isAbsolute(file)) return dirname(file);
+  return TYPED_IN.test(file) ? process.cwd() : undefined;
+}
+
+/**
+ * The URL of a module.
+ * @param {string | URL} module a URL, or the path of a file
+ * @param {string} [folder] from which a relative path is taken; the working directory where it isn't given
+ * @returns {string}
+ */
+export function moduleUrl(module, folder = process.cwd()) {
+  if (module instanceof URL) return module.href;
+  return module.startsWith("file:") ? module : pathToFileURL(resolve(folder, module)).href;
+}
+
+/** @param {string} url of a file */
+function isFile(url) {
+  try {
+    return statSync(fileURLToPath(url)).isFile();
+  } catch {
+    return false;
+  }
+}
+
+/**
+ * A URL's path, where it has one.
+ * @param {string} url
+ */
+function pathOf(url) {
+  try {
+    return fileURLToPath(url);
+  } catch {
+    return url;
+  }
+}
+
+/**
+ * The URL of a module that somebody's code names.
+ * @param {string | URL} module a URL; an absolute path; or a path from the folder of that code
+ * @param {() => string | undefined} folderOf that folder, where it is known
+ * @returns {string}
+ * @throws {Refused} where there is no such file, or it can't be told which is meant
+ */
+export function moduleUrlOf(module, folderOf) {
+  const isRelative = typeof module === "string" && !module.startsWith("file:") && !isAbsolute(module);
+  const folder = isRelative ? folderOf() : undefined;
+  if (isRelative && folder === undefined) {
+    const instead = `give a URL, as new URL("${module}", import.meta.url)`;
+    throw new Refused(`\`module\` is "${module}", and it can't be told which file asks for that: ${instead}`);
+  }
+  const url = moduleUrl(module, folder);
+  if (!url.startsWith("file:") || isFile(url)) return url;
+  const from = isRelative ? `: \`module\` is "${module}", from the folder of the file that calls \`record\`` : "";
+  throw new Refused(`there is no file ${pathOf(url)}${from}`);
+}

@@ -1,0 +1,163 @@
+// The types of the package. `tests/types` holds them against the code's own; node's types aren't needed for them.
+
+/** A URL, where the types of the user's project know one: node's, or those of browsers. */
+type ModuleUrl = typeof globalThis extends { URL: new (...given: never[]) => infer Url } ? Url : never;
+
+/**
+ * Runs the agents of a module once, under the schedule of one seed. Where sabsim is there it checks the run, unless
+ * `sabsim` says otherwise. Fails with `Refused` for options or a module that can't be, with a `Difference` where sabsim
+ * says something else, and with `NoSabsim` where it was asked for and isn't there.
+ */
+export function record(options: RecordOptions): Promise<Outcome>;
+
+/** What was asked for can't be: the message says why. */
+export class Refused extends Error {}
+
+/** The program isn't there, or can't be run. */
+export class NoSabsim extends Error {}
+
+/** What the code saw isn't what sabsim says: a defect of one of them. The message has both sides. */
+export class Difference extends Error {
+  constructor(message: string, outcome: Difference["outcome"], replayed: string);
+  outcome: Pick<Outcome, "seed" | "script" | "report">;
+  /** What sabsim wrote. */
+  replayed: string;
+}
+
+export interface RecordOptions {
+  /** The agents' module: a URL, or a path, from the folder of the file that calls `record`. */
+  module: string | ModuleUrl;
+  /** How many agents, 1 to 16; else what the module's `setup` says. */
+  agents?: number;
+  /** The bytes of each buffer: one to four, each 0 to 65,536; else what the module's `setup` says. */
+  buffers?: number[];
+  /** The agents that can't block; else what the module's `setup` says, and else none. */
+  noBlock?: number[];
+  /** A whole number from 0 to 2^53 - 1; else 1. */
+  seed?: number;
+  /** For the agents; else none. */
+  args?: string[];
+  /** From 0 to 1: how likely it is that another agent moves next; else all moves are alike. */
+  switch?: number;
+  /** From 0 to 1: in how many draws the end of a timed wait is offered while something else can move; else 0.05. */
+  timeouts?: number;
+  /** How many moves the run may have, 1 to 100,000; else 100,000. */
+  maxMoves?: number;
+  /** For how many seconds an agent may make no call, above 0 and 3,600 at most; else 10. */
+  seconds?: number;
+  /** What is done with ordinary reads and writes; else "watch". */
+  ordinary?: "watch" | "store" | "refuse";
+  /** Whether a run with a data race fails; else "fail". */
+  races?: "fail" | "allow";
+  /** Whether a run that meets a bound fails; else "fail". */
+  bounds?: "fail" | "allow";
+  /** The time that clocks tell agents: the run's own or the machine's; else "run". */
+  clock?: "run" | "real";
+  /** Fills the buffers before the run, in place of the module's `init`. */
+  init?: WithBuffers;
+  /**
+   * Is called after a run that finished, in place of the module's `check`: what it throws fails the run, as does
+   * `false` or an error that it answers.
+   */
+  check?: WithBuffers;
+  /** The program's path, or true: it must be there. False: it isn't asked. Else it is asked where it is there. */
+  sabsim?: string | boolean;
+  /** Whether the outcome has its trace. */
+  trace?: boolean;
+}
+
+export type Ending = "finished" | "deadlock" | "failed" | "check" | "race" | "bound";
+
+/** What a run came to. */
+export interface Outcome {
+  seed: number;
+  ending: Ending;
+  /** Whether it is a failing run, by its ending and by what is allowed. */
+  fails: boolean;
+  /** Why it ended so; empty where all agents finished. */
+  detail: string;
+  moves: number;
+  /** How many calls of Atomics were begun. */
+  calls: number;
+  /** How many ordinary reads and writes were seen. */
+  ordinary: number;
+  /** Of each agent: how many of its calls returned, and how many began. */
+  progress: { returned: number; calls: number }[];
+  /** Of the end: a hash of how it ended and of all bytes, and the beginnings of each buffer in hexadecimal digits. */
+  state: { hash: string; shown: string[] };
+  /** The data races, each pair of lines of code once. */
+  races: Race[];
+  /** Of each buffer as it was left, in hexadecimal digits. */
+  bytes?: string[];
+  /** Of each agent's calls, as a report spells them; null: a wait that goes on. */
+  answers?: (string | null)[][];
+  /** What `sabsim replay` reads. */
+  script?: string;
+  /** Which ordinary writes stand in the script: all, or those of bytes that some call of Atomics touches. */
+  scriptHolds?: "all" | "touched";
+  /** Why there is no script. */
+  noScript?: string;
+  /** What sabsim must answer. */
+  report?: string;
+  /** Each event as an object of JSON, a line each. */
+  trace?: string;
+  /** Whether sabsim has replayed the run, and said the same. */
+  checked: boolean;
+  /** Why it hasn't. */
+  unchecked?: string;
+}
+
+/** A data race. */
+export interface Race {
+  /** The lines of code, in their order; of one that isn't known, what it did. */
+  lines: [string, string];
+  text: string;
+  /** The one that was made first before the other. */
+  sides: [RaceSide, RaceSide];
+}
+
+/** One of the two accesses of a data race. */
+export interface RaceSide {
+  agent: number;
+  access: "read" | "write" | "read and write";
+  atomic: boolean;
+  block: number;
+  /** Its first byte. */
+  byte: number;
+  /** How many bytes. */
+  size: number;
+  /** The view's name and the index of the element on which the two meet. */
+  element: string;
+  /** Which of the agent's calls it is; of an ordinary access, how many began before. */
+  call: number;
+  /** File, line and column. */
+  source: string | null;
+}
+
+/** What a module of agents exports by default: it is called once for each agent and run, and must be synchronous. */
+export type Agent = (run: AgentRun) => void;
+
+/** What an agent is called with. */
+export interface AgentRun {
+  /** Every byte is zero, or as `init` left it. */
+  buffers: SharedArrayBuffer[];
+  /** The agent's number, from 0. */
+  agent: number;
+  /** How many agents there are. */
+  agents: number;
+  /** The words after `--` on the command line, or the option `args`. */
+  args: string[];
+}
+
+/** What a module of agents may export as `setup`, for what the command line or the options leave open. */
+export interface Setup {
+  /** How many agents, 1 to 16. */
+  agents?: number;
+  /** The bytes of each buffer: one to four, each 0 to 65,536. */
+  buffers?: number[];
+  /** The agents that can't block: `Atomics.wait` throws TypeError there. Else all can. */
+  noBlock?: number[];
+}
+
+/** What a module of agents may export as `init` and as `check`: it is called when no agent runs. */
+export type WithBuffers = (buffers: SharedArrayBuffer[], run: { agents: number; args: string[] }) => unknown;

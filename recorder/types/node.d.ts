@@ -1,0 +1,361 @@
+// What the recorder uses of node, for `tests/types`: node's own types aren't on every machine. Nothing of this is in
+// the package. It is less than node has, and never more.
+
+interface ImportMeta {
+  readonly url: string;
+}
+
+declare namespace NodeJS {
+  type Signals = "SIGHUP" | "SIGINT" | "SIGQUIT" | "SIGKILL" | "SIGPIPE" | "SIGTERM";
+
+  /** A frame of a stack, as V8 shows it. */
+  interface CallSite {
+    getFileName(): string | null;
+    getFunctionName(): string | null;
+    getLineNumber(): number | null;
+    getColumnNumber(): number | null;
+  }
+
+  interface Listened {
+    on(event: string, listener: (...given: any[]) => void): this;
+    once(event: string, listener: (...given: any[]) => void): this;
+    off(event: string, listener: (...given: any[]) => void): this;
+  }
+
+  interface Output extends Listened {
+    readonly isTTY?: boolean;
+    write(text: string, done?: (error?: Error | null) => void): boolean;
+  }
+
+  interface Input extends AsyncIterable<Uint8Array> {}
+
+  interface Timer {
+    unref(): this;
+  }
+
+  interface HighResolutionTime {
+    (before?: [number, number]): [number, number];
+    bigint(): bigint;
+  }
+
+  interface Process extends Listened {
+    readonly arch: string;
+    readonly platform: string;
+    readonly argv: string[];
+    readonly execArgv: string[];
+    readonly env: Record<string, string | undefined>;
+    readonly pid: number;
+    readonly version: string;
+    readonly versions: Record<string, string>;
+    readonly stderr: Output;
+    readonly stdin: Input;
+    readonly stdout: Output;
+    exitCode?: number;
+    hrtime: HighResolutionTime;
+    uptime(): number;
+    cwd(): string;
+    kill(id: number, signal: Signals): true;
+    /** Only the process of a job, and others that were forked, have it. */
+    send?(message: unknown): boolean;
+  }
+}
+
+declare interface ErrorConstructor {
+  stackTraceLimit: number;
+  prepareStackTrace?: (error: Error, frames: NodeJS.CallSite[]) => unknown;
+  captureStackTrace(holder: object, from?: Function): void;
+}
+
+declare interface Error {
+  readonly code?: string;
+}
+
+declare class Buffer extends Uint8Array {
+  static alloc(bytes: number): Buffer;
+  static concat(parts: Uint8Array[]): Buffer;
+  static from(memory: ArrayBufferLike, offset?: number, length?: number): Buffer;
+  static from(bytes: Uint8Array): Buffer;
+  static from(text: string, encoding?: string): Buffer;
+  equals(other: Uint8Array): boolean;
+  slice(from?: number, to?: number): Buffer;
+  subarray(from?: number, to?: number): Buffer;
+  toString(encoding?: string, from?: number, to?: number): string;
+  write(text: string, encoding?: string): number;
+}
+
+interface URL {
+  readonly href: string;
+}
+
+declare var URL: { readonly prototype: URL; new (url: string, base?: string | URL): URL };
+
+declare class TextEncoder {
+  encodeInto(text: string, into: Uint8Array): { read: number; written: number };
+}
+
+declare class TextDecoder {
+  constructor(encoding: string, options: { fatal: boolean; ignoreBOM: boolean });
+  decode(bytes?: ArrayBufferView): string;
+}
+
+declare class AbortSignal {
+  readonly aborted: boolean;
+  readonly reason: any;
+  addEventListener(event: "abort", listener: () => void): void;
+  removeEventListener(event: "abort", listener: () => void): void;
+}
+
+declare class AbortController {
+  readonly signal: AbortSignal;
+  abort(reason?: unknown): void;
+}
+
+declare const process: NodeJS.Process;
+declare const performance: { now(): number; readonly timeOrigin: number };
+declare const console: Record<"log" | "error", (...given: unknown[]) => void> & { Console: Function };
+declare const WebAssembly: { Module: Function };
+declare function setTimeout(call: (...given: any[]) => void, milliseconds: number, ...given: unknown[]): NodeJS.Timer;
+declare function clearTimeout(timer: NodeJS.Timer | undefined): void;
+declare function setInterval(call: () => void, milliseconds: number): NodeJS.Timer;
+declare function structuredClone<T>(value: T): T;
+
+declare module "node:assert" {
+  interface Assert {
+    AssertionError: Function;
+    strict: Assert;
+  }
+  const assert: Assert;
+  export default assert;
+}
+
+declare module "node:async_hooks" {
+  interface Hooks {
+    init(id: number, type: string, trigger: number, resource: object): void;
+  }
+  export function createHook(hooks: Hooks): { enable(): void };
+}
+
+declare module "node:buffer" {
+  const all: { Blob: Function; File?: Function };
+  export default all;
+}
+
+declare module "node:child_process" {
+  interface Child extends NodeJS.Listened {
+    readonly pid?: number;
+    readonly connected: boolean;
+    kill(signal: NodeJS.Signals): boolean;
+    send(message: unknown, done?: (error: Error | null) => void): boolean;
+  }
+  interface ForkOptions {
+    stdio: string[];
+    execArgv: string[];
+    serialization: "advanced" | "json";
+    detached: boolean;
+    windowsHide: boolean;
+  }
+  interface SyncOptions {
+    input: string;
+    encoding: "utf8";
+    maxBuffer: number;
+    timeout: number;
+  }
+  interface SyncEnd {
+    error?: Error;
+    status: number | null;
+    stdout: string;
+    stderr: string;
+  }
+  export type ChildProcess = Child;
+  export function fork(program: string, options: ForkOptions): Child;
+  export function spawn(program: string, words: string[], options: { stdio: "inherit" }): Child;
+  export function spawnSync(program: string, words: string[], options: SyncOptions): SyncEnd;
+  const all: object;
+  export default all;
+}
+
+declare module "node:crypto" {
+  interface Hash {
+    update(text: string): this;
+    digest(encoding: "base64" | "hex"): string;
+  }
+  interface WebCrypto {
+    readonly subtle: object;
+    getRandomValues<T extends ArrayBufferView>(view: T): T;
+  }
+  interface Crypto {
+    readonly webcrypto: WebCrypto;
+    readonly X509Certificate: Function;
+    getRandomValues<T extends ArrayBufferView>(view: T): T;
+    randomUUID(): string;
+    randomBytes(bytes: number, done?: Function): Buffer;
+    randomInt(least: number, most?: number, done?: Function): number;
+    randomFillSync<T extends ArrayBufferView | ArrayBufferLike>(into: T, offset?: number, size?: number): T;
+  }
+  export function createHash(algorithm: string): Hash;
+  export function randomBytes(bytes: number): Buffer;
+  const crypto: Crypto;
+  export default crypto;
+}
+
+declare module "node:fs" {
+  interface Stats {
+    isFile(): boolean;
+  }
+  export const constants: { readonly X_OK: number };
+  export function createReadStream(path: string): NodeJS.Input;
+  export function accessSync(path: string, mode: number): void;
+  export function closeSync(file: number): void;
+  export function existsSync(path: string): boolean;
+  export function mkdirSync(path: string, options: { recursive: true }): void;
+  export function openSync(path: string, flags: string): number;
+  export function readFileSync(path: string | URL, encoding: "latin1" | "utf8"): string;
+  export function readFileSync(path: string | URL): Buffer;
+  export function readlinkSync(path: string): string;
+  export function realpathSync(path: string): string;
+  export function renameSync(from: string, to: string): void;
+  export function rmSync(path: string, options?: { force?: boolean; recursive?: boolean }): void;
+  export function statSync(path: string): Stats;
+  export function writeFileSync(file: number | string, text: string): void;
+  export function writeSync(file: number, chunk: string | Uint8Array): number;
+  const all: { promises: object };
+  export default all;
+}
+
+declare module "node:module" {
+  export function syncBuiltinESMExports(): void;
+}
+
+declare module "node:os" {
+  export const constants: { readonly signals: Record<NodeJS.Signals, number> };
+}
+
+declare module "node:path" {
+  export const posix: { dirname(path: string): string; relative(from: string, to: string): string };
+  export function dirname(path: string): string;
+  export function isAbsolute(path: string): boolean;
+  export function join(...parts: string[]): string;
+  export function resolve(...parts: string[]): string;
+}
+
+declare module "node:perf_hooks" {
+  const all: { PerformanceMark: Function };
+  export default all;
+}
+
+declare module "node:process" {
+  export default process;
+}
+
+declare module "node:stream" {
+  type Done = (error?: Error | null) => void;
+  export class Writable {
+    constructor(options: { write(chunk: string | Uint8Array, encoding: string, done: Done): void });
+  }
+  const all: Record<"Writable" | "Duplex" | "Readable", { prototype: object }>;
+  export default all;
+}
+
+declare module "node:string_decoder" {
+  const all: { StringDecoder: { prototype: object } };
+  export default all;
+}
+
+declare module "node:timers/promises" {
+  export function setImmediate(): Promise<void>;
+  export function setTimeout(milliseconds: number): Promise<void>;
+}
+
+declare module "node:url" {
+  export function fileURLToPath(url: string | URL): string;
+  export function pathToFileURL(path: string): URL;
+}
+
+declare module "node:util" {
+  interface Option {
+    type: "string" | "boolean";
+    multiple?: boolean;
+  }
+  interface Words {
+    args: string[];
+    options: Record<string, Option>;
+    allowPositionals: boolean;
+    strict: boolean;
+    tokens?: boolean;
+  }
+  interface Token {
+    kind: "option" | "option-terminator" | "positional";
+    name?: string;
+    rawName?: string;
+  }
+  interface Parsed {
+    tokens: Token[];
+    values: Record<string, any>;
+    positionals: string[];
+  }
+  export function parseArgs(words: Words): Parsed;
+  const util: { inspect(value: unknown, options?: object): string; types: object };
+  export default util;
+}
+
+declare module "node:v8" {
+  interface PromiseHooks {
+    onInit(hook: (promise: Promise<unknown>, parent: Promise<unknown> | undefined) => void): void;
+    onSettled(hook: (promise: Promise<unknown>) => void): void;
+  }
+  export const promiseHooks: PromiseHooks;
+  const all: { Serializer: { prototype: object }; Deserializer: Function; DefaultDeserializer: Function };
+  export default all;
+}
+
+declare module "node:vm" {
+  const vm: {
+    runInContext(code: string, context: object, options?: unknown): any;
+    isContext(object: object): boolean;
+    createContext(object: object, options?: unknown): object;
+    Script: Function & { prototype: { runInContext: Function } };
+  };
+  export default vm;
+}
+
+declare module "node:worker_threads" {
+  interface Port extends NodeJS.Listened {
+    postMessage(message: unknown): void;
+  }
+  export class MessagePort implements Port {
+    on(event: string, listener: (...given: any[]) => void): this;
+    once(event: string, listener: (...given: any[]) => void): this;
+    off(event: string, listener: (...given: any[]) => void): this;
+    postMessage(message: unknown): void;
+    close(): void;
+  }
+  export class MessageChannel {
+    readonly port1: MessagePort;
+    readonly port2: MessagePort;
+  }
+  interface WorkerOptions {
+    workerData?: unknown;
+    transferList?: MessagePort[];
+    stdout?: boolean;
+    stderr?: boolean;
+  }
+  export class Worker implements Port {
+    constructor(file: URL, options: WorkerOptions);
+    on(event: string, listener: (...given: any[]) => void): this;
+    once(event: string, listener: (...given: any[]) => void): this;
+    off(event: string, listener: (...given: any[]) => void): this;
+    postMessage(message: unknown): void;
+    terminate(): Promise<number>;
+    unref(): void;
+  }
+  export const parentPort: MessagePort | null;
+  export const workerData: any;
+  export function receiveMessageOnPort(port: MessagePort): { message: any } | undefined;
+  const threads: Record<"MessagePort" | "BroadcastChannel" | "Worker", Function>;
+  export default threads;
+}
+
+declare module "node:zlib" {
+  const zlib: object;
+  export default zlib;
+}

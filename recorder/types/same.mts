@@ -1,0 +1,34 @@
+// Holds the types that the package declares (recorder.d.mts) against those of the code: each pair must be the same.
+
+import * as declared from "../recorder.mjs";
+import * as written from "../lib/recorder.mjs";
+import type { WithBuffers } from "../lib/library-options.mjs";
+import type { Ending } from "../lib/run/group.mjs";
+import type { Side, Told } from "../lib/run/findings.mjs";
+
+type Same<One, Other> =
+  (<T>() => T extends One ? 1 : 2) extends (<T>() => T extends Other ? 1 : 2) ? true : false;
+
+/** Makes one object of an intersection, and of all that is in it. */
+type Flat<T> = T extends Function | URL ? T : T extends object ? { [Name in keyof T]: Flat<T[Name]> } : T;
+
+type Holds<T extends true> = T;
+
+export type Held = [
+  Holds<Same<Flat<declared.RecordOptions>, Flat<written.RecordOptions>>>,
+  Holds<Same<Flat<declared.Outcome>, Flat<written.Outcome>>>,
+  Holds<Same<declared.Ending, Ending>>,
+  Holds<Same<Flat<declared.Race>, Flat<Told>>>,
+  Holds<Same<Flat<declared.RaceSide>, Flat<Side>>>,
+  Holds<Same<Parameters<declared.WithBuffers>, Parameters<WithBuffers>>>,
+  Holds<Same<ReturnType<declared.WithBuffers>, ReturnType<WithBuffers>>>,
+  Holds<Same<Flat<declared.Difference["outcome"]>, Flat<written.Difference["outcome"]>>>,
+  Holds<Same<ConstructorParameters<typeof declared.Refused>, ConstructorParameters<typeof written.Refused>>>,
+  Holds<Same<keyof declared.Difference, keyof written.Difference>>,
+  Holds<Same<keyof declared.NoSabsim, keyof written.NoSabsim>>,
+  // What the library has besides is for the command line.
+  Holds<Same<keyof typeof declared, Exclude<keyof typeof written, "moduleUrl">>>,
+];
+
+export const record: typeof declared.record = written.record;
+export const sameRecord: typeof written.record = declared.record;

@@ -1,0 +1,276 @@
+// Makes the package, installs it in a folder of its own, and uses it there as a project does that has it as a
+// dependency. The environment's SABSIM is the built program, which the package is made with then.
+
+import assert from "node:assert/strict";
+import { spawn, spawnSync } from "node:child_process";
+import { createHash } from "node:crypto";
+import {
+  chmodSync, copyFileSync, existsSync, mkdirSync, mkdtempSync, readFileSync, readdirSync, rmSync, writeFileSync,
+} from "node:fs";
+import { once } from "node:events";
+import { tmpdir } from "node:os";
+import { join } from "node:path";
+import { after, test } from "node:test";
+import { fileURLToPath } from "node:url";
+
+const pathOf = (place) => fileURLToPath(new URL(place, import.meta.url));
+const TOP = pathOf("../../");
+const PROJECT = pathOf("project/");
+const FILES = readFileSync(pathOf("files.txt"), "utf8").trimEnd().split("\n");
+const { version } = JSON.parse(readFileSync(join(TOP, "package.json"), "utf8"));
+const MACHINE = `${process.platform}-${process.arch}`;
+const PROGRAM_FILES = [`program/${MACHINE}/sabsim`, `program/${MACHINE}/sabsim.txt`];
+
+const { SABSIM } = process.env;
+const withProgram = { skip: SABSIM === undefined ? "the program wasn't given" : false };
+const hasCompiler = spawnSync("tsc", ["--version"]).status === 0;
+const withCompiler = { skip: hasCompiler ? false : "there is no tsc on this machine" };
+
+const room = mkdtempSync(join(tmpdir(), "sabsim-package-"));
+after(() => rmSync(room, { recursive: true, force: true }));
+
+/** What a user's shell has: nothing of this test's own run, and npm without a network. */
+const environment = Object.fromEntries(
+  Object.entries(process.env).filter(([name]) => !/^(NODE_|npm_|SABSIM)/i.test(name)),
+);
+Object.assign(environment, {
+  npm_config_cache: join(room, "npm"), npm_config_offline: "true", npm_config_update_notifier: "false",
+});
+
+/** Runs a command until it ends. */
+function run(folder, command, words, input = "") {
+  const options = { cwd: folder, input, encoding: "utf8", env: environment, maxBuffer: 2 ** 26, timeout: 120_000 };
+  const { status, signal, stdout, stderr, error } = spawnSync(command, words, options);
+  assert.equal(error, undefined);
+  return { status, signal, output: stdout, errors: stderr };
+}
+
+/** What a command that succeeds writes. */
+function succeeds(folder, command, words, input) {
+  const { status, output, errors } = run(folder, command, words, input);
+  assert.equal(status, 0, `${command} ${words.join(" ")}\n${output}\n${errors}`);
+  return output;
+}
+
+/** Makes the package; answers its path. */
+function packed(name, words) {
+  const folder = join(room, name);
+  mkdirSync(folder);
+  const path = succeeds(TOP, join(TOP, "tools/package"), [folder, ...words]).trimEnd();
+  assert.equal(path, join(folder, `sabsim-${version}.tgz`));
+  return path;
+}
+
+/** The files in a package, in the order of their names. */
+function filesOf(path) {
+  const names = succeeds(room, "tar", ["-tzf", path]).trimEnd().split("\n");
+  return names.map((name) => name.replace(/^package\//, "")).sort();
+}
+
+/** A project of a user's own with the package installed; answers its folder. */
+function projectWith(name, path) {
+  const folder = join(room, name);
+  mkdirSync(folder);
+  for (const file of readdirSync(PROJECT)) copyFileSync(join(PROJECT, file), join(folder, file));
+  writeFileSync(join(folder, "package.json"), '{ "name": "own", "version": "1.0.0", "private": true }\n');
+  copyFileSync(path, join(folder, `sabsim-${version}.tgz`));
+  const words = ["install", "--offline", "--no-audit", "--no-fund", `./sabsim-${version}.tgz`];
+  succeeds(folder, "npm", words);
+  return folder;
+}
+
+const npx = (folder, words, input) => run(folder, "npx", ["--no-install", ...words], input);
+
+/** What the folder of the repository has, with the folders that packing reads. */
+const listing = () => [TOP, join(TOP, "recorder"), join(TOP, "tools")].map((folder) => readdirSync(folder));
+
+const before = listing();
+const plain = packed("plain", []);
+const project = projectWith("project", plain);
+
+test("packing leaves nothing in the repository", () => assert.deepEqual(listing(), before));
+
+test("the package has the files of the list, and no program", () => assert.deepEqual(filesOf(plain), FILES));
+
+test("by `npm pack` alone it is the same package", () => {
+  const folder = join(room, "alone");
+  mkdirSync(folder);
+  succeeds(TOP, "npm", ["pack", "--silent", "--pack-destination", folder]);
+  assert.deepEqual(filesOf(join(folder, `sabsim-${version}.tgz`)), FILES);
+});
+
+test("nothing else is installed with it", () => {
+  const names = readdirSync(join(project, "node_modules")).filter((name) => !name.startsWith("."));
+  assert.deepEqual(names, ["sabsim"]);
+});
+
+test("a program's version is the package's", () => {
+  const words = readFileSync(join(TOP, "crates/sab_command/src/help.rt"), "utf8");
+  assert.equal(/^pub\(crate\) const VERSION: &str = "([0-9.]+)[^0-9.]/m.exec(words)?.[1], version);
+});
+
+test("a project's own tests import it", () => {
+  const output = succeeds(project, "node", ["--test", "--test-reporter=tap"]);
+  assert.match(output, /^# pass 3$/m);
+  assert.match(output, /^# fail 0$/m);
+});
+
+test("the test that the README shows finds the lost wake-up", () => {
+  const readme = readFileSync(join(TOP, "README.md"), "utf8").split("\n");
+  const from = readme.indexOf('    import assert from "node:assert/strict";');
+  const lines = readme.slice(from, readme.indexOf("    });", from) + 1).map((line) => line.slice(4));
+  const folder = join(project, "shown");
+  mkdirSync(folder);
+  for (const name of ["lock.mjs", "mutex.mjs"]) copyFileSync(join(PROJECT, name), join(folder, name));
+  writeFileSync(join(folder, "readme.mjs"), lines.join("\n"));
+  const { status, output } = run(folder, "node", ["--test", "--test-reporter=tap", "readme.mjs"]);
+  assert.equal(status, 1);
+  assert.match(output, /seed [0-9]+: .*waits at byte 4 of block 0/);
+});
+
+test("each exported name has a type, and is used below", async () => {
+  const types = readFileSync(join(project, "node_modules/sabsim/recorder/recorder.d.mts"), "utf8");
+  const found = [...types.matchAll(/^export (function|class|interface|type) (\w+)/gm)];
+  const names = (...kinds) => found.filter(([, kind]) => kinds.includes(kind)).map(([, , name]) => name).sort();
+  const words = `import("sabsim").then((all) => console.log(Object.keys(all).sort().join()))`;
+  assert.equal(succeeds(project, "node", ["-e", words]), `${names("function", "class").join()}\n`);
+  const used = [...readFileSync(join(project, "uses.mts"), "utf8").matchAll(/^import .*\{ (.*) \} from "sabsim";$/gm)];
+  assert.deepEqual(used.flatMap(([, list]) => list.split(", ")).sort(), found.map(([, , name]) => name).sort());
+});
+
+for (const words of [
+  ["--module", "nodenext", "--moduleResolution", "nodenext"],
+  ["--module", "esnext", "--moduleResolution", "node"],
+  ["--module", "nodenext", "--moduleResolution", "nodenext", "--lib", "es2022"],
+]) {
+  test(`TypeScript takes its types: ${words.join(" ")}`, withCompiler, () => {
+    const strictly = ["--noEmit", "--strict", "--allowJs", "--checkJs", "--target", "es2022"];
+    succeeds(project, "tsc", [...strictly, ...words, "uses.mts", "lock.mjs"]);
+  });
+}
+
+/** Records the lock until a run fails, and keeps that run; answers its seed. */
+function recorded(folder, words) {
+  const { status, output, errors } = npx(folder, ["sabsim-record", "lock.mjs", "--seeds", "1..50", ...words]);
+  assert.equal(status, 1, errors);
+  const seed = /^first failing seed: ([0-9]+), deadlock$/m.exec(output)?.[1];
+  assert.notEqual(seed, undefined, output);
+  return { seed: Number(seed), output };
+}
+
+test("sabsim-record finds the failing seed, and its script is what the engine says", () => {
+  const { seed, output: told } = recorded(project, ["--out", "found"]);
+  assert.match(told, /^nothing was checked by sabsim, .*node_modules\/sabsim\/program\/.*\/sabsim$/m);
+  const kept = (ending) => readFileSync(join(project, `found/seed-${seed}.${ending}`), "utf8");
+  if (seed > 1) {
+    assert.equal(npx(project, ["sabsim-record", "lock.mjs", "--seeds", `1..${seed - 1}`]).status, 0);
+  }
+  const { status, output } = npx(project, ["sabsim-engine", `found/seed-${seed}.json`]);
+  assert.equal(status, 0);
+  assert.equal(output, kept("report"));
+});
+
+test("the package's own examples are recorded", () => {
+  const example = "node_modules/sabsim/recorder/examples/mutex-three-state.agents.mjs";
+  const { status, output, errors } = npx(project, ["sabsim-record", example, "--seeds", "1..5"]);
+  assert.equal(status, 0, errors);
+  assert.match(output, /^5 runs: 5 finished$/m);
+});
+
+test("without a program sabsim says what to do, and does nothing else", () => {
+  const { status, output, errors } = npx(project, ["sabsim", "replay"], "{}");
+  assert.deepEqual([status, output], [2, ""]);
+  assert.match(errors, new RegExp(`^sabsim: there is no program for ${MACHINE} here`));
+  assert.match(errors, /\.\/build --package/);
+});
+
+const launched = projectWith("launched", plain);
+const launcher = join(launched, "node_modules/.bin/sabsim");
+
+/** Puts a script of a shell where the package has its program. */
+function withStandIn(script, mode = 0o755) {
+  const place = join(launched, "node_modules/sabsim/program", MACHINE);
+  mkdirSync(place, { recursive: true });
+  writeFileSync(join(place, "sabsim"), `#!/bin/sh\n${script}\n`);
+  chmodSync(join(place, "sabsim"), mode);
+}
+
+test("words, streams and the status are passed on", () => {
+  withStandIn('printf "%s|" "$@"; cat; echo wrong >&2; exit 7');
+  const told = run(launched, launcher, ["a b", "", "--c=*"], "given");
+  assert.deepEqual(told, { status: 7, signal: null, output: "a b||--c=*|given", errors: "wrong\n" });
+});
+
+test("it ends by the signal that the program ended by", () => {
+  withStandIn('kill -"$1" $$');
+  for (const signal of ["TERM", "KILL", "HUP"]) assert.equal(run(launched, launcher, [signal]).signal, `SIG${signal}`);
+  // Node itself goes on at this one, so the status tells it, as a shell's does.
+  assert.equal(run(launched, launcher, ["PIPE"]).status, 128 + 13);
+});
+
+/** Ends what is left of a group of processes. */
+function endGroup(leader) {
+  try {
+    process.kill(-leader, "SIGKILL");
+  } catch {
+    // None is left.
+  }
+}
+
+for (const signal of ["SIGHUP", "SIGINT", "SIGQUIT", "SIGTERM"]) {
+  test(`${signal} is passed on to the program`, { timeout: 30_000 }, async (the) => {
+    withStandIn(`trap "echo caught; exit 5" ${signal.slice(3)}\necho begun\nwhile :; do sleep 0.05; done`);
+    const stdio = ["ignore", "pipe", "ignore"];
+    const child = spawn(launcher, { cwd: launched, env: environment, stdio, detached: true });
+    the.after(() => endGroup(child.pid));
+    let output = "";
+    child.stdout.setEncoding("utf8").on("data", (part) => {
+      if (output === "") child.kill(signal);
+      output += part;
+    });
+    const [status] = await once(child, "close");
+    assert.deepEqual([status, output], [5, "begun\ncaught\n"]);
+  });
+}
+
+test("a program that can't be run is told of", () => {
+  withStandIn("", 0o644);
+  const { status, output, errors } = run(launched, launcher, []);
+  assert.deepEqual([status, output], [2, ""]);
+  assert.match(errors, /^sabsim: .* can't be run: /);
+});
+
+test("with a program it replays what was recorded, and checks", withProgram, async (the) => {
+  const path = packed("whole", [SABSIM]);
+  const folder = projectWith("own", path);
+  const place = join(folder, "node_modules/sabsim/program", MACHINE);
+
+  await the.test("the package has two files more", () => {
+    assert.deepEqual(filesOf(path), [...FILES, ...PROGRAM_FILES].sort());
+    const digest = createHash("sha256").update(readFileSync(join(place, "sabsim"))).digest("hex");
+    const told = readFileSync(join(place, "sabsim.txt"), "utf8");
+    assert.ok(told.includes(`sha256: ${digest}\n`), told);
+    assert.match(told, /^kit: \S/m);
+  });
+
+  await the.test("its version", () => {
+    assert.ok(npx(folder, ["sabsim", "--version"]).output.startsWith(`sabsim ${version},`));
+  });
+
+  await the.test("runs are checked by it", () => {
+    const { seed, output } = recorded(folder, ["--out", "found"]);
+    assert.match(output, /^[0-9]+ runs checked: sabsim says the same$/m);
+    const kept = (ending) => join(folder, `found/seed-${seed}.${ending}`);
+    const { status, output: report } = npx(folder, ["sabsim", "replay", kept("json")]);
+    assert.equal(status, 0);
+    assert.equal(report, readFileSync(kept("report"), "utf8"));
+    const explained = npx(folder, ["sabsim", "replay", "--format", "explained", kept("json")]).output;
+    assert.equal(explained, readFileSync(kept("explained"), "utf8"));
+    assert.ok(existsSync(kept("svg")));
+  });
+
+  await the.test("what it refuses is refused", () => {
+    assert.equal(npx(folder, ["sabsim", "replay"], "{}").status, 1);
+    assert.equal(npx(folder, ["sabsim", "--wrong"]).status, 2);
+  });
+});

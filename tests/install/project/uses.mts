@@ -1,0 +1,55 @@
+// Uses every name that the package exports, as TypeScript of a project of one's own.
+
+import { record, Difference, NoSabsim, Refused } from "sabsim";
+import type { Agent, AgentRun, Ending, Outcome, Race, RaceSide, RecordOptions, Setup, WithBuffers } from "sabsim";
+
+export const setup: Setup = { agents: 2, buffers: [8, 16], noBlock: [1] };
+
+export const agent: Agent = ({ buffers, agent, agents, args }: AgentRun) => {
+  const words = new Int32Array(buffers[0]!);
+  Atomics.store(words, agent % 2, agents + args.length);
+};
+
+const filled: WithBuffers = ([buffer], { agents, args }) => {
+  new Uint8Array(buffer!).fill(agents + args.length);
+};
+
+const options: RecordOptions = {
+  module: "./lock.mjs", agents: 2, buffers: [8], noBlock: [0], seed: 7, args: ["counting"], switch: 0.5,
+  timeouts: 0.1, maxMoves: 1_000, seconds: 2, ordinary: "watch", races: "allow", bounds: "fail", clock: "run",
+  init: filled, check: ([buffer]) => buffer!.byteLength === 8, sabsim: false, trace: true,
+};
+
+// @ts-expect-error: the module must be given
+const without: RecordOptions = { seed: 7 };
+// @ts-expect-error: there is no such word
+const wrong: RecordOptions = { module: "./lock.mjs", races: "ignore" };
+
+const sideText = ({ agent, access, atomic, block, byte, size, element, call, source }: RaceSide): string =>
+  [agent, access, atomic ? "atomic" : "ordinary", block, byte, size, element, call, source ?? "unknown"].join(" ");
+
+const raceText = ({ lines, text, sides: [first, second] }: Race): string =>
+  [...lines, text, sideText(first), sideText(second)].join("\n");
+
+function summary(outcome: Outcome): string {
+  const ending: Ending = outcome.ending;
+  const { seed, fails, detail, moves, calls, ordinary, progress, state, races } = outcome;
+  const numbers = [seed, moves, calls, ordinary, ...progress.map(({ returned, calls }) => calls - returned)];
+  const texts = [ending, String(fails), detail, state.hash, ...state.shown, ...races.map(raceText)];
+  const { bytes = [], answers = [], script, scriptHolds = "all", noScript = "", report = "", trace = "" } = outcome;
+  const answered = answers.flat().map((answer) => answer ?? "waits");
+  return [...numbers, ...texts, ...bytes, ...answered, script?.length, scriptHolds, noScript, report, trace].join(" ");
+}
+
+export async function told(): Promise<string> {
+  try {
+    const outcome: Outcome = await record(options);
+    return `${summary(outcome)} ${outcome.checked ? "checked" : outcome.unchecked ?? ""}`;
+  } catch (problem) {
+    if (problem instanceof Difference) return `${problem.message} ${problem.replayed} ${problem.outcome.seed}`;
+    if (problem instanceof Refused || problem instanceof NoSabsim) return problem.message;
+    throw problem;
+  }
+}
+
+export const refused: RecordOptions[] = [without, wrong];
