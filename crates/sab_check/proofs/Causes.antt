@@ -3,9 +3,9 @@ use Rattle.std.proofs.Common.{◌≡◌, Bool, true, false, List, [], ◌∷◌,
 use Rattle.sab_block.specs.declared.operand.Operand.{Operand}
 use Rattle.sab_block.specs.declared.view.View.{View}
 use Rattle.sab_block.specs.Access.{Check, first_failure, index_of, operands_of, kind_check, index_check, operand_check}
-use Rattle.sab_sim.specs.Check.{verdict, checks}
-use Rattle.sab_sim.specs.declared.call.Call.{Call}
-use Rattle.sab_sim.specs.declared.call.Call.TheVariants as C
+use Rattle.sab_plan.specs.Check.{verdict, checks}
+use Rattle.sab_plan.specs.declared.call.Call.{Call}
+use Rattle.sab_plan.specs.declared.call.Call.TheVariants as C
 use Rattle.sab_check.specs.Cause.{Step, steps, operand_step, first_cause, thrown_of}
 
 abbrev checks_of : List Step → List Check

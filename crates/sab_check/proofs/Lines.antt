@@ -1,8 +1,8 @@
 -- Warnings that are put one after another.
 use Rattle.std.proofs.Common.{◌≡◌, ℕ, ◌+◌, ◌<◌, Bool, List, ◌++◌, length, drop, get_or, append_assoc, append-nil, add-one, drop-cons}
 use Rattle.std.proofs.Math.Seq.{drop-length}
-use Rattle.sab_sim.specs.declared.call.Call.{Call}
-use Rattle.sab_sim.specs.Script.{ScriptParts}
+use Rattle.sab_plan.specs.declared.call.Call.{Call}
+use Rattle.sab_plan.specs.Script.{ScriptParts}
 use Rattle.sab_script.specs.Setup.{SetupParts}
 use Rattle.sab_check.specs.Text.{call_lines, calls_lines, agents_lines}
 

@@ -8,9 +8,9 @@ use Rattle.sab_block.specs.declared.access.Access.{Access}
 use Rattle.sab_block.specs.Kind.{is_big}
 use Rattle.sab_block.specs.View.{kind_of, len_of}
 use Rattle.sab_block.specs.Access.{Check, kind_check, index_check, operand_check, index_of, operands_of}
-use Rattle.sab_sim.specs.Check.{waitable_check, suspend_check}
-use Rattle.sab_sim.specs.declared.call.Call.{Call}
-use Rattle.sab_sim.specs.declared.call.Call.TheVariants as C
+use Rattle.sab_plan.specs.Check.{waitable_check, suspend_check}
+use Rattle.sab_plan.specs.declared.call.Call.{Call}
+use Rattle.sab_plan.specs.declared.call.Call.TheVariants as C
 use Rattle.sab_check.specs.declared.cause.Reason.{Reason}
 use Rattle.sab_check.specs.declared.cause.Reason.TheVariants.{NotAtomic, NotWaitable, NoElement, NotNumber, NotBigInt, CannotBlock}
 use Rattle.sab_check.specs.declared.cause.Cause.{Cause}

@@ -3,10 +3,10 @@ use Rattle.std.specs.Prelude.{ℕ, ◌+◌, ◌==◌, suc, Bool, List, [], ◌�
 use Rattle.std.specs.Fmt.{signed_decimal}
 use Rattle.sab_block.specs.Kind.{kind_name}
 use Rattle.sab_block.specs.Thrown.{name_of}
-use Rattle.sab_sim.specs.declared.call.Call.{Call}
-use Rattle.sab_sim.specs.declared.plan_view.PlanView.{PlanView}
-use Rattle.sab_sim.specs.Call.{function_of, view_of}
-use Rattle.sab_sim.specs.Script.{ScriptParts}
+use Rattle.sab_plan.specs.declared.call.Call.{Call}
+use Rattle.sab_plan.specs.declared.plan_view.PlanView.{PlanView}
+use Rattle.sab_plan.specs.Call.{function_of, view_of}
+use Rattle.sab_plan.specs.Script.{ScriptParts}
 use Rattle.sab_refusal.specs.declared.location.Location.TheVariants as at
 use Rattle.sab_refusal.specs.declared.member.Member.TheVariants.{Agents, Calls}
 use Rattle.sab_refusal.specs.Location.{location_text}

@@ -3,12 +3,12 @@
 ghost use Rattle.std.specs.Prelude.{◌≡◌};
 ghost use Rattle.std.specs.Option.{option_map};
 ghost use Rattle.sab_block.specs.Access.{access_checks};
-ghost use Rattle.sab_sim.specs.Check.{verdict};
+ghost use Rattle.sab_plan.specs.Check.{verdict};
 ghost use Rattle.sab_check.specs.Cause.{kind_step, waitable_step, index_step, operand_step, suspend_step, access_steps, steps, first_cause, thrown_of, Passes, Judges};
 
 use crate::cause::{Cause, Reason};
 use sab_block::{Access, Operand, Thrown, View};
-use sab_sim::Call;
+use sab_plan::Call;
 
 /// What a call throws whenever it acts, and why; none for a call that depends on the bytes alone.
 #[tactic(auto, using(crate::proofs::Causes::same_verdict))]

@@ -1,11 +1,11 @@
 //! The line of a script that isn't refused.
 
 ghost use Rattle.std.specs.Prelude.{◌≡◌, ◌+◌, ◌*◌, ◌≤◌, ◌++◌, length, OnOk, All, string_bytes};
-ghost use Rattle.sab_sim.specs.Script.{ScriptParts};
+ghost use Rattle.sab_plan.specs.Script.{ScriptParts};
 ghost use Rattle.sab_check.specs.Text.{count_calls, ok_text};
 
 use sab_script::Setup;
-use sab_sim::Script;
+use sab_plan::Script;
 use std::alloc::AllocError;
 use std::fmt;
 

@@ -1,14 +1,14 @@
 //! The warnings of a setup.
 
 ghost use Rattle.std.specs.Prelude.{◌≡◌, ◌++◌, slice_get, OnOk, string_bytes};
-ghost use Rattle.sab_sim.specs.Call.{view_of};
+ghost use Rattle.sab_plan.specs.Call.{view_of};
 ghost use Rattle.sab_script.specs.Views.{named_views, view_names};
 ghost use Rattle.sab_check.specs.Text.{name_in, call_lines, calls_lines, agents_lines};
 
 use crate::judging::cause_of;
 use crate::warning::Warning;
 use sab_script::Setup;
-use sab_sim::{Call, Script};
+use sab_plan::{Call, Script};
 use std::alloc::AllocError;
 
 /// The position of the view that a call names.

@@ -3,7 +3,7 @@
 ghost use Rattle.std.specs.Prelude.{◌≡◌};
 ghost use Rattle.sab_ending.specs.Outcome.{outcome_of};
 
-use sab_report::Ended;
+use sab_tool::Ended;
 
 /// What a job came to that wrote all that it had to.
 #[derive(Clone, Copy, Debug, PartialEq, Eq, Hash)]

@@ -16,21 +16,21 @@ use Rattle.sab_block.specs.View.{kind_of}
 use Rattle.sab_block.specs.Access as accesses
 use Rattle.sab_block.specs.Access.{value_at, raw_of, element, first_failure}
 use Rattle.sab_sim.specs.declared.place.Place.{Place}
-use Rattle.sab_sim.specs.declared.plan_view.PlanView.{PlanView}
-use Rattle.sab_sim.specs.declared.call.Call.{Call}
-use Rattle.sab_sim.specs.declared.call.Call.TheVariants as C
+use Rattle.sab_plan.specs.declared.plan_view.PlanView.{PlanView}
+use Rattle.sab_plan.specs.declared.call.Call.{Call}
+use Rattle.sab_plan.specs.declared.call.Call.TheVariants as C
 use Rattle.sab_sim.specs.declared.answer.Answer.TheVariants as A
 use Rattle.sab_sim.specs.declared.entry.Why.TheVariants as Y
 use Rattle.sab_sim.specs.declared.entry.What.{What}
 use Rattle.sab_sim.specs.declared.entry.What.TheVariants.{Began, Acted, Enlisted, Left, Returned, Stuck}
 use Rattle.sab_sim.specs.declared.entry.Entry.{Entry}
-use Rattle.sab_sim.specs.declared.schedule.Move.{Move}
-use Rattle.sab_sim.specs.Schedule.{agent_of}
+use Rattle.sab_plan.specs.declared.schedule.Move.{Move}
+use Rattle.sab_plan.specs.Schedule.{agent_of}
 use Rattle.sab_sim.specs.Entry.{is_act}
-use Rattle.sab_sim.specs.Call.{view_of, index_of}
-use Rattle.sab_sim.specs.Check.{checks, verdict}
+use Rattle.sab_plan.specs.Call.{view_of, index_of}
+use Rattle.sab_plan.specs.Check.{checks, verdict}
 use Rattle.sab_sim.specs.Place.{place_of}
-use Rattle.sab_sim.specs.Plan.{PlanParts, call_of}
+use Rattle.sab_plan.specs.Plan.{PlanParts, call_of}
 use Rattle.sab_sim.specs.Object.{State, Waiter, bytes_of, element_at, is_at, waiters, stands, DoesCall, Does}
 use Rattle.sab_sim.specs.Journal.{Reaches, returned_of, Answers, Justifies}
 use Rattle.sab_sim.specs.Agent.{WaitsOn}

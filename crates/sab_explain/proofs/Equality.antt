@@ -6,7 +6,7 @@ use borrow.Author.Tests.{eqb-true}
 use denote.Enum.Bare.{same_true}
 use Rattle.sab_sim.specs.declared.place.Place.{Place}
 use Rattle.sab_sim.specs.contracts.place.PlacePartialEq.TheImpl as place
-use Rattle.sab_sim.proofs.Equality.{same_call}
+use Rattle.sab_plan.proofs.Equality.{same_call}
 use Rattle.sab_explain.specs.declared.fact.Check.{Check}
 use Rattle.sab_explain.specs.contracts.fact.Check.{the_type as check_type}
 use Rattle.sab_explain.specs.contracts.fact.CheckPartialEq.TheImpl as check

@@ -7,7 +7,7 @@ use Rattle.std.proofs.lemmas.List.Elements.{filter-append}
 use Rattle.std.proofs.Math.Seq.{take-append_seam}
 use Rattle.sab_sim.specs.declared.entry.Entry.{Entry}
 use Rattle.sab_sim.specs.Entry.{is_act}
-use Rattle.sab_sim.specs.Plan.{PlanParts}
+use Rattle.sab_plan.specs.Plan.{PlanParts}
 use Rattle.sab_sim.specs.Object.{State, opening, Does}
 use Rattle.sab_sim.specs.Journal.{acts_of, Run, Reaches}
 use Rattle.sab_sim.proofs.OnlyAct.{Run-append}

@@ -3,9 +3,9 @@ use Rattle.std.proofs.Common.{◌≡◌, false, slice_get, Option, Some, None}
 use Rattle.std.specs.Prelude.{IfNone}
 use Rattle.sab_block.specs.Kind.{is_atomic}
 use Rattle.sab_block.specs.View.{kind_of}
-use Rattle.sab_sim.specs.declared.plan_view.PlanView.{PlanView}
-use Rattle.sab_sim.specs.declared.call.Call.{Call}
-use Rattle.sab_sim.specs.Call.{view_of, index_of}
+use Rattle.sab_plan.specs.declared.plan_view.PlanView.{PlanView}
+use Rattle.sab_plan.specs.declared.call.Call.{Call}
+use Rattle.sab_plan.specs.Call.{view_of, index_of}
 use Rattle.sab_sim.specs.Place.{place_of}
 use Rattle.sab_sim.specs.Sim.{SimParts}
 use Rattle.sab_explain.specs.Explainer.{IsBlind}

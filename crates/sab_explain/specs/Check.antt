@@ -3,8 +3,8 @@ use Rattle.std.specs.Prelude.{List, [], ◌∷◌, map, Option, Some, None, if�
 use Rattle.sab_block.specs.declared.operand.Operand.{Operand}
 use Rattle.sab_block.specs.declared.access.Access.{Access}
 use Rattle.sab_block.specs.Access as accesses
-use Rattle.sab_sim.specs.declared.call.Call.{Call}
-use Rattle.sab_sim.specs.declared.call.Call.TheVariants as C
+use Rattle.sab_plan.specs.declared.call.Call.{Call}
+use Rattle.sab_plan.specs.declared.call.Call.TheVariants as C
 use Rattle.sab_explain.specs.declared.fact.Check.{Check}
 use Rattle.sab_explain.specs.declared.fact.Check.TheVariants as K
 

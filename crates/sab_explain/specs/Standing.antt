@@ -7,7 +7,7 @@ use Rattle.sab_sim.specs.declared.entry.What.{What}
 use Rattle.sab_sim.specs.declared.entry.What.TheVariants.{Began, Acted, Left}
 use Rattle.sab_sim.specs.declared.entry.Entry.{Entry}
 use Rattle.sab_sim.specs.Place.{same_place}
-use Rattle.sab_sim.specs.Plan.{PlanParts, call_of}
+use Rattle.sab_plan.specs.Plan.{PlanParts, call_of}
 use Rattle.sab_sim.specs.Object.{State, stands}
 use Rattle.sab_sim.specs.Journal.{Reaches, returned_of}
 use Rattle.sab_explain.specs.declared.standing.Standing.{Standing}

@@ -1,7 +1,7 @@
 //! What is known of an agent before its move, and what its entry then found.
 
 ghost use Rattle.std.specs.Prelude.{◌≡◌, ℕ, List, IfSome};
-ghost use Rattle.sab_sim.specs.Plan.{PlanParts};
+ghost use Rattle.sab_plan.specs.Plan.{PlanParts};
 ghost use Rattle.sab_explain.specs.Explainer as explaining;
 ghost use Rattle.sab_explain.specs.Explainer.{IsReadable, IsBefore, failed_of, found, concluded};
 ghost use Rattle.sab_explain.specs.Fact as facts;

@@ -3,7 +3,7 @@
 ghost use Rattle.std.specs.Prelude.{◌≡◌};
 ghost use Rattle.sab_block.specs.Access.{access_checks};
 ghost use Rattle.sab_block.specs.Operand as operands;
-ghost use Rattle.sab_sim.specs.Check.{checks};
+ghost use Rattle.sab_plan.specs.Check.{checks};
 ghost use Rattle.sab_explain.specs.Check.{names_of, access_names, first_failed};
 
 use crate::fact::Check;

@@ -2,7 +2,7 @@
 
 ghost use Rattle.std.specs.Prelude.{◌≡◌};
 ghost use Rattle.std.specs.List.{list_any};
-ghost use Rattle.sab_sim.specs.Plan.{call_of};
+ghost use Rattle.sab_plan.specs.Plan.{call_of};
 ghost use Rattle.sab_explain.specs.Standing as standings;
 ghost use Rattle.sab_explain.specs.Standing.{are_one, by_last, is_notify, what_at, entries_after};
 

@@ -4,8 +4,8 @@ use Rattle.std.specs.Prelude.{Vec}
 use Rattle.std.specs.Io.KnownBytes.{Appends, Keeps, append_known}
 use Rattle.sab_sim.specs.declared.entry.Entry.{Entry}
 use Rattle.sab_sim.specs.declared.progress.Progress.{Progress}
-use Rattle.sab_sim.specs.declared.schedule.Move.{Move}
-use Rattle.sab_sim.specs.Plan.{PlanParts}
+use Rattle.sab_plan.specs.declared.schedule.Move.{Move}
+use Rattle.sab_plan.specs.Plan.{PlanParts}
 use Rattle.sab_sim.specs.Sim.{SimParts}
 use Rattle.sab_sim.specs.Report.{ReportParts, Fits, IsOnly, items_of_each}
 use Rattle.sab_explain.specs.declared.fact.Fact.{Fact}

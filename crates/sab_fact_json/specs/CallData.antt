@@ -8,9 +8,9 @@ use Rattle.sab_block.specs.declared.operand.Operand.{Operand}
 use Rattle.sab_block.specs.Operand.{is_bigint, whole_of}
 use Rattle.sab_block.specs.declared.access.Access.{Access}
 use Rattle.sab_block.specs.declared.access.Access.TheVariants.{Load, Store, Rmw, CompareExchange}
-use Rattle.sab_sim.specs.declared.call.Call.{Call}
-use Rattle.sab_sim.specs.declared.call.Call.TheVariants as C
-use Rattle.sab_sim.specs.Call.{function_of, view_of, index_of}
+use Rattle.sab_plan.specs.declared.call.Call.{Call}
+use Rattle.sab_plan.specs.declared.call.Call.TheVariants as C
+use Rattle.sab_plan.specs.Call.{function_of, view_of, index_of}
 use Rattle.sab_fact_text.specs.CallText.{name_of}
 
 -- an ASCII letter, a digit or `_`

@@ -2,7 +2,7 @@
 
 ghost use Rattle.std.specs.Prelude.{◌≡◌, ◌+◌, ◌*◌, ◌≤◌, ◌++◌, true, length, codes};
 ghost use Rattle.serde_json.specs.Written.{compact_text, items_text};
-ghost use Rattle.sab_sim.specs.Call.{function_of};
+ghost use Rattle.sab_plan.specs.Call.{function_of};
 ghost use Rattle.sab_fact_json.specs.CallData.{AreNames, operand_data, limit_items, operand_items, more_items, call_data};
 
 use sab_block::{Access, Operand};

@@ -2,7 +2,7 @@
 
 ghost use Rattle.std.specs.Prelude.{◌≡◌, ◌+◌, ◌^◌, ◌<◌, ◌≤◌, ◌++◌, [], length, All, IfOk, OnOk};
 ghost use Rattle.std.specs.Io.KnownBytes.{Appends, append_known};
-ghost use Rattle.sab_sim.specs.Schedule.{agent_of};
+ghost use Rattle.sab_plan.specs.Schedule.{agent_of};
 ghost use Rattle.sab_fact_json.specs.CallData.{AreNames};
 ghost use Rattle.sab_fact_json.specs.Lines.{block_lines, agent_lines};
 ghost use Rattle.sab_fact_json.specs.FactJson.{TellsAsJson, ExplainsAsJson};

@@ -2,9 +2,9 @@
 use Rattle.std.proofs.Common.{◌≡◌, ℕ, ◌+◌, ◌*◌, ◌≤◌, List, [], ◌∷◌, length, map, max, refl, ap, ◌∙◌, All, add-one, arith}
 use Rattle.std.proofs.Math.Nat.{mul-suc}
 use Rattle.std.proofs.lemmas.List.Elements.{All-nil, All-cons}
-use Rattle.sab_sim.specs.declared.call.Call.{Call}
-use Rattle.sab_sim.specs.Script.{ScriptParts}
-use Rattle.sab_sim.specs.Plan.{PlanParts}
+use Rattle.sab_plan.specs.declared.call.Call.{Call}
+use Rattle.sab_plan.specs.Script.{ScriptParts}
+use Rattle.sab_plan.specs.Plan.{PlanParts}
 use Rattle.sab_fact_text.specs.CallText.{call_text}
 use Rattle.sab_fact_svg.specs.Shape.{greatest, longest_in, longest_call, value_chars, lane_width, shape_of, HaveRoom}
 

@@ -3,9 +3,9 @@ use Rattle.std.specs.Prelude.{ℕ, ◌+◌, ◌*◌, ◌≤◌, max, Bool, if◌
 use Rattle.std.specs.List.{list_any}
 use Rattle.sab_block.specs.Kind.{is_big}
 use Rattle.sab_block.specs.View.{kind_of}
-use Rattle.sab_sim.specs.declared.plan_view.PlanView.{PlanView}
-use Rattle.sab_sim.specs.Script.{ScriptParts}
-use Rattle.sab_sim.specs.Plan.{PlanParts}
+use Rattle.sab_plan.specs.declared.plan_view.PlanView.{PlanView}
+use Rattle.sab_plan.specs.Script.{ScriptParts}
+use Rattle.sab_plan.specs.Plan.{PlanParts}
 use Rattle.sab_fact_text.specs.CallText.{call_text}
 use Rattle.sab_fact_svg.specs.declared.shape.Shape.{Shape}
 

@@ -2,7 +2,7 @@
 
 ghost use Rattle.std.specs.Prelude.{◌≡◌, ◌+◌, ◌^◌, ◌<◌, ◌≤◌, ◌++◌, [], length, All, codes, IfOk, OnOk};
 ghost use Rattle.std.specs.Io.KnownBytes.{Appends, append_known};
-ghost use Rattle.sab_sim.specs.Schedule.{agent_of};
+ghost use Rattle.sab_plan.specs.Schedule.{agent_of};
 ghost use Rattle.sab_xml.specs.Xml.{nodes, nodes_text};
 ghost use Rattle.sab_fact_svg.specs.Frame.{root_start, background, lanes, legend};
 ghost use Rattle.sab_fact_svg.specs.Picture.{DrawsEntries, Draws};

@@ -4,8 +4,8 @@ use Rattle.std.specs.Io.KnownBytes.{Appends}
 use Rattle.sab_sim.specs.declared.entry.Entry.{Entry}
 use Rattle.sab_sim.specs.declared.progress.Progress.{Progress}
 use Rattle.sab_sim.specs.Entry.{is_stuck}
-use Rattle.sab_sim.specs.declared.schedule.Move.{Move}
-use Rattle.sab_sim.specs.Plan.{PlanParts, call_of}
+use Rattle.sab_plan.specs.declared.schedule.Move.{Move}
+use Rattle.sab_plan.specs.Plan.{PlanParts, call_of}
 use Rattle.sab_sim.specs.Journal.{returned_of}
 use Rattle.sab_sim.specs.Report.{ReportParts, Fits, IsOnly}
 use Rattle.sab_explain.specs.declared.fact.Fact.{Fact}

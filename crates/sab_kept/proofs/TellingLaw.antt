@@ -5,9 +5,9 @@ use Rattle.sab_sim.specs.declared.entry.Why.TheVariants.{NotWaiting, Endless}
 use Rattle.sab_sim.specs.declared.entry.What.{What}
 use Rattle.sab_sim.specs.declared.entry.What.TheVariants.{Left, Stuck}
 use Rattle.sab_sim.specs.declared.entry.Entry.{Entry}
-use Rattle.sab_sim.specs.declared.schedule.Move.{Move}
-use Rattle.sab_sim.specs.declared.schedule.Move.TheVariants.{Step, TimeUp}
-use Rattle.sab_sim.specs.Schedule.{agent_of}
+use Rattle.sab_plan.specs.declared.schedule.Move.{Move}
+use Rattle.sab_plan.specs.declared.schedule.Move.TheVariants.{Step, TimeUp}
+use Rattle.sab_plan.specs.Schedule.{agent_of}
 use Rattle.sab_sim.specs.Journal.{answers_move, Answers}
 use Rattle.sab_kept.specs.Telling.{is_time_up, move_of, schedule_of, JournalTells}
 

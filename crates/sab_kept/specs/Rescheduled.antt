@@ -2,7 +2,7 @@
 use Rattle.std.specs.Prelude.{List, map, codes}
 use Rattle.serde_json.specs.Data.{Data, array, object, Items, put}
 use Rattle.serde_json.specs.View.{items_of}
-use Rattle.sab_sim.specs.declared.schedule.Move.{Move}
+use Rattle.sab_plan.specs.declared.schedule.Move.{Move}
 use Rattle.sab_script.specs.Schedule.{move_tree}
 use Rattle.sab_script.specs.Setup.{SetupParts}
 

@@ -7,13 +7,13 @@ use Rattle.std.proofs.lemmas.List.Elements.{filter-append}
 use Rattle.std.proofs.lemmas.List.Sums.{sum_by-set, get_or-le-sum_by, sum_by-cons}
 use Rattle.std.specs.Prelude.{Result, Ok, Err, IsOk, OnOk, ◌^◌}
 use Rattle.sab_sim.specs.declared.sim_fault.SimFault.{SimFault}
-use Rattle.sab_sim.specs.declared.call.Call.{Call}
-use Rattle.sab_sim.specs.declared.call.Call.TheVariants as C
-use Rattle.sab_sim.specs.declared.schedule.Move.{Move}
-use Rattle.sab_sim.specs.declared.schedule.Move.TheVariants.{Step, TimeUp}
-use Rattle.sab_sim.specs.Schedule.{agent_of}
-use Rattle.sab_sim.specs.Script.{ScriptParts}
-use Rattle.sab_sim.specs.Plan.{PlanParts, calls_of, calls_in}
+use Rattle.sab_plan.specs.declared.call.Call.{Call}
+use Rattle.sab_plan.specs.declared.call.Call.TheVariants as C
+use Rattle.sab_plan.specs.declared.schedule.Move.{Move}
+use Rattle.sab_plan.specs.declared.schedule.Move.TheVariants.{Step, TimeUp}
+use Rattle.sab_plan.specs.Schedule.{agent_of}
+use Rattle.sab_plan.specs.Script.{ScriptParts}
+use Rattle.sab_plan.specs.Plan.{PlanParts, calls_of, calls_in}
 use Rattle.sab_race.specs.Moves.{call_moves, moves_of, part, count_of}
 use Rattle.sab_race.specs.Agenda.{AgendaParts, agenda_at, left_in, left_of, no_agenda, after_next}
 use Rattle.sab_race.specs.Race.{RaceParts, IsAgenda, IsUnderWay, AreFresh}

@@ -1,6 +1,6 @@
 -- What agents still have to do in a race.
 use Rattle.std.specs.Prelude.{◌≡◌, ℕ, ◌+◌, ◌-◌, ◌<◌, List, [], length, sum_by, slice_get, slice_set, slice_index_or, Some}
-use Rattle.sab_sim.specs.declared.schedule.Move.{Move}
+use Rattle.sab_plan.specs.declared.schedule.Move.{Move}
 
 -- an agent's moves, and how many of them were made
 pub record AgendaParts : Type 0 where

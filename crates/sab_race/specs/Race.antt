@@ -1,8 +1,8 @@
 -- Races of agents in threads.
 use Rattle.std.specs.Prelude.{◌≡◌, ℕ, ◌+◌, ◌<◌, ◌≤◌, ◌^◌, List, [], length, take, slice_get}
-use Rattle.sab_sim.specs.declared.schedule.Move.{Move}
-use Rattle.sab_sim.specs.Plan.{PlanParts, parts_of, calls_of, calls_in}
-use Rattle.sab_sim.specs.Script.{ScriptParts}
+use Rattle.sab_plan.specs.declared.schedule.Move.{Move}
+use Rattle.sab_plan.specs.Plan.{PlanParts, parts_of, calls_of, calls_in}
+use Rattle.sab_plan.specs.Script.{ScriptParts}
 use Rattle.sab_sim.specs.Report.{ReportParts, Fits}
 use Rattle.sab_race.specs.Moves.{moves_of, part}
 use Rattle.sab_race.specs.Agenda.{AgendaParts, agenda_at, unmade, left_in, left_of}

@@ -1,7 +1,7 @@
 //! How many moves agents make, told before any is made.
 
 ghost use Rattle.std.specs.Prelude.{◌≡◌, ◌≤◌, length, All};
-ghost use Rattle.sab_sim.specs.Script.{ScriptParts};
+ghost use Rattle.sab_plan.specs.Script.{ScriptParts};
 ghost use Rattle.sab_race.specs.Moves.{call_moves, moves_of, count_of};
 
 use crate::script_moves::MAX_SPINS;

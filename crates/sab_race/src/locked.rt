@@ -1,7 +1,7 @@
 //! Agents in threads that take turns under one lock.
 
 ghost use Rattle.std.specs.Prelude.{◌≡◌, ℕ, ◌<◌, ◌≤◌, ◌^◌, ◌↔◌, IfOk, IsErrOf};
-ghost use Rattle.sab_sim.specs.Plan.{PlanParts};
+ghost use Rattle.sab_plan.specs.Plan.{PlanParts};
 ghost use Rattle.sab_sim.specs.Report.{IsOnly};
 ghost use Rattle.sab_race.specs.Moves.{count_of};
 ghost use Rattle.sab_race.specs.Race.{IsRace, no_plan};

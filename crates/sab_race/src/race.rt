@@ -1,8 +1,8 @@
 //! A race as far as it came.
 
 ghost use Rattle.std.specs.Prelude.{◌≡◌, ◌≢◌, ℕ, ◌<◌, ◌≤◌, ◌^◌, ◌↔◌, length, All, IsTrue, IsFalse, IfOk, IfSome, IfNone, IsErrOf, SomeIndex};
-ghost use Rattle.sab_sim.specs.Script.{ScriptParts};
-ghost use Rattle.sab_sim.specs.Plan.{calls_of};
+ghost use Rattle.sab_plan.specs.Script.{ScriptParts};
+ghost use Rattle.sab_plan.specs.Plan.{calls_of};
 ghost use Rattle.sab_sim.specs.Report.{IsOnly};
 ghost use Rattle.sab_race.specs.Moves.{moves_of, count_of};
 ghost use Rattle.sab_race.specs.Agenda.{agenda_at, left_in, advanced, HasNext, IsNext};

@@ -1,13 +1,13 @@
 -- Equality of refusals, with what they say and where: values that a derived `==` finds equal are the same.
-use Rattle.std.proofs.Common.{◌≡◌, ◌≤◌, true, refl, ap, rules}
+use Rattle.std.proofs.Common.{◌&&◌, ◌≡◌, ◌≤◌, ℤ, Bool, true, refl, ap, rules}
 use Rattle.std.proofs.Props.{props}
-use Rattle.std.specs.Cmp.{unsigned_Decides, booleans_Decides}
+use Rattle.std.specs.Cmp.{signed_Decides, unsigned_Decides, booleans_Decides}
+use Rattle.std.specs.Ordering.{int_eq}
 use Rattle.std.proofs.lemmas.Bool.{and_parts, false≢true}
 use Rattle.std.proofs.lemmas.Slice.Eq.{slice_eq-Decides}
 use borrow.Author.Tests.{eqb-true}
 use denote.Enum.Bare.{same_true}
 use mathlib.Core.HLevel.{is_prop→PathP}
-use Rattle.sab_block.proofs.Equality.{same_int, same_pair}
 use Rattle.sab_refusal.specs.declared.excerpt.Excerpt.{Excerpt}
 use Rattle.sab_refusal.specs.declared.located.Located.{Located}
 use Rattle.sab_refusal.specs.declared.location.Location.{Location}
@@ -39,6 +39,14 @@ use Rattle.sab_refusal.specs.contracts.why.UnitPartialEq.TheImpl as unit
 use Rattle.sab_refusal.specs.contracts.why.Wanted.{the_type as wanted_type}
 use Rattle.sab_refusal.specs.contracts.why.WantedPartialEq.TheImpl as wanted
 use Rattle.sab_refusal.specs.contracts.why.WhyPartialEq.TheImpl as why
+
+same_int : (x y : ℤ) → int_eq x y ≡ true → x ≡ y
+same_int x y = (signed_Decides x y).0
+
+-- two tests at once
+same_pair : {A B : Type 0} {x y : A} {u v : B} {s t : Bool} → (s ≡ true → x ≡ y) → (t ≡ true → u ≡ v)
+    → (s && t) ≡ true → ◌≡◌ {A = A × B} (x, u) (y, v)
+same_pair {s = s} {t = t} f g e = let h = and_parts s t e in λ i. (f h.0 i, g h.1 i)
 
 same_read_fault : (x y : ReadFault) → (read_fault.ghosts).eq x y ≡ true → x ≡ y
 same_read_fault = same_true read_fault_type (search rules)

@@ -1,17 +1,10 @@
--- Ways to race and ends that the derived `==` finds equal are the same.
-use Rattle.std.proofs.Common.{◌≡◌, true, rules}
-use denote.Enum.Bare.{same_true}
+-- Ways to race that the derived `==` finds equal are the same.
+use Rattle.std.proofs.Common.{◌≡◌, true}
 use borrow.Author.Tests.{eqb-true}
 use Rattle.std.proofs.lemmas.Bool.{and_parts}
 use Rattle.sab_race.proofs.Equality.{same_share}
-use Rattle.sab_report.specs.declared.ended.Ended.{Ended}
-use Rattle.sab_report.specs.contracts.ended.Ended.{the_type as ended_type}
-use Rattle.sab_report.specs.contracts.ended.EndedPartialEq.TheImpl as ended
 use Rattle.sab_report.specs.declared.racing.Race.{Race}
 use Rattle.sab_report.specs.contracts.racing.RacePartialEq.TheImpl as race
-
-pub same_ended : (x y : Ended) → (ended.ghosts).eq x y ≡ true → x ≡ y
-same_ended = same_true ended_type (search rules)
 
 pub same_race : (x y : Race) → (race.ghosts).eq x y ≡ true → x ≡ y
 same_race x y e =

@@ -1,4 +1,3 @@
-pub mod Ended
 pub mod Telling
 pub mod Racing
 pub mod Reporting

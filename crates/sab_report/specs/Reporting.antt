@@ -6,9 +6,9 @@ use Rattle.sab_script.specs.Setup.{SetupParts}
 use Rattle.sab_script.specs.Script.{IsScriptOf}
 use Rattle.sab_tool.specs.Replay.{IsReportOf}
 use Rattle.sab_tool.specs.Racing.{IsRaceOf}
-use Rattle.sab_report.specs.declared.ended.Ended.{Ended}
+use Rattle.sab_tool.specs.declared.ended.Ended.{Ended}
 use Rattle.sab_text.specs.declared.format.Telling.{Telling}
-use Rattle.sab_report.specs.Ended.{ended_of}
+use Rattle.sab_tool.specs.Ended.{ended_of}
 use Rattle.sab_report.specs.Telling.{Tells}
 
 -- the script spells a setup, its one report was told, and so it ended

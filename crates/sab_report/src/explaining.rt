@@ -1,7 +1,7 @@
 //! From moves to a report that tells their facts.
 
 ghost use Rattle.std.specs.Prelude.{◌≡◌, ◌^◌, ◌<◌, ◌≤◌, [], length, All, IfOk, IfErr};
-ghost use Rattle.sab_sim.specs.Schedule.{agent_of};
+ghost use Rattle.sab_plan.specs.Schedule.{agent_of};
 ghost use Rattle.sab_fact_text.specs.Column.{column_of};
 ghost use Rattle.sab_fact_text.specs.Explained.{Explains};
 ghost use Rattle.sab_fact_json.specs.CallData.{AreNames};

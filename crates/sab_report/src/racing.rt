@@ -8,13 +8,12 @@ ghost use Rattle.sab_tool.specs.Racing.{IsRaceOf, IsRaceFault};
 ghost use Rattle.sab_report.specs.Racing.{TellsRace, IsTellingRaceFault};
 ghost use Rattle.sab_report.specs.Reporting.{RacesAs};
 
-use crate::ended::Ended;
 use crate::names::names_of;
 use crate::telling::tell_moves;
 use sab_fact_text::Name;
 use sab_sim::{Plan, Report};
 use sab_text::{Format, Lines, Telling, write_report};
-use sab_tool::{MAX_SPINS, Share, ToolFault, race_plan, setup_of};
+use sab_tool::{Ended, MAX_SPINS, Share, ToolFault, race_plan, setup_of};
 use std::alloc::Global;
 use std::io::Write;
 use std::sync::Wait;

@@ -4,11 +4,10 @@ ghost use Rattle.std.specs.Prelude.{IfOk, IfErr};
 ghost use Rattle.sab_tool.specs.Replay.{IsReplayFault};
 ghost use Rattle.sab_report.specs.Reporting.{ReplaysAs};
 
-use crate::ended::Ended;
 use crate::names::names_of;
 use crate::telling::tell_moves;
 use sab_text::Telling;
-use sab_tool::{ToolFault, setup_of};
+use sab_tool::{Ended, ToolFault, setup_of};
 use std::alloc::Global;
 use std::io::Write;
 

@@ -2,7 +2,7 @@
 
 ghost use Rattle.std.specs.Prelude.{◌^◌, ◌<◌, ◌≤◌, length, All, IfOk, IfErr};
 ghost use Rattle.std.specs.Io.KnownBytes.{Appends};
-ghost use Rattle.sab_sim.specs.Schedule.{agent_of};
+ghost use Rattle.sab_plan.specs.Schedule.{agent_of};
 ghost use Rattle.sab_text.specs.Text.{text_by};
 ghost use Rattle.sab_fact_json.specs.CallData.{AreNames};
 ghost use Rattle.sab_tool.specs.Replay.{IsReplayOf};

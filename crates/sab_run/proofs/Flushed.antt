@@ -1,11 +1,11 @@
 -- A flush after a replay, and after a race.
 use Rattle.std.proofs.Common.{ℕ, List, Option, Some, None, ◌∙◌}
 use Rattle.std.specs.Io.KnownBytes.{Appends, Keeps}
-use Rattle.sab_sim.specs.Plan.{PlanParts}
+use Rattle.sab_plan.specs.Plan.{PlanParts}
 use Rattle.sab_sim.specs.Report.{ReportParts}
 use Rattle.sab_script.specs.Setup.{SetupParts}
 use Rattle.sab_kept.specs.Keeping.{KeepsRun}
-use Rattle.sab_report.specs.declared.ended.Ended.{Ended}
+use Rattle.sab_tool.specs.declared.ended.Ended.{Ended}
 use Rattle.sab_text.specs.declared.format.Telling.{Telling}
 use Rattle.sab_report.specs.Telling.{Tells}
 use Rattle.sab_report.specs.Reporting.{ReplaysAs, RacesAs}

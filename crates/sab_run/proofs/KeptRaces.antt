@@ -3,8 +3,8 @@ use Rattle.std.proofs.Common.{◌≡◌, ℕ, Bool, List, Option, Some}
 use Rattle.std.specs.Io.KnownBytes.{Keeps}
 use Rattle.sab_sim.specs.Report.{ReportParts}
 use Rattle.sab_race.specs.declared.share.Share.{Share}
-use Rattle.sab_report.specs.declared.ended.Ended.{Ended}
-use Rattle.sab_report.specs.Ended.{ended_of}
+use Rattle.sab_tool.specs.declared.ended.Ended.{Ended}
+use Rattle.sab_tool.specs.Ended.{ended_of}
 use Rattle.sab_kept.specs.Keeping.{KeepsRun, IsRaceIn}
 use Rattle.sab_command.specs.declared.command_line.Job.TheVariants.{RaceAsScript}
 use Rattle.sab_ending.specs.declared.outcome.Outcome.{Outcome}

@@ -9,8 +9,8 @@ use Rattle.sab_sim.specs.Report.{ReportParts}
 use Rattle.sab_script.specs.Setup.{SetupParts}
 use Rattle.sab_tool.specs.Replay.{IsReportOf, IsReplayFault}
 use Rattle.sab_tool.specs.Racing.{IsRaceFault}
-use Rattle.sab_report.specs.declared.ended.Ended.{Ended}
-use Rattle.sab_report.specs.Ended.{ended_of}
+use Rattle.sab_tool.specs.declared.ended.Ended.{Ended}
+use Rattle.sab_tool.specs.Ended.{ended_of}
 use Rattle.sab_report.specs.Reporting.{ReplaysAs, RacesAs}
 use Rattle.sab_kept.specs.Keeping.{KeepsRun, IsRaceIn, IsReplayUnkept, IsRaceUnkept, IsKeepFault}
 use Rattle.sab_check.specs.Checked.{IsAccepted, IsRefused}

@@ -8,9 +8,9 @@ use Rattle.sab_block.specs.declared.rmw_op.RmwOp.{RmwOp}
 use Rattle.sab_block.specs.declared.rmw_op.RmwOp.TheVariants.{Exchange, Add, Sub, And, Or, Xor}
 use Rattle.sab_block.specs.declared.access.Access.TheVariants.{Load, Store, Rmw, CompareExchange}
 use Rattle.sab_block.specs.RmwOp.{function_of_op}
-use Rattle.sab_sim.specs.declared.call.Call.{Call}
-use Rattle.sab_sim.specs.declared.call.Call.TheVariants.{Access as ToAccess, Wait, Notify}
-use Rattle.sab_sim.specs.Call.{view_of}
+use Rattle.sab_plan.specs.declared.call.Call.{Call}
+use Rattle.sab_plan.specs.declared.call.Call.TheVariants.{Access as ToAccess, Wait, Notify}
+use Rattle.sab_plan.specs.Call.{view_of}
 use Rattle.sab_script.specs.Calls.{value, optional, spelling_of, SpellsArguments, SpellsParts}
 
 -- what a call does, as its name says

@@ -5,7 +5,7 @@ use Rattle.sab_block.specs.declared.thrown.Thrown.{Thrown}
 use Rattle.sab_block.specs.declared.thrown.Thrown.TheVariants.{RangeError}
 use Rattle.sab_block.specs.declared.view.View.{View}
 use Rattle.sab_block.specs.View.{count, IsViewOf}
-use Rattle.sab_sim.specs.declared.plan_view.PlanView.{PlanView}
+use Rattle.sab_plan.specs.declared.plan_view.PlanView.{PlanView}
 use Rattle.sab_script.specs.declared.view_spec.ViewSpec.{ViewSpec}
 use Rattle.sab_script.specs.Views.{IsDescribed, AreDescribed}
 

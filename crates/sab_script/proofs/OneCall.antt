@@ -5,8 +5,8 @@ use Rattle.std.specs.Str.{bytes_eq}
 use Rattle.serde_json.specs.Data.{Data, Items, no_items, item}
 use Rattle.sab_block.specs.declared.operand.Operand.{Operand}
 use Rattle.sab_block.specs.declared.access.Access.TheVariants.{Store, Rmw, CompareExchange}
-use Rattle.sab_sim.specs.declared.call.Call.{Call}
-use Rattle.sab_sim.specs.declared.call.Call.TheVariants.{Access as ToAccess, Wait, Notify}
+use Rattle.sab_plan.specs.declared.call.Call.{Call}
+use Rattle.sab_plan.specs.declared.call.Call.TheVariants.{Access as ToAccess, Wait, Notify}
 use Rattle.sab_script.specs.Calls.{value, optional, spelling_of, SpellsArguments, SpellsCall}
 use Rattle.sab_script.proofs.CallParts.{Verb, load, store, rmw, compare_exchange, wait, notify, verb_of, IsCallOf, named_call}
 use Rattle.sab_script.proofs.OneOperand.{same_operand}

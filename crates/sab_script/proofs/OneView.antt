@@ -6,7 +6,7 @@ use mathlib.Core.HLevel.{is_prop→PathP}
 use Rattle.serde_json.specs.Data.{Data, string, object, Members}
 use Rattle.sab_block.specs.Kind.{element_size, kind_name}
 use Rattle.sab_block.specs.View.{count}
-use Rattle.sab_sim.specs.declared.plan_view.PlanView.{PlanView}
+use Rattle.sab_plan.specs.declared.plan_view.PlanView.{PlanView}
 use Rattle.sab_script.specs.declared.form.Form.{Form}
 use Rattle.sab_script.specs.declared.form.Form.TheVariants.{Bytes, Blocks}
 use Rattle.sab_script.specs.declared.view_spec.ViewSpec.{ViewSpec}

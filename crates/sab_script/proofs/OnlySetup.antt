@@ -3,9 +3,9 @@ use Rattle.std.proofs.Common.{◌≡◌, ℕ, pos, List, length, sym, ap, subst,
 use Rattle.std.specs.Str.{bytes_eq}
 use Rattle.std.specs.List.{IsDistinct}
 use Rattle.serde_json.specs.Data.{Data, boolean, array, Items}
-use Rattle.sab_sim.specs.declared.schedule.Move.{Move}
-use Rattle.sab_sim.specs.declared.schedule.Move.TheVariants.{Step, TimeUp}
-use Rattle.sab_sim.specs.Script.{ScriptParts}
+use Rattle.sab_plan.specs.declared.schedule.Move.{Move}
+use Rattle.sab_plan.specs.declared.schedule.Move.TheVariants.{Step, TimeUp}
+use Rattle.sab_plan.specs.Script.{ScriptParts}
 use Rattle.sab_script.specs.Reading.{SpellsEach}
 use Rattle.sab_script.specs.Numbers.{whole}
 use Rattle.sab_script.specs.Views.{SpellsView, AreDescribed, view_names}

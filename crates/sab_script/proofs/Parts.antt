@@ -1,8 +1,8 @@
 -- What a part of a spelling spells.
 use Rattle.std.proofs.Common.{◌≡◌, ℕ, codes, pos, refl, sym, ◌∙◌}
 use Rattle.serde_json.specs.Data.{Data, object, Members, no_members, member}
-use Rattle.sab_sim.specs.declared.schedule.Move.{Move}
-use Rattle.sab_sim.specs.declared.schedule.Move.TheVariants.{Step, TimeUp}
+use Rattle.sab_plan.specs.declared.schedule.Move.{Move}
+use Rattle.sab_plan.specs.declared.schedule.Move.TheVariants.{Step, TimeUp}
 use Rattle.std.proofs.Common.{Result, Ok, Err, OnErr}
 use Rattle.sab_script.specs.declared.form.Form.{Form}
 use Rattle.sab_script.specs.declared.form.Form.TheVariants.{Bytes, Blocks}

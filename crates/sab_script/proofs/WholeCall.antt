@@ -5,7 +5,7 @@ use Rattle.std.specs.List.{IsDistinct, AllByRecursion}
 use Rattle.std.specs.Str.{bytes_eq}
 use Rattle.std.proofs.lemmas.Slice.Eq.{bytes_eq-Decides}
 use Rattle.serde_json.specs.Data.{Data, string, array, Items, item}
-use Rattle.sab_sim.specs.declared.call.Call.{Call}
+use Rattle.sab_plan.specs.declared.call.Call.{Call}
 use Rattle.sab_refusal.specs.declared.located.Located.{Located}
 use Rattle.sab_script.specs.Reading.{Finds}
 use Rattle.sab_refusal.specs.Why.{fault_of}

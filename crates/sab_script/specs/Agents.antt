@@ -1,8 +1,8 @@
 -- How agents are spelled.
 use Rattle.std.specs.Prelude.{◌≡◌, ℕ, List, codes}
 use Rattle.serde_json.specs.Data.{Data, boolean, array, object, Items, no_members, member}
-use Rattle.sab_sim.specs.declared.plan.TheConstants.Plan.{MAX_AGENTS}
-use Rattle.sab_sim.specs.Script.{ScriptParts}
+use Rattle.sab_plan.specs.declared.plan.TheConstants.Plan.{MAX_AGENTS}
+use Rattle.sab_plan.specs.Script.{ScriptParts}
 use Rattle.sab_script.specs.Calls.{SpellsCalls}
 use Rattle.sab_script.specs.Reading.{SpellsUpTo}
 

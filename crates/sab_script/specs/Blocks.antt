@@ -1,7 +1,7 @@
 -- How blocks are spelled, in the two forms of a script.
 use Rattle.std.specs.Prelude.{◌≡◌, ℕ, ◌≤◌, pos, List, [], ◌∷◌, length, codes}
 use Rattle.serde_json.specs.Data.{Data, array, Items, Members, member}
-use Rattle.sab_sim.specs.declared.plan.TheConstants.Plan.{MAX_BLOCKS, MAX_BLOCK_LEN}
+use Rattle.sab_plan.specs.declared.plan.TheConstants.Plan.{MAX_BLOCKS, MAX_BLOCK_LEN}
 use Rattle.sab_script.specs.declared.form.Form.{Form}
 use Rattle.sab_script.specs.declared.form.Form.TheVariants.{Bytes, Blocks}
 use Rattle.sab_script.specs.Numbers.{whole}

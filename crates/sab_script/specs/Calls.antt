@@ -5,9 +5,9 @@ use Rattle.sab_block.specs.declared.operand.Operand.{Operand}
 use Rattle.sab_block.specs.declared.access.Access.TheVariants.{Load, Store, Rmw, CompareExchange}
 use Rattle.sab_block.specs.Operand.{IsSafeInteger}
 use Rattle.sab_block.specs.RmwOp.{function_of_op}
-use Rattle.sab_sim.specs.declared.call.Call.{Call}
-use Rattle.sab_sim.specs.declared.call.Call.TheVariants.{Access as ToAccess, Wait, Notify}
-use Rattle.sab_sim.specs.declared.plan.TheConstants.Plan.{MAX_CALLS}
+use Rattle.sab_plan.specs.declared.call.Call.{Call}
+use Rattle.sab_plan.specs.declared.call.Call.TheVariants.{Access as ToAccess, Wait, Notify}
+use Rattle.sab_plan.specs.declared.plan.TheConstants.Plan.{MAX_CALLS}
 use Rattle.sab_script.specs.Numbers.{whole, SpellsWhole, SpellsOperand}
 use Rattle.sab_script.specs.Reading.{SpellsEach, SpellsUpTo}
 use Rattle.sab_script.specs.Views.{SpellsName}

@@ -1,9 +1,9 @@
 -- How schedules are spelled.
 use Rattle.std.specs.Prelude.{◌≡◌, ℕ, ◌<◌, pos, List, codes}
 use Rattle.serde_json.specs.Data.{Data, object, Items, no_members, member}
-use Rattle.sab_sim.specs.declared.schedule.Move.{Move}
-use Rattle.sab_sim.specs.declared.schedule.Move.TheVariants.{Step, TimeUp}
-use Rattle.sab_sim.specs.Schedule.{agent_of}
+use Rattle.sab_plan.specs.declared.schedule.Move.{Move}
+use Rattle.sab_plan.specs.declared.schedule.Move.TheVariants.{Step, TimeUp}
+use Rattle.sab_plan.specs.Schedule.{agent_of}
 use Rattle.sab_script.specs.declared.schedule.TheConstants.{MAX_MOVES}
 use Rattle.sab_script.specs.Numbers.{whole}
 use Rattle.sab_script.specs.Reading.{SpellsUpTo}

@@ -1,8 +1,8 @@
 -- How a script is spelled as JSON.
 use Rattle.std.specs.Prelude.{◌≡◌, ℕ, List, length, codes}
 use Rattle.serde_json.specs.Data.{Data, array, object, Items, no_members, member}
-use Rattle.sab_sim.specs.declared.schedule.Move.{Move}
-use Rattle.sab_sim.specs.Plan.{PlanParts}
+use Rattle.sab_plan.specs.declared.schedule.Move.{Move}
+use Rattle.sab_plan.specs.Plan.{PlanParts}
 use Rattle.sab_script.specs.declared.view_spec.ViewSpec.{ViewSpec}
 use Rattle.sab_script.specs.declared.form.Form.{Form}
 use Rattle.sab_script.specs.Blocks.{lens_name, SpellsLens}

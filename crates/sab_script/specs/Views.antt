@@ -9,8 +9,8 @@ use Rattle.serde_json.specs.Data.{Data, string, object, Items, Members, no_membe
 use Rattle.sab_block.specs.Kind.{kind_name}
 use Rattle.sab_block.specs.Operand.{IsSafeInteger}
 use Rattle.sab_block.specs.View.{count, IsViewOf}
-use Rattle.sab_sim.specs.declared.plan.TheConstants.Plan.{MAX_VIEWS}
-use Rattle.sab_sim.specs.declared.plan_view.PlanView.{PlanView}
+use Rattle.sab_plan.specs.declared.plan.TheConstants.Plan.{MAX_VIEWS}
+use Rattle.sab_plan.specs.declared.plan_view.PlanView.{PlanView}
 use Rattle.sab_script.specs.declared.form.Form.{Form}
 use Rattle.sab_script.specs.declared.names.TheConstants.{MAX_NAME}
 use Rattle.sab_script.specs.declared.view_spec.ViewSpec.{ViewSpec}

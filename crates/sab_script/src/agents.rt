@@ -13,7 +13,7 @@ use crate::elements::{Reader, read_each};
 use crate::tree::{end, flag, items, member, members};
 use crate::views::Views;
 use sab_refusal::{Located, Location, Member, ReadFault, Unit};
-use sab_sim::{Plan, Script};
+use sab_plan::{Plan, Script};
 use serde_json::Value;
 use std::alloc::Global;
 

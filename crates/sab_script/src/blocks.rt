@@ -9,7 +9,7 @@ use crate::elements::{Reader, read_each};
 use crate::form::Form;
 use crate::tree::{items, whole};
 use sab_refusal::{Located, Location, Unit, Wanted, Why};
-use sab_sim::Plan;
+use sab_plan::Plan;
 use serde_json::Value;
 use std::alloc::Global;
 

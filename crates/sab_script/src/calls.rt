@@ -13,7 +13,7 @@ use crate::tree::{items, text, whole};
 use crate::views::{Views, view_of};
 use sab_block::{Access, RmwOp};
 use sab_refusal::{Excerpt, Located, Location, Unit, Wanted, Why};
-use sab_sim::{Call, Plan};
+use sab_plan::{Call, Plan};
 use serde_json::Value;
 use std::alloc::Global;
 

@@ -3,7 +3,7 @@
 ghost use Rattle.std.specs.Prelude.{◌≡◌, IfOk, IfErr, OnErr};
 ghost use Rattle.serde_json.specs.Data.{Data};
 ghost use Rattle.serde_json.specs.View.{view};
-ghost use Rattle.sab_sim.specs.Plan.{IsPlan, parts_of};
+ghost use Rattle.sab_plan.specs.Plan.{IsPlan, parts_of};
 ghost use Rattle.sab_refusal.specs.declared.read_fault.ReadFault.TheVariants.{OutOfMemory};
 ghost use Rattle.sab_script.specs.Reading.{Reads, Finds};
 ghost use Rattle.sab_script.specs.Views.{named_views};
@@ -19,7 +19,7 @@ use crate::view_spec::ViewSpec;
 use crate::views::Views;
 use indexmap::IndexMap;
 use sab_refusal::{Located, Location, Member, ReadFault};
-use sab_sim::{Move, Plan, PlanView, Script};
+use sab_plan::{Move, Plan, PlanView, Script};
 use serde_json::Value;
 use std::alloc::Global;
 use std::marker::Model;

@@ -16,7 +16,7 @@ use crate::view_spec::ViewSpec;
 use crate::views::Views;
 use sab_block::View;
 use sab_refusal::{Counted, Excerpt, Located, Location, Member, Unit, Wanted, Why};
-use sab_sim::{Plan, PlanView};
+use sab_plan::{Plan, PlanView};
 use serde_json::Value;
 use std::alloc::Global;
 

@@ -9,7 +9,7 @@ use crate::tree::text;
 use crate::view_spec::ViewSpec;
 use indexmap::IndexMap;
 use sab_refusal::{Excerpt, Located, Location, Why};
-use sab_sim::Plan;
+use sab_plan::Plan;
 use serde_json::Value;
 use std::alloc::{AllocError, Global};
 use std::marker::Model;

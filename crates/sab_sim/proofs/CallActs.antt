@@ -8,18 +8,18 @@ use Rattle.sab_block.specs.declared.access.Access.{Access}
 use Rattle.sab_block.specs.declared.operand.Operand.{Operand}
 use Rattle.sab_block.specs.Access.{Acts}
 use Rattle.sab_sim.specs.declared.place.Place.{Place}
-use Rattle.sab_sim.specs.declared.plan_view.PlanView.{PlanView}
-use Rattle.sab_sim.specs.declared.call.Call.{Call}
-use Rattle.sab_sim.specs.declared.call.Call.TheVariants as C
+use Rattle.sab_plan.specs.declared.plan_view.PlanView.{PlanView}
+use Rattle.sab_plan.specs.declared.call.Call.{Call}
+use Rattle.sab_plan.specs.declared.call.Call.TheVariants as C
 use Rattle.sab_sim.specs.declared.answer.Answer.{Answer}
 use Rattle.sab_sim.specs.declared.answer.Answer.TheVariants as A
 use Rattle.sab_sim.specs.declared.entry.What.{What}
 use Rattle.sab_sim.specs.declared.entry.What.TheVariants.{Acted, Enlisted}
 use Rattle.sab_sim.specs.declared.agent.Agent.{Agent}
 use Rattle.sab_sim.specs.declared.agent.Phase.TheVariants as P
-use Rattle.sab_sim.specs.Call.{view_of}
-use Rattle.sab_sim.specs.Script.{ScriptParts}
-use Rattle.sab_sim.specs.Plan.{PlanParts, calls_of, call_of}
+use Rattle.sab_plan.specs.Call.{view_of}
+use Rattle.sab_plan.specs.Script.{ScriptParts}
+use Rattle.sab_plan.specs.Plan.{PlanParts, calls_of, call_of}
 use Rattle.sab_sim.specs.Object.{State, DoesCall, Does, bytes_of, joined, woken}
 use Rattle.sab_sim.specs.Agent.{newcomer, agent_at, Advances, IsLike, IsAtCall}
 use Rattle.sab_sim.specs.Machine.{MachineParts, with_phase, enlisted, IsReady, IsBegun}

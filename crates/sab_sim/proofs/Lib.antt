@@ -3,7 +3,6 @@ pub mod SeatedLine
 pub mod OwnMoves
 pub mod LineMoves
 pub mod CallActs
-pub mod Equality
 mod EntryEquality
 pub mod OneMoveMore
 pub mod KeptFits

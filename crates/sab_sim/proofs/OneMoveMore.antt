@@ -10,13 +10,13 @@ use Rattle.sab_sim.specs.declared.answer.Answer.{Answer}
 use Rattle.sab_sim.specs.declared.entry.What.{What}
 use Rattle.sab_sim.specs.declared.entry.What.TheVariants.{Began, Acted, Enlisted, Left, Returned, Stuck}
 use Rattle.sab_sim.specs.declared.entry.Entry.{Entry}
-use Rattle.sab_sim.specs.declared.schedule.Move.{Move}
+use Rattle.sab_plan.specs.declared.schedule.Move.{Move}
 use Rattle.sab_sim.specs.declared.agent.Agent.{Agent}
 use Rattle.sab_sim.specs.declared.agent.Phase.{Phase}
 use Rattle.sab_sim.specs.declared.agent.Phase.TheVariants as P
-use Rattle.sab_sim.specs.Schedule.{agent_of}
+use Rattle.sab_plan.specs.Schedule.{agent_of}
 use Rattle.sab_sim.specs.Entry.{is_act, is_stuck, is_return}
-use Rattle.sab_sim.specs.Plan.{PlanParts, calls_of}
+use Rattle.sab_plan.specs.Plan.{PlanParts, calls_of}
 use Rattle.sab_sim.specs.Object.{State, opening, Does}
 use Rattle.sab_sim.specs.Journal.{Course, AtOnce, InLine, course, acts_of, Run, track, returned_of, answers_move, EachAnswers, Answers, IsJustified, EachAfter, Reaches}
 use Rattle.sab_sim.specs.Agent.{IsPart, IsAtCall, IsWhere, Advances, IsLike, IsInLine}

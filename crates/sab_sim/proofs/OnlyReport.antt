@@ -5,12 +5,12 @@ use Rattle.std.proofs.lemmas.List.{map-append, take-append-drop, take_all}
 use Rattle.std.proofs.lemmas.List.Elements.{filter-append}
 use Rattle.sab_sim.specs.declared.entry.What.{What}
 use Rattle.sab_sim.specs.declared.entry.Entry.{Entry}
-use Rattle.sab_sim.specs.declared.schedule.Move.{Move}
+use Rattle.sab_plan.specs.declared.schedule.Move.{Move}
 use Rattle.sab_sim.specs.declared.agent.Agent.{Agent}
 use Rattle.sab_sim.specs.declared.progress.Progress.{Progress}
-use Rattle.sab_sim.specs.Schedule.{agent_of}
+use Rattle.sab_plan.specs.Schedule.{agent_of}
 use Rattle.sab_sim.specs.Entry.{is_act, is_stuck}
-use Rattle.sab_sim.specs.Plan.{PlanParts, calls_of}
+use Rattle.sab_plan.specs.Plan.{PlanParts, calls_of}
 use Rattle.sab_sim.specs.Object.{State, opening}
 use Rattle.sab_sim.specs.Journal.{acts_of, Run, Reaches, track, IsTrack, returned_of, Answers, Justifies}
 use Rattle.sab_sim.specs.Agent.{agent_at, IsWhere}

@@ -5,10 +5,10 @@ use Rattle.sab_block.specs.declared.access.Access.{Access}
 use Rattle.sab_block.specs.declared.operand.Operand.{Operand}
 use Rattle.sab_block.specs.Access.{Acts, access_verdict, first_failure, raw_of}
 use Rattle.sab_sim.specs.declared.place.Place.{Place}
-use Rattle.sab_sim.specs.declared.plan_view.PlanView.{PlanView}
+use Rattle.sab_plan.specs.declared.plan_view.PlanView.{PlanView}
 use Rattle.sab_sim.specs.declared.answer.Answer.{Answer}
 use Rattle.sab_sim.specs.Place.{place_of}
-use Rattle.sab_sim.specs.Check.{wait_checks, notify_checks}
+use Rattle.sab_plan.specs.Check.{wait_checks, notify_checks}
 use Rattle.sab_sim.specs.Object.{element_at, bytes_of}
 use Rattle.sab_sim.specs.declared.answer.Answer.TheVariants as A
 

@@ -1,18 +1,18 @@
 -- Journals: runs, tracks, entries that answer moves, and entries that are stuck.
 use Rattle.std.specs.Prelude.{◌≡◌, ℕ, ◌==◌, ◌&&◌, not, Bool, true, false, List, [], ◌∷◌, ◌++◌, length, map, flat_map, take, filter, slice_get, Some, None, ⊤}
-use Rattle.sab_sim.specs.declared.call.Call.{Call}
-use Rattle.sab_sim.specs.declared.call.Call.TheVariants as C
+use Rattle.sab_plan.specs.declared.call.Call.{Call}
+use Rattle.sab_plan.specs.declared.call.Call.TheVariants as C
 use Rattle.sab_sim.specs.declared.answer.Answer.{Answer}
 use Rattle.sab_sim.specs.declared.answer.Answer.TheVariants.{TimedOut}
 use Rattle.sab_sim.specs.declared.entry.Why.TheVariants as Y
 use Rattle.sab_sim.specs.declared.entry.What.{What}
 use Rattle.sab_sim.specs.declared.entry.What.TheVariants.{Began, Acted, Enlisted, Left, Returned, Stuck}
 use Rattle.sab_sim.specs.declared.entry.Entry.{Entry}
-use Rattle.sab_sim.specs.declared.schedule.Move.{Move}
-use Rattle.sab_sim.specs.declared.schedule.Move.TheVariants.{Step, TimeUp}
-use Rattle.sab_sim.specs.Schedule.{agent_of}
+use Rattle.sab_plan.specs.declared.schedule.Move.{Move}
+use Rattle.sab_plan.specs.declared.schedule.Move.TheVariants.{Step, TimeUp}
+use Rattle.sab_plan.specs.Schedule.{agent_of}
 use Rattle.sab_sim.specs.Entry.{is_act, is_stuck, is_return}
-use Rattle.sab_sim.specs.Plan.{PlanParts, calls_of, call_of}
+use Rattle.sab_plan.specs.Plan.{PlanParts, calls_of, call_of}
 use Rattle.sab_sim.specs.Object.{State, opening, stands, Does}
 
 -- the entries that act

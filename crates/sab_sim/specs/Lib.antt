@@ -1,10 +1,4 @@
-pub mod Call
-pub mod Schedule
-pub mod Script
-pub mod Plan
-pub mod PlanFault
 pub mod Place
-pub mod Check
 pub mod Object
 pub mod Entry
 pub mod Journal

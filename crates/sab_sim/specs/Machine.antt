@@ -4,7 +4,7 @@ use Rattle.sab_sim.specs.declared.place.Place.{Place}
 use Rattle.sab_sim.specs.declared.agent.Agent.{Agent}
 use Rattle.sab_sim.specs.declared.agent.Phase.{Phase}
 use Rattle.sab_sim.specs.declared.agent.Phase.TheVariants as P
-use Rattle.sab_sim.specs.Plan.{PlanParts, IsPlan}
+use Rattle.sab_plan.specs.Plan.{PlanParts, IsPlan}
 use Rattle.sab_sim.specs.Object.{State, Waiter, zero_blocks, stands}
 use Rattle.sab_sim.specs.Agent.{newcomer, agent_at, is_woken, is_waiting, AllAtCalls}
 use Rattle.sab_sim.specs.Line.{WaitsAt}

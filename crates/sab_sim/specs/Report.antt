@@ -1,14 +1,14 @@
 -- Reports, and when one fits a plan.
 use Rattle.std.specs.Prelude.{◌≡◌, ◌⊎◌, ℕ, suc, ◌<◌, ◌≤◌, ◌^◌, List, [], ◌∷◌, length, map, All, Option, Some, None, nat_le, if◌then◌else◌, Vec}
 use Rattle.std.proofs.Common.{Global}
-use Rattle.sab_sim.specs.declared.schedule.Move.{Move}
+use Rattle.sab_plan.specs.declared.schedule.Move.{Move}
 use Rattle.sab_sim.specs.declared.entry.Entry.{Entry}
 use Rattle.sab_sim.specs.declared.progress.Progress.{Progress}
 use Rattle.sab_sim.specs.declared.sim_fault.SimFault.{SimFault}
 use Rattle.sab_sim.specs.declared.sim_fault.SimFault.TheVariants.{NoAgent, Full, OutOfMemory}
-use Rattle.sab_sim.specs.Schedule.{agent_of}
-use Rattle.sab_sim.specs.Script.{ScriptParts}
-use Rattle.sab_sim.specs.Plan.{PlanParts, calls_of}
+use Rattle.sab_plan.specs.Schedule.{agent_of}
+use Rattle.sab_plan.specs.Script.{ScriptParts}
+use Rattle.sab_plan.specs.Plan.{PlanParts, calls_of}
 use Rattle.sab_sim.specs.Object.{State}
 use Rattle.sab_sim.specs.Journal.{track, IsTrack, returned_of, EachAnswers, IsJustified, EachAfter, Reaches}
 

@@ -1,7 +1,7 @@
 -- What a simulator shows of the state that its journal leads to.
 use Rattle.std.specs.Prelude.{List}
 use Rattle.sab_sim.specs.declared.entry.Entry.{Entry}
-use Rattle.sab_sim.specs.Plan.{PlanParts}
+use Rattle.sab_plan.specs.Plan.{PlanParts}
 use Rattle.sab_sim.specs.Object.{State}
 use Rattle.sab_sim.specs.Journal.{Reaches}
 

@@ -5,7 +5,7 @@ use Rattle.sab_sim.specs.declared.entry.What.TheVariants.{Enlisted}
 use Rattle.sab_sim.specs.declared.entry.Entry.{Entry}
 use Rattle.sab_sim.specs.declared.agent.Agent.{Agent}
 use Rattle.sab_sim.specs.Entry.{is_act}
-use Rattle.sab_sim.specs.Plan.{PlanParts, calls_of}
+use Rattle.sab_plan.specs.Plan.{PlanParts, calls_of}
 use Rattle.sab_sim.specs.Object.{State, Does}
 use Rattle.sab_sim.specs.Journal.{Justifies}
 use Rattle.sab_sim.specs.Agent.{agent_at, IsAtCall, Advances, IsLike}

@@ -6,8 +6,8 @@ ghost use Rattle.sab_sim.specs.Finding.{AnswersAccess, FindsWait, FindsNotify};
 
 use crate::answer::Answer;
 use crate::place::Place;
-use crate::plan_view::PlanView;
 use sab_block::{Access, Block, Operand, Thrown, to_raw};
+use sab_plan::PlanView;
 
 /// Makes an access on its view's block.
 pub fn act_access(blocks: &mut [Block], view: &PlanView, access: &Access) -> Answer

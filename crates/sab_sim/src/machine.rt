@@ -1,10 +1,10 @@
 //! Where everything stands, and what one move does to it.
 
 ghost use Rattle.std.specs.Prelude.{◌≡◌, ◌<◌, ◌≤◌, ◌^◌, length, true, IfOk};
-ghost use Rattle.sab_sim.specs.declared.schedule.Move.TheVariants.{Step, TimeUp};
+ghost use Rattle.sab_plan.specs.declared.schedule.Move.TheVariants.{Step, TimeUp};
 ghost use Rattle.sab_sim.specs.declared.entry.What.TheVariants.{Acted, Enlisted};
 ghost use Rattle.sab_sim.specs.declared.agent.Phase.TheVariants.{Answered};
-ghost use Rattle.sab_sim.specs.Schedule.{agent_of};
+ghost use Rattle.sab_plan.specs.Schedule.{agent_of};
 ghost use Rattle.sab_sim.specs.Journal.{answers_move};
 ghost use Rattle.sab_sim.specs.Agent.{agent_at};
 ghost use Rattle.sab_sim.specs.Machine.{IsReady, IsBegun, opening_machine, with_agent, with_phase, enlisted};
@@ -13,13 +13,12 @@ ghost use Rattle.sab_sim.specs.Turn.{Turns, entry_of};
 use crate::act::{act_access, find_notify, find_wait};
 use crate::agent::{Agent, Phase};
 use crate::answer::Answer;
-use crate::call::Call;
 use crate::entry::{Entry, What, Why};
 use crate::line::wake;
+use crate::lookup::{call_at, can_block, is_timed, view_at};
 use crate::place::Place;
-use crate::plan::Plan;
-use crate::schedule::Move;
 use sab_block::Block;
+use sab_plan::{Call, Move, Plan};
 use std::alloc::{AllocError, Global};
 use std::marker::Model;
 
@@ -106,7 +105,7 @@ impl Machine {
         let Agent { returned, phase } = self.agent(a);
         match phase {
             Phase::Ready => {
-                if plan.call(a, returned).is_none() {
+                if call_at(plan, a, returned).is_none() {
                     return What::Stuck(Why::Done);
                 }
                 self.put(a, returned, Phase::Begun);
@@ -135,7 +134,7 @@ impl Machine {
         if !phase.is_waiting() {
             return What::Stuck(Why::NotWaiting);
         }
-        if !plan.is_timed(a, returned) {
+        if !is_timed(plan, a, returned) {
             return What::Stuck(Why::Endless);
         }
         self.put(a, returned, Phase::Answered(Answer::TimedOut));
@@ -150,9 +149,9 @@ impl Machine {
         ensures turns { Turns plan.now self.old (entry_of self.old a result) self.new }
     {
         let returned = self.agent(a).returned;
-        match plan.call(a, returned) {
+        match call_at(plan, a, returned) {
             Some(Call::Access { view, access }) => {
-                let answer = act_access(&mut self.blocks, &plan.view(view), &access);
+                let answer = act_access(&mut self.blocks, &view_at(plan, view), &access);
                 self.answer(a, answer)
             }
             Some(
@@ -164,17 +163,17 @@ impl Machine {
                 },
             ) => match find_wait(
                 self.blocks(),
-                &plan.view(view),
+                &view_at(plan, view),
                 index,
                 value,
-                plan.can_block(a),
+                can_block(plan, a),
             ) {
                 Ok(Some(place)) => self.enlist(a, place),
                 Ok(None) => self.answer(a, Answer::NotEqual),
                 Err(thrown) => self.answer(a, Answer::Threw(thrown)),
             },
             Some(Call::Notify { view, index, count }) => match find_notify(
-                &plan.view(view),
+                &view_at(plan, view),
                 index,
             ) {
                 Ok(place) => {

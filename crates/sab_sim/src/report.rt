@@ -2,7 +2,7 @@
 
 use crate::entry::Entry;
 use crate::progress::Progress;
-use crate::schedule::Move;
+use sab_plan::Move;
 use std::marker::Model;
 
 /// What is told of a run.

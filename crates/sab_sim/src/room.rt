@@ -1,14 +1,14 @@
 //! What a report tells of the blocks and of the agents, put into room that was reserved.
 
 ghost use Rattle.std.specs.Prelude.{◌≡◌, ◌<◌, ◌≤◌, ◌^◌, [], length, All, vec_capacity};
-ghost use Rattle.sab_sim.specs.Script.{ScriptParts};
+ghost use Rattle.sab_plan.specs.Script.{ScriptParts};
 ghost use Rattle.sab_sim.specs.Report.{items_of_each};
 ghost use Rattle.sab_sim.specs.Sim.{standing_from};
 
 use crate::agent::Agent;
 use crate::progress::Progress;
-use crate::script::Script;
 use sab_block::Block;
+use sab_plan::Script;
 
 /// Hands over the bytes of each block.
 pub fn hand_over(room: &mut Vec<Vec<u8>>, blocks: Vec<Block>)

@@ -3,11 +3,10 @@
 ghost use Rattle.std.specs.Prelude.{◌≡◌, length, None, IfOk, IfErr, OnOk};
 ghost use Rattle.sab_sim.specs.Report.{Fits, IsOnly, IsRefusal, first_refusal};
 
-use crate::plan::Plan;
 use crate::report::Report;
-use crate::schedule::Move;
 use crate::sim::Sim;
 use crate::sim_fault::SimFault;
+use sab_plan::{Move, Plan};
 use std::alloc::Global;
 
 /// The report of a plan after all moves of a schedule, in order.

@@ -1,4 +1,5 @@
 pub mod ToolFault
+pub mod Ended
 pub mod Input
 pub mod Racing
 pub mod Replay

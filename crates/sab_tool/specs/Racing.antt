@@ -1,7 +1,7 @@
 -- What running the agents of a script in threads answers.
 use Rattle.std.specs.Prelude.{◌≡◌, ◌⊎◌, ℕ, ◌<◌, ◌^◌, List, Option, ⊤}
 use Rattle.std.specs.Io.KnownBytes.{Appends, Keeps}
-use Rattle.sab_sim.specs.Plan.{PlanParts}
+use Rattle.sab_plan.specs.Plan.{PlanParts}
 use Rattle.sab_sim.specs.Report.{ReportParts, IsOnly}
 use Rattle.sab_race.specs.declared.race_fault.RaceFault.{RaceFault}
 use Rattle.sab_race.specs.declared.race_fault.RaceFault.TheVariants as R

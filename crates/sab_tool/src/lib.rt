@@ -2,6 +2,7 @@
 //! it, and writes what each move did.
 #![tactic(auto)]
 
+mod ended;
 mod input;
 mod racing;
 mod replaying;
@@ -9,6 +10,7 @@ mod report;
 mod script;
 mod tool_fault;
 
+pub use ended::Ended;
 pub use input::{MAX_INPUT, read_input};
 pub use racing::{race_bytes, race_mixed, race_plan};
 pub use replaying::{replay_bytes, replay_moves};

@@ -1,7 +1,7 @@
 //! From a script to the text of its report.
 
 ghost use Rattle.std.specs.Prelude.{◌^◌, ◌<◌, ◌≤◌, length, All, IfOk, OnOk, IfErr};
-ghost use Rattle.sab_sim.specs.Schedule.{agent_of};
+ghost use Rattle.sab_plan.specs.Schedule.{agent_of};
 ghost use Rattle.sab_tool.specs.Replay.{IsReplayOf, Replays, IsReplayFault};
 
 use crate::report::write_report;

@@ -2,8 +2,8 @@
 use Rattle.std.proofs.Common.{◌∙◌, sym, subst, arith, length-append, ◌∷◌, []}
 use Rattle.std.proofs.lemmas.List.{take_more}
 use Rattle.std.specs.Io.KnownBytes.{append_known}
-use Rattle.sab_sim.specs.declared.schedule.Move.TheVariants.{Step}
-use Rattle.sab_sim.specs.Plan.{PlanParts}
+use Rattle.sab_plan.specs.declared.schedule.Move.TheVariants.{Step}
+use Rattle.sab_plan.specs.Plan.{PlanParts}
 use Rattle.sab_fact_text.specs.Explained.{IsTheFact}
 use Rattle.sab_fact_json.proofs.Telling.{told_more}
 use Rattle.sab_fact_json.proofs.writing.write_entries.Goals as goal

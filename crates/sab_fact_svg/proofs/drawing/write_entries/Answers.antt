@@ -2,8 +2,8 @@
 use Rattle.std.proofs.Common.{◌≡◌, ℕ, ◌+◌, ◌∙◌, length, sym, subst, arith, length-append, ◌∷◌, ◌++◌, [], ap}
 use Rattle.std.proofs.lemmas.List.{take_more}
 use Rattle.std.specs.Io.KnownBytes.{append_known}
-use Rattle.sab_sim.specs.declared.schedule.Move.TheVariants.{Step}
-use Rattle.sab_sim.specs.Plan.{PlanParts}
+use Rattle.sab_plan.specs.declared.schedule.Move.TheVariants.{Step}
+use Rattle.sab_plan.specs.Plan.{PlanParts}
 use Rattle.sab_sim.specs.Sim.{SimParts}
 use Rattle.sab_fact_text.specs.Explained.{IsTheFact, no_sinces, noted}
 use Rattle.sab_fact_text.proofs.Telling.{sinces_after-push}

@@ -1,7 +1,7 @@
 -- What the explainer did, all of which was drawn.
 use Rattle.std.proofs.Common.{◌≡◌, ℕ, List, length, ap, subst, ◌∙◌}
 use Rattle.std.specs.Io.KnownBytes.{Appends, append_known}
-use Rattle.sab_sim.specs.Plan.{PlanParts}
+use Rattle.sab_plan.specs.Plan.{PlanParts}
 use Rattle.sab_sim.specs.Sim.{SimParts}
 use Rattle.sab_xml.specs.Xml.{nodes, nodes_text}
 use Rattle.sab_fact_svg.specs.Shape.{shape_of}

@@ -1,7 +1,7 @@
 -- One script more.
 use Rattle.std.proofs.Common.{◌≡◌, List, length, map, arith, ◌∙◌, ap}
 use Rattle.std.proofs.lemmas.Grind.{common_steps}
-use Rattle.sab_sim.specs.declared.call.Call.{Call}
+use Rattle.sab_plan.specs.declared.call.Call.{Call}
 use Rattle.sab_fact_text.specs.CallText.{call_text}
 use Rattle.sab_fact_svg.specs.Shape.{greatest, longest_in}
 use Rattle.sab_fact_svg.proofs.Greatest.{greatest_left}

@@ -1,7 +1,7 @@
 -- What is known of a race of a script's agents.
 use Rattle.std.proofs.Common.{◌≡◌, inl, inr, ap, subst, ◌∙◌}
 use Rattle.serde_json.specs.View.{view}
-use Rattle.sab_sim.specs.Plan.{PlanParts}
+use Rattle.sab_plan.specs.Plan.{PlanParts}
 use Rattle.sab_sim.specs.Report.{ReportParts}
 use Rattle.sab_tool.specs.Racing.{IsRaceOf, IsUnraced}
 use Rattle.sab_kept.specs.Keeping.{IsRaceIn, IsRaceUnkept}

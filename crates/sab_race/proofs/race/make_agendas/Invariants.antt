@@ -1,5 +1,5 @@
 use Rattle.std.proofs.Common.{◌≡◌, ℕ, ◌<◌, length, slice_get}
-use Rattle.sab_sim.specs.Plan.{calls_in}
+use Rattle.sab_plan.specs.Plan.{calls_in}
 use Rattle.sab_race.specs.Moves.{moves_of}
 use Rattle.sab_race.specs.Agenda.{agenda_at, unmade}
 use Rattle.sab_race.proofs.race.make_agendas.Given as goal

@@ -1,7 +1,7 @@
 use Rattle.std.proofs.Common.{arith, ◌∙◌, ap, length, List}
 use Rattle.std.proofs.lemmas.List.{take_all}
-use Rattle.sab_sim.specs.declared.call.Call.{Call}
-use Rattle.sab_sim.specs.Script.{ScriptParts}
+use Rattle.sab_plan.specs.declared.call.Call.{Call}
+use Rattle.sab_plan.specs.Script.{ScriptParts}
 use Rattle.sab_race.specs.Moves.{moves_of}
 use Rattle.sab_race.proofs.UnderWay.{moves_length}
 use Rattle.sab_race.proofs.script_moves.moves.Goals as goal

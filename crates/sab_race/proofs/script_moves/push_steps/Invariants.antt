@@ -1,5 +1,5 @@
 use Rattle.std.proofs.Common.{◌≡◌, ◌++◌, replicate}
-use Rattle.sab_sim.specs.declared.schedule.Move.TheVariants.{Step}
+use Rattle.sab_plan.specs.declared.schedule.Move.TheVariants.{Step}
 use Rattle.sab_race.proofs.script_moves.push_steps.Given as goal
 
 abbrev pub invariant-loop : goal.invariant-loop

@@ -1,7 +1,7 @@
 use Rattle.std.proofs.Common.{ℤ, [], Option, ◌∷◌, codes}
 use Rattle.serde_json.specs.View.{items_view}
 use Rattle.sab_block.specs.declared.operand.Operand.{Operand}
-use Rattle.sab_sim.specs.declared.call.Call.{Call}
+use Rattle.sab_plan.specs.declared.call.Call.{Call}
 use Rattle.sab_script.specs.Calls.{value, optional, spelling_of, SpellsArguments, SpellsParts}
 use Rattle.sab_script.proofs.CallParts.{named_call}
 use Rattle.sab_script.proofs.Refusing.{exit_refuses}

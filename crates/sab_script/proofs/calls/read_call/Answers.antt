@@ -3,7 +3,7 @@ use Rattle.std.specs.Int.{w64}
 use Rattle.std.proofs.lemmas.Int.{to_z-of_z}
 use Rattle.serde_json.specs.Data.{array, item, string}
 use Rattle.serde_json.specs.View.{view, items_view}
-use Rattle.sab_sim.specs.declared.call.Call.{Call}
+use Rattle.sab_plan.specs.declared.call.Call.{Call}
 use Rattle.sab_script.specs.Numbers.{whole}
 use Rattle.sab_script.specs.Calls.{spelling_of, call_tree, SpellsCall}
 use Rattle.sab_script.specs.Views.{SpellsName, view_names}

@@ -1,7 +1,7 @@
 use Rattle.std.proofs.Common.{ap, ◌∙◌}
 use Rattle.serde_json.specs.Data.{object}
 use Rattle.serde_json.specs.View.{view, members_view}
-use Rattle.sab_sim.specs.declared.schedule.Move.{Move}
+use Rattle.sab_plan.specs.declared.schedule.Move.{Move}
 use Rattle.sab_script.specs.Numbers.{SpellsPosition}
 use Rattle.sab_script.specs.Schedule.{SpellsMove}
 use Rattle.sab_script.proofs.Parts.{timeout_part}

@@ -1,7 +1,7 @@
 use Rattle.std.proofs.Common.{◌≡◌, ◌<◌, ℕ, List, Bor, length}
 use Rattle.serde_json.specs.Data.{Members}
 use Rattle.serde_json.specs.View.{view, members_view}
-use Rattle.sab_sim.specs.declared.plan_view.PlanView.{PlanView}
+use Rattle.sab_plan.specs.declared.plan_view.PlanView.{PlanView}
 use Rattle.sab_script.specs.declared.view_spec.ViewSpec.{ViewSpec}
 use Rattle.sab_script.specs.Blocks.{with_block}
 use Rattle.sab_script.specs.Views.{SpellsView}

@@ -11,8 +11,8 @@ use Rattle.sab_block.specs.Kind.{is_waitable, element_size}
 use Rattle.sab_block.specs.View.{kind_of, place}
 use Rattle.sab_block.specs.Block.{number}
 use Rattle.sab_block.specs.Access.{first_failure}
-use Rattle.sab_sim.specs.declared.plan_view.PlanView.{PlanView}
-use Rattle.sab_sim.specs.Check.{wait_checks}
+use Rattle.sab_plan.specs.declared.plan_view.PlanView.{PlanView}
+use Rattle.sab_plan.specs.Check.{wait_checks}
 use Rattle.sab_sim.specs.Place.{place_of}
 use Rattle.sab_sim.specs.Object.{bytes_of, element_at}
 use Rattle.sab_block.specs.declared.kind.Kind.{Kind}

@@ -3,12 +3,12 @@ use Rattle.std.proofs.Common.{◌≡◌, ◌⊎◌, inl, inr, ℕ, suc, ◌^◌,
 use Rattle.std.specs.Prelude.{IsOkUnless}
 use Rattle.std.proofs.Math.Seq.{drop-cons, take-suc}
 use Rattle.std.proofs.lemmas.Bool.{cases_lt, lt-leb, le-leb}
-use Rattle.sab_sim.specs.declared.schedule.Move.{Move}
-use Rattle.sab_sim.specs.declared.schedule.Move.TheVariants.{Step}
+use Rattle.sab_plan.specs.declared.schedule.Move.{Move}
+use Rattle.sab_plan.specs.declared.schedule.Move.TheVariants.{Step}
 use Rattle.sab_sim.specs.declared.sim_fault.SimFault.{SimFault}
 use Rattle.sab_sim.specs.declared.sim_fault.SimFault.TheVariants.{NoAgent, Full, OutOfMemory}
-use Rattle.sab_sim.specs.Schedule.{agent_of}
-use Rattle.sab_sim.specs.Plan.{PlanParts}
+use Rattle.sab_plan.specs.Schedule.{agent_of}
+use Rattle.sab_plan.specs.Plan.{PlanParts}
 use Rattle.sab_sim.specs.Report.{IsRefusal, first_refusal}
 use Rattle.sab_sim.specs.Sim.{SimParts}
 use Rattle.sab_sim.proofs.runner.replay.Goals as goal

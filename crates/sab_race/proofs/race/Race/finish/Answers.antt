@@ -1,8 +1,8 @@
 -- All moves of each agent were made.
 use Rattle.std.proofs.Common.{◌≡◌, ◌<◌, ℕ, List, length, ap, ◌∙◌, subst, arith}
 use Rattle.std.proofs.lemmas.List.{take_all}
-use Rattle.sab_sim.specs.declared.schedule.Move.{Move}
-use Rattle.sab_sim.specs.Plan.{PlanParts, calls_of}
+use Rattle.sab_plan.specs.declared.schedule.Move.{Move}
+use Rattle.sab_plan.specs.Plan.{PlanParts, calls_of}
 use Rattle.sab_race.specs.Moves.{moves_of, part}
 use Rattle.sab_race.specs.Agenda.{AgendaParts, agenda_at, left_in}
 use Rattle.sab_race.specs.Race.{RaceParts, IsRace, IsAgenda, IsDone}

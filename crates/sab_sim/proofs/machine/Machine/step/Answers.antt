@@ -11,7 +11,7 @@ pub returns-else-is_none-clause-turns : goal.returns-else-is_none-clause-turns
 returns-else-is_none-clause-turns c =
     let turn = has_turn c.args.plan.now c.args.self.now c.args.a c.requires in
     let ready = rw c.agent-returned.ensures at c.in-Ready.is in
-    let call = rw c.agent-returned.ensures at c.call.ensures.call in
+    let call = rw c.agent-returned.ensures at c.call_at.ensures.call in
     rw (c.put.ensures, c.agent-returned.ensures) (began_turn turn ready (ap is_some (sym call) ∙ c.if-is_none.ensures))
 
 pub returns-in-Waiting-clause-turns : goal.returns-in-Waiting-clause-turns

@@ -4,7 +4,7 @@ ghost use Rattle.std.specs.Prelude.{◌≡◌, ◌↔◌, IsTrue, IfOk};
 ghost use Rattle.std.specs.Cmp.Lexicographic.{pointwise};
 ghost use Rattle.std.specs.Cmp.Rules.{comparing};
 ghost use Rattle.std.specs.Ordering.{on, eq_of_both};
-ghost use Rattle.sab_sim.specs.contracts.call.CallEq.TheImpl.Laws.{laws-law};
+ghost use Rattle.sab_plan.specs.contracts.call.CallEq.TheImpl.Laws.{laws-law};
 
 use crate::call::Call;
 use std::alloc::{AllocError, Global};
@@ -20,7 +20,7 @@ pub struct Script {
 }
 
 impl Model for Script {
-    ghost use Rattle.sab_sim.specs.Script.{ScriptParts};
+    ghost use Rattle.sab_plan.specs.Script.{ScriptParts};
 
     ghost Value = { ScriptParts };
 

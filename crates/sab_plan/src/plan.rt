@@ -1,17 +1,13 @@
 //! Plans.
 
-ghost use Rattle.std.specs.Prelude.{◌≡◌, ◌↔◌, ◌<◌, length, slice_get, option_map, IsTrue, IfOk, IfErr, IfSome};
+ghost use Rattle.std.specs.Prelude.{◌≡◌, ◌↔◌, IsTrue, IfOk, IfErr};
 ghost use Rattle.std.specs.Cmp.Lexicographic.{pointwise};
 ghost use Rattle.std.specs.Cmp.Rules.{comparing};
 ghost use Rattle.std.specs.Ordering.{on, eq_of_both};
-ghost use Rattle.sab_sim.specs.contracts.plan_view.PlanViewEq.TheImpl.Laws as view_laws;
-ghost use Rattle.sab_sim.specs.contracts.script.ScriptEq.TheImpl.Laws as script_laws;
-ghost use Rattle.sab_block.specs.View.{block_len_of};
-ghost use Rattle.sab_sim.specs.Call.{view_of};
-ghost use Rattle.sab_sim.specs.Script.{ScriptParts};
-ghost use Rattle.sab_sim.specs.Plan.{IsPlan, Refuses, parts_of, call_of, is_timed};
+ghost use Rattle.sab_plan.specs.contracts.plan_view.PlanViewEq.TheImpl.Laws as view_laws;
+ghost use Rattle.sab_plan.specs.contracts.script.ScriptEq.TheImpl.Laws as script_laws;
+ghost use Rattle.sab_plan.specs.Plan.{IsPlan, Refuses, parts_of};
 
-use crate::call::Call;
 use crate::limits::{is_within_limits, names_blocks, names_views};
 use crate::plan_fault::PlanFault;
 use crate::plan_view::PlanView;
@@ -28,7 +24,7 @@ pub struct Plan {
 }
 
 impl Model for Plan {
-    ghost use Rattle.sab_sim.specs.Plan.{PlanParts, IsPlan, parts_of};
+    ghost use Rattle.sab_plan.specs.Plan.{PlanParts, IsPlan, parts_of};
 
     ghost Value = { PlanParts };
 
@@ -120,47 +116,6 @@ impl Plan {
         ensures valid { IsPlan self.now }
     {
         self.scripts.as_slice()
-    }
-
-    /// A call of an agent.
-    pub(crate) fn call(&self, agent: u32, call: u32) -> Option<Call>
-        requires { agent < length self.now.scripts }
-        ensures call { result ≡ call_of self.now agent call }
-        ensures view { IfSome result (λ c. view_of c < length self.now.views) }
-    {
-        let script = &self.scripts[agent as usize];
-        script.calls.get(call as usize).copied()
-    }
-
-    /// Whether a call of an agent is a wait with a timeout.
-    pub(crate) fn is_timed(&self, agent: u32, call: u32) -> bool
-        requires { agent < length self.now.scripts }
-        ensures { result ≡ is_timed (call_of self.now agent call) }
-    {
-        matches!(
-            self.call(agent, call),
-            Some(Call::Wait {
-                timeout: Some(_),
-                ..
-            })
-        )
-    }
-
-    /// A view, by its position.
-    pub(crate) fn view(&self, view: u32) -> PlanView
-        requires { view < length self.now.views }
-        ensures view { slice_get self.now.views view ≡ Some result }
-        ensures block_len { slice_get self.now.lens result.block ≡ Some (block_len_of result.view) }
-    {
-        self.views[view as usize]
-    }
-
-    /// Whether an agent can block.
-    pub(crate) fn can_block(&self, agent: u32) -> bool
-        requires { agent < length self.now.scripts }
-        ensures { option_map (λ (s : ScriptParts). s.can_block) (slice_get self.now.scripts agent) ≡ Some result }
-    {
-        self.scripts[agent as usize].can_block
     }
 }
 

@@ -1,7 +1,7 @@
 -- Schedules.
 use Rattle.std.specs.Prelude.{ℕ}
-use Rattle.sab_sim.specs.declared.schedule.Move.{Move}
-use Rattle.sab_sim.specs.declared.schedule.Move.TheVariants.{Step, TimeUp}
+use Rattle.sab_plan.specs.declared.schedule.Move.{Move}
+use Rattle.sab_plan.specs.declared.schedule.Move.TheVariants.{Step, TimeUp}
 
 -- the agent that a move names
 abbrev pub agent_of : Move → ℕ

@@ -1,5 +1,5 @@
--- Equality of plans and what they are made of: values that `==` finds equal are the same.
-use Rattle.std.proofs.Common.{◌≡◌, ℤ, Bool, true, List, Option, Some, None, Decides, refl, ap, subst}
+-- Equality of plans and what they are made of, of moves and of refusals: values that `==` finds equal are the same.
+use Rattle.std.proofs.Common.{◌≡◌, ℤ, Bool, true, List, Option, Some, None, Decides, refl, ap, subst, rules}
 use Rattle.std.specs.Cmp.{IsEquivalence, unsigned_Decides, booleans_Decides}
 use Rattle.std.specs.Cmp.Lexicographic.{pointwise}
 use Rattle.std.proofs.lemmas.Bool.Decides.{Decides-at}
@@ -8,20 +8,27 @@ use Rattle.std.specs.Ordering.{int_eq}
 use Rattle.std.specs.Option.{option_eq}
 use Rattle.std.proofs.lemmas.Bool.{false≢true, and_parts}
 use borrow.Author.Tests.{eqb-true}
+use denote.Enum.Bare.{same_true}
 use Rattle.sab_block.proofs.Equality.{same_int, same_pair, same_operand, same_view, same_access}
-use Rattle.sab_sim.specs.declared.call.Call.{Call}
-use Rattle.sab_sim.specs.declared.call.Call.TheVariants as C
-use Rattle.sab_sim.specs.declared.plan_view.PlanView.{PlanView}
-use Rattle.sab_sim.specs.Script.{ScriptParts}
-use Rattle.sab_sim.specs.Plan.{PlanParts}
-use Rattle.sab_sim.specs.contracts.plan.PlanPartialEq.TheImpl as plan
-use Rattle.sab_sim.specs.contracts.plan.PlanEq.TheImpl.Laws as plan_laws
-use Rattle.sab_sim.specs.contracts.plan_view.PlanViewPartialEq.TheImpl as plan_view
-use Rattle.sab_sim.specs.contracts.call.CallPartialEq.TheImpl as call
-use Rattle.sab_sim.specs.contracts.call.CallEq.TheImpl.Laws as call_laws
-use Rattle.sab_sim.specs.contracts.plan_view.PlanViewEq.TheImpl.Laws as view_laws
-use Rattle.sab_sim.specs.contracts.script.ScriptPartialEq.TheImpl as script
-use Rattle.sab_sim.specs.contracts.script.ScriptEq.TheImpl.Laws as script_laws
+use Rattle.sab_plan.specs.declared.call.Call.{Call}
+use Rattle.sab_plan.specs.declared.call.Call.TheVariants as C
+use Rattle.sab_plan.specs.declared.plan_fault.PlanFault.{PlanFault}
+use Rattle.sab_plan.specs.declared.plan_view.PlanView.{PlanView}
+use Rattle.sab_plan.specs.declared.schedule.Move.{Move}
+use Rattle.sab_plan.specs.declared.schedule.Move.TheVariants.{Step, TimeUp}
+use Rattle.sab_plan.specs.Script.{ScriptParts}
+use Rattle.sab_plan.specs.Plan.{PlanParts}
+use Rattle.sab_plan.specs.contracts.plan.PlanPartialEq.TheImpl as plan
+use Rattle.sab_plan.specs.contracts.plan.PlanEq.TheImpl.Laws as plan_laws
+use Rattle.sab_plan.specs.contracts.plan_view.PlanViewPartialEq.TheImpl as plan_view
+use Rattle.sab_plan.specs.contracts.call.CallPartialEq.TheImpl as call
+use Rattle.sab_plan.specs.contracts.call.CallEq.TheImpl.Laws as call_laws
+use Rattle.sab_plan.specs.contracts.plan_view.PlanViewEq.TheImpl.Laws as view_laws
+use Rattle.sab_plan.specs.contracts.script.ScriptPartialEq.TheImpl as script
+use Rattle.sab_plan.specs.contracts.script.ScriptEq.TheImpl.Laws as script_laws
+use Rattle.sab_plan.specs.contracts.schedule.MovePartialEq.TheImpl as move
+use Rattle.sab_plan.specs.contracts.plan_fault.PlanFault.{the_type as plan_fault_type}
+use Rattle.sab_plan.specs.contracts.plan_fault.PlanFaultPartialEq.TheImpl as plan_fault
 
 -- an equivalence that finds only the same values equal decides whether two are the same
 decides_same : {X : Type 0} {E : X → X → Bool} → IsEquivalence E → ((a b : X) → E a b ≡ true → a ≡ b) → (a b : X)
@@ -72,3 +79,11 @@ same_plan p q e =
 
 pub decides_plans : (p q : PlanParts) (r : Bool) → r ≡ (plan.ghosts).eq p q → Decides r (p ≡ q)
 decides_plans p q r e = Decides-at r _ e (decides_same plan_laws.laws-law same_plan p q)
+
+same_move : (a b : Move) → (move.ghosts).eq a b ≡ true → a ≡ b
+same_move (Step a) (Step b) e = ap Step (eqb-true a b e)
+same_move (TimeUp a) (TimeUp b) e = ap TimeUp (eqb-true a b e)
+same_move _ _ e = absurd (false≢true e)
+
+same_plan_fault : (x y : PlanFault) → (plan_fault.ghosts).eq x y ≡ true → x ≡ y
+same_plan_fault = same_true plan_fault_type (search rules)

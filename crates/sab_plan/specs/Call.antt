@@ -1,8 +1,8 @@
 -- Calls.
 use Rattle.std.specs.Prelude.{ℕ, ℤ, List, codes}
 use Rattle.sab_block.specs.Access as accesses
-use Rattle.sab_sim.specs.declared.call.Call.{Call}
-use Rattle.sab_sim.specs.declared.call.Call.TheVariants as C
+use Rattle.sab_plan.specs.declared.call.Call.{Call}
+use Rattle.sab_plan.specs.declared.call.Call.TheVariants as C
 
 -- the function of Atomics that it is a call of
 abbrev pub function_of : Call → List ℕ

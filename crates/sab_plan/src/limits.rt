@@ -2,9 +2,9 @@
 
 ghost use Rattle.std.specs.Prelude.{◌≡◌, ◌<◌, ◌≤◌, ◌↔◌, length, slice_get, Some, All, IsTrue};
 ghost use Rattle.sab_block.specs.View.{block_len_of};
-ghost use Rattle.sab_sim.specs.Call.{view_of};
-ghost use Rattle.sab_sim.specs.Script.{ScriptParts};
-ghost use Rattle.sab_sim.specs.Plan.{IsWithinLimits, NamesViews, parts_of};
+ghost use Rattle.sab_plan.specs.Call.{view_of};
+ghost use Rattle.sab_plan.specs.Script.{ScriptParts};
+ghost use Rattle.sab_plan.specs.Plan.{IsWithinLimits, NamesViews, parts_of};
 
 use crate::call::Call;
 use crate::plan::Plan;

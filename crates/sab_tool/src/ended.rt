@@ -2,7 +2,7 @@
 
 ghost use Rattle.std.specs.Prelude.{◌≡◌};
 ghost use Rattle.std.specs.List.{list_all};
-ghost use Rattle.sab_report.specs.Ended.{has_returned, ended_of};
+ghost use Rattle.sab_tool.specs.Ended.{has_returned, ended_of};
 
 use sab_sim::{Progress, Report};
 

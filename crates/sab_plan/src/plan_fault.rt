@@ -17,7 +17,7 @@ pub enum PlanFault {
 
 impl fmt::Display for PlanFault {
     ghost use Rattle.std.specs.Prelude.{Some};
-    ghost use Rattle.sab_sim.specs.PlanFault.{text_of};
+    ghost use Rattle.sab_plan.specs.PlanFault.{text_of};
 
     ghost output = { λ fault. Some (text_of fault) };
 

@@ -1,7 +1,7 @@
 //! Calls of an agent.
 
 ghost use Rattle.std.specs.Prelude.{◌≡◌, ◌≤◌, length};
-ghost use Rattle.sab_sim.specs.Call.{function_of, view_of, index_of};
+ghost use Rattle.sab_plan.specs.Call.{function_of, view_of, index_of};
 
 use sab_block::{Access, Operand};
 

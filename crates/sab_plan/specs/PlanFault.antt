@@ -1,7 +1,7 @@
 -- The texts of a plan's refusals.
 use Rattle.std.specs.Prelude.{ℕ, List, codes}
-use Rattle.sab_sim.specs.declared.plan_fault.PlanFault.{PlanFault}
-use Rattle.sab_sim.specs.declared.plan_fault.PlanFault.TheVariants.{TooMany, NoBlock, NoView}
+use Rattle.sab_plan.specs.declared.plan_fault.PlanFault.{PlanFault}
+use Rattle.sab_plan.specs.declared.plan_fault.PlanFault.TheVariants.{TooMany, NoBlock, NoView}
 
 -- the table of texts
 abbrev pub text_of : PlanFault → List ℕ

@@ -1,6 +1,6 @@
 -- Scripts.
 use Rattle.std.specs.Prelude.{Bool, List}
-use Rattle.sab_sim.specs.declared.call.Call.{Call}
+use Rattle.sab_plan.specs.declared.call.Call.{Call}
 
 -- what an agent is to do
 pub record ScriptParts : Type 0 where

@@ -7,8 +7,8 @@ use Rattle.sab_block.specs.declared.operand.Operand.{Operand}
 use Rattle.sab_block.specs.declared.view.View.{View}
 use Rattle.sab_block.specs.View.{kind_of}
 use Rattle.sab_block.specs.Access.{Check, first_failure, access_checks, index_check, operand_check}
-use Rattle.sab_sim.specs.declared.call.Call.{Call}
-use Rattle.sab_sim.specs.declared.call.Call.TheVariants as C
+use Rattle.sab_plan.specs.declared.call.Call.{Call}
+use Rattle.sab_plan.specs.declared.call.Call.TheVariants as C
 
 -- the kind is one that Atomics.wait and Atomics.notify take (ValidateIntegerTypedArray, waitable is true)
 abbrev pub waitable_check : View → Check

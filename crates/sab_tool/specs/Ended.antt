@@ -3,8 +3,8 @@ use Rattle.std.specs.Prelude.{◌==◌, Bool, if◌then◌else◌}
 use Rattle.std.specs.List.{list_all}
 use Rattle.sab_sim.specs.declared.progress.Progress.{Progress}
 use Rattle.sab_sim.specs.Report.{ReportParts}
-use Rattle.sab_report.specs.declared.ended.Ended.{Ended}
-use Rattle.sab_report.specs.declared.ended.Ended.TheVariants.{Finished, Unfinished}
+use Rattle.sab_tool.specs.declared.ended.Ended.{Ended}
+use Rattle.sab_tool.specs.declared.ended.Ended.TheVariants.{Finished, Unfinished}
 
 -- all calls of the agent have returned
 abbrev pub has_returned : Progress → Bool

@@ -1,7 +1,7 @@
 //! Schedules, which are lists of moves.
 
 ghost use Rattle.std.specs.Prelude.{◌≡◌};
-ghost use Rattle.sab_sim.specs.Schedule.{agent_of};
+ghost use Rattle.sab_plan.specs.Schedule.{agent_of};
 
 /// A move of a schedule, by an agent's number.
 #[derive(Clone, Copy, Debug, PartialEq, Eq, Hash)]

@@ -1,13 +1,13 @@
 -- Plans.
 use Rattle.std.specs.Prelude.{◌≡◌, ℕ, ◌<◌, ◌≤◌, List, [], length, All, Bool, true, false, Option, Some, None, slice_get}
 use Rattle.sab_block.specs.View.{block_len_of}
-use Rattle.sab_sim.specs.declared.call.Call.{Call}
-use Rattle.sab_sim.specs.declared.call.Call.TheVariants as C
-use Rattle.sab_sim.specs.declared.plan_fault.PlanFault.{PlanFault}
-use Rattle.sab_sim.specs.declared.plan_fault.PlanFault.TheVariants.{TooMany, NoBlock, NoView}
-use Rattle.sab_sim.specs.declared.plan_view.PlanView.{PlanView}
-use Rattle.sab_sim.specs.Call.{view_of}
-use Rattle.sab_sim.specs.Script.{ScriptParts}
+use Rattle.sab_plan.specs.declared.call.Call.{Call}
+use Rattle.sab_plan.specs.declared.call.Call.TheVariants as C
+use Rattle.sab_plan.specs.declared.plan_fault.PlanFault.{PlanFault}
+use Rattle.sab_plan.specs.declared.plan_fault.PlanFault.TheVariants.{TooMany, NoBlock, NoView}
+use Rattle.sab_plan.specs.declared.plan_view.PlanView.{PlanView}
+use Rattle.sab_plan.specs.Call.{view_of}
+use Rattle.sab_plan.specs.Script.{ScriptParts}
 
 -- the blocks by their lengths, the views on them, and what the agents are to do
 pub record PlanParts : Type 0 where

@@ -1,5 +1,5 @@
 use Rattle.std.proofs.Common.{◌≡◌, ◌≤◌, length, take, vec_capacity}
-use Rattle.sab_sim.proofs.plan.Plan.copy.Given as goal
+use Rattle.sab_plan.proofs.plan.Plan.copy.Given as goal
 
 abbrev pub invariant-loop-script : goal.invariant-loop-script
 invariant-loop-script l = record {

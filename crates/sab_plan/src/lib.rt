@@ -1,0 +1,17 @@
+//! Plans: blocks, views on them, and the calls of each agent; and schedules of moves.
+#![tactic(auto)]
+
+mod call;
+mod limits;
+mod plan;
+mod plan_fault;
+mod plan_view;
+mod schedule;
+mod script;
+
+pub use call::Call;
+pub use plan::Plan;
+pub use plan_fault::PlanFault;
+pub use plan_view::PlanView;
+pub use schedule::Move;
+pub use script::Script;
