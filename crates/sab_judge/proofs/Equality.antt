@@ -1,0 +1,60 @@
+-- Events that `==` finds equal are the same.
+use Rattle.std.proofs.Common.{◌≡◌, true, Option, Some, None, refl, ap}
+use Rattle.std.specs.Cmp.{booleans_Decides}
+use Rattle.std.specs.Option.{option_eq}
+use Rattle.std.proofs.lemmas.Bool.{false≢true, and_parts, eqb-true}
+use Rattle.sab_judge.specs.declared.place.Place.{Place}
+use Rattle.sab_judge.specs.declared.order.Order.{Order}
+use Rattle.sab_judge.specs.declared.order.Order.TheVariants.{Unordered, SeqCst}
+use Rattle.sab_judge.specs.declared.access.Access.{Access}
+use Rattle.sab_judge.specs.declared.event.Event.{Event}
+use Rattle.sab_judge.specs.contracts.place.PlacePartialEq.TheImpl as place
+use Rattle.sab_judge.specs.contracts.order.OrderPartialEq.TheImpl as order
+use Rattle.sab_judge.specs.contracts.access.AccessPartialEq.TheImpl as access
+use Rattle.sab_judge.specs.contracts.event.EventPartialEq.TheImpl as event
+
+same_place_value : (a b : Place) → (place.ghosts).eq a b ≡ true → a ≡ b
+same_place_value a b e =
+    let x = and_parts _ _ e in
+    let block = eqb-true a.block b.block x.0 in
+    let byte = eqb-true a.byte b.byte x.1 in
+    λ i. record { block = block i; byte = byte i }
+
+same_order : (a b : Order) → (order.ghosts).eq a b ≡ true → a ≡ b
+same_order Unordered Unordered e = refl
+same_order SeqCst SeqCst e = refl
+same_order _ _ e = absurd (false≢true e)
+
+pub same_access : (a b : Access) → (access.ghosts).eq a b ≡ true → a ≡ b
+same_access a b e =
+    let x = and_parts _ _ e in
+    let y = and_parts _ _ x.1 in
+    let z = and_parts _ _ y.1 in
+    let w = and_parts _ _ z.1 in
+    let place = same_place_value a.place b.place x.0 in
+    let len = eqb-true a.len b.len y.0 in
+    let reads = (booleans_Decides a.reads b.reads).0 z.0 in
+    let writes = (booleans_Decides a.writes b.writes).0 w.0 in
+    let order = same_order a.order b.order w.1 in
+    λ i. record { place = place i; len = len i; reads = reads i; writes = writes i; order = order i }
+
+same_option_access : (x y : Option Access) → option_eq (access.ghosts).eq x y ≡ true → x ≡ y
+same_option_access None None e = refl
+same_option_access None (Some b) e = absurd (false≢true e)
+same_option_access (Some a) None e = absurd (false≢true e)
+same_option_access (Some a) (Some b) e = ap Some (same_access a b e)
+
+same_option_place : (x y : Option Place) → option_eq (place.ghosts).eq x y ≡ true → x ≡ y
+same_option_place None None e = refl
+same_option_place None (Some b) e = absurd (false≢true e)
+same_option_place (Some a) None e = absurd (false≢true e)
+same_option_place (Some a) (Some b) e = ap Some (same_place_value a b e)
+
+pub same_event : (a b : Event) → (event.ghosts).eq a b ≡ true → a ≡ b
+same_event a b e =
+    let x = and_parts _ _ e in
+    let y = and_parts _ _ x.1 in
+    let agent = eqb-true a.agent b.agent x.0 in
+    let access = same_option_access a.access b.access y.0 in
+    let waiters = same_option_place a.waiters b.waiters y.1 in
+    λ i. record { agent = agent i; access = access i; waiters = waiters i }

@@ -1,0 +1,10 @@
+pub mod Cases
+pub mod Lasts
+pub mod LastSteps
+pub mod Knowledge
+pub mod Equality
+pub mod Written
+pub mod Noted
+pub mod DataRaces
+pub mod Telling
+pub mod Reading

@@ -1,0 +1,330 @@
+-- What is told of races, one more at a time.
+use Rattle.std.proofs.Common.{◌≡◌, ◌≢◌, ◌⊎◌, inl, inr, ℕ, ◌+◌, ◌*◌, ◌^◌, ◌<◌, ◌≤◌, List, [], ◌∷◌, ◌++◌, length, slice_index, slice_index_or, refl, sym, subst, ap, ◌∙◌, arith, All, length-append}
+use Rattle.std.proofs.Math.ListN.{get_or-append}
+use Rattle.std.proofs.Math.Seq.{get_or-append_seam}
+use Rattle.std.proofs.lemmas.Bool.{cases_lt, cases_eq}
+use Rattle.std.proofs.lemmas.List.Elements.{All-push, All-nil}
+use Rattle.sab_judge.specs.declared.event.Event.{Event}
+use Rattle.sab_judge.specs.declared.race.Race.{Race}
+use Rattle.sab_judge.specs.Race.{IsRace, StandsIn, HasEach, IsCount, CountsRaces, none, and, ComesBefore}
+use Rattle.sab_judge.specs.Verdict.{race_at, IsTold, InOrder, IsAmong, ComesAfterAll, IsLeft, IsVerdict}
+use Rattle.sab_judge.specs.Telling.{HasTold}
+
+-- ---- what comes before
+
+-- who comes before the next pair comes before this one, or is this one
+before_next : {k l i j : ℕ} → ComesBefore k l (i + 1) j → ComesBefore k l i j ⊎ ((k ≡ i) × (l ≡ j))
+before_next {k} {l} {i} {j} (inl lt) = inl (inl lt)
+before_next {k} {l} {i} {j} (inr (same, lt)) = elim (cases_lt k i) [
+  | inl less ↦ inl (inr (same, less))
+  | inr ge ↦ inr (omega (arith, lt, ge), same)
+]
+
+weaker : {k l i j : ℕ} → ComesBefore k l i j → ComesBefore k l (i + 1) j
+weaker (inl lt) = inl lt
+weaker {k} {l} {i} {j} (inr (same, lt)) = inr (same, omega (arith, lt))
+
+passed_more : (told : List Race) {i j : ℕ} → ComesAfterAll told i j → ComesAfterAll told (i + 1) j
+passed_more told passed k h = weaker (passed k h)
+
+-- ---- lists of numbers
+
+stands_more : {xs : List ℕ} {x : ℕ} (y : ℕ) → StandsIn xs x → StandsIn (xs ++ y ∷ []) x
+stands_more {xs} {x} y s = record {
+  place = s.place;
+  inside = simp length-append (omega (arith, s.inside));
+  is = get_or-append xs (y ∷ []) 0 s.place s.inside ∙ s.is;
+}
+
+stands_last : (xs : List ℕ) (y : ℕ) → StandsIn (xs ++ y ∷ []) y
+stands_last xs y = record {
+  place = length xs;
+  inside = simp length-append (omega arith);
+  is = get_or-append_seam xs y [] 0;
+}
+
+-- no number below i is such at the next one either
+each_skipped : {trace : List Event} {i j : ℕ} {xs : List ℕ} → HasEach (λ k. IsRace trace k j × (k < i)) xs
+    → ¬ IsRace trace i j → HasEach (λ k. IsRace trace k j × (k < i + 1)) xs
+each_skipped {trace} {i} {j} {xs} e apart = record {
+  only = λ k h. let its = e.only k h in (its.0, omega (arith, its.1));
+  all = λ k its. elim (cases_lt k i) [
+    | inl lt ↦ e.all k (its.0, lt)
+    | inr ge ↦ (let same : k ≡ i = omega (arith, its.1, ge) in
+        absurd (apart (subst (λ (x : ℕ). IsRace trace x j) same its.0)))
+  ];
+  once = e.once;
+}
+
+each_with : {trace : List Event} {i j : ℕ} {xs : List ℕ} → HasEach (λ k. IsRace trace k j × (k < i)) xs
+    → IsRace trace i j → HasEach (λ k. IsRace trace k j × (k < i + 1)) (xs ++ i ∷ [])
+each_with {trace} {i} {j} {xs} e race = record { only = only; all = all; once = once }
+  where
+    len : length (xs ++ i ∷ []) ≡ length xs + 1
+    len = length-append xs (i ∷ [])
+
+    old : (k : ℕ) → k < length xs → slice_index (xs ++ i ∷ []) k ≡ slice_index xs k
+    old k lt = get_or-append xs (i ∷ []) 0 k lt
+
+    last : slice_index (xs ++ i ∷ []) (length xs) ≡ i
+    last = get_or-append_seam xs i [] 0
+
+    only : (k : ℕ) → k < length (xs ++ i ∷ [])
+        → IsRace trace (slice_index (xs ++ i ∷ []) k) j × (slice_index (xs ++ i ∷ []) k < i + 1)
+    only k h = elim (cases_lt k (length xs)) [
+      | inl lt ↦ (let its = e.only k lt in
+          (subst (λ (x : ℕ). IsRace trace x j) (sym (old k lt)) its.0, omega (arith, its.1, old k lt)))
+      | inr ge ↦ (let at : k ≡ length xs = omega (arith, len, h, ge) in
+          let is : slice_index (xs ++ i ∷ []) k ≡ i = rw at last in
+          (subst (λ (x : ℕ). IsRace trace x j) (sym is) race, omega (arith, is)))
+    ]
+
+    all : (k : ℕ) → IsRace trace k j × (k < i + 1) → StandsIn (xs ++ i ∷ []) k
+    all k its = elim (cases_lt k i) [
+      | inl lt ↦ stands_more i (e.all k (its.0, lt))
+      | inr ge ↦ (let same : i ≡ k = omega (arith, its.1, ge) in
+          subst (λ (x : ℕ). StandsIn (xs ++ i ∷ []) x) same (stands_last xs i))
+    ]
+
+    once : (k l : ℕ) → k < l → l < length (xs ++ i ∷ []) → slice_index (xs ++ i ∷ []) k ≢ slice_index (xs ++ i ∷ []) l
+    once k l lt h e' = elim (cases_lt l (length xs)) [
+      | inl inside ↦ e.once k l lt inside (sym (old k (omega (arith, lt, inside))) ∙ e' ∙ old l inside)
+      | inr ge ↦ (let at : l ≡ length xs = omega (arith, len, h, ge) in
+          let k_in : k < length xs = omega (arith, at, lt) in
+          let its = e.only k k_in in
+          let is : slice_index (xs ++ i ∷ []) l ≡ i = rw at last in
+          omega (arith, its.1, old k k_in, e', is))
+    ]
+
+-- ---- races that are told
+
+among_more : {told : List Race} {k l : ℕ} (r : Race) → IsAmong told k l → IsAmong (told ++ r ∷ []) k l
+among_more {told} {k} {l} r a = record {
+  place = a.place;
+  inside = simp length-append (omega (arith, a.inside));
+  first = ap (λ (x : Race). x.first) same ∙ a.first;
+  second = ap (λ (x : Race). x.second) same ∙ a.second;
+}
+  where
+    same : race_at (told ++ r ∷ []) a.place ≡ race_at told a.place
+    same = get_or-append told (r ∷ []) _ a.place a.inside
+
+among_last : (told : List Race) (r : Race) → IsAmong (told ++ r ∷ []) r.first r.second
+among_last told r = record {
+  place = length told;
+  inside = simp length-append (omega arith);
+  first = ap (λ (x : Race). x.first) (get_or-append_seam told r [] _);
+  second = ap (λ (x : Race). x.second) (get_or-append_seam told r [] _);
+}
+
+pub nothing_told : (trace : List Event) (most : ℕ) (told : List Race) → told ≡ [] → HasTold trace 0 0 most told 0
+nothing_told trace most told e = subst (λ (t : List Race). HasTold trace 0 0 most t 0) (sym e) (record {
+  races = All-nil (IsTold trace);
+  order = λ k l lt h. absurd (omega (arith, h));
+  passed = λ k h. absurd (omega (arith, h));
+  each = λ k l b race. elim b [
+    | inl lt ↦ absurd (omega (arith, lt))
+    | inr p ↦ absurd (omega (arith, p.1))
+  ];
+  before = 0;
+  count = none;
+  here = [];
+  has_each = record {
+    only = λ k h. absurd (omega (arith, h));
+    all = λ k its. absurd (omega (arith, its.1));
+    once = λ k l lt h. absurd (omega (arith, h));
+  };
+  sum = refl;
+  few = omega arith;
+  full = λ h. absurd (omega (arith, h));
+  small = omega arith;
+})
+
+-- two events that don't race
+pub passed_over : {trace : List Event} {j i most : ℕ} {told : List Race} {rest : ℕ} → HasTold trace j i most told rest
+    → ¬ IsRace trace i j → HasTold trace j (i + 1) most told rest
+passed_over {trace} {j} {i} {most} {told} {rest} t apart = record {
+  races = t.races;
+  order = t.order;
+  passed = passed_more told t.passed;
+  each = λ k l b race. elim (before_next b) [
+    | inl earlier ↦ t.each k l earlier race
+    | inr (k_is, l_is) ↦ absurd (apart (subst (λ (x : ℕ). IsRace trace x j) k_is
+        (subst (λ (x : ℕ). IsRace trace k x) l_is race)))
+  ];
+  before = t.before;
+  count = t.count;
+  here = t.here;
+  has_each = each_skipped t.has_each apart;
+  sum = t.sum;
+  few = t.few;
+  full = t.full;
+  small = omega (arith, t.small);
+}
+
+-- a race that is left
+pub left_one : {trace : List Event} {j i most : ℕ} {told : List Race} {rest : ℕ} → HasTold trace j i most told rest
+    → most ≤ length told → IsRace trace i j → HasTold trace j (i + 1) most told (rest + 1)
+left_one {trace} {j} {i} {most} {told} {rest} t enough race = record {
+  races = t.races;
+  order = t.order;
+  passed = passed_more told t.passed;
+  each = λ k l b r. elim (before_next b) [
+    | inl earlier ↦ elim (t.each k l earlier r) [
+      | inl among ↦ inl among
+      | inr left ↦ inr (record { after = left.after; some = omega arith })
+    ]
+    | inr (k_is, l_is) ↦ inr (record {
+      after = subst (λ (x : ℕ). ComesAfterAll told x l) (sym k_is)
+          (subst (λ (x : ℕ). ComesAfterAll told i x) (sym l_is) t.passed);
+      some = omega arith;
+    })
+  ];
+  before = t.before;
+  count = t.count;
+  here = t.here ++ i ∷ [];
+  has_each = each_with t.has_each race;
+  sum = let len : length (t.here ++ i ∷ []) ≡ length t.here + 1 = length-append t.here (i ∷ []) in
+      omega (arith, t.sum, len);
+  few = t.few;
+  full = λ h. omega (arith, t.few, enough);
+  small = omega (arith, t.small);
+}
+
+-- a race that is told
+pub told_one : {trace : List Event} {j i most : ℕ} {told : List Race} {rest : ℕ} (r : Race)
+    → HasTold trace j i most told rest → length told < most → IsTold trace r → r.first ≡ i → r.second ≡ j
+    → HasTold trace j (i + 1) most (told ++ r ∷ []) rest
+told_one {trace} {j} {i} {most} {told} {rest} r t fewer is_told first_is second_is = record {
+  races = All-push (IsTold trace) told r t.races is_told;
+  order = order;
+  passed = passed;
+  each = λ k l b race. elim (before_next b) [
+    | inl earlier ↦ elim (t.each k l earlier race) [
+      | inl among ↦ inl (among_more r among)
+      | inr left ↦ absurd (omega (arith, none_left, left.some))
+    ]
+    | inr (k_is, l_is) ↦ inl (subst (λ (x : ℕ). IsAmong (told ++ r ∷ []) x l) (first_is ∙ sym k_is)
+        (subst (λ (x : ℕ). IsAmong (told ++ r ∷ []) r.first x) (second_is ∙ sym l_is) (among_last told r)))
+  ];
+  before = t.before;
+  count = t.count;
+  here = t.here ++ i ∷ [];
+  has_each = each_with t.has_each race;
+  sum = let more : length (t.here ++ i ∷ []) ≡ length t.here + 1 = length-append t.here (i ∷ []) in
+      omega (arith, t.sum, len, more);
+  few = omega (arith, len, fewer);
+  full = λ h. absurd (omega (arith, none_left, h));
+  small = omega (arith, t.small);
+}
+  where
+    len : length (told ++ r ∷ []) ≡ length told + 1
+    len = length-append told (r ∷ [])
+
+    race : IsRace trace i j
+    race = subst (λ (x : ℕ). IsRace trace x j) first_is (subst (λ (x : ℕ). IsRace trace r.first x) second_is is_told.is_race)
+
+    none_left : rest ≡ 0
+    none_left = elim (cases_lt 0 rest) [
+      | inl some ↦ absurd (omega (arith, t.full some, fewer))
+      | inr zero ↦ omega (arith, zero)
+    ]
+
+    old : (k : ℕ) → k < length told → race_at (told ++ r ∷ []) k ≡ race_at told k
+    old k lt = get_or-append told (r ∷ []) _ k lt
+
+    last : race_at (told ++ r ∷ []) (length told) ≡ r
+    last = get_or-append_seam told r [] _
+
+    ends : (k : ℕ) → k < length (told ++ r ∷ []) → (k < length told) ⊎ (k ≡ length told)
+    ends k h = elim (cases_lt k (length told)) [
+      | inl lt ↦ inl lt
+      | inr ge ↦ inr (omega (arith, len, h, ge))
+    ]
+
+    at_old : (k a b : ℕ) → (lt : k < length told) → ComesBefore (race_at told k).first (race_at told k).second a b
+        → ComesBefore (race_at (told ++ r ∷ []) k).first (race_at (told ++ r ∷ []) k).second a b
+    at_old k a b lt h = subst (λ (x : Race). ComesBefore x.first x.second a b) (sym (old k lt)) h
+
+    passed : ComesAfterAll (told ++ r ∷ []) (i + 1) j
+    passed k h = elim (ends k h) [
+      | inl lt ↦ at_old k (i + 1) j lt (weaker (t.passed k lt))
+      | inr at ↦ subst (λ (x : Race). ComesBefore x.first x.second (i + 1) j)
+          (sym (ap (λ (x : ℕ). race_at (told ++ r ∷ []) x) at ∙ last)) (inr (second_is, omega (arith, first_is)))
+    ]
+
+    order : InOrder (told ++ r ∷ [])
+    order k l lt h = elim (ends l h) [
+      | inl l_in ↦ at_old k _ _ (omega (arith, lt, l_in))
+          (subst (λ (x : Race). ComesBefore (race_at told k).first (race_at told k).second x.first x.second)
+          (sym (old l l_in)) (t.order k l lt l_in))
+      | inr at ↦ (let k_in : k < length told = omega (arith, at, lt) in
+          at_old k _ _ k_in
+          (subst (λ (x : Race). ComesBefore (race_at told k).first (race_at told k).second x.first x.second)
+          (sym (ap (λ (x : ℕ). race_at (told ++ r ∷ []) x) at ∙ last))
+          (subst (λ (x : ℕ). ComesBefore (race_at told k).first (race_at told k).second x r.second) (sym first_is)
+          (subst (λ (x : ℕ). ComesBefore (race_at told k).first (race_at told k).second i x) (sym second_is)
+          (t.passed k k_in)))))
+    ]
+
+-- ---- one event more, and all
+
+to_next : {k l j : ℕ} → ComesBefore k l j j → ComesBefore k l 0 (j + 1)
+to_next {k} {l} {j} (inl lt) = inl (omega (arith, lt))
+to_next {k} {l} {j} (inr (same, lt)) = inl (omega (arith, same))
+
+from_next : {k l j : ℕ} → k < l → ComesBefore k l 0 (j + 1) → ComesBefore k l j j
+from_next {k} {l} {j} order (inl lt) = elim (cases_lt l j) [
+  | inl less ↦ inl less
+  | inr ge ↦ inr (omega (arith, lt, ge), omega (arith, lt, ge, order))
+]
+from_next {k} {l} {j} order (inr (same, lt)) = absurd (omega (arith, lt))
+
+pub next_event : {trace : List Event} {j most : ℕ} {told : List Race} {rest : ℕ} → j < 2 ^ 20
+    → HasTold trace j j most told rest → HasTold trace (j + 1) 0 most told rest
+next_event {trace} {j} {most} {told} {rest} few t = record {
+  races = t.races;
+  order = t.order;
+  passed = λ k h. to_next (t.passed k h);
+  each = λ k l b race. t.each k l (from_next race.earlier b) race;
+  before = t.before + length t.here;
+  count = and t.count (record {
+    list = t.here;
+    each = record {
+      only = λ k h. (t.has_each.only k h).0;
+      all = λ i race. t.has_each.all i (race, race.earlier);
+      once = t.has_each.once;
+    };
+    len = refl;
+  });
+  here = [];
+  has_each = record {
+    only = λ k h. absurd (omega (arith, h));
+    all = λ k its. absurd (omega (arith, its.1));
+    once = λ k l lt h. absurd (omega (arith, h));
+  };
+  sum = omega (arith, t.sum);
+  few = t.few;
+  full = t.full;
+  small = omega (arith, t.small, few);
+}
+
+pub all_told : {trace : List Event} {most : ℕ} {told : List Race} {rest : ℕ}
+    → HasTold trace (length trace) 0 most told rest → IsVerdict trace most told rest
+all_told {trace} {most} {told} {rest} t = record {
+  races = t.races;
+  order = t.order;
+  each = λ i j race. t.each i j (inl race.within) race;
+  count = subst (λ (n : ℕ). CountsRaces trace (length trace) n) total t.count;
+  few = t.few;
+  full = t.full;
+}
+  where
+    none_here : length t.here ≡ 0
+    none_here = elim (cases_lt 0 (length t.here)) [
+      | inl some ↦ absurd (omega (arith, (t.has_each.only 0 some).1))
+      | inr zero ↦ omega (arith, zero)
+    ]
+
+    total : t.before ≡ length told + rest
+    total = omega (arith, t.sum, none_here)

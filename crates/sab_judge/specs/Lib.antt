@@ -1,0 +1,12 @@
+pub mod Place
+pub mod Order
+pub mod Access
+pub mod Event
+pub mod HappensBefore
+pub mod Race
+pub mod Verdict
+pub mod Clock
+pub mod Sought
+pub mod Lookups
+pub mod Past
+pub mod Telling

@@ -1,0 +1,65 @@
+-- Races of a trace, and which of them are data races of it (Races; Data Races).
+use Rattle.std.specs.Prelude.{◌≡◌, ◌≢◌, ◌⊎◌, ℕ, ◌<◌, ◌+◌, IsTrue, false, List, length, slice_index}
+use Rattle.sab_judge.specs.declared.event.Event.{Event}
+use Rattle.sab_judge.specs.Event.{event_at, agent_at, do_conflict, are_alike, do_both_write}
+use Rattle.sab_judge.specs.HappensBefore.{HappensBefore, ReadsFrom}
+
+-- the i-th event and the later j-th race: two agents access a byte, one of them writes it, not both by SeqCst accesses
+-- with equal ranges, and neither happens before the other
+pub record IsRace (trace : List Event) (i j : ℕ) : Type 0 where
+  pub earlier : i < j
+  pub within : j < length trace
+  pub agents : agent_at trace i ≢ agent_at trace j
+  pub conflict : IsTrue (do_conflict (event_at trace i) (event_at trace j))
+  pub unordered : ¬ HappensBefore trace i j
+
+-- no event races with the j-th as the later of the two
+abbrev pub RacesWithNone : List Event → ℕ → Type 0
+RacesWithNone trace j = (i : ℕ) → ¬ IsRace trace i j
+
+-- no two events race
+abbrev pub HaveNoRace : List Event → Type 0
+HaveNoRace trace = (i j : ℕ) → ¬ IsRace trace i j
+
+-- both write in ranges that aren't disjoint, or the later one reads from the earlier one
+abbrev pub Meet : List Event → ℕ → ℕ → Type 0
+Meet trace i j = IsTrue (do_both_write (event_at trace i) (event_at trace j)) ⊎ ReadsFrom trace j i
+
+-- the two are in a data race as ECMA-262 has it: neither happens before the other, both write or the one reads from the
+-- other, and one isn't SeqCst or the ranges aren't equal
+pub record IsDataRace (trace : List Event) (i j : ℕ) : Type 0 where
+  pub earlier : i < j
+  pub within : j < length trace
+  pub unordered : ¬ HappensBefore trace i j
+  pub meet : Meet trace i j
+  pub unlike : are_alike (event_at trace i) (event_at trace j) ≡ false
+
+-- ---- what is told of all races
+
+-- the number stands in the list
+pub record StandsIn (xs : List ℕ) (x : ℕ) : Type 0 where
+  pub place : ℕ
+  pub inside : place < length xs
+  pub is : slice_index xs place ≡ x
+
+-- the list has just the numbers that are such, each once
+pub record HasEach (P : ℕ → Type 0) (xs : List ℕ) : Type 0 where
+  pub only : (k : ℕ) → k < length xs → P (slice_index xs k)
+  pub all : (i : ℕ) → P i → StandsIn xs i
+  pub once : (k l : ℕ) → k < l → l < length xs → slice_index xs k ≢ slice_index xs l
+
+-- so many numbers are such
+pub record IsCount (P : ℕ → Type 0) (count : ℕ) : Type 0 where
+  pub list : List ℕ
+  pub each : HasEach P list
+  pub len : length list ≡ count
+
+-- so many races have one of the first n events as the later one
+pub data CountsRaces (trace : List Event) : ℕ → ℕ → Type 0 where
+  none : CountsRaces trace 0 0
+  and : {j total count : ℕ} → CountsRaces trace j total → IsCount (λ i. IsRace trace i j) count
+      → CountsRaces trace (j + 1) (total + count)
+
+-- the race of i and j comes before that of k and l: by the later events, and then by the earlier ones
+abbrev pub ComesBefore : ℕ → ℕ → ℕ → ℕ → Type 0
+ComesBefore i j k l = (j < l) ⊎ ((j ≡ l) × (i < k))

@@ -1,0 +1,44 @@
+-- What a judge tells of a trace.
+use Rattle.std.specs.Prelude.{◌≡◌, ◌⊎◌, ◌↔◌, ℕ, ◌<◌, ◌≤◌, ◌+◌, IsTrue, false, List, All, length, slice_index_or}
+use Rattle.sab_judge.specs.declared.event.Event.{Event}
+use Rattle.sab_judge.specs.declared.race.Race.{Race}
+use Rattle.sab_judge.specs.Race.{IsRace, IsDataRace, CountsRaces, ComesBefore}
+
+-- the race at a position of a list; past the end, that of event 0 with itself, which is none
+abbrev pub race_at : List Race → ℕ → Race
+race_at told k = slice_index_or told k (record { first = 0; second = 0; is_data_race = false })
+
+-- the race is one of the trace, and it is said truly whether it is a data race
+pub record IsTold (trace : List Event) (race : Race) : Type 0 where
+  pub is_race : IsRace trace race.first race.second
+  pub data_race : IsTrue race.is_data_race ↔ IsDataRace trace race.first race.second
+
+-- the races are in order
+abbrev pub InOrder : List Race → Type 0
+InOrder told = (k l : ℕ) → k < l → l < length told
+    → ComesBefore (race_at told k).first (race_at told k).second (race_at told l).first (race_at told l).second
+
+-- the race of i and j is one of the list
+pub record IsAmong (told : List Race) (i j : ℕ) : Type 0 where
+  pub place : ℕ
+  pub inside : place < length told
+  pub first : (race_at told place).first ≡ i
+  pub second : (race_at told place).second ≡ j
+
+-- the race of i and j comes after all of the list
+abbrev pub ComesAfterAll : List Race → ℕ → ℕ → Type 0
+ComesAfterAll told i j = (k : ℕ) → k < length told → ComesBefore (race_at told k).first (race_at told k).second i j
+
+-- the race of i and j is left: it comes after all that are told, and some are left
+pub record IsLeft (told : List Race) (rest i j : ℕ) : Type 0 where
+  pub after : ComesAfterAll told i j
+  pub some : 0 < rest
+
+-- told are the first races of the trace, in order, at most so many, and so many are left
+pub record IsVerdict (trace : List Event) (most : ℕ) (told : List Race) (rest : ℕ) : Type 0 where
+  pub races : All (IsTold trace) told
+  pub order : InOrder told
+  pub each : (i j : ℕ) → IsRace trace i j → IsAmong told i j ⊎ IsLeft told rest i j
+  pub count : CountsRaces trace (length trace) (length told + rest)
+  pub few : length told ≤ most
+  pub full : 0 < rest → length told ≡ most

@@ -1,0 +1,52 @@
+//! Vector clocks.
+
+/// How many agents there can be.
+pub(crate) const AGENTS: usize = 16;
+
+/// For each agent a bound: the events of the agent at positions below it are known.
+#[derive(Clone, Copy, Debug)]
+pub(crate) struct Clock {
+    pub(crate) bounds: [u32; 16],
+}
+
+impl Clock {
+    ghost use Rattle.std.specs.Prelude.{◌≡◌, ◌+◌, ◌^◌, ◌<◌, ◌≢◌, ℕ, max, slice_index, nat_lt};
+    ghost use Rattle.sab_judge.specs.Clock.{KnowsNothing, KnowsBoth};
+
+    /// Nothing is known.
+    pub(crate) fn new() -> Clock
+        ensures { KnowsNothing result }
+    {
+        Clock { bounds: [0; 16] }
+    }
+
+    /// Whether an event of the agent is known.
+    pub(crate) fn knows(&self, agent: u32, i: usize) -> bool
+        requires { agent < 16 }
+        ensures { result ≡ nat_lt i (slice_index self.now.bounds agent) }
+    {
+        i < self.bounds[agent as usize] as usize
+    }
+
+    /// What either knows.
+    pub(crate) fn joined(&self, other: &Clock) -> Clock
+        ensures { KnowsBoth self.now other.now result }
+    {
+        let mut both = *self;
+        for b in 0..AGENTS {
+            both.bounds[b] = self.bounds[b].max(other.bounds[b]);
+        }
+        both
+    }
+
+    /// And the agent's events up to this one.
+    pub(crate) fn up_to(mut self, agent: u32, i: usize) -> Clock
+        requires agent { agent < 16 }
+        requires small { i < 2 ^ 20 }
+        ensures own { slice_index result.bounds agent ≡ i + 1 }
+        ensures others { (b : ℕ) → b ≢ agent → slice_index result.bounds b ≡ slice_index self.bounds b }
+    {
+        self.bounds[agent as usize] = i as u32 + 1;
+        self
+    }
+}

@@ -1,0 +1,116 @@
+//! The judge of a trace.
+
+ghost use Rattle.std.specs.Prelude.{◌+◌, ◌<◌, ◌≤◌, ◌^◌, ◌↔◌, All, IfOk, IsTrue, length};
+ghost use Rattle.sab_judge.specs.declared.event.Event.{Event};
+ghost use Rattle.sab_judge.specs.Clock.{IsClock};
+ghost use Rattle.sab_judge.specs.Past.{IsPast};
+ghost use Rattle.sab_judge.specs.Race.{IsRace};
+ghost use Rattle.sab_judge.specs.Verdict.{IsVerdict};
+ghost use Rattle.sab_judge.specs.Telling.{HasTold};
+
+use crate::clock::Clock;
+use crate::clocks::clock_of;
+use crate::data_race::is_data_race;
+use crate::event::Event;
+use crate::past::Past;
+use crate::race::Race;
+use crate::verdict::Verdict;
+use std::alloc::{AllocError, Global};
+
+/// The most events that a trace may have.
+pub const MAX_EVENTS: usize = 1 << 20;
+
+/// Whether each event is of one of the 16 agents that there can be, as `judge` wants.
+pub fn are_agents_known(trace: &[Event]) -> bool
+    ensures { IsTrue result ↔ All (λ (e : Event). e.agent < 16) trace.now }
+{
+    trace.iter().all(|event| event.agent < 16)
+}
+
+/// Judges the events of a run, which stand in the order in which they happened: its first races, at most so many, and
+/// how many more there are. Where none is told although one could be, there is none.
+pub fn judge(alloc: Global, trace: &[Event], most: usize) -> Result<Verdict, AllocError>
+    requires short { length trace.now ≤ MAX_EVENTS }
+    requires agents { All (λ (e : Event). e.agent < 16) trace.now }
+    ensures { IfOk result (λ verdict. IsVerdict trace.now most verdict.races.items verdict.rest) }
+{
+    let mut clocks = Vec::new(alloc);
+    let mut past = Past::new(alloc);
+    let mut verdict = Verdict {
+        races: Vec::new(alloc),
+        rest: 0,
+    };
+    for j in 0..trace.len() {
+        let clock = clock_of(trace, &clocks, &past, j);
+        tell_races(&mut verdict, trace, &past, &clock, j, most)?;
+        clocks.push(clock)?;
+        past.note(trace, j)?;
+    }
+    Ok(verdict)
+}
+
+/// Tells the races of which the `j`-th event is the later one.
+fn tell_races(
+    verdict: &mut Verdict,
+    trace: &[Event],
+    past: &Past,
+    clock: &Clock,
+    j: usize,
+    most: usize,
+) -> Result<(), AllocError>
+    requires within { j < length trace.now }
+    requires short { length trace.now ≤ 2 ^ 20 }
+    requires agents { All (λ (e : Event). e.agent < 16) trace.now }
+    requires past { IsPast trace.now j past.now }
+    requires clock { IsClock trace.now j clock.now }
+    requires told { HasTold trace.now j 0 most verdict.old.races.items verdict.old.rest }
+    ensures { IfOk result (λ _. HasTold trace.now j j most verdict.new.races.items verdict.new.rest) }
+{
+    for i in 0..j {
+        if is_race(trace, clock, i, j) {
+            tell(verdict, trace, past, i, j, most)?;
+        }
+    }
+    Ok(())
+}
+
+/// Whether the `i`-th event and the later `j`-th, whose clock this is, race.
+fn is_race(trace: &[Event], clock: &Clock, i: usize, j: usize) -> bool
+    requires earlier { i < j }
+    requires within { j < length trace.now }
+    requires agents { All (λ (e : Event). e.agent < 16) trace.now }
+    requires clock { IsClock trace.now j clock.now }
+    ensures { IsTrue result ↔ IsRace trace.now i j }
+{
+    let first = trace[i];
+    let second = trace[j];
+    first.agent != second.agent && first.conflicts(second) && !clock.knows(first.agent, i)
+}
+
+/// Tells the race of the `i`-th event and the `j`-th, or counts it where no more are to be told.
+fn tell(
+    verdict: &mut Verdict,
+    trace: &[Event],
+    past: &Past,
+    i: usize,
+    j: usize,
+    most: usize,
+) -> Result<(), AllocError>
+    requires race { IsRace trace.now i j }
+    requires short { length trace.now ≤ 2 ^ 20 }
+    requires past { IsPast trace.now j past.now }
+    requires told { HasTold trace.now j i most verdict.old.races.items verdict.old.rest }
+    ensures { IfOk result (λ _. HasTold trace.now j (i + 1) most verdict.new.races.items verdict.new.rest) }
+{
+    if verdict.races.len() < most {
+        let is_data_race = is_data_race(trace, past, i, j);
+        verdict.races.push(Race {
+            first: i,
+            second: j,
+            is_data_race,
+        })?;
+    } else {
+        verdict.rest += 1;
+    }
+    Ok(())
+}

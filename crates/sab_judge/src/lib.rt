@@ -1,0 +1,25 @@
+//! Judges the events of a run for data races, by the happens-before order of ECMA-262.
+#![tactic(auto)]
+
+mod access;
+mod clock;
+mod clocks;
+mod data_race;
+mod event;
+mod judging;
+mod laws;
+mod order;
+mod past;
+mod place;
+mod race;
+mod reads;
+mod verdict;
+
+pub use access::Access;
+pub use event::Event;
+pub use judging::{MAX_EVENTS, are_agents_known, judge};
+pub use laws::{data_races_are_races, happens_before_is_earlier};
+pub use order::Order;
+pub use place::Place;
+pub use race::Race;
+pub use verdict::Verdict;
