@@ -9,9 +9,9 @@ use Rattle.sab_judge.specs.declared.event.Event.{Event}
 use Rattle.sab_judge.specs.Sought.{OfAgent, AtWaiters}
 use Rattle.sab_judge.specs.declared.place.Place.{Place}
 use Rattle.sab_judge.specs.Access.{covers}
-use Rattle.sab_judge.specs.Event.{event_at, agent_at, are_alike, share_waiters, reads_byte, some_is}
+use Rattle.sab_judge.specs.Event.{event_at, agent_at, are_alike, share_waiters, some_is}
 use Rattle.sab_judge.specs.Sought.{IsLastBelow, IsReadFrom}
-use Rattle.sab_judge.specs.HappensBefore.{HappensBefore, in_agent, by_sync, IsAgentsEarlier, SynchronizesWith, IsHandedOn, ReadsByteFrom}
+use Rattle.sab_judge.specs.HappensBefore.{HappensBefore, in_agent, by_sync, IsAgentsEarlier, SynchronizesWith, ReadsByteFrom}
 use Rattle.sab_judge.specs.Clock.{KnowsNothing, KnowsMore, Learns, no_clock, clock_at, IsAtOrBefore, Knows, IsClock, AreClocks, KnowsUpTo, KnowsOnlyBefore, KnowsWhatIsRead, KnowsWhoHandedOn}
 use Rattle.sab_judge.proofs.Cases.{share_waiters-joined, no_waiters, IsByteOf, covered_byte}
 use Rattle.sab_judge.proofs.Lasts.{IsNoLater, found_last}

@@ -6,5 +6,6 @@ pub mod Equality
 pub mod Written
 pub mod Noted
 pub mod DataRaces
+pub mod Counting
 pub mod Telling
 pub mod Reading

@@ -1,12 +1,12 @@
 -- From which event a byte is read.
-use Rattle.std.proofs.Common.{◌≡◌, ◌&&◌, inl, inr, ℕ, ◌+◌, ◌<◌, true, false, List, length, Option, Some, None, sym, subst, ap, ◌∙◌, arith}
+use Rattle.std.proofs.Common.{◌≡◌, ◌&&◌, inl, inr, ℕ, ◌+◌, ◌<◌, true, List, length, Option, Some, None, sym, subst, ap, ◌∙◌}
 use Rattle.std.specs.Option.{option_eq}
 use Rattle.std.specs.Prelude.{nat_eq}
 use Rattle.std.proofs.lemmas.Bool.{false≢true, cases_order, eqb-true, eq-eqb, and_parts, and_from}
 use Rattle.sab_judge.specs.declared.access.Access.{Access}
 use Rattle.sab_judge.specs.declared.event.Event.{Event}
 use Rattle.sab_judge.specs.Access.{covers}
-use Rattle.sab_judge.specs.Event.{event_at, are_alike, some_is, reads_byte}
+use Rattle.sab_judge.specs.Event.{event_at, some_is, reads_byte}
 use Rattle.sab_judge.specs.HappensBefore.{ReadsByteFrom, ReadsFrom}
 use Rattle.sab_judge.specs.Sought.{Writes, IsLastBelow, IsReadFrom}
 use Rattle.sab_judge.proofs.Cases.{IsByteOf, covered_byte, byte_covered}

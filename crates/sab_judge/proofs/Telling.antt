@@ -1,14 +1,15 @@
 -- What is told of races, one more at a time.
-use Rattle.std.proofs.Common.{◌≡◌, ◌≢◌, ◌⊎◌, inl, inr, ℕ, ◌+◌, ◌*◌, ◌^◌, ◌<◌, ◌≤◌, List, [], ◌∷◌, ◌++◌, length, slice_index, slice_index_or, refl, sym, subst, ap, ◌∙◌, arith, All, length-append}
+use Rattle.std.proofs.Common.{◌≡◌, ◌⊎◌, inl, inr, ℕ, ◌+◌, ◌^◌, ◌<◌, ◌≤◌, List, [], ◌∷◌, ◌++◌, length, refl, sym, subst, ap, ◌∙◌, arith, length-append}
 use Rattle.std.proofs.Math.ListN.{get_or-append}
 use Rattle.std.proofs.Math.Seq.{get_or-append_seam}
-use Rattle.std.proofs.lemmas.Bool.{cases_lt, cases_eq}
+use Rattle.std.proofs.lemmas.Bool.{cases_lt}
 use Rattle.std.proofs.lemmas.List.Elements.{All-push, All-nil}
 use Rattle.sab_judge.specs.declared.event.Event.{Event}
 use Rattle.sab_judge.specs.declared.race.Race.{Race}
-use Rattle.sab_judge.specs.Race.{IsRace, StandsIn, HasEach, IsCount, CountsRaces, none, and, ComesBefore}
-use Rattle.sab_judge.specs.Verdict.{race_at, IsTold, InOrder, IsAmong, ComesAfterAll, IsLeft, IsVerdict}
+use Rattle.sab_judge.specs.Race.{IsRace, below_none, one_more, no_more, CountsRaces, of_none, and_of, ComesBefore}
+use Rattle.sab_judge.specs.Verdict.{race_at, IsTold, InOrder, IsAmong, ComesAfterAll, IsVerdict}
 use Rattle.sab_judge.specs.Telling.{HasTold}
+use Rattle.sab_judge.proofs.Counting.{few_below}
 
 -- ---- what comes before
 
@@ -26,75 +27,6 @@ weaker {k} {l} {i} {j} (inr (same, lt)) = inr (same, omega (arith, lt))
 
 passed_more : (told : List Race) {i j : ℕ} → ComesAfterAll told i j → ComesAfterAll told (i + 1) j
 passed_more told passed k h = weaker (passed k h)
-
--- ---- lists of numbers
-
-stands_more : {xs : List ℕ} {x : ℕ} (y : ℕ) → StandsIn xs x → StandsIn (xs ++ y ∷ []) x
-stands_more {xs} {x} y s = record {
-  place = s.place;
-  inside = simp length-append (omega (arith, s.inside));
-  is = get_or-append xs (y ∷ []) 0 s.place s.inside ∙ s.is;
-}
-
-stands_last : (xs : List ℕ) (y : ℕ) → StandsIn (xs ++ y ∷ []) y
-stands_last xs y = record {
-  place = length xs;
-  inside = simp length-append (omega arith);
-  is = get_or-append_seam xs y [] 0;
-}
-
--- no number below i is such at the next one either
-each_skipped : {trace : List Event} {i j : ℕ} {xs : List ℕ} → HasEach (λ k. IsRace trace k j × (k < i)) xs
-    → ¬ IsRace trace i j → HasEach (λ k. IsRace trace k j × (k < i + 1)) xs
-each_skipped {trace} {i} {j} {xs} e apart = record {
-  only = λ k h. let its = e.only k h in (its.0, omega (arith, its.1));
-  all = λ k its. elim (cases_lt k i) [
-    | inl lt ↦ e.all k (its.0, lt)
-    | inr ge ↦ (let same : k ≡ i = omega (arith, its.1, ge) in
-        absurd (apart (subst (λ (x : ℕ). IsRace trace x j) same its.0)))
-  ];
-  once = e.once;
-}
-
-each_with : {trace : List Event} {i j : ℕ} {xs : List ℕ} → HasEach (λ k. IsRace trace k j × (k < i)) xs
-    → IsRace trace i j → HasEach (λ k. IsRace trace k j × (k < i + 1)) (xs ++ i ∷ [])
-each_with {trace} {i} {j} {xs} e race = record { only = only; all = all; once = once }
-  where
-    len : length (xs ++ i ∷ []) ≡ length xs + 1
-    len = length-append xs (i ∷ [])
-
-    old : (k : ℕ) → k < length xs → slice_index (xs ++ i ∷ []) k ≡ slice_index xs k
-    old k lt = get_or-append xs (i ∷ []) 0 k lt
-
-    last : slice_index (xs ++ i ∷ []) (length xs) ≡ i
-    last = get_or-append_seam xs i [] 0
-
-    only : (k : ℕ) → k < length (xs ++ i ∷ [])
-        → IsRace trace (slice_index (xs ++ i ∷ []) k) j × (slice_index (xs ++ i ∷ []) k < i + 1)
-    only k h = elim (cases_lt k (length xs)) [
-      | inl lt ↦ (let its = e.only k lt in
-          (subst (λ (x : ℕ). IsRace trace x j) (sym (old k lt)) its.0, omega (arith, its.1, old k lt)))
-      | inr ge ↦ (let at : k ≡ length xs = omega (arith, len, h, ge) in
-          let is : slice_index (xs ++ i ∷ []) k ≡ i = rw at last in
-          (subst (λ (x : ℕ). IsRace trace x j) (sym is) race, omega (arith, is)))
-    ]
-
-    all : (k : ℕ) → IsRace trace k j × (k < i + 1) → StandsIn (xs ++ i ∷ []) k
-    all k its = elim (cases_lt k i) [
-      | inl lt ↦ stands_more i (e.all k (its.0, lt))
-      | inr ge ↦ (let same : i ≡ k = omega (arith, its.1, ge) in
-          subst (λ (x : ℕ). StandsIn (xs ++ i ∷ []) x) same (stands_last xs i))
-    ]
-
-    once : (k l : ℕ) → k < l → l < length (xs ++ i ∷ []) → slice_index (xs ++ i ∷ []) k ≢ slice_index (xs ++ i ∷ []) l
-    once k l lt h e' = elim (cases_lt l (length xs)) [
-      | inl inside ↦ e.once k l lt inside (sym (old k (omega (arith, lt, inside))) ∙ e' ∙ old l inside)
-      | inr ge ↦ (let at : l ≡ length xs = omega (arith, len, h, ge) in
-          let k_in : k < length xs = omega (arith, at, lt) in
-          let its = e.only k k_in in
-          let is : slice_index (xs ++ i ∷ []) l ≡ i = rw at last in
-          omega (arith, its.1, old k k_in, e', is))
-    ]
 
 -- ---- races that are told
 
@@ -127,13 +59,9 @@ nothing_told trace most told e = subst (λ (t : List Race). HasTold trace 0 0 mo
     | inr p ↦ absurd (omega (arith, p.1))
   ];
   before = 0;
-  count = none;
-  here = [];
-  has_each = record {
-    only = λ k h. absurd (omega (arith, h));
-    all = λ k its. absurd (omega (arith, its.1));
-    once = λ k l lt h. absurd (omega (arith, h));
-  };
+  count = of_none;
+  here = 0;
+  count_here = below_none;
   sum = refl;
   few = omega arith;
   full = λ h. absurd (omega (arith, h));
@@ -155,7 +83,7 @@ passed_over {trace} {j} {i} {most} {told} {rest} t apart = record {
   before = t.before;
   count = t.count;
   here = t.here;
-  has_each = each_skipped t.has_each apart;
+  count_here = no_more t.count_here apart;
   sum = t.sum;
   few = t.few;
   full = t.full;
@@ -182,10 +110,9 @@ left_one {trace} {j} {i} {most} {told} {rest} t enough race = record {
   ];
   before = t.before;
   count = t.count;
-  here = t.here ++ i ∷ [];
-  has_each = each_with t.has_each race;
-  sum = let len : length (t.here ++ i ∷ []) ≡ length t.here + 1 = length-append t.here (i ∷ []) in
-      omega (arith, t.sum, len);
+  here = t.here + 1;
+  count_here = one_more t.count_here race;
+  sum = omega (arith, t.sum);
   few = t.few;
   full = λ h. omega (arith, t.few, enough);
   small = omega (arith, t.small);
@@ -209,10 +136,9 @@ told_one {trace} {j} {i} {most} {told} {rest} r t fewer is_told first_is second_
   ];
   before = t.before;
   count = t.count;
-  here = t.here ++ i ∷ [];
-  has_each = each_with t.has_each race;
-  sum = let more : length (t.here ++ i ∷ []) ≡ length t.here + 1 = length-append t.here (i ∷ []) in
-      omega (arith, t.sum, len, more);
+  here = t.here + 1;
+  count_here = one_more t.count_here race;
+  sum = omega (arith, t.sum, len);
   few = omega (arith, len, fewer);
   full = λ h. absurd (omega (arith, none_left, h));
   small = omega (arith, t.small);
@@ -287,22 +213,10 @@ next_event {trace} {j} {most} {told} {rest} few t = record {
   order = t.order;
   passed = λ k h. to_next (t.passed k h);
   each = λ k l b race. t.each k l (from_next race.earlier b) race;
-  before = t.before + length t.here;
-  count = and t.count (record {
-    list = t.here;
-    each = record {
-      only = λ k h. (t.has_each.only k h).0;
-      all = λ i race. t.has_each.all i (race, race.earlier);
-      once = t.has_each.once;
-    };
-    len = refl;
-  });
-  here = [];
-  has_each = record {
-    only = λ k h. absurd (omega (arith, h));
-    all = λ k its. absurd (omega (arith, its.1));
-    once = λ k l lt h. absurd (omega (arith, h));
-  };
+  before = t.before + t.here;
+  count = and_of t.count t.count_here;
+  here = 0;
+  count_here = below_none;
   sum = omega (arith, t.sum);
   few = t.few;
   full = t.full;
@@ -320,11 +234,5 @@ all_told {trace} {most} {told} {rest} t = record {
   full = t.full;
 }
   where
-    none_here : length t.here ≡ 0
-    none_here = elim (cases_lt 0 (length t.here)) [
-      | inl some ↦ absurd (omega (arith, (t.has_each.only 0 some).1))
-      | inr zero ↦ omega (arith, zero)
-    ]
-
     total : t.before ≡ length told + rest
-    total = omega (arith, t.sum, none_here)
+    total = omega (arith, t.sum, few_below t.count_here)

@@ -1,5 +1,5 @@
 -- Races of a trace, and which of them are data races of it (Races; Data Races).
-use Rattle.std.specs.Prelude.{◌≡◌, ◌≢◌, ◌⊎◌, ℕ, ◌<◌, ◌+◌, IsTrue, false, List, length, slice_index}
+use Rattle.std.specs.Prelude.{◌≡◌, ◌≢◌, ◌⊎◌, ℕ, ◌<◌, ◌+◌, IsTrue, false, List, length}
 use Rattle.sab_judge.specs.declared.event.Event.{Event}
 use Rattle.sab_judge.specs.Event.{event_at, agent_at, do_conflict, are_alike, do_both_write}
 use Rattle.sab_judge.specs.HappensBefore.{HappensBefore, ReadsFrom}
@@ -36,28 +36,16 @@ pub record IsDataRace (trace : List Event) (i j : ℕ) : Type 0 where
 
 -- ---- what is told of all races
 
--- the number stands in the list
-pub record StandsIn (xs : List ℕ) (x : ℕ) : Type 0 where
-  pub place : ℕ
-  pub inside : place < length xs
-  pub is : slice_index xs place ≡ x
-
--- the list has just the numbers that are such, each once
-pub record HasEach (P : ℕ → Type 0) (xs : List ℕ) : Type 0 where
-  pub only : (k : ℕ) → k < length xs → P (slice_index xs k)
-  pub all : (i : ℕ) → P i → StandsIn xs i
-  pub once : (k l : ℕ) → k < l → l < length xs → slice_index xs k ≢ slice_index xs l
-
--- so many numbers are such
-pub record IsCount (P : ℕ → Type 0) (count : ℕ) : Type 0 where
-  pub list : List ℕ
-  pub each : HasEach P list
-  pub len : length list ≡ count
+-- so many of the numbers below n are such
+pub data Counts (P : ℕ → Type 0) : ℕ → ℕ → Type 0 where
+  below_none : Counts P 0 0
+  one_more : {n count : ℕ} → Counts P n count → P n → Counts P (n + 1) (count + 1)
+  no_more : {n count : ℕ} → Counts P n count → ¬ P n → Counts P (n + 1) count
 
 -- so many races have one of the first n events as the later one
 pub data CountsRaces (trace : List Event) : ℕ → ℕ → Type 0 where
-  none : CountsRaces trace 0 0
-  and : {j total count : ℕ} → CountsRaces trace j total → IsCount (λ i. IsRace trace i j) count
+  of_none : CountsRaces trace 0 0
+  and_of : {j total count : ℕ} → CountsRaces trace j total → Counts (λ i. IsRace trace i j) j count
       → CountsRaces trace (j + 1) (total + count)
 
 -- the race of i and j comes before that of k and l: by the later events, and then by the earlier ones

@@ -2,7 +2,7 @@
 use Rattle.std.specs.Prelude.{◌≡◌, ◌⊎◌, ℕ, ◌<◌, ◌≤◌, ◌+◌, ◌*◌, ◌^◌, List, All, length}
 use Rattle.sab_judge.specs.declared.event.Event.{Event}
 use Rattle.sab_judge.specs.declared.race.Race.{Race}
-use Rattle.sab_judge.specs.Race.{IsRace, HasEach, CountsRaces, ComesBefore}
+use Rattle.sab_judge.specs.Race.{IsRace, Counts, CountsRaces, ComesBefore}
 use Rattle.sab_judge.specs.Verdict.{IsTold, InOrder, IsAmong, IsLeft, ComesAfterAll}
 
 -- the races of the trace that come before i and j are told, or left
@@ -13,9 +13,9 @@ pub record HasTold (trace : List Event) (j i most : ℕ) (told : List Race) (res
   pub each : (k l : ℕ) → ComesBefore k l i j → IsRace trace k l → IsAmong told k l ⊎ IsLeft told rest k l
   pub before : ℕ
   pub count : CountsRaces trace j before
-  pub here : List ℕ
-  pub has_each : HasEach (λ k. IsRace trace k j × (k < i)) here
-  pub sum : length told + rest ≡ before + length here
+  pub here : ℕ
+  pub count_here : Counts (λ k. IsRace trace k j) i here
+  pub sum : length told + rest ≡ before + here
   pub few : length told ≤ most
   pub full : 0 < rest → length told ≡ most
   pub small : rest ≤ j * 2 ^ 20 + i

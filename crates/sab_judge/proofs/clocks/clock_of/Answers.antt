@@ -1,5 +1,5 @@
 -- The clock knows each step to the event.
-use Rattle.std.proofs.Common.{ℕ, arith}
+use Rattle.std.proofs.Common.{arith}
 use Rattle.sab_judge.proofs.LastSteps.{before_earlier}
 use Rattle.sab_judge.proofs.Knowledge.{nothing_only, learned_only, agents_last, agents_known, all_steps, whole_clock}
 use Rattle.sab_judge.proofs.clocks.clock_of.Goals as goal

@@ -1,5 +1,5 @@
 -- Each byte is one more that has the event.
-use Rattle.std.proofs.Common.{◌≡◌, ◌+◌, ℕ, arith}
+use Rattle.std.proofs.Common.{◌≡◌, arith}
 use Rattle.sab_judge.proofs.Written.{written_one_more, all_written}
 use Rattle.sab_judge.proofs.past.note_bytes.Goals as goal
 

@@ -1,5 +1,5 @@
 -- The last writer is who is read from.
-use Rattle.std.proofs.Common.{◌≡◌, ◌<◌, ℕ, List, length, Some, sym, subst, ◌∙◌, arith, rules, true}
+use Rattle.std.proofs.Common.{◌≡◌, ◌<◌, ℕ, length, sym, subst, ◌∙◌, arith, rules, true}
 use Rattle.std.proofs.lemmas.Bool.{false≢true}
 use Rattle.sab_judge.specs.Event.{event_at, are_alike}
 use Rattle.sab_judge.proofs.Reading.{none_read_from, writer_is, reads_last}
