@@ -1,5 +1,5 @@
 -- Events that `==` finds equal are the same.
-use Rattle.std.proofs.Common.{◌≡◌, true, Option, Some, None, refl, ap}
+use Rattle.std.proofs.Common.{◌≡◌, true, Option, Some, None, refl, ap, subst}
 use Rattle.std.specs.Cmp.{booleans_Decides}
 use Rattle.std.specs.Option.{option_eq}
 use Rattle.std.proofs.lemmas.Bool.{false≢true, and_parts, eqb-true}
@@ -11,6 +11,7 @@ use Rattle.sab_judge.specs.declared.event.Event.{Event}
 use Rattle.sab_judge.specs.contracts.place.PlacePartialEq.TheImpl as place
 use Rattle.sab_judge.specs.contracts.order.OrderPartialEq.TheImpl as order
 use Rattle.sab_judge.specs.contracts.access.AccessPartialEq.TheImpl as access
+use Rattle.sab_judge.specs.contracts.access.AccessEq.TheImpl.Laws as access_laws
 use Rattle.sab_judge.specs.contracts.event.EventPartialEq.TheImpl as event
 
 same_place_value : (a b : Place) → (place.ghosts).eq a b ≡ true → a ≡ b
@@ -37,6 +38,9 @@ same_access a b e =
     let writes = (booleans_Decides a.writes b.writes).0 w.0 in
     let order = same_order a.order b.order w.1 in
     λ i. record { place = place i; len = len i; reads = reads i; writes = writes i; order = order i }
+
+pub access_itself : (a b : Access) → a ≡ b → (access.ghosts).eq a b ≡ true
+access_itself a b e = subst (λ (x : Access). (access.ghosts).eq a x ≡ true) e (access_laws.laws-law.refl a)
 
 same_option_access : (x y : Option Access) → option_eq (access.ghosts).eq x y ≡ true → x ≡ y
 same_option_access None None e = refl

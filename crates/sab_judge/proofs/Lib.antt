@@ -7,5 +7,9 @@ pub mod Written
 pub mod Noted
 pub mod DataRaces
 pub mod Counting
+pub mod Lists
+pub mod Tracking
+pub mod KeptTracks
+pub mod Racing
 pub mod Telling
 pub mod Reading

@@ -10,3 +10,4 @@ pub mod Sought
 pub mod Lookups
 pub mod Past
 pub mod Telling
+pub mod Tracks

@@ -20,12 +20,20 @@ impl Clock {
         Clock { bounds: [0; 16] }
     }
 
+    /// The bound of an agent.
+    pub(crate) fn bound(&self, agent: u32) -> usize
+        requires { agent < 16 }
+        ensures { result ≡ slice_index self.now.bounds agent }
+    {
+        self.bounds[agent as usize] as usize
+    }
+
     /// Whether an event of the agent is known.
     pub(crate) fn knows(&self, agent: u32, i: usize) -> bool
         requires { agent < 16 }
         ensures { result ≡ nat_lt i (slice_index self.now.bounds agent) }
     {
-        i < self.bounds[agent as usize] as usize
+        i < self.bound(agent)
     }
 
     /// What either knows.

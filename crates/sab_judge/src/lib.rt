@@ -13,6 +13,8 @@ mod past;
 mod place;
 mod race;
 mod reads;
+mod track;
+mod tracks;
 mod verdict;
 
 pub use access::Access;
