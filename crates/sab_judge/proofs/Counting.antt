@@ -1,5 +1,6 @@
 -- How many numbers are such.
 use Rattle.std.proofs.Common.{◌≡◌, ◌⊎◌, inl, inr, ℕ, zero, suc, ◌+◌, ◌≤◌, ◌<◌, refl, sym, subst, arith}
+use Rattle.std.proofs.lemmas.Bool.{cases_lt}
 use Rattle.sab_judge.specs.Race.{Counts, below_none, one_more, no_more}
 
 -- no more are such than there are
@@ -7,6 +8,15 @@ pub few_below : {P : ℕ → Type 0} {n count : ℕ} → Counts P n count → co
 few_below below_none = omega arith
 few_below (one_more h p) = omega (arith, few_below h)
 few_below (no_more h p) = omega (arith, few_below h)
+
+-- where one is such, some are
+pub some_counted : {P : ℕ → Type 0} {n count : ℕ} → Counts P n count → (k : ℕ) → k < n → P k → 0 < count
+some_counted below_none k lt p = absurd (omega (arith, lt))
+some_counted (one_more h q) k lt p = omega arith
+some_counted {P} (no_more {n = n} h q) k lt p = elim (cases_lt k n) [
+  | inl less ↦ some_counted h k less p
+  | inr ge ↦ (let same : k ≡ n = omega (arith, lt, ge) in absurd (q (subst P same p)))
+]
 
 -- such that are the same below n are as many
 pub counts_same : {P Q : ℕ → Type 0} {n count : ℕ} → ((i : ℕ) → i < n → P i → Q i) → ((i : ℕ) → i < n → Q i → P i)

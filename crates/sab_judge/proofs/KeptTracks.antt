@@ -1,11 +1,10 @@
 -- The tracks of one place, with one event more.
-use Rattle.std.proofs.Common.{◌≡◌, ◌≢◌, ◌⊎◌, inl, inr, ℕ, ◌+◌, ◌<◌, ◌≤◌, List, [], ◌∷◌, ◌++◌, length, slice_get, slice_set, Option, Some, None, refl, sym, subst, ap, ◌∙◌, arith}
+use Rattle.std.proofs.Common.{◌≡◌, ◌≢◌, ◌⊎◌, inl, inr, ℕ, ◌+◌, ◌<◌, List, [], ◌∷◌, ◌++◌, length, slice_get, slice_set, Option, Some, sym, subst, ap, ◌∙◌, arith}
 use Rattle.std.proofs.lemmas.Bool.{cases_lt, cases_eq, cases_order}
 use Rattle.sab_judge.specs.declared.access.Access.{Access}
 use Rattle.sab_judge.specs.declared.event.Event.{Event}
 use Rattle.sab_judge.specs.declared.place.Place.{Place}
 use Rattle.sab_judge.specs.declared.track.Track.{Track}
-use Rattle.sab_judge.specs.Event.{event_at, agent_at}
 use Rattle.sab_judge.specs.Tracks.{IsOn, IsTrack, with_event, without, IsAtHome, ComesHome, HasTrack, AreTracks}
 use Rattle.sab_judge.proofs.Lists.{slice_get-push, slice_get-old, slice_get-new, slice_get-set, slice_get-set_other, some_is_some}
 use Rattle.sab_judge.proofs.Tracking.{track_none}
@@ -76,8 +75,11 @@ track_lengthened {trace} {j} {k} {home} {list} old new ts at inside on agent_is 
     was : (m : ℕ) (t : Track) → slice_get (slice_set list k new) m ≡ Some t
         → ((m ≡ k) × (new ≡ t)) ⊎ ((m ≢ k) × (slice_get list m ≡ Some t))
     was m t e = elim (cases_eq m k) [
-      | inl same ↦ inl (same, some_is_some new t
-          (sym (slice_get-set list k new inside) ∙ subst (λ (x : ℕ). slice_get (slice_set list k new) x ≡ Some t) same e))
+      | inl same ↦ inl (
+        same,
+        some_is_some new t
+            (sym (slice_get-set list k new inside) ∙ subst (λ (x : ℕ). slice_get (slice_set list k new) x ≡ Some t) same e),
+      )
       | inr other ↦ inr (other, sym (slice_get-set_other list k m new other) ∙ e)
     ]
 

@@ -13,3 +13,4 @@ pub mod KeptTracks
 pub mod Racing
 pub mod Telling
 pub mod Reading
+pub mod KeptPlaces

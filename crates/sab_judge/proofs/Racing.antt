@@ -1,5 +1,5 @@
 -- Which events of a track race with a later one.
-use Rattle.std.proofs.Common.{◌≡◌, ◌≢◌, ◌⊎◌, inl, inr, ℕ, ◌+◌, ◌<◌, ◌≤◌, true, false, List, length, slice_index, slice_get, Option, Some, None, refl, sym, subst, ap, ◌∙◌, arith}
+use Rattle.std.proofs.Common.{◌≡◌, ◌≢◌, ◌⊎◌, inl, inr, ℕ, ◌+◌, ◌<◌, ◌≤◌, true, false, List, length, slice_index, slice_get, Option, Some, sym, subst, ap, ◌∙◌, arith}
 use Rattle.std.proofs.lemmas.Bool.{false≢true, cases_lt}
 use Rattle.sab_judge.specs.declared.access.Access.{Access}
 use Rattle.sab_judge.specs.declared.clock.Clock.{Clock}
@@ -7,12 +7,11 @@ use Rattle.sab_judge.specs.declared.event.Event.{Event}
 use Rattle.sab_judge.specs.declared.place.Place.{Place}
 use Rattle.sab_judge.specs.declared.track.Track.{Track}
 use Rattle.sab_judge.specs.Access.{conflict}
-use Rattle.sab_judge.specs.Event.{event_at, agent_at, both_are, do_conflict}
+use Rattle.sab_judge.specs.Event.{event_at, both_are, do_conflict}
 use Rattle.sab_judge.specs.Clock.{IsClock}
 use Rattle.sab_judge.specs.Race.{Counts, IsRace}
-use Rattle.sab_judge.specs.Tracks.{IsOn, IsAtHome, ComesHome, HasTrack, AreTracks}
+use Rattle.sab_judge.specs.Tracks.{IsOn, ComesHome, HasTrack, AreTracks}
 use Rattle.sab_judge.proofs.Counting.{counts_same, counts_none, counts_both}
-use Rattle.sab_judge.proofs.LastSteps.{before_earlier}
 use Rattle.sab_judge.proofs.Lists.{some_is_some}
 use Rattle.std.proofs.lemmas.Option.{slice_get_within}
 
@@ -38,8 +37,11 @@ races_on {trace} {j} {clock} t clocked within at_j apart meets i lt on unknown =
   within = within;
   agents = λ e. apart (sym on.by ∙ e ∙ at_j.by);
   conflict = conflict_is on at_j ∙ meets;
-  unordered = λ h. absurd (omega (arith, unknown,
-      subst (λ (a : ℕ). i < slice_index clock.bounds a) on.by (clocked.complete i (inr h))));
+  unordered = λ h. absurd (omega (
+    arith,
+    unknown,
+    subst (λ (a : ℕ). i < slice_index clock.bounds a) on.by (clocked.complete i (inr h)),
+  ));
 }
 
 -- an event of a track that races isn't known
@@ -48,9 +50,9 @@ pub unknown_on : {trace : List Event} {j : ℕ} {clock : Clock} (t : Track) → 
 unknown_on {trace} {j} {clock} t clocked i on race = elim (cases_lt i (slice_index clock.bounds t.agent)) [
   | inl known ↦ absurd (elim (clocked.sound i (omega (arith, race.earlier, race.within))
       (subst (λ (a : ℕ). i < slice_index clock.bounds a) (sym on.by) known)) [
-    | inl same ↦ omega (arith, same, race.earlier)
-    | inr before ↦ race.unordered before
-  ])
+        | inl same ↦ omega (arith, same, race.earlier)
+        | inr before ↦ race.unordered before
+      ])
   | inr ge ↦ ge
 ]
 
@@ -112,11 +114,14 @@ pub all_tracks : {trace : List Event} {j m count : ℕ} {list : List Track} {hom
 all_tracks {trace} {j} {m} {count} {list} {home} ts all counted = counts_same to from counted
   where
     to : (i : ℕ) → i < j → IsRace trace i j × IsOnBefore trace list m i → IsRace trace i j × ComesHome trace home i
-    to i lt p = (p.0, record {
-      access = p.1.has.track.access;
-      makes = p.1.has.on.makes;
-      at_home = ts.kept p.1.has.place p.1.has.track p.1.has.is;
-    })
+    to i lt p = (
+      p.0,
+      record {
+        access = p.1.has.track.access;
+        makes = p.1.has.on.makes;
+        at_home = ts.kept p.1.has.place p.1.has.track p.1.has.is;
+      },
+    )
 
     from : (i : ℕ) → i < j → IsRace trace i j × ComesHome trace home i → IsRace trace i j × IsOnBefore trace list m i
     from i lt p = let its = ts.found i lt p.1 in

@@ -6,10 +6,10 @@ use Rattle.std.proofs.lemmas.Bool.{cases_lt}
 use Rattle.std.proofs.lemmas.List.Elements.{All-push, All-nil}
 use Rattle.sab_judge.specs.declared.event.Event.{Event}
 use Rattle.sab_judge.specs.declared.race.Race.{Race}
-use Rattle.sab_judge.specs.Race.{IsRace, below_none, one_more, no_more, CountsRaces, of_none, and_of, ComesBefore}
+use Rattle.sab_judge.specs.Race.{IsRace, Counts, below_none, one_more, no_more, CountsRaces, of_none, and_of, ComesBefore}
 use Rattle.sab_judge.specs.Verdict.{race_at, IsTold, InOrder, IsAmong, ComesAfterAll, IsVerdict}
 use Rattle.sab_judge.specs.Telling.{HasTold}
-use Rattle.sab_judge.proofs.Counting.{few_below}
+use Rattle.sab_judge.proofs.Counting.{few_below, some_counted}
 
 -- ---- what comes before
 
@@ -191,6 +191,49 @@ told_one {trace} {j} {i} {most} {told} {rest} r t fewer is_told first_is second_
           (subst (λ (x : ℕ). ComesBefore (race_at told k).first (race_at told k).second x r.second) (sym first_is)
           (subst (λ (x : ℕ). ComesBefore (race_at told k).first (race_at told k).second i x) (sym second_is)
           (t.passed k k_in)))))
+    ]
+
+-- races that are all left
+pub all_left : {trace : List Event} {j most : ℕ} {told : List Race} {rest : ℕ} (count : ℕ)
+    → HasTold trace j 0 most told rest → Counts (λ i. IsRace trace i j) j count → (0 < count → most ≤ length told)
+    → HasTold trace j j most told (rest + count)
+all_left {trace} {j} {most} {told} {rest} count t counted enough = record {
+  races = t.races;
+  order = t.order;
+  passed = λ k h. elim (t.passed k h) [
+    | inl lt ↦ inl lt
+    | inr p ↦ absurd (omega (arith, p.1))
+  ];
+  each = λ k l b race. elim b [
+    | inl lt ↦ elim (t.each k l (inl lt) race) [
+      | inl among ↦ inl among
+      | inr left ↦ inr (record { after = left.after; some = omega (arith, left.some) })
+    ]
+    | inr (same, lt) ↦ inr (record {
+      after = λ m h. elim (t.passed m h) [
+        | inl less ↦ inl (omega (arith, less, same))
+        | inr p ↦ absurd (omega (arith, p.1))
+      ];
+      some = omega (arith, counted_some k (subst (λ (x : ℕ). IsRace trace k x) same race) lt);
+    })
+  ];
+  before = t.before;
+  count = t.count;
+  here = count;
+  count_here = counted;
+  sum = omega (arith, t.sum, few_below t.count_here);
+  few = t.few;
+  full = λ h. full h;
+  small = omega (arith, t.small, few_below counted);
+}
+  where
+    counted_some : (k : ℕ) → IsRace trace k j → k < j → 0 < count
+    counted_some k race lt = some_counted counted k lt race
+
+    full : 0 < rest + count → length told ≡ most
+    full h = elim (cases_lt 0 count) [
+      | inl some ↦ omega (arith, t.few, enough some)
+      | inr none ↦ t.full (omega (arith, h, none))
     ]
 
 -- ---- one event more, and all

@@ -11,3 +11,4 @@ pub mod Lookups
 pub mod Past
 pub mod Telling
 pub mod Tracks
+pub mod Seen

@@ -63,3 +63,16 @@ IsKeptAt trace n p (Some t) = (t.home ≡ Some p) × AreTracks trace n (Some p) 
 -- at each place there are its tracks
 abbrev pub AreKept : List Event → ℕ → ByPlace Tracks → Type 0
 AreKept trace n places = (p : Place) → IsKeptAt trace n p (get same_pair places (p.block, p.byte))
+
+-- the i-th event makes an access of at most 8 bytes
+pub record IsShort (trace : List Event) (i : ℕ) : Type 0 where
+  pub access : Access
+  pub makes : (event_at trace i).access ≡ Some access
+  pub short : access.len ≤ 8
+
+-- the i-th event makes an access of at most 8 bytes that begins between two bytes of a block
+pub record BeginsIn (trace : List Event) (block low high : ℕ) (i : ℕ) : Type 0 where
+  pub begins : IsShort trace i
+  pub block_is : begins.access.place.block ≡ block
+  pub from_low : low ≤ begins.access.place.byte
+  pub below_high : begins.access.place.byte < high

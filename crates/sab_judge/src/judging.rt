@@ -4,7 +4,7 @@ ghost use Rattle.std.specs.Prelude.{◌+◌, ◌<◌, ◌≤◌, ◌^◌, ◌↔
 ghost use Rattle.sab_judge.specs.declared.event.Event.{Event};
 ghost use Rattle.sab_judge.specs.Clock.{IsClock};
 ghost use Rattle.sab_judge.specs.Past.{IsPast};
-ghost use Rattle.sab_judge.specs.Race.{IsRace};
+ghost use Rattle.sab_judge.specs.Race.{Counts, IsRace};
 ghost use Rattle.sab_judge.specs.Verdict.{IsVerdict};
 ghost use Rattle.sab_judge.specs.Telling.{HasTold};
 
@@ -14,6 +14,7 @@ use crate::data_race::is_data_race;
 use crate::event::Event;
 use crate::past::Past;
 use crate::race::Race;
+use crate::seen::Seen;
 use crate::verdict::Verdict;
 use std::alloc::{AllocError, Global};
 
@@ -36,17 +37,47 @@ pub fn judge(alloc: Global, trace: &[Event], most: usize) -> Result<Verdict, All
 {
     let mut clocks = Vec::new(alloc);
     let mut past = Past::new(alloc);
+    let mut seen = Seen::new(alloc);
     let mut verdict = Verdict {
         races: Vec::new(alloc),
         rest: 0,
     };
     for j in 0..trace.len() {
         let clock = clock_of(trace, &clocks, &past, j);
-        tell_races(&mut verdict, trace, &past, &clock, j, most)?;
+        let count = seen.count_races(trace, &clock, j);
+        tell_or_count(&mut verdict, trace, &past, &clock, j, most, count)?;
         clocks.push(clock)?;
         past.note(trace, j)?;
+        seen.keep(alloc, trace, j)?;
     }
     Ok(verdict)
+}
+
+/// Tells the races of which the `j`-th event is the later one, which are so many; or counts them, where no more are to
+/// be told.
+fn tell_or_count(
+    verdict: &mut Verdict,
+    trace: &[Event],
+    past: &Past,
+    clock: &Clock,
+    j: usize,
+    most: usize,
+    count: u64,
+) -> Result<(), AllocError>
+    requires within { j < length trace.now }
+    requires short { length trace.now ≤ 2 ^ 20 }
+    requires agents { All (λ (e : Event). e.agent < 16) trace.now }
+    requires past { IsPast trace.now j past.now }
+    requires clock { IsClock trace.now j clock.now }
+    requires count { Counts (λ i. IsRace trace.now i j) j count }
+    requires told { HasTold trace.now j 0 most verdict.old.races.items verdict.old.rest }
+    ensures { IfOk result (λ _. HasTold trace.now j j most verdict.new.races.items verdict.new.rest) }
+{
+    if count > 0 && verdict.races.len() < most {
+        return tell_races(verdict, trace, past, clock, j, most);
+    }
+    verdict.rest += count;
+    Ok(())
 }
 
 /// Tells the races of which the `j`-th event is the later one.

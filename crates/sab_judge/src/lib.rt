@@ -13,6 +13,7 @@ mod past;
 mod place;
 mod race;
 mod reads;
+mod seen;
 mod track;
 mod tracks;
 mod verdict;

@@ -93,7 +93,7 @@ fn position_of(list: &[Track], agent: u32, access: Access) -> Option<usize>
     ensures { MatchOption result
         ((k : ℕ) (t : Track) → slice_get list.now k ≡ Some t → t.agent ≡ agent → t.access ≡ access → ⊥)
         (λ k. (k < length list.now)
-            × ((t : Track) → slice_get list.now k ≡ Some t → (t.agent ≡ agent) × (t.access ≡ access))) }
+        × ((t : Track) → slice_get list.now k ≡ Some t → (t.agent ≡ agent) × (t.access ≡ access))) }
 {
     list.iter().position(|track| track.is_of(agent, access))
 }

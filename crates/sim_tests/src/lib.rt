@@ -1,4 +1,4 @@
-//! Worked examples of blocks, plans, replays and races, as tests.
+//! Worked examples of blocks, plans, replays, races and traces, as tests.
 #![tactic(auto)]
 
 #[cfg(test)]
@@ -7,6 +7,8 @@ mod blocks;
 mod expecting;
 #[cfg(test)]
 mod functions;
+#[cfg(test)]
+mod judging;
 #[cfg(test)]
 mod limits;
 #[cfg(test)]

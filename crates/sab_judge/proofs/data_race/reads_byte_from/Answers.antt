@@ -12,17 +12,19 @@ returns-then-eq c =
     same_some c.last_writer.result c.args.i (sym c.eq.ensures ∙ c.if-eq.true) in
     let inside : c.loop-k.k < c.args.access.len = omega arith in
     let last : IsLastBelow c.args.trace.now (Writes c.args.access.place.block (c.args.access.place.byte + c.loop-k.k))
-        c.args.j c.last_writer.result =
-    rw start at c.last_writer.ensures c.args.trace.now c.args.j c.requires.past in
-    (λ e. reads_at c.args.access c.requires.within c.requires.access c.requires.reads inside
-    (subst (λ (x : Option ℕ). IsLastBelow c.args.trace.now
-    (Writes c.args.access.place.block (c.args.access.place.byte + c.loop-k.k)) c.args.j x) found last), λ r. refl)
+    c.args.j c.last_writer.result =
+    rw start at c.last_writer.ensures c.args.trace.now c.args.j c.requires.past in (
+      λ e. reads_at c.args.access c.requires.within c.requires.access c.requires.reads inside
+          (subst (λ (x : Option ℕ). IsLastBelow c.args.trace.now
+          (Writes c.args.access.place.block (c.args.access.place.byte + c.loop-k.k)) c.args.j x) found last),
+      λ r. refl,
+    )
 
 pub loop-k-preserved : goal.loop-k-preserved
 loop-k-preserved c =
     let start : c.start-start.result ≡ c.args.access.place.byte = c.start-start.ensures in
     let last : IsLastBelow c.args.trace.now (Writes c.args.access.place.block (c.args.access.place.byte + c.loop-k.k))
-        c.args.j c.last_writer.result =
+    c.args.j c.last_writer.result =
     rw start at c.last_writer.ensures c.args.trace.now c.args.j c.requires.past in
     below_more _ _ c.loop-k.invariant (λ reads. false≢true (sym (sym c.eq.ensures ∙ c.if-eq.false)
     ∙ some_same c.last_writer.result c.args.i (writer_found c.args.i c.last_writer.result last reads)))

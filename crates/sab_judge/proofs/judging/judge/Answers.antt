@@ -8,6 +8,7 @@ pub loop-j-init : goal.loop-j-init
 loop-j-init c = record {
   clocked = no_clocks c.args.trace.now c.new-clocks.result.items c.new-clocks.ensures.items;
   past = c.new-past.ensures c.args.trace.now;
+  seen = c.new-seen.ensures c.args.trace.now;
   told = nothing_told c.args.trace.now c.args.most c.new.result.items c.new.ensures.items;
 }
 
@@ -18,7 +19,8 @@ loop-j-preserved c =
       clocked = one_clock_more c.clock_of-clock.result c.loop-j.invariant.clocked c.clock_of-clock.ensures
           c.in_ok-push.ensures.items;
       past = c.in_ok-note.ensures;
-      told = next_event few c.in_ok-tell_races.ensures;
+      seen = c.in_ok-keep.ensures;
+      told = next_event few c.in_ok-tell_or_count.ensures;
     }
 
 pub returns : goal.returns

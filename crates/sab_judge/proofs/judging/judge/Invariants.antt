@@ -1,12 +1,14 @@
 use Rattle.sab_judge.specs.Clock.{AreClocks}
 use Rattle.sab_judge.specs.Past.{IsPast}
+use Rattle.sab_judge.specs.Seen.{IsSeen}
 use Rattle.sab_judge.specs.Telling.{HasTold}
 use Rattle.sab_judge.proofs.judging.judge.Given as goal
 
--- the clocks so far, what is kept so far, and the races so far
+-- the clocks so far, what is kept of events and of accesses, and the races so far
 abbrev pub invariant-loop-j : goal.invariant-loop-j
 invariant-loop-j l = record {
   clocked : AreClocks l.trace l.j l.clocks.items;
   past : IsPast l.trace l.j l.past;
+  seen : IsSeen l.trace l.j l.seen;
   told : HasTold l.trace l.j 0 l.most l.verdict.races.items l.verdict.rest;
 }

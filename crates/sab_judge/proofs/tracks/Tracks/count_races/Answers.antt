@@ -24,8 +24,8 @@ loop-track-preserved c = track_added c.track-item.result c.requires.tracks
 pub overflow_add-count : goal.overflow_add-count
 overflow_add-count c =
     let more : Counts (λ i. IsRace c.args.trace.now i c.args.j
-        × IsOnBefore c.args.trace.now c.args.self.now.list.items (c.loop-track.track-index + 1) i) c.args.j
-        (c.loop-track.count + c.count_on-count.result) =
+    × IsOnBefore c.args.trace.now c.args.self.now.list.items (c.loop-track.track-index + 1) i) c.args.j
+    (c.loop-track.count + c.count_on-count.result) =
     track_added c.track-item.result c.requires.tracks
     (at c.deref-track-items.result.now c.args.self.now.list.items c.loop-track.track-index c.track-item.result
     c.loop-track-test.true c.track-item.is c.deref-track-items.ensures.value) c.loop-track.invariant c.count_on-count.ensures in

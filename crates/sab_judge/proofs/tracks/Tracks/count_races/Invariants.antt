@@ -1,7 +1,4 @@
-use Rattle.std.proofs.Common.{ℕ, ◌≡◌, ◌<◌, slice_get, Some}
-use Rattle.sab_judge.specs.declared.track.Track.{Track}
 use Rattle.sab_judge.specs.Race.{Counts, IsRace}
-use Rattle.sab_judge.specs.Tracks.{HasTrack}
 use Rattle.sab_judge.proofs.Racing.{IsOnBefore}
 use Rattle.sab_judge.proofs.tracks.Tracks.count_races.Given as goal
 

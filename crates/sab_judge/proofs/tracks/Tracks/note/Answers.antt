@@ -2,8 +2,7 @@
 use Rattle.std.proofs.Common.{◌≡◌, ◌<◌, ℕ, List, length, slice_get, Some, refl, sym, subst, ap, ◌∙◌}
 use Rattle.std.proofs.lemmas.Option.{slice_get_read}
 use Rattle.sab_judge.specs.declared.track.Track.{Track}
-use Rattle.sab_judge.specs.Event.{event_at, agent_at}
-use Rattle.sab_judge.specs.Tracks.{IsOn, IsAtHome, AreTracks}
+use Rattle.sab_judge.specs.Tracks.{IsAtHome}
 use Rattle.sab_judge.proofs.KeptTracks.{track_lengthened, track_begun}
 use Rattle.sab_judge.proofs.tracks.Tracks.note.Goals as goal
 
