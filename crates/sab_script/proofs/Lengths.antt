@@ -40,3 +40,36 @@ three_long (t ∷ s ∷ u ∷ ts) a b d rest e = omega arith
 -- a slice's end
 pub end_whole : (ts : List Value) → take (length ts - 3) (drop 3 ts) ≡ drop 3 ts
 end_whole ts = take_all (length ts - 3) (drop 3 ts) (omega (arith, length-drop 3 ts))
+
+pub rest_whole : (ts : List Value) → take (length ts - 1) (drop 1 ts) ≡ drop 1 ts
+rest_whole ts = take_all (length ts - 1) (drop 1 ts) (omega (arith, length-drop 1 ts))
+
+-- the first item spells the first argument, and the rest the rest
+pub first_argument : (ts : List Value) (t : Value) (a : Argument) (more : List Argument) → t ≡ get_or ts 0 t
+    → SpellsArguments (items_view ts) (a ∷ more) → SpellsArgument (view t) a × SpellsArguments (items_view (drop 1 ts)) more
+first_argument [] t a more e h = absurd h
+first_argument (u ∷ ts) t a more e h = (rw e h.0, h.1)
+
+pub argument_then : (ts : List Value) (t : Value) (a : Argument) (more : List Argument) → 1 ≤ length ts
+    → t ≡ get_or ts 0 t → SpellsArgument (view t) a → SpellsArguments (items_view (drop 1 ts)) more
+    → SpellsArguments (items_view ts) (a ∷ more)
+argument_then [] t a more some e first rest = absurd (omega arith)
+argument_then (u ∷ ts) t a more some e first rest = let same : u ≡ t = sym e in (rw same first, rest)
+
+-- the second item spells the second argument
+pub second_argument : (ts : List Value) (t : Value) (a b : Argument) (more : List Argument) → t ≡ get_or ts 1 t
+    → SpellsArguments (items_view ts) (a ∷ b ∷ more) → SpellsArgument (view t) b
+second_argument [] t a b more e h = absurd h
+second_argument (u ∷ []) t a b more e h = absurd h.1
+second_argument (u ∷ v ∷ ts) t a b more e h = rw e h.1.0
+
+pub two_arguments : (ts : List Value) (t s : Value) (a b : Argument) → length ts ≡ 2 → t ≡ get_or ts 0 t
+    → s ≡ get_or ts 1 s → SpellsArgument (view t) a → SpellsArgument (view s) b
+    → SpellsArguments (items_view ts) (a ∷ b ∷ [])
+two_arguments [] t s a b two p q first second = absurd (omega arith)
+two_arguments (u ∷ []) t s a b two p q first second = absurd (omega arith)
+two_arguments (u ∷ v ∷ []) t s a b two p q first second =
+    let one : u ≡ t = sym p in
+    let other : v ≡ s = sym q in
+    (rw one first, (rw other second, tt))
+two_arguments (u ∷ v ∷ w ∷ ts) t s a b two p q first second = absurd (omega arith)
