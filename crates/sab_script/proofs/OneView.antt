@@ -12,7 +12,7 @@ use Rattle.sab_script.specs.declared.form.Form.TheVariants.{Bytes, Blocks}
 use Rattle.sab_script.specs.declared.view_spec.ViewSpec.{ViewSpec}
 use Rattle.sab_script.specs.Blocks.{with_block, IsBlockIn}
 use Rattle.sab_script.specs.Numbers.{whole, whole_or_null}
-use Rattle.sab_script.specs.Views.{description_of, count_on, SpellsDescription, SpellsView, IsDescribed, AreDescribed}
+use Rattle.sab_script.specs.Views.{description, description_of, count_on, SpellsDescription, SpellsView, IsDescribed, AreDescribed}
 use Rattle.sab_script.proofs.SameSpec.{same_kind, same_optional}
 use Rattle.sab_script.proofs.WholeCall.{same_whole}
 
@@ -51,6 +51,20 @@ same_view form lens d v w p q =
     let rest : p.rest ≡ q.rest = rest_same form v.1.block w.1.block p.rest q.rest trees in
     let block = block_same form v.1.block w.1.block p.rest q.rest p.block q.block trees in
     same_described v w (sym p.description.members ∙ rest ∙ q.description.members) block
+
+-- the values of a description's members
+pub description_parts : (lens : List ℕ) (rest : Members) (k l n o : Data) → rest ≡ description k l n o
+    → (v : List ℕ × ViewSpec) → SpellsDescription lens rest v
+    → (k ≡ string (kind_name v.1.kind)) × (l ≡ whole_or_null v.1.length) × (n ≡ string v.0) × (o ≡ whole v.1.offset)
+description_parts lens rest k l n o e v h =
+    let same : description k l n o ≡ description_of v.0 v.1 = sym e ∙ h.members in
+    let kind : k ≡ string (kind_name v.1.kind) = cc in
+    let length : l ≡ whole_or_null v.1.length = cc in
+    let name : n ≡ string v.0 = cc in
+    let offset : o ≡ whole v.1.offset = cc in (kind, length, name, offset)
+
+pub same_text : (a b : List ℕ) → string a ≡ string b → a ≡ b
+same_text a b e = cc
 
 -- a view that can't be made isn't spelled
 pub not_made : (lens : List ℕ) (rest : Members) (name : List ℕ) (spec : ViewSpec) → rest ≡ description_of name spec

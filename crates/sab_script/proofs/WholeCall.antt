@@ -11,7 +11,7 @@ use Rattle.sab_script.specs.Reading.{Finds}
 use Rattle.sab_refusal.specs.Why.{fault_of}
 use Rattle.sab_script.specs.Calls.{Spelling, spelling_of, call_tree, SpellsParts, HasSpelling, SpellsCall}
 use Rattle.sab_script.specs.Views.{SpellsName}
-use Rattle.sab_script.specs.Numbers.{whole}
+use Rattle.sab_script.specs.Numbers.{whole, SpellsWhole}
 use Rattle.sab_block.specs.Operand.{IsSafeInteger}
 use Rattle.sab_script.proofs.Refusing.{refuses_more}
 
@@ -48,6 +48,23 @@ name_part names d a b i rest e c h =
     ≡ call_tree s.name h.view_tree s.index h.argument_trees = sym e ∙ h.tree in
     let part : b ≡ h.view_tree = cc in
     (s.view, record { text = h.view.text; tree = part ∙ h.view.tree; there = h.view.there })
+
+-- the first is the name of the call, and the third its index
+pub word_part : (names : List (List ℕ)) (d a b i : Data) (rest : Items) → d ≡ array (item a (item b (item i rest)))
+    → (c : Call) → SpellsCall names d c → (s : List ℕ) × (a ≡ string s)
+word_part names d a b i rest e c h =
+    let s = spelling_of c in
+    let same : array (item a (item b (item i rest)))
+    ≡ call_tree s.name h.view_tree s.index h.argument_trees = sym e ∙ h.tree in
+    let part : a ≡ string s.name = cc in (s.name, part)
+
+pub index_part : (names : List (List ℕ)) (d a b i : Data) (rest : Items) → d ≡ array (item a (item b (item i rest)))
+    → (c : Call) → SpellsCall names d c → (z : ℤ) × SpellsWhole i z
+index_part names d a b i rest e c h =
+    let s = spelling_of c in
+    let same : array (item a (item b (item i rest)))
+    ≡ call_tree s.name h.view_tree s.index h.argument_trees = sym e ∙ h.tree in
+    let part : i ≡ whole s.index = cc in (s.index, (part, h.index))
 
 -- a spelling is that of an array's parts
 pub parts_of_whole : (names : List (List ℕ)) (d b : Data) (word : List ℕ) (v : ℕ) (i : ℤ) (rest : Items)

@@ -12,8 +12,8 @@ use crate::calls::read_calls;
 use crate::elements::{Reader, read_each};
 use crate::tree::{end, flag, items, member, members};
 use crate::views::Views;
-use sab_refusal::{Located, Location, Member, ReadFault, Unit};
 use sab_plan::{Plan, Script};
+use sab_refusal::{Located, Location, Member, ReadFault, Unit};
 use serde_json::Value;
 use std::alloc::Global;
 

@@ -8,8 +8,8 @@ ghost use Rattle.sab_script.specs.Blocks.{SpellsLen, SpellsLens};
 use crate::elements::{Reader, read_each};
 use crate::form::Form;
 use crate::tree::{items, whole};
-use sab_refusal::{Located, Location, Unit, Wanted, Why};
 use sab_plan::Plan;
+use sab_refusal::{Located, Location, Unit, Wanted, Why};
 use serde_json::Value;
 use std::alloc::Global;
 

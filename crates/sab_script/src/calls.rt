@@ -12,8 +12,8 @@ use crate::operands::{no_operand, one_operand, optional_limit, timed_operand, tw
 use crate::tree::{items, text, whole};
 use crate::views::{Views, view_of};
 use sab_block::{Access, RmwOp};
-use sab_refusal::{Excerpt, Located, Location, Unit, Wanted, Why};
 use sab_plan::{Call, Plan};
+use sab_refusal::{Excerpt, Located, Location, Unit, Wanted, Why};
 use serde_json::Value;
 use std::alloc::Global;
 

@@ -7,8 +7,8 @@ ghost use Rattle.sab_script.specs.Schedule.{SpellsMove, SpellsSchedule};
 
 use crate::elements::{Reader, read_each};
 use crate::tree::{end, member, members, position};
-use sab_refusal::{Counted, Located, Location, Member, Unit, Wanted};
 use sab_plan::Move;
+use sab_refusal::{Counted, Located, Location, Member, Unit, Wanted};
 use serde_json::Value;
 use std::alloc::Global;
 

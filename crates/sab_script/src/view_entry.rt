@@ -15,8 +15,8 @@ use crate::tree::{Members, end, member, members, position, text, whole, whole_or
 use crate::view_spec::ViewSpec;
 use crate::views::Views;
 use sab_block::View;
-use sab_refusal::{Counted, Excerpt, Located, Location, Member, Unit, Wanted, Why};
 use sab_plan::{Plan, PlanView};
+use sab_refusal::{Counted, Excerpt, Located, Location, Member, Unit, Wanted, Why};
 use serde_json::Value;
 use std::alloc::Global;
 

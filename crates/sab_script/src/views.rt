@@ -8,8 +8,8 @@ ghost use Rattle.sab_script.specs.Views.{named_views, view_names, AreViews, Spel
 use crate::tree::text;
 use crate::view_spec::ViewSpec;
 use indexmap::IndexMap;
-use sab_refusal::{Excerpt, Located, Location, Why};
 use sab_plan::Plan;
+use sab_refusal::{Excerpt, Located, Location, Why};
 use serde_json::Value;
 use std::alloc::{AllocError, Global};
 use std::marker::Model;

@@ -1,15 +1,15 @@
-use Rattle.std.proofs.Common.{◌≡◌, arith, sym, ap, ◌∙◌, drop, FitsSigned, rules}
+use Rattle.std.proofs.Common.{◌≡◌, ℕ, List, arith, sym, ap, ◌∙◌, drop, FitsSigned, rules}
 use Rattle.std.specs.Int.{w64}
 use Rattle.std.proofs.lemmas.Int.{to_z-of_z}
-use Rattle.serde_json.specs.Data.{array, item, string}
+use Rattle.serde_json.specs.Data.{Items, array, item, string}
 use Rattle.serde_json.specs.View.{view, items_view}
 use Rattle.sab_plan.specs.declared.call.Call.{Call}
-use Rattle.sab_script.specs.Numbers.{whole}
+use Rattle.sab_script.specs.Numbers.{whole, SpellsWhole}
 use Rattle.sab_script.specs.Calls.{spelling_of, call_tree, SpellsCall}
 use Rattle.sab_script.specs.Views.{SpellsName, view_names}
 use Rattle.sab_script.proofs.Lengths.{three_items, three_long, end_whole}
 use Rattle.sab_script.proofs.Refusing.{exit_refuses}
-use Rattle.sab_script.proofs.WholeCall.{name_part, reads_call}
+use Rattle.sab_script.proofs.WholeCall.{word_part, name_part, index_part, reads_call}
 use Rattle.sab_script.proofs.calls.read_call.Goals as goal
 
 pub returns-in_err-view : goal.returns-in_err-view
@@ -23,6 +23,34 @@ returns-in_err-view c =
     c.from_residual-in_err-view.result c.in_err-view.field-0.0 c.from_residual-in_err-view.ensures.1
     c.in_err-view.ensures.read
     (name_part names d _ _ _ _ tree)
+
+pub returns-in_err-trees : goal.returns-in_err-trees
+returns-in_err-trees c =
+    let d = view c.args.tree.now in
+    exit_refuses (λ (x : Call). x) (λ (ds : Items). d ≡ array ds) (SpellsCall (view_names c.args.views.now) d)
+    c.from_residual.result _ c.from_residual.ensures.1 c.in_err-trees.ensures.reads (λ call h. (_, h.tree))
+
+pub returns-in_err-name : goal.returns-in_err-name
+returns-in_err-name c =
+    let names = view_names c.args.views.now in
+    let d = view c.args.tree.now in
+    let tree = c.in_ok-trees.ensures.reads ∙ ap array (three_items c.in_ok-trees.trees.now c.name_tree-item.result
+    c.view_tree-item.result c.index_tree-item.result c.in-len3-up.len_at_least c.name_tree-item.is
+    c.view_tree-item.is c.index_tree-item.is) in
+    exit_refuses (λ (x : Call). x) (λ (s : List ℕ). view c.name_tree-item.result ≡ string s) (SpellsCall names d)
+    c.from_residual-in_err-name.result _ c.from_residual-in_err-name.ensures.1 c.in_err-name.ensures.reads
+    (word_part names d _ _ _ _ tree)
+
+pub returns-in_err-index : goal.returns-in_err-index
+returns-in_err-index c =
+    let names = view_names c.args.views.now in
+    let d = view c.args.tree.now in
+    let tree = c.in_ok-trees.ensures.reads ∙ ap array (three_items c.in_ok-trees.trees.now c.name_tree-item.result
+    c.view_tree-item.result c.index_tree-item.result c.in-len3-up.len_at_least c.name_tree-item.is
+    c.view_tree-item.is c.index_tree-item.is) in
+    exit_refuses (λ (x : Call). x) (SpellsWhole (view c.index_tree-item.result)) (SpellsCall names d)
+    c.from_residual-in_err-index.result _ c.from_residual-in_err-index.ensures.1 c.in_err-index.ensures.reads
+    (index_part names d _ _ _ _ tree)
 
 pub returns-in_default : goal.returns-in_default
 returns-in_default c = λ call h.
