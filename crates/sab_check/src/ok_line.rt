@@ -4,8 +4,8 @@ ghost use Rattle.std.specs.Prelude.{◌≡◌, ◌+◌, ◌*◌, ◌≤◌, ◌+
 ghost use Rattle.sab_plan.specs.Script.{ScriptParts};
 ghost use Rattle.sab_check.specs.Text.{count_calls, ok_text};
 
-use sab_script::Setup;
 use sab_plan::Script;
+use sab_script::Setup;
 use std::alloc::AllocError;
 use std::fmt;
 

@@ -7,8 +7,8 @@ ghost use Rattle.sab_check.specs.Text.{name_in, call_lines, calls_lines, agents_
 
 use crate::judging::cause_of;
 use crate::warning::Warning;
-use sab_script::Setup;
 use sab_plan::{Call, Script};
+use sab_script::Setup;
 use std::alloc::AllocError;
 
 /// The position of the view that a call names.

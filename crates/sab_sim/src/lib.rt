@@ -23,8 +23,7 @@ pub use place::Place;
 pub use progress::Progress;
 pub use report::Report;
 pub use runner::replay;
+pub use sab_plan::{Call, Move, Plan, PlanFault, PlanView, Script};
 pub use sim::Sim;
 pub use sim_fault::SimFault;
 pub use waiters::Waiters;
-
-pub use sab_plan::{Call, Move, Plan, PlanFault, PlanView, Script};

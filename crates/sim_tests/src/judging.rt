@@ -109,7 +109,12 @@ fn ordered_accesses_do_not_race(rt: HostRuntime) -> Result<(), Fail> {
         load(2, OTHER),
         read(2, DATA),
     ];
-    let by_waiters = [write(0, DATA), section(0, FLAG), section(1, FLAG), read(1, DATA)];
+    let by_waiters = [
+        write(0, DATA),
+        section(0, FLAG),
+        section(1, FLAG),
+        read(1, DATA),
+    ];
     let reads = [read(0, DATA), read(1, DATA)];
     let beside = [write(0, FLAG), read(1, OTHER)];
     let table: [&[Event]; 7] = [
@@ -134,7 +139,12 @@ fn unordered_accesses_race(rt: HostRuntime) -> Result<(), Fail> {
     let by_an_ordinary_flag = [write(0, DATA), write(0, FLAG), read(1, FLAG), read(1, DATA)];
     let by_an_ordinary_read = [write(0, DATA), store(0, FLAG), read(1, FLAG), read(1, DATA)];
     let read_before = [load(1, FLAG), read(1, DATA), write(0, DATA)];
-    let other_place = [write(0, DATA), section(0, FLAG), section(1, OTHER), read(1, DATA)];
+    let other_place = [
+        write(0, DATA),
+        section(0, FLAG),
+        section(1, OTHER),
+        read(1, DATA),
+    ];
     let mixed_sizes = [store(0, FLAG), byte(1, FLAG)];
     let filled = [fill(0), byte(1, 50)];
     let filled_later = [byte(1, 50), fill(0)];
@@ -155,10 +165,18 @@ fn unordered_accesses_race(rt: HostRuntime) -> Result<(), Fail> {
 
 #[test]
 fn races_beyond_the_most_are_counted(rt: HostRuntime) -> Result<(), Fail> {
-    let trace = [write(0, DATA), write(1, DATA), write(2, DATA), write(3, DATA)];
+    let trace = [
+        write(0, DATA),
+        write(1, DATA),
+        write(2, DATA),
+        write(3, DATA),
+    ];
     let verdict = judged(rt.alloc(), &trace, 2)?;
     let told = [race(0, 1, true), race(0, 2, true)];
-    expect(verdict.races.as_slice() == told.as_slice(), "other races are told")?;
+    expect(
+        verdict.races.as_slice() == told.as_slice(),
+        "other races are told",
+    )?;
     expect(verdict.rest == 4, "another number is left")?;
     expect(Order::SeqCst.is_seq_cst(), "an order is mistaken")?;
     expect(!are_agents_known(&[write(16, DATA)]), "agent 16 is known")
