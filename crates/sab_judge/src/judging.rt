@@ -28,8 +28,12 @@ pub fn are_agents_known(trace: &[Event]) -> bool
     trace.iter().all(|event| event.agent < 16)
 }
 
-/// Judges the events of a run, which stand in the order in which they happened: its first races, at most so many, and
-/// how many more there are. Where none is told although one could be, there is none.
+/// Judges the events of a run, which stand in the order in which they took effect (Races, Data Races).
+///
+/// Told are the first races, at most `most` of them, by their later events and those of one later event by their earlier
+/// ones; the others are counted. So where none is told although one could be, no two events race. The time goes by the
+/// events, and once more by the events for each later event whose races are told. Where memory is refused, that is the
+/// answer.
 pub fn judge(alloc: Global, trace: &[Event], most: usize) -> Result<Verdict, AllocError>
     requires short { length trace.now ≤ MAX_EVENTS }
     requires agents { All (λ (e : Event). e.agent < 16) trace.now }
