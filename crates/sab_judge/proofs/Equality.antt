@@ -1,5 +1,6 @@
--- Events that `==` finds equal are the same.
-use Rattle.std.proofs.Common.{◌≡◌, true, Option, Some, None, refl, ap, subst}
+-- Events, races and refusals that `==` finds equal are the same.
+use Rattle.std.proofs.Common.{◌≡◌, true, Option, Some, None, refl, ap, subst, rules}
+use denote.Enum.Bare.{same_true}
 use Rattle.std.specs.Cmp.{booleans_Decides}
 use Rattle.std.specs.Option.{option_eq}
 use Rattle.std.proofs.lemmas.Bool.{false≢true, and_parts, eqb-true}
@@ -8,11 +9,16 @@ use Rattle.sab_judge.specs.declared.order.Order.{Order}
 use Rattle.sab_judge.specs.declared.order.Order.TheVariants.{Unordered, SeqCst}
 use Rattle.sab_judge.specs.declared.access.Access.{Access}
 use Rattle.sab_judge.specs.declared.event.Event.{Event}
+use Rattle.sab_judge.specs.declared.race.Race.{Race}
+use Rattle.sab_judge.specs.declared.trace_fault.TraceFault.{TraceFault}
 use Rattle.sab_judge.specs.contracts.place.PlacePartialEq.TheImpl as place
 use Rattle.sab_judge.specs.contracts.order.OrderPartialEq.TheImpl as order
 use Rattle.sab_judge.specs.contracts.access.AccessPartialEq.TheImpl as access
 use Rattle.sab_judge.specs.contracts.access.AccessEq.TheImpl.Laws as access_laws
 use Rattle.sab_judge.specs.contracts.event.EventPartialEq.TheImpl as event
+use Rattle.sab_judge.specs.contracts.race.RacePartialEq.TheImpl as race
+use Rattle.sab_judge.specs.contracts.trace_fault.TraceFault.{the_type as trace_fault_type}
+use Rattle.sab_judge.specs.contracts.trace_fault.TraceFaultPartialEq.TheImpl as trace_fault
 
 same_place_value : (a b : Place) → (place.ghosts).eq a b ≡ true → a ≡ b
 same_place_value a b e =
@@ -62,3 +68,15 @@ same_event a b e =
     let access = same_option_access a.access b.access y.0 in
     let waiters = same_option_place a.waiters b.waiters y.1 in
     λ i. record { agent = agent i; access = access i; waiters = waiters i }
+
+pub same_race : (a b : Race) → (race.ghosts).eq a b ≡ true → a ≡ b
+same_race a b e =
+    let x = and_parts _ _ e in
+    let y = and_parts _ _ x.1 in
+    let first = eqb-true a.first b.first x.0 in
+    let second = eqb-true a.second b.second y.0 in
+    let is_data_race = (booleans_Decides a.is_data_race b.is_data_race).0 y.1 in
+    λ i. record { first = first i; second = second i; is_data_race = is_data_race i }
+
+pub same_trace_fault : (a b : TraceFault) → (trace_fault.ghosts).eq a b ≡ true → a ≡ b
+same_trace_fault = same_true trace_fault_type (search rules)

@@ -12,3 +12,5 @@ pub mod Past
 pub mod Telling
 pub mod Tracks
 pub mod Seen
+pub mod Trace
+pub mod TraceFault

@@ -16,8 +16,24 @@ pub struct Event {
 }
 
 impl Event {
-    ghost use Rattle.std.specs.Prelude.{◌≡◌};
+    ghost use Rattle.std.specs.Prelude.{◌≡◌, ◌↔◌, IsTrue};
     ghost use Rattle.sab_judge.specs.Event.{reads_byte, writes_byte, are_alike, do_conflict, do_both_write};
+    ghost use Rattle.sab_judge.specs.Trace.{IsInBlocks};
+
+    /// Whether the bytes that it accesses, and those that it waits at, are there.
+    pub(crate) fn is_in_blocks(self) -> bool
+        ensures { IsTrue result ↔ IsInBlocks self }
+    {
+        let reaches = match self.access {
+            Some(access) => access.place.has_bytes(access.len),
+            None => true,
+        };
+        let waits = match self.waiters {
+            Some(place) => place.has_bytes(1),
+            None => true,
+        };
+        reaches && waits
+    }
 
     /// Whether it writes the byte.
     pub(crate) fn writes(self, block: u32, byte: u64) -> bool

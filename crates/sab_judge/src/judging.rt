@@ -15,18 +15,9 @@ use crate::event::Event;
 use crate::past::Past;
 use crate::race::Race;
 use crate::seen::Seen;
+use crate::trace::Trace;
 use crate::verdict::Verdict;
 use std::alloc::{AllocError, Global};
-
-/// The most events that a trace may have.
-pub const MAX_EVENTS: usize = 1 << 20;
-
-/// Whether each event is of one of the 16 agents that there can be, as `judge` wants.
-pub fn are_agents_known(trace: &[Event]) -> bool
-    ensures { IsTrue result ↔ All (λ (e : Event). e.agent < 16) trace.now }
-{
-    trace.iter().all(|event| event.agent < 16)
-}
 
 /// Judges the events of a run, which stand in the order in which they took effect (Races, Data Races).
 ///
@@ -34,8 +25,15 @@ pub fn are_agents_known(trace: &[Event]) -> bool
 /// ones; the others are counted. So where none is told although one could be, no two events race. The time goes by the
 /// events, and once more by the events for each later event whose races are told. Where memory is refused, that is the
 /// answer.
-pub fn judge(alloc: Global, trace: &[Event], most: usize) -> Result<Verdict, AllocError>
-    requires short { length trace.now ≤ MAX_EVENTS }
+pub fn judge(alloc: Global, trace: &Trace, most: usize) -> Result<Verdict, AllocError>
+    ensures { IfOk result (λ verdict. IsVerdict trace.now most verdict.races.items verdict.rest) }
+{
+    judge_events(alloc, trace.events(), most)
+}
+
+/// Judges the events of a trace.
+fn judge_events(alloc: Global, trace: &[Event], most: usize) -> Result<Verdict, AllocError>
+    requires short { length trace.now ≤ 2 ^ 20 }
     requires agents { All (λ (e : Event). e.agent < 16) trace.now }
     ensures { IfOk result (λ verdict. IsVerdict trace.now most verdict.races.items verdict.rest) }
 {

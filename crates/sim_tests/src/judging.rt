@@ -1,7 +1,7 @@
 //! Traces that race, and traces that don't.
 
 use crate::expecting::expect;
-use sab_judge::{Access, Event, MAX_EVENTS, Order, Place, Race, Verdict, are_agents_known, judge};
+use sab_judge::{Access, Event, Order, Place, Race, Trace, TraceFault, Verdict, judge};
 use std::alloc::Global;
 use std::test::Fail;
 
@@ -55,16 +55,19 @@ fn section(agent: u32, byte: u32) -> Event {
     }
 }
 
-/// What a trace of known agents is judged to be.
-fn judged(alloc: Global, trace: &[Event], most: usize) -> Result<Verdict, Fail> {
-    if trace.len() > MAX_EVENTS || !are_agents_known(trace) {
-        expect(false, "the trace can't be judged")?;
-        return Ok(Verdict {
-            races: Vec::new(alloc),
-            rest: 0,
-        });
+/// A trace of these events.
+fn traced(alloc: Global, events: &[Event]) -> Result<Trace, Fail> {
+    let mut trace = Trace::new(alloc);
+    for event in events {
+        expect(trace.push(*event).is_ok(), "an event is refused")?;
     }
-    Ok(judge(alloc, trace, most)?)
+    expect(trace.events() == events, "the trace has other events")?;
+    Ok(trace)
+}
+
+/// What these events are judged to be.
+fn judged(alloc: Global, events: &[Event], most: usize) -> Result<Verdict, Fail> {
+    Ok(judge(alloc, &traced(alloc, events)?, most)?)
 }
 
 fn race(first: usize, second: usize, is_data_race: bool) -> Race {
@@ -178,6 +181,34 @@ fn races_beyond_the_most_are_counted(rt: HostRuntime) -> Result<(), Fail> {
         "other races are told",
     )?;
     expect(verdict.rest == 4, "another number is left")?;
-    expect(Order::SeqCst.is_seq_cst(), "an order is mistaken")?;
-    expect(!are_agents_known(&[write(16, DATA)]), "agent 16 is known")
+    expect(Order::SeqCst.is_seq_cst(), "an order is mistaken")
+}
+
+#[test]
+fn events_beyond_the_limits_are_refused(rt: HostRuntime) -> Result<(), Fail> {
+    let at = |block, byte, len| Event {
+        agent: 15,
+        access: Some(Access {
+            place: Place { block, byte },
+            len,
+            reads: true,
+            writes: false,
+            order: Order::Unordered,
+        }),
+        waiters: None,
+    };
+    let table: [(Event, Option<TraceFault>); 7] = [
+        (write(15, DATA), None),
+        (write(16, DATA), Some(TraceFault::NoAgent)),
+        (at(3, 0, 65_536), None),
+        (at(3, 1, 65_536), Some(TraceFault::OutOfRange)),
+        (at(4, 0, 1), Some(TraceFault::OutOfRange)),
+        (section(0, 65_535), None),
+        (section(0, 65_536), Some(TraceFault::OutOfRange)),
+    ];
+    for (event, fault) in table {
+        let mut trace = Trace::new(rt.alloc());
+        expect(trace.push(event).err() == fault, "another fault")?;
+    }
+    Ok(())
 }

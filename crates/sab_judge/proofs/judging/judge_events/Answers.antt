@@ -2,7 +2,7 @@
 use Rattle.std.proofs.Common.{◌≡◌, ◌<◌, ◌^◌, length, arith}
 use Rattle.sab_judge.proofs.Knowledge.{no_clocks, one_clock_more}
 use Rattle.sab_judge.proofs.Telling.{nothing_told, next_event, all_told}
-use Rattle.sab_judge.proofs.judging.judge.Goals as goal
+use Rattle.sab_judge.proofs.judging.judge_events.Goals as goal
 
 pub loop-j-init : goal.loop-j-init
 loop-j-init c = record {

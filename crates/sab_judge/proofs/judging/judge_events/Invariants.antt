@@ -2,7 +2,7 @@ use Rattle.sab_judge.specs.Clock.{AreClocks}
 use Rattle.sab_judge.specs.Past.{IsPast}
 use Rattle.sab_judge.specs.Seen.{IsSeen}
 use Rattle.sab_judge.specs.Telling.{HasTold}
-use Rattle.sab_judge.proofs.judging.judge.Given as goal
+use Rattle.sab_judge.proofs.judging.judge_events.Given as goal
 
 -- the clocks so far, what is kept of events and of accesses, and the races so far
 abbrev pub invariant-loop-j : goal.invariant-loop-j

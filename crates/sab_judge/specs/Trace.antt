@@ -1,0 +1,34 @@
+-- Traces, and their limits.
+use Rattle.std.specs.Prelude.{◌≡◌, ℕ, ◌+◌, ◌<◌, ◌≤◌, ◌^◌, All, List, length}
+use Rattle.std.specs.Option.{ForSome}
+use Rattle.sab_judge.specs.declared.access.Access.{Access}
+use Rattle.sab_judge.specs.declared.event.Event.{Event}
+use Rattle.sab_judge.specs.declared.place.Place.{Place}
+use Rattle.sab_judge.specs.declared.trace_fault.TraceFault.{TraceFault}
+use Rattle.sab_judge.specs.declared.trace_fault.TraceFault.TheVariants.{Full, NoAgent, OutOfRange, OutOfMemory}
+
+-- there are so many bytes behind the place: there are 4 blocks of 65,536 bytes
+abbrev pub HasBytes : Place → ℕ → Type 0
+HasBytes p len = (p.block < 4) × (p.byte + len ≤ 65536)
+
+-- what the event accesses and where it waits is there
+pub record IsInBlocks (event : Event) : Type 0 where
+  pub access : ForSome event.access (λ (a : Access). HasBytes a.place a.len)
+  pub waiters : ForSome event.waiters (λ (p : Place). HasBytes p 1)
+
+-- the event is one of 16 agents', at bytes that are there
+pub record IsWithinLimits (event : Event) : Type 0 where
+  pub agent : event.agent < 16
+  pub bytes : IsInBlocks event
+
+-- at most 2^20 such events
+pub record IsTrace (trace : List Event) : Type 0 where
+  pub short : length trace ≤ 2 ^ 20
+  pub events : All IsWithinLimits trace
+
+-- the event is refused so: the first of these that holds
+abbrev pub Refuses : List Event → Event → TraceFault → Type 0
+Refuses trace event Full = length trace ≡ 2 ^ 20
+Refuses trace event NoAgent = (length trace < 2 ^ 20) × (16 ≤ event.agent)
+Refuses trace event OutOfRange = (length trace < 2 ^ 20) × (event.agent < 16) × (¬ IsInBlocks event)
+Refuses trace event OutOfMemory = (length trace < 2 ^ 20) × IsWithinLimits event
