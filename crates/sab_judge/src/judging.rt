@@ -21,8 +21,8 @@ use std::alloc::{AllocError, Global};
 
 /// Judges the events of a run, which stand in the order in which they took effect (Races, Data Races).
 ///
-/// Told are the first races, at most `most` of them, by their later events and those of one later event by their earlier
-/// ones; the others are counted. So where none is told although one could be, no two events race. The time goes by the
+/// Told are its first races, at most `most`, by their later events, and those of one later event by their earlier ones;
+/// the others are counted. So where none is told although one could be, no two events race. The time goes by the
 /// events, and once more by the events for each later event whose races are told. Where memory is refused, that is the
 /// answer.
 pub fn judge(alloc: Global, trace: &Trace, most: usize) -> Result<Verdict, AllocError>
