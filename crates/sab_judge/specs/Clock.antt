@@ -1,5 +1,5 @@
 -- Vector clocks, and what they know.
-use Rattle.std.specs.Prelude.{◌≡◌, ◌⊎◌, ℕ, ◌<◌, ◌≤◌, max, List, [], length, slice_index, slice_index_or, Option, Some, None}
+use Rattle.std.specs.Prelude.{◌≡◌, ◌⊎◌, ℕ, ◌<◌, ◌≤◌, ◌^◌, All, max, List, [], length, slice_index, slice_index_or, Option, Some, None}
 use Rattle.sab_judge.specs.declared.clock.Clock.{Clock}
 use Rattle.sab_judge.specs.declared.event.Event.{Event}
 use Rattle.sab_judge.specs.Event.{agent_at}
@@ -43,6 +43,13 @@ Knows trace clock i = i < slice_index clock.bounds (agent_at trace i)
 pub record IsClock (trace : List Event) (j : ℕ) (clock : Clock) : Type 0 where
   pub sound : (i : ℕ) → i < length trace → Knows trace clock i → IsAtOrBefore trace i j
   pub complete : (i : ℕ) → IsAtOrBefore trace i j → Knows trace clock i
+
+-- the j-th event of a trace within the limits, with its clock
+pub record HasClock (trace : List Event) (j : ℕ) (clock : Clock) : Type 0 where
+  pub within : j < length trace
+  pub short : length trace ≤ 2 ^ 20
+  pub agents : All (λ (e : Event). e.agent < 16) trace
+  pub known : IsClock trace j clock
 
 -- there is the clock of each event before the j-th
 pub record AreClocks (trace : List Event) (j : ℕ) (clocks : List Clock) : Type 0 where

@@ -2,7 +2,7 @@
 
 ghost use Rattle.std.specs.Prelude.{◌+◌, ◌<◌, ◌≤◌, ◌^◌, ◌↔◌, All, IfOk, IsTrue, length};
 ghost use Rattle.sab_judge.specs.declared.event.Event.{Event};
-ghost use Rattle.sab_judge.specs.Clock.{IsClock};
+ghost use Rattle.sab_judge.specs.Clock.{HasClock};
 ghost use Rattle.sab_judge.specs.Past.{IsPast};
 ghost use Rattle.sab_judge.specs.Race.{Counts, IsRace};
 ghost use Rattle.sab_judge.specs.Verdict.{IsVerdict};
@@ -66,11 +66,8 @@ fn tell_or_count(
     most: usize,
     count: u64,
 ) -> Result<(), AllocError>
-    requires within { j < length trace.now }
-    requires short { length trace.now ≤ 2 ^ 20 }
-    requires agents { All (λ (e : Event). e.agent < 16) trace.now }
+    requires event_clock { HasClock trace.now j clock.now }
     requires past { IsPast trace.now j past.now }
-    requires clock { IsClock trace.now j clock.now }
     requires count { Counts (λ i. IsRace trace.now i j) j count }
     requires told { HasTold trace.now j 0 most verdict.old.races.items verdict.old.rest }
     ensures { IfOk result (λ _. HasTold trace.now j j most verdict.new.races.items verdict.new.rest) }
@@ -91,11 +88,8 @@ fn tell_races(
     j: usize,
     most: usize,
 ) -> Result<(), AllocError>
-    requires within { j < length trace.now }
-    requires short { length trace.now ≤ 2 ^ 20 }
-    requires agents { All (λ (e : Event). e.agent < 16) trace.now }
+    requires event_clock { HasClock trace.now j clock.now }
     requires past { IsPast trace.now j past.now }
-    requires clock { IsClock trace.now j clock.now }
     requires told { HasTold trace.now j 0 most verdict.old.races.items verdict.old.rest }
     ensures { IfOk result (λ _. HasTold trace.now j j most verdict.new.races.items verdict.new.rest) }
 {
@@ -110,14 +104,12 @@ fn tell_races(
 /// Whether the `i`-th event and the later `j`-th, whose clock this is, race.
 fn is_race(trace: &[Event], clock: &Clock, i: usize, j: usize) -> bool
     requires earlier { i < j }
-    requires within { j < length trace.now }
-    requires agents { All (λ (e : Event). e.agent < 16) trace.now }
-    requires clock { IsClock trace.now j clock.now }
+    requires event_clock { HasClock trace.now j clock.now }
     ensures { IsTrue result ↔ IsRace trace.now i j }
 {
+    // The clock knows all earlier events of its own agent.
     let first = trace[i];
-    let second = trace[j];
-    first.agent != second.agent && first.conflicts(second) && !clock.knows(first.agent, i)
+    first.conflicts(trace[j]) && !clock.knows(first.agent, i)
 }
 
 /// Tells the race of the `i`-th event and the `j`-th, or counts it where no more are to be told.

@@ -1,9 +1,8 @@
 //! What of the events so far a later one may race with.
 
-ghost use Rattle.std.specs.Prelude.{◌≡◌, ◌+◌, ◌<◌, ◌≤◌, ◌^◌, ℕ, All, IfOk, List, None, Some, length};
+ghost use Rattle.std.specs.Prelude.{◌+◌, ◌<◌, ◌≤◌, All, IfOk, List, None, Some, length};
 ghost use Rattle.sab_judge.specs.declared.event.Event.{Event};
-ghost use Rattle.sab_judge.specs.Event.{event_at};
-ghost use Rattle.sab_judge.specs.Clock.{IsClock};
+ghost use Rattle.sab_judge.specs.Clock.{HasClock};
 ghost use Rattle.sab_judge.specs.Race.{Counts, IsRace};
 ghost use Rattle.sab_judge.specs.Tracks.{AreKept, ComesHome, IsOn, IsShort};
 ghost use Rattle.sab_judge.specs.Seen.{IsSeen};
@@ -64,10 +63,7 @@ impl Seen {
 
     /// How many events race with the `j`-th, by its clock.
     pub(crate) fn count_races(&self, trace: &[Event], clock: &Clock, j: usize) -> u64
-        requires within { j < length trace.now }
-        requires short { length trace.now ≤ 2 ^ 20 }
-        requires agents { All (λ (e : Event). e.agent < 16) trace.now }
-        requires clock { IsClock trace.now j clock.now }
+        requires event_clock { HasClock trace.now j clock.now }
         requires seen { IsSeen trace.now j self.now }
         ensures { Counts (λ i. IsRace trace.now i j) j result }
     {
@@ -114,10 +110,7 @@ fn count_short(
     agent: u32,
     access: Access,
 ) -> u64
-    requires within { j < length trace.now }
-    requires few { length trace.now ≤ 2 ^ 20 }
-    requires agents { All (λ (e : Event). e.agent < 16) trace.now }
-    requires clock { IsClock trace.now j clock.now }
+    requires event_clock { HasClock trace.now j clock.now }
     requires event { IsOn trace.now agent access j }
     requires places { AreKept trace.now j places.now }
     ensures { Counts (λ i. IsRace trace.now i j × IsShort trace.now i) j result }
@@ -140,10 +133,7 @@ fn count_at(
     access: Access,
     byte: u64,
 ) -> u64
-    requires within { j < length trace.now }
-    requires few { length trace.now ≤ 2 ^ 20 }
-    requires agents { All (λ (e : Event). e.agent < 16) trace.now }
-    requires clock { IsClock trace.now j clock.now }
+    requires event_clock { HasClock trace.now j clock.now }
     requires event { IsOn trace.now agent access j }
     requires places { AreKept trace.now j places.now }
     ensures { Counts (λ i. IsRace trace.now i j

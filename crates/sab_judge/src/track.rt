@@ -1,6 +1,6 @@
 //! Tracks: where in a trace an agent makes one access.
 
-ghost use Rattle.std.specs.Prelude.{◌≡◌, ◌↔◌, ◌≤◌, ℕ, ◌++◌, ◌∷◌, [], IfOk, IsTrue, List};
+ghost use Rattle.std.specs.Prelude.{◌≡◌, ◌↔◌, ◌≤◌, ℕ, ◌∷◌, [], IfOk, IsTrue, List};
 ghost use Rattle.sab_judge.specs.declared.event.Event.{Event};
 ghost use Rattle.sab_judge.specs.Race.{Counts};
 ghost use Rattle.sab_judge.specs.Tracks.{IsOn, IsTrack};

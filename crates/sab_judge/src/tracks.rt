@@ -1,9 +1,9 @@
 //! The tracks that are kept at one place.
 
-ghost use Rattle.std.specs.Prelude.{◌≡◌, ◌+◌, ◌<◌, ◌≤◌, ◌^◌, ℕ, [], All, IfOk, List, MatchOption, Option, Some, length, slice_get};
+ghost use Rattle.std.specs.Prelude.{◌≡◌, ◌+◌, ◌<◌, ℕ, [], IfOk, MatchOption, Option, Some, length, slice_get};
 ghost use Rattle.sab_judge.specs.declared.event.Event.{Event};
 ghost use Rattle.sab_judge.specs.declared.track.Track.{Track};
-ghost use Rattle.sab_judge.specs.Clock.{IsClock};
+ghost use Rattle.sab_judge.specs.Clock.{HasClock, IsClock};
 ghost use Rattle.sab_judge.specs.Race.{Counts, IsRace};
 ghost use Rattle.sab_judge.specs.Tracks.{AreTracks, ComesHome, IsAtHome, IsOn, IsTrack};
 
@@ -72,10 +72,7 @@ impl Tracks {
         agent: u32,
         access: Access,
     ) -> u64
-        requires within { j < length trace.now }
-        requires short { length trace.now ≤ 2 ^ 20 }
-        requires agents { All (λ (e : Event). e.agent < 16) trace.now }
-        requires clock { IsClock trace.now j clock.now }
+        requires event_clock { HasClock trace.now j clock.now }
         requires event { IsOn trace.now agent access j }
         requires tracks { AreTracks trace.now j self.now.home self.now.list.items }
         ensures { Counts (λ i. IsRace trace.now i j × ComesHome trace.now self.now.home i) j result }

@@ -8,7 +8,7 @@ use Rattle.sab_judge.proofs.judging.tell_or_count.Goals.{else-count-gt0-via-then
 pub overflow_add-verdict : goal.overflow_add-verdict
 overflow_add-verdict c =
     let few : c.args.count ≤ c.args.j = few_below c.requires.count in
-    let small : c.args.j < 1048576 = omega (arith, c.requires.within, c.requires.short) in
+    let small : c.args.j < 1048576 = omega (arith, c.requires.event_clock.within, c.requires.event_clock.short) in
     omega (arith, few, small, c.requires.told.small)
 
 pub returns : goal.returns

@@ -11,7 +11,7 @@ pub overflow_add-count : goal.overflow_add-count
 overflow_add-count c =
     let few : c.loop-k.count + c.count_at-count.result ≤ c.args.j =
     few_below (byte_added c.loop-k.k c.loop-k.invariant c.count_at-count.ensures) in
-    let small : c.args.j < 1048576 = omega (arith, c.requires.within, c.requires.few) in
+    let small : c.args.j < 1048576 = omega (arith, c.requires.event_clock.within, c.requires.event_clock.short) in
     omega (arith, few, small)
 
 pub loop-k-preserved : goal.loop-k-preserved

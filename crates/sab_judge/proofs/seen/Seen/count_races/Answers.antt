@@ -19,7 +19,7 @@ overflow_add-result c =
     (subst (λ (home : Option Place). Counts (λ i. IsRace c.args.trace.now i c.args.j × ComesHome c.args.trace.now home i)
     c.args.j c.count_races.result) c.requires.seen.home c.count_races.ensures) in
     let few : c.count_short.result + c.count_races.result ≤ c.args.j = few_below all in
-    let small : c.args.j < 1048576 = omega (arith, c.requires.within, c.requires.short) in
+    let small : c.args.j < 1048576 = omega (arith, c.requires.event_clock.within, c.requires.event_clock.short) in
     omega (arith, few, small)
 
 pub returns-in-None : goal.returns-in-None

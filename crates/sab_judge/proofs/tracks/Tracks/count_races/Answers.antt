@@ -30,7 +30,7 @@ overflow_add-count c =
     (at c.deref-track-items.result.now c.args.self.now.list.items c.loop-track.track-index c.track-item.result
     c.loop-track-test.true c.track-item.is c.deref-track-items.ensures.value) c.loop-track.invariant c.count_on-count.ensures in
     let few : c.loop-track.count + c.count_on-count.result ≤ c.args.j = few_below more in
-    let small : c.args.j < 1048576 = omega (arith, c.requires.within, c.requires.short) in
+    let small : c.args.j < 1048576 = omega (arith, c.requires.event_clock.within, c.requires.event_clock.short) in
     omega (arith, few, small)
 
 pub returns : goal.returns
