@@ -5,10 +5,13 @@ use Rattle.std.specs.Option.{option_eq}
 use borrow.Author.Tests.{eqb-true}
 use Rattle.std.proofs.lemmas.Bool.{and_parts, false≢true}
 use Rattle.sab_race.proofs.Equality.{same_share}
-use Rattle.sab_text.proofs.Equality.{same_telling}
+use Rattle.sab_text.proofs.Equality.{same_telling, same_verdict_format}
 use Rattle.sab_command.specs.declared.command_line.Job.{Job}
-use Rattle.sab_command.specs.declared.command_line.Job.TheVariants.{Replay, ReplayAsScript, Check, Race, RaceAsScript}
+use Rattle.sab_command.specs.declared.command_line.Job.TheVariants.{Replay, ReplayAsScript, Check, Judge, Race, RaceAsScript}
 use Rattle.sab_command.specs.contracts.command_line.JobPartialEq.TheImpl as job
+use Rattle.sab_command.specs.declared.request.Task.{Task}
+use Rattle.sab_command.specs.declared.request.Task.TheVariants.{OfScript, OfTrace}
+use Rattle.sab_command.specs.contracts.request.TaskPartialEq.TheImpl as task
 
 same_seed : (x y : Option ℕ) → option_eq nat_eq x y ≡ true → x ≡ y
 same_seed None None e = refl
@@ -25,6 +28,11 @@ same_job (Replay t f) (Replay u g) e =
 same_job (ReplayAsScript f) (ReplayAsScript g) e =
     let finish = (booleans_Decides f g).0 e in λ i. ReplayAsScript (finish i)
 same_job Check Check e = refl
+same_job (Judge f m) (Judge g n) e =
+    let parts = and_parts _ _ e in
+    let format = same_verdict_format f g parts.0 in
+    let finish = (booleans_Decides m n).0 parts.1 in
+    λ i. Judge (format i) (finish i)
 same_job (Race s n x t f) (Race r k y u g) e =
     let shares = and_parts _ _ e in
     let counts = and_parts _ _ shares.1 in
@@ -46,3 +54,8 @@ same_job (RaceAsScript s n x f) (RaceAsScript r k y g) e =
     let finish = (booleans_Decides f g).0 mixes.1 in
     λ i. RaceAsScript (share i) (spins i) (mix i) (finish i)
 same_job _ _ e = absurd (false≢true e)
+
+same_task : (x y : Task) → (task.ghosts).eq x y ≡ true → x ≡ y
+same_task (OfScript j) (OfScript k) e = ap OfScript (same_job j k e)
+same_task (OfTrace f) (OfTrace g) e = ap OfTrace (same_verdict_format f g e)
+same_task _ _ e = absurd (false≢true e)

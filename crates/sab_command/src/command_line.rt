@@ -2,14 +2,14 @@
 
 ghost use Rattle.std.specs.Prelude.{◌≡◌, ◌≤◌, ◌<◌, ◌^◌, ℕ, IfOk, Some, None, true, false, codes, decimal};
 ghost use Rattle.clap.specs.Words.{first_value, found_of, one_text};
-ghost use Rattle.sab_command.specs.Job.{IsWithinLimits};
+ghost use Rattle.sab_command.specs.Job.{IsOfTrace, IsTaskWithinLimits, IsWithinLimits};
 ghost use Rattle.sab_command.specs.Source.{Names};
 
 use crate::help;
-use crate::request::{Request, Source};
+use crate::request::{Request, Source, Task};
 use clap::{Arg, ArgAction, ArgMatches, Command, Error, value_parser};
 use sab_race::{MAX_SPINS, Share};
-use sab_text::{Format, Lines, Telling};
+use sab_text::{Format, Lines, Telling, VerdictFormat};
 use std::alloc::{AllocError, Global};
 use std::convert::AsStr;
 
@@ -19,7 +19,10 @@ static SHARES: [&str; 2] = ["lock", "ring"];
 /// What `--format` takes.
 static FORMATS: [&str; 5] = ["plain", "explained", "json", "svg", "script"];
 
-/// What the program is asked for.
+/// What `--format` of a judge takes.
+static VERDICT_FORMATS: [&str; 2] = ["plain", "json"];
+
+/// What the program is asked to do with a script.
 #[derive(Clone, Copy, Debug, PartialEq, Eq)]
 pub enum Job {
     /// To replay the script.
@@ -36,6 +39,13 @@ pub enum Job {
     },
     /// To check the script.
     Check,
+    /// To replay it, and to judge the run for data races.
+    Judge {
+        /// How the verdict is told.
+        format: VerdictFormat,
+        /// Whether it is an answer of its own that some calls haven't returned.
+        finish: bool,
+    },
     /// To run the agents of the script in threads.
     Race {
         /// How they share the simulator.
@@ -68,8 +78,7 @@ fn with_file<'a>(alloc: Global, command: Command<'a>) -> Result<Command<'a>, All
     command.arg(file)
 }
 
-/// The command that takes besides how a report is told, whether all calls are to return, and whether a refusal is
-/// explained.
+/// The command that takes besides how a report is told, and what [`with_ends`] has.
 fn with_telling<'a>(alloc: Global, command: Command<'a>) -> Result<Command<'a>, AllocError> {
     let format = Arg::new(alloc, "format")
         .long("format")
@@ -81,6 +90,12 @@ fn with_telling<'a>(alloc: Global, command: Command<'a>) -> Result<Command<'a>, 
         .long("acts")
         .help(help::ACTS)
         .action(ArgAction::SetTrue);
+    let command = command.arg(format)?.arg(acts)?;
+    with_ends(alloc, command)
+}
+
+/// The command that takes besides whether all calls are to return, and whether a refusal is explained.
+fn with_ends<'a>(alloc: Global, command: Command<'a>) -> Result<Command<'a>, AllocError> {
     let finish = Arg::new(alloc, "finish")
         .long("finish")
         .help(help::FINISH)
@@ -89,7 +104,30 @@ fn with_telling<'a>(alloc: Global, command: Command<'a>) -> Result<Command<'a>, 
         .long("explain")
         .help(help::EXPLAIN)
         .action(ArgAction::SetTrue);
-    command.arg(format)?.arg(acts)?.arg(finish)?.arg(explain)
+    command.arg(finish)?.arg(explain)
+}
+
+/// The command that judges a run for data races.
+fn judge_command<'a>(alloc: Global) -> Result<Command<'a>, AllocError> {
+    let trace = Arg::new(alloc, "trace")
+        .long("trace")
+        .help(help::TRACE)
+        .action(ArgAction::SetTrue)
+        .conflicts_with("finish")?
+        .conflicts_with("explain")?;
+    let format = Arg::new(alloc, "format")
+        .long("format")
+        .value_name("FORMAT")
+        .help(help::VERDICT_FORMAT)
+        .default_value("plain")
+        .value_parser(VERDICT_FORMATS.as_slice());
+    let judge = Command::new(alloc, "judge")
+        .about(help::JUDGE)
+        .after_help(help::JUDGE_FORMS)
+        .arg(trace)?
+        .arg(format)?;
+    let judge = with_ends(alloc, judge)?;
+    with_file(alloc, judge)
 }
 
 /// The command line, with its help.
@@ -135,6 +173,7 @@ fn command<'a>(alloc: Global) -> Result<Command<'a>, AllocError> {
         .subcommand_required(true)
         .subcommand(replay)?
         .subcommand(race)?
+        .subcommand(judge_command(alloc)?)?
         .subcommand(check)
 }
 
@@ -263,7 +302,34 @@ fn explain_of(matches: &ArgMatches<'_>) -> bool
     matches.get_flag("explain")
 }
 
-/// Where the script is read from: standard input where no file is given, or `-`.
+/// How a verdict is to be told.
+fn verdict_format_of(matches: &ArgMatches<'_>) -> VerdictFormat
+    ensures plain { first_value (found_of matches.now) (codes "format") ≡ Some (codes "plain")
+        → result ≡ VerdictFormat.Plain }
+    ensures json { first_value (found_of matches.now) (codes "format") ≡ Some (codes "json")
+        → result ≡ VerdictFormat.Json }
+{
+    match matches.get_str("format") {
+        Some("json") => VerdictFormat::Json,
+        _ => VerdictFormat::Plain,
+    }
+}
+
+/// What is to be judged.
+fn judge_task(matches: &ArgMatches<'_>) -> Task
+    ensures limits { IsTaskWithinLimits result }
+    ensures trace { one_text (found_of matches.now) (codes "trace") ≡ Some (codes "true") → IsOfTrace result }
+    ensures script { one_text (found_of matches.now) (codes "trace") ≡ Some (codes "false") → ¬ IsOfTrace result }
+{
+    let format = verdict_format_of(matches);
+    if matches.get_flag("trace") {
+        return Task::OfTrace(format);
+    }
+    let finish = finish_of(matches);
+    Task::OfScript(Job::Judge { format, finish })
+}
+
+/// Where the input is read from: standard input where no file is given, or `-`.
 fn source_of<'a>(matches: &ArgMatches<'a>) -> Source<'a>
     ensures { Names (first_value (found_of matches.now) (codes "file")) result }
 {
@@ -278,28 +344,33 @@ fn source_of<'a>(matches: &ArgMatches<'a>) -> Source<'a>
 ///
 /// An error is a request for help too, and OutOfMemory where memory ran out while the command line was built or read.
 pub fn request_of<'a, S: AsStr>(alloc: Global, words: &'a [S]) -> Result<Request<'a>, Error>
-    ensures { IfOk result (λ request. IsWithinLimits request.job) }
+    ensures { IfOk result (λ request. IsTaskWithinLimits request.task) }
 {
     let command: Command<'a> = command(alloc)?;
     let matches = command.try_get_matches_from(words)?;
     match matches.subcommand() {
         Some(("race", matches)) => Ok(Request {
-            job: race_job(matches),
+            task: Task::OfScript(race_job(matches)),
             source: source_of(matches),
             explain: explain_of(matches),
         }),
         Some(("replay", matches)) => Ok(Request {
-            job: replay_job(matches),
+            task: Task::OfScript(replay_job(matches)),
+            source: source_of(matches),
+            explain: explain_of(matches),
+        }),
+        Some(("judge", matches)) => Ok(Request {
+            task: judge_task(matches),
             source: source_of(matches),
             explain: explain_of(matches),
         }),
         Some((_, matches)) => Ok(Request {
-            job: Job::Check,
+            task: Task::OfScript(Job::Check),
             source: source_of(matches),
             explain: false,
         }),
         None => Ok(Request {
-            job: Job::Check,
+            task: Task::OfScript(Job::Check),
             source: Source::Standard,
             explain: false,
         }),

@@ -6,4 +6,4 @@ mod help;
 mod request;
 
 pub use command_line::{Job, request_of};
-pub use request::{Request, Source};
+pub use request::{Request, Source, Task};

@@ -1,8 +1,18 @@
-//! What the program is asked for, and of which script.
+//! What the program is asked for, and of which input.
 
 use crate::command_line::Job;
+use sab_text::VerdictFormat;
 
-/// Where a script is read from.
+/// What is to be done with the input.
+#[derive(Clone, Copy, Debug, PartialEq, Eq)]
+pub enum Task {
+    /// The input is a script, and this is to be done with it.
+    OfScript(Job),
+    /// The input is a trace of a run, which is to be judged for data races; the verdict is told so.
+    OfTrace(VerdictFormat),
+}
+
+/// Where the input is read from.
 #[derive(Clone, Copy, Debug)]
 pub enum Source<'a> {
     /// Standard input.
@@ -14,9 +24,9 @@ pub enum Source<'a> {
 /// What the program is asked for.
 #[derive(Clone, Copy, Debug)]
 pub struct Request<'a> {
-    /// What is to be done with the script.
-    pub job: Job,
-    /// Where the script is read from.
+    /// What is to be done.
+    pub task: Task,
+    /// Where the input is read from.
     pub source: Source<'a>,
     /// Whether it is to be told why the script is refused, and at which place, also where no terminal shows it.
     pub explain: bool,

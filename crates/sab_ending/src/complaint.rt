@@ -6,14 +6,16 @@ use std::fmt;
 
 /// What the program says on standard error of a job that failed, in lines.
 ///
-/// Its text is that of the [`FaultLine`], with a colon, a space and the file's name behind it where there is one, and a
-/// line feed; and then what a check says.
+/// Its text is that of the [`FaultLine`], with the file's name behind it where there is one, and the line of the input
+/// where it is told, each behind a colon and a space, and a line feed; and then what a check says.
 #[derive(Clone, Copy, Debug)]
 pub struct Complaint<'a> {
     /// The fault.
     pub fault: ToolFault,
     /// The name of the file that failed, if one did.
     pub file: Option<&'a str>,
+    /// The line of the input that is refused, from 1, where that is told.
+    pub line: Option<u32>,
     /// What a check says of the script, in lines; empty where that isn't told.
     pub why: &'a str,
 }
@@ -25,10 +27,13 @@ impl fmt::Display for Complaint<'_> {
     ghost output = { λ complaint. Some (complaint_text complaint) };
 
     fn fmt<W: fmt::Write>(&self, f: &mut fmt::Formatter<W>) -> fmt::Result {
-        let line = FaultLine(self.fault);
-        write!(f, "{line}")?;
+        let fault = FaultLine(self.fault);
+        write!(f, "{fault}")?;
         if let Some(file) = self.file {
             write!(f, ": {file}")?;
+        }
+        if let Some(line) = self.line {
+            write!(f, ": line {line}")?;
         }
         f.write_str("\n")?;
         f.write_str(self.why)

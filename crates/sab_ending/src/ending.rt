@@ -18,6 +18,8 @@ pub enum Ending {
     ScriptRefused,
     /// The script was run, and some call hasn't returned, though all were to.
     Unfinished,
+    /// The run has data races, as standard output tells.
+    Racy,
     /// A fault, which the program tells of with a [`FaultLine`](crate::FaultLine).
     Failed(ToolFault),
 }
@@ -31,12 +33,13 @@ impl Ending {
             Ok(Outcome::Done) => Ending::Done,
             Ok(Outcome::Refused) => Ending::ScriptRefused,
             Ok(Outcome::Unfinished) => Ending::Unfinished,
+            Ok(Outcome::Racy) => Ending::Racy,
             Err(fault) => Ending::Failed(fault),
         }
     }
 
     /// The exit status: 0 where all is done, 1 where the script was refused, 2 where the command line was, 5 where
-    /// some call hasn't returned that was to, and else that of the fault.
+    /// some call hasn't returned that was to or the run has data races, and else that of the fault.
     pub fn status(self) -> u8
         ensures { result ≡ status_at self }
     {
@@ -44,7 +47,7 @@ impl Ending {
             Ending::Done => 0,
             Ending::ScriptRefused => 1,
             Ending::Refused => 2,
-            Ending::Unfinished => 5,
+            Ending::Unfinished | Ending::Racy => 5,
             Ending::Failed(fault) => status_of(fault),
         }
     }

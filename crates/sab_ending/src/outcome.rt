@@ -1,7 +1,7 @@
 //! What a job came to.
 
 ghost use Rattle.std.specs.Prelude.{◌≡◌};
-ghost use Rattle.sab_ending.specs.Outcome.{outcome_of};
+ghost use Rattle.sab_ending.specs.Outcome.{judged_outcome, outcome_of};
 
 use sab_tool::Ended;
 
@@ -14,6 +14,8 @@ pub enum Outcome {
     Refused,
     /// All calls were to return, and some haven't.
     Unfinished,
+    /// The run was to be judged, and has data races, as what was written tells.
+    Racy,
 }
 
 impl Outcome {
@@ -25,5 +27,15 @@ impl Outcome {
             Ended::Unfinished if finish => Outcome::Unfinished,
             _ => Outcome::Done,
         }
+    }
+
+    /// What a run came to that was judged besides.
+    pub fn of_judged(is_racy: bool, ended: Ended, finish: bool) -> Outcome
+        ensures { result ≡ judged_outcome is_racy ended finish }
+    {
+        if is_racy {
+            return Outcome::Racy;
+        }
+        Outcome::of_run(ended, finish)
     }
 }

@@ -1,8 +1,9 @@
 -- Events, races and refusals that `==` finds equal are the same.
-use Rattle.std.proofs.Common.{◌≡◌, true, Option, Some, None, refl, ap, subst, rules}
+use Rattle.std.proofs.Common.{◌≡◌, ℕ, true, Option, Some, None, refl, ap, subst, rules}
 use denote.Enum.Bare.{same_true}
 use Rattle.std.specs.Cmp.{booleans_Decides}
 use Rattle.std.specs.Option.{option_eq}
+use Rattle.std.proofs.Math.Dec.{eqb}
 use Rattle.std.proofs.lemmas.Bool.{false≢true, and_parts, eqb-true}
 use Rattle.sab_judge.specs.declared.place.Place.{Place}
 use Rattle.sab_judge.specs.declared.order.Order.{Order}
@@ -60,6 +61,12 @@ same_option_place None (Some b) e = absurd (false≢true e)
 same_option_place (Some a) None e = absurd (false≢true e)
 same_option_place (Some a) (Some b) e = ap Some (same_place_value a b e)
 
+same_option_number : (x y : Option ℕ) → option_eq eqb x y ≡ true → x ≡ y
+same_option_number None None e = refl
+same_option_number None (Some b) e = absurd (false≢true e)
+same_option_number (Some a) None e = absurd (false≢true e)
+same_option_number (Some a) (Some b) e = ap Some (eqb-true a b e)
+
 pub same_event : (a b : Event) → (event.ghosts).eq a b ≡ true → a ≡ b
 same_event a b e =
     let x = and_parts _ _ e in
@@ -75,8 +82,10 @@ same_race a b e =
     let y = and_parts _ _ x.1 in
     let first = eqb-true a.first b.first x.0 in
     let second = eqb-true a.second b.second y.0 in
-    let is_data_race = (booleans_Decides a.is_data_race b.is_data_race).0 y.1 in
-    λ i. record { first = first i; second = second i; is_data_race = is_data_race i }
+    let z = and_parts _ _ y.1 in
+    let is_data_race = (booleans_Decides a.is_data_race b.is_data_race).0 z.0 in
+    let seen = same_option_number a.seen b.seen z.1 in
+    λ i. record { first = first i; second = second i; is_data_race = is_data_race i; seen = seen i }
 
 pub same_trace_fault : (a b : TraceFault) → (trace_fault.ghosts).eq a b ≡ true → a ≡ b
 same_trace_fault = same_true trace_fault_type (search rules)

@@ -14,3 +14,5 @@ pub mod Racing
 pub mod Telling
 pub mod Reading
 pub mod KeptPlaces
+pub mod Seeing
+pub mod NoRace

@@ -1,17 +1,28 @@
 -- What a judge tells of a trace.
-use Rattle.std.specs.Prelude.{◌≡◌, ◌⊎◌, ◌↔◌, ℕ, ◌<◌, ◌≤◌, ◌+◌, IsTrue, false, List, All, length, slice_index_or}
+use Rattle.std.specs.Prelude.{◌≡◌, ◌⊎◌, ◌↔◌, ℕ, ◌<◌, ◌≤◌, ◌+◌, IsTrue, false, List, All, length, Option, Some, None, slice_index_or}
 use Rattle.sab_judge.specs.declared.event.Event.{Event}
 use Rattle.sab_judge.specs.declared.race.Race.{Race}
+use Rattle.sab_judge.specs.Event.{agent_at}
+use Rattle.sab_judge.specs.HappensBefore.{HappensBefore}
 use Rattle.sab_judge.specs.Race.{IsRace, IsDataRace, CountsRaces, ComesBefore}
 
 -- the race at a position of a list; past the end, that of event 0 with itself, which is none
 abbrev pub race_at : List Race → ℕ → Race
-race_at told k = slice_index_or told k (record { first = 0; second = 0; is_data_race = false })
+race_at told k = slice_index_or told k (record { first = 0; second = 0; is_data_race = false; seen = None })
 
--- the race is one of the trace, and it is said truly whether it is a data race
+-- the last event of the agent that happens before the j-th
+abbrev pub IsLastSeen : List Event → ℕ → ℕ → Option ℕ → Type 0
+IsLastSeen trace agent j None = (k : ℕ) → agent_at trace k ≡ agent → ¬ HappensBefore trace k j
+IsLastSeen trace agent j (Some m) =
+    (agent_at trace m ≡ agent) × HappensBefore trace m j
+    × ((k : ℕ) → agent_at trace k ≡ agent → HappensBefore trace k j → k ≤ m)
+
+-- the race is one of the trace, and it is said truly whether it is a data race, and what the later agent has seen of the
+-- earlier one
 pub record IsTold (trace : List Event) (race : Race) : Type 0 where
   pub is_race : IsRace trace race.first race.second
   pub data_race : IsTrue race.is_data_race ↔ IsDataRace trace race.first race.second
+  pub seen : IsLastSeen trace (agent_at trace race.first) race.second race.seen
 
 -- the races are in order
 abbrev pub InOrder : List Race → Type 0

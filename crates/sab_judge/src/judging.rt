@@ -1,11 +1,13 @@
 //! The judge of a trace.
 
-ghost use Rattle.std.specs.Prelude.{◌+◌, ◌<◌, ◌≤◌, ◌^◌, ◌↔◌, All, IfOk, IsTrue, length};
+ghost use Rattle.std.specs.Prelude.{◌+◌, ◌<◌, ◌≤◌, ◌^◌, ◌↔◌, ◌≢◌, All, IfOk, IsTrue, length};
 ghost use Rattle.sab_judge.specs.declared.event.Event.{Event};
 ghost use Rattle.sab_judge.specs.Clock.{HasClock};
 ghost use Rattle.sab_judge.specs.Past.{IsPast};
+ghost use Rattle.sab_judge.specs.Event.{agent_at};
+ghost use Rattle.sab_judge.specs.Sought.{IsLastBelow, OfAgent};
 ghost use Rattle.sab_judge.specs.Race.{Counts, IsRace};
-ghost use Rattle.sab_judge.specs.Verdict.{IsVerdict};
+ghost use Rattle.sab_judge.specs.Verdict.{IsLastSeen, IsVerdict};
 ghost use Rattle.sab_judge.specs.Telling.{HasTold};
 
 use crate::clock::Clock;
@@ -37,7 +39,7 @@ fn judge_events(alloc: Global, trace: &[Event], most: usize) -> Result<Verdict, 
     requires agents { All (λ (e : Event). e.agent < 16) trace.now }
     ensures { IfOk result (λ verdict. IsVerdict trace.now most verdict.races.items verdict.rest) }
 {
-    let mut clocks = Vec::new(alloc);
+    let mut clocks = Vec::with_capacity(alloc, trace.len())?;
     let mut past = Past::new(alloc);
     let mut seen = Seen::new(alloc);
     let mut verdict = Verdict {
@@ -48,7 +50,7 @@ fn judge_events(alloc: Global, trace: &[Event], most: usize) -> Result<Verdict, 
         let clock = clock_of(trace, &clocks, &past, j);
         let count = seen.count_races(trace, &clock, j);
         tell_or_count(&mut verdict, trace, &past, &clock, j, most, count)?;
-        clocks.push(clock)?;
+        clocks.push_reserved(clock);
         past.note(trace, j)?;
         seen.keep(alloc, trace, j)?;
     }
@@ -95,7 +97,7 @@ fn tell_races(
 {
     for i in 0..j {
         if is_race(trace, clock, i, j) {
-            tell(verdict, trace, past, i, j, most)?;
+            tell(verdict, trace, past, clock, i, j, most)?;
         }
     }
     Ok(())
@@ -117,25 +119,48 @@ fn tell(
     verdict: &mut Verdict,
     trace: &[Event],
     past: &Past,
+    clock: &Clock,
     i: usize,
     j: usize,
     most: usize,
 ) -> Result<(), AllocError>
     requires race { IsRace trace.now i j }
-    requires short { length trace.now ≤ 2 ^ 20 }
+    requires event_clock { HasClock trace.now j clock.now }
     requires past { IsPast trace.now j past.now }
     requires told { HasTold trace.now j i most verdict.old.races.items verdict.old.rest }
     ensures { IfOk result (λ _. HasTold trace.now j (i + 1) most verdict.new.races.items verdict.new.rest) }
 {
     if verdict.races.len() < most {
         let is_data_race = is_data_race(trace, past, i, j);
+        let seen = last_seen(trace, clock, trace[i].agent, j);
         verdict.races.push(Race {
             first: i,
             second: j,
             is_data_race,
+            seen,
         })?;
     } else {
         verdict.rest += 1;
     }
     Ok(())
+}
+
+/// The last event of another agent that happens before the `j`-th, whose clock this is, if there is one.
+fn last_seen(trace: &[Event], clock: &Clock, agent: u32, j: usize) -> Option<usize>
+    requires event_clock { HasClock trace.now j clock.now }
+    requires agent { agent < 16 }
+    requires other { agent ≢ agent_at trace.now j }
+    ensures { IsLastSeen trace.now agent j result }
+{
+    // The bound is that event's own, so the search ends where it begins.
+    let bound = clock.bound(agent).min(j);
+    last_of_agent(trace, agent, bound)
+}
+
+/// The last event of an agent among the first `n`, if there is one.
+fn last_of_agent(trace: &[Event], agent: u32, n: usize) -> Option<usize>
+    requires { n ≤ length trace.now }
+    ensures { IsLastBelow trace.now (OfAgent agent) n result }
+{
+    trace[..n].iter().rposition(|event| event.agent == agent)
 }

@@ -10,3 +10,18 @@ pub struct Verdict {
     /// How many races aren't told.
     pub rest: u64,
 }
+
+impl Verdict {
+    ghost use Rattle.std.specs.Prelude.{◌↔◌, ℕ, IsTrue, List};
+    ghost use Rattle.sab_judge.specs.declared.event.Event.{Event};
+    ghost use Rattle.sab_judge.specs.Race.{HaveNoRace};
+    ghost use Rattle.sab_judge.specs.Verdict.{IsVerdict};
+
+    /// Whether the trace that was judged has no race, so that it has no data race.
+    pub fn has_no_race(&self) -> bool
+        ensures { (trace : List Event) (most : ℕ) → IsVerdict trace most self.now.races.items self.now.rest
+            → IsTrue result ↔ HaveNoRace trace }
+    {
+        self.races.is_empty() && self.rest == 0
+    }
+}

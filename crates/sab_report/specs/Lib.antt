@@ -1,3 +1,4 @@
 pub mod Telling
 pub mod Racing
 pub mod Reporting
+pub mod Judging

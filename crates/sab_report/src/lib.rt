@@ -1,13 +1,15 @@
-//! From a script to its report, in any format.
+//! From a script to its report, in any format, and to the verdict on its run.
 #![tactic(auto)]
 
 mod explaining;
+mod judging;
 mod names;
 mod racing;
 mod replaying;
 mod telling;
 
+pub use judging::{Judged, MAX_TOLD, judge_as};
 pub use racing::{Race, race_as};
 pub use replaying::replay_as;
-pub use sab_text::{Format, Lines, Telling};
+pub use sab_text::{Format, Lines, Telling, VerdictFormat};
 pub use sab_tool::Ended;

@@ -7,7 +7,10 @@ use Rattle.sab_script.specs.Setup.{SetupParts}
 use Rattle.sab_kept.specs.Keeping.{KeepsRun}
 use Rattle.sab_tool.specs.declared.ended.Ended.{Ended}
 use Rattle.sab_text.specs.declared.format.Telling.{Telling}
+use Rattle.sab_text.specs.declared.format.VerdictFormat.{VerdictFormat}
 use Rattle.sab_report.specs.Telling.{Tells}
+use Rattle.sab_report.specs.declared.judging.Judged.{Judged}
+use Rattle.sab_report.specs.Judging.{JudgesAs}
 use Rattle.sab_report.specs.Reporting.{ReplaysAs, RacesAs}
 
 pub appends_kept : (old mid new : Option (List ℕ)) (bs : List ℕ) → Appends old mid bs → Keeps mid new
@@ -32,6 +35,23 @@ flushed telling old mid new script ended r k = record {
   is_its = r.is_its;
   told = told_kept telling _ r.setup.plan r.report old mid new r.told k;
   ended_is = r.ended_is;
+}
+
+pub flushed_verdict : (format : VerdictFormat) (old mid new : Option (List ℕ)) (script : List ℕ) (judged : Judged)
+    → JudgesAs format old mid script judged → Keeps mid new → JudgesAs format old new script judged
+flushed_verdict format old mid new script judged j k = record {
+  setup = j.setup;
+  spelled = j.spelled;
+  report = j.report;
+  is_its = j.is_its;
+  told = record {
+    races = j.told.races;
+    rest = j.told.rest;
+    verdict = j.told.verdict;
+    racy = j.told.racy;
+    written = appends_kept old mid new _ j.told.written k;
+  };
+  ended_is = j.ended_is;
 }
 
 pub flushed_race : (telling : Telling) (old mid new : Option (List ℕ)) (script : List ℕ) (spins : ℕ) (ended : Ended)

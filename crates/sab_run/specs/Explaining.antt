@@ -6,7 +6,7 @@ use Rattle.sab_tool.specs.declared.tool_fault.ToolFault.{ToolFault}
 use Rattle.sab_check.specs.Checked.{IsAccepted, IsRefused}
 use Rattle.sab_ending.specs.Status.{status_after}
 use Rattle.sab_run.specs.declared.failure.Explanation.{Explanation}
-use Rattle.sab_run.specs.declared.failure.Explanation.TheVariants.{Untold, NoMemory, Told}
+use Rattle.sab_run.specs.declared.failure.Explanation.TheVariants.{Untold, NoMemory, Told, AtLine}
 
 -- what a check says of a script that it refuses, or none where it doesn't refuse the script
 abbrev pub IsExplained : List ℕ → Option (String Global) → Type 0
@@ -21,3 +21,4 @@ IsExplanation is_asked fault script Untold =
 IsExplanation is_asked fault script NoMemory = ⊤
 IsExplanation is_asked fault script (Told text) =
     (is_asked ≡ true) × (status_after fault ≡ 1) × IsRefused script (string_bytes text)
+IsExplanation is_asked fault script (AtLine line) = ⊥

@@ -8,7 +8,7 @@ use Rattle.sab_tool.specs.declared.tool_fault.ToolFault.TheVariants.{ReadFailed}
 use Rattle.sab_command.specs.declared.request.Source.{Source}
 use Rattle.sab_command.specs.declared.request.Source.TheVariants.{Standard, File}
 use Rattle.sab_run.specs.declared.failure.Explanation.{Explanation}
-use Rattle.sab_run.specs.declared.failure.Explanation.TheVariants.{Untold, NoMemory, Told}
+use Rattle.sab_run.specs.declared.failure.Explanation.TheVariants.{Untold, NoMemory, Told, AtLine}
 use Rattle.sab_run.specs.declared.failure.Failure.{Failure}
 
 -- a fault of which nothing else is told
@@ -20,6 +20,12 @@ abbrev pub explanation_text : Explanation → List ℕ
 explanation_text Untold = []
 explanation_text NoMemory = []
 explanation_text (Told text) = string_bytes text
+explanation_text (AtLine line) = []
+
+-- the line of a trace, where that is told
+abbrev pub line_of : Explanation → Option ℕ
+line_of (AtLine line) = Some line
+line_of _ = None
 
 -- a file is named exactly where a read failed and it is one, and its name has no control characters
 abbrev pub TellsFile : Source → ToolFault → Option (Bor (List ℕ)) → Type 0

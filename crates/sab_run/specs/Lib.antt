@@ -1,3 +1,4 @@
 pub mod Failure
 pub mod Explaining
 pub mod Running
+pub mod Tracing

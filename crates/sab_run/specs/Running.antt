@@ -12,19 +12,22 @@ use Rattle.sab_tool.specs.Racing.{IsRaceFault}
 use Rattle.sab_tool.specs.declared.ended.Ended.{Ended}
 use Rattle.sab_tool.specs.Ended.{ended_of}
 use Rattle.sab_report.specs.Reporting.{ReplaysAs, RacesAs}
+use Rattle.sab_report.specs.declared.judging.Judged.{Judged}
+use Rattle.sab_report.specs.Judging.{JudgesAs}
 use Rattle.sab_kept.specs.Keeping.{KeepsRun, IsRaceIn, IsReplayUnkept, IsRaceUnkept, IsKeepFault}
 use Rattle.sab_check.specs.Checked.{IsAccepted, IsRefused}
 use Rattle.sab_command.specs.declared.command_line.Job.{Job}
-use Rattle.sab_command.specs.declared.command_line.Job.TheVariants.{Replay, ReplayAsScript, Check, Race, RaceAsScript}
+use Rattle.sab_command.specs.declared.command_line.Job.TheVariants.{Replay, ReplayAsScript, Check, Judge, Race, RaceAsScript}
 use Rattle.sab_ending.specs.declared.outcome.Outcome.{Outcome}
-use Rattle.sab_ending.specs.declared.outcome.Outcome.TheVariants.{Done, Refused, Unfinished}
-use Rattle.sab_ending.specs.Outcome.{outcome_of}
+use Rattle.sab_ending.specs.declared.outcome.Outcome.TheVariants.{Done, Refused, Unfinished, Racy}
+use Rattle.sab_ending.specs.Outcome.{outcome_of, judged_outcome}
 
 -- just what a check says came behind what the writer held: of a script that isn't refused, or of one that is
 abbrev pub Checks : Outcome → Option (List ℕ) → Option (List ℕ) → List ℕ → Type 0
 Checks Done old new script = (text : List ℕ) × IsAccepted script text × Appends old new text
 Checks Refused old new script = (text : List ℕ) × IsRefused script text × Appends old new text
 Checks Unfinished old new script = ⊥
+Checks Racy old new script = ⊥
 
 -- such a run of the script was kept as a script, and ended so
 abbrev pub KeepsAs : (SetupParts → ReportParts → Type 0) → Option (List ℕ) → Option (List ℕ) → List ℕ → Ended → Type 0
@@ -32,9 +35,12 @@ KeepsAs IsRun old new script ended =
     (report : ReportParts) × KeepsRun IsRun old new script report × (ended ≡ ended_of report)
 
 -- just the job's report, or the script that keeps the run, came behind what the writer held, of a replay, or of a race
--- with the job's steps, and the outcome is by how it ended; or what a check says
+-- with the job's steps, and the outcome is by how it ended; or what a check or a judge says
 abbrev pub Runs : Job → Outcome → Option (List ℕ) → Option (List ℕ) → List ℕ → Type 0
 Runs Check outcome old new script = Checks outcome old new script
+Runs (Judge format finish) outcome old new script =
+    (judged : Judged) × JudgesAs format old new script judged
+    × (outcome ≡ judged_outcome judged.is_racy judged.ended finish)
 Runs (Replay telling finish) outcome old new script =
     (ended : Ended) × ReplaysAs telling old new script ended × (outcome ≡ outcome_of ended finish)
 Runs (Race share spins mix telling finish) outcome old new script =
@@ -52,6 +58,7 @@ IsCheckFault old new fault = (Keeps old new × (fault ≡ OutOfMemory)) ⊎ (fau
 abbrev pub IsFaultOf : Job → Option (List ℕ) → Option (List ℕ) → List ℕ → ToolFault → Type 0
 IsFaultOf (Replay telling finish) old new script fault = IsReplayFault old new script fault
 IsFaultOf Check old new script fault = IsCheckFault old new fault
+IsFaultOf (Judge format finish) old new script fault = IsReplayFault old new script fault
 IsFaultOf (Race share spins mix telling finish) old new script fault = IsRaceFault old new script spins fault
 IsFaultOf (ReplayAsScript finish) old new script fault = IsKeepFault IsReplayUnkept old new script fault
 IsFaultOf (RaceAsScript share spins mix finish) old new script fault =

@@ -4,7 +4,7 @@ ghost use Rattle.std.specs.Prelude.{◌≡◌, ◌≢◌};
 ghost use Rattle.std.specs.List.{list_any};
 ghost use Rattle.std.specs.Char.{is_ascii_control};
 ghost use Rattle.std.specs.IoError.{error_kind};
-ghost use Rattle.sab_run.specs.Failure.{TellsFile, explanation_text, untold};
+ghost use Rattle.sab_run.specs.Failure.{TellsFile, explanation_text, line_of, untold};
 
 use sab_command::Source;
 use sab_ending::Complaint;
@@ -20,6 +20,8 @@ pub enum Explanation {
     NoMemory,
     /// What a check says of the script, which it refuses: a line.
     Told(String),
+    /// The line of the trace that is refused, from 1.
+    AtLine(u32),
 }
 
 /// Why a job isn't done.
@@ -49,11 +51,13 @@ impl Failure {
     pub fn complaint<'a>(&'a self, source: Source<'a>) -> Complaint<'a>
         ensures fault { result.fault ≡ self.now.fault }
         ensures file { TellsFile source.entry self.now.fault result.file }
+        ensures line { result.line ≡ line_of self.now.explanation }
         ensures why { result.why.now ≡ explanation_text self.now.explanation }
     {
         Complaint {
             fault: self.fault,
             file: file_of(source, self.fault),
+            line: line_of(&self.explanation),
             why: text_of(&self.explanation),
         }
     }
@@ -79,6 +83,16 @@ fn has_control(name: &str) -> bool
     name.as_bytes().iter().any(|byte| byte.is_ascii_control())
 }
 
+/// The line of a trace that is refused, if that is told.
+fn line_of(explanation: &Explanation) -> Option<u32>
+    ensures { result ≡ line_of explanation.now }
+{
+    match explanation {
+        Explanation::AtLine(line) => Some(*line),
+        Explanation::Untold | Explanation::NoMemory | Explanation::Told(_) => None,
+    }
+}
+
 /// What a check says, if that is told.
 fn text_of(explanation: &Explanation) -> &str
     ensures { result.now ≡ explanation_text explanation.now }
@@ -87,6 +101,7 @@ fn text_of(explanation: &Explanation) -> &str
         Explanation::Told(text) => text.as_str(),
         Explanation::Untold => "",
         Explanation::NoMemory => "",
+        Explanation::AtLine(_) => "",
     }
 }
 

@@ -12,7 +12,7 @@ use sab_check::{Checked, check_script};
 use sab_command::Job;
 use sab_ending::Outcome;
 use sab_kept::{keep_race, keep_replay};
-use sab_report::{Ended, Race, Telling, race_as, replay_as};
+use sab_report::{Ended, Race, Telling, VerdictFormat, judge_as, race_as, replay_as};
 use sab_tool::{MAX_SPINS, ToolFault, read_input};
 use std::alloc::Global;
 use std::io::{Read, Write};
@@ -74,6 +74,7 @@ fn run_script<T: Threads + Wait + Sync + AllocGlobal + RandomSource, W: Write>(
         Job::Replay { telling, finish } => replay(rt.alloc(), telling, finish, script, output),
         Job::ReplayAsScript { finish } => keep(rt.alloc(), finish, script, output),
         Job::Check => check(rt.alloc(), script, output),
+        Job::Judge { format, finish } => judge(rt.alloc(), format, finish, script, output),
         Job::Race {
             share,
             spins,
@@ -134,6 +135,26 @@ fn keep<W: Write>(
     let report = keep_replay(alloc, script, output)?;
     output.flush().map_err(|_| ToolFault::WriteFailed)?;
     Ok(Outcome::of_run(Ended::of(&report), finish))
+}
+
+/// Replays it, and judges the run for data races.
+#[tactic(auto, using(crate::proofs::Flushed::flushed_verdict))]
+fn judge<W: Write>(
+    alloc: Global,
+    format: VerdictFormat,
+    finish: bool,
+    script: &[u8],
+    output: &mut W,
+) -> Result<Outcome, ToolFault>
+    ensures ok { IfOk result (λ outcome. Runs (Job.Judge format finish) outcome
+        (W.contents output.old) (W.contents output.new) script.now) }
+    ensures err { IfErr result (IsFaultOf (Job.Judge format finish)
+        (W.contents output.old) (W.contents output.new) script.now) }
+    ensures unwritten { IfErr result (IsUnwritten (W.contents output.old) (W.contents output.new)) }
+{
+    let judged = judge_as(alloc, script, format, output)?;
+    output.flush().map_err(|_| ToolFault::WriteFailed)?;
+    Ok(Outcome::of_judged(judged.is_racy, judged.ended, finish))
 }
 
 /// Checks a script.

@@ -8,6 +8,9 @@ use Rattle.sab_text.specs.contracts.lines.LinesPartialEq.TheImpl as lines
 use Rattle.sab_text.specs.declared.format.Format.{Format}
 use Rattle.sab_text.specs.contracts.format.Format.{the_type as format_type}
 use Rattle.sab_text.specs.contracts.format.FormatPartialEq.TheImpl as format
+use Rattle.sab_text.specs.declared.format.VerdictFormat.{VerdictFormat}
+use Rattle.sab_text.specs.contracts.format.VerdictFormat.{the_type as verdict_format_type}
+use Rattle.sab_text.specs.contracts.format.VerdictFormatPartialEq.TheImpl as verdict_format
 use Rattle.sab_text.specs.declared.format.Telling.{Telling}
 use Rattle.sab_text.specs.contracts.format.TellingPartialEq.TheImpl as telling
 
@@ -16,6 +19,9 @@ same_lines = same_true lines_type (search rules)
 
 pub same_format : (x y : Format) → (format.ghosts).eq x y ≡ true → x ≡ y
 same_format = same_true format_type (search rules)
+
+pub same_verdict_format : (x y : VerdictFormat) → (verdict_format.ghosts).eq x y ≡ true → x ≡ y
+same_verdict_format = same_true verdict_format_type (search rules)
 
 pub same_telling : (x y : Telling) → (telling.ghosts).eq x y ≡ true → x ≡ y
 same_telling x y e =

@@ -15,6 +15,15 @@ pub enum Format {
     Svg,
 }
 
+/// The formats of a verdict on a run's data races.
+#[derive(Clone, Copy, Debug, PartialEq, Eq)]
+pub enum VerdictFormat {
+    /// A line in words for each race.
+    Plain,
+    /// An object of JSON for each race, on a line.
+    Json,
+}
+
 /// How a report is told.
 #[derive(Clone, Copy, Debug, PartialEq, Eq, Hash)]
 pub struct Telling {

@@ -1,12 +1,12 @@
-//! Runs scripts of agents that share blocks of bytes, by their schedule or in threads.
+//! Runs scripts of agents that share blocks of bytes, by their schedule or in threads, and judges runs for data races.
 #![tactic(auto)]
 
-ghost use Rattle.sab_command.specs.Job.{IsWithinLimits};
+ghost use Rattle.sab_command.specs.Job.{IsTaskWithinLimits};
 
-use sab_command::{Request, Source, request_of};
-use sab_ending::{Ending, FaultLine, without_job, without_words};
-use sab_run::{Failure, run};
-use std::io::IsTerminal;
+use sab_command::{Request, Source, Task, request_of};
+use sab_ending::{Ending, FaultLine, Outcome, without_job, without_words};
+use sab_run::{Failure, judge_trace, run};
+use std::io::{IsTerminal, Read};
 use std::process::ExitCode;
 use std::random::RandomSource;
 use std::rt::Files;
@@ -20,7 +20,23 @@ fn words(rt: &(impl std::rt::Env + AllocGlobal)) -> io::Result<Vec<String>> {
     Ok(words)
 }
 
-/// Does what is asked for, from the script's source to standard output, and says on standard error where it fails.
+/// Does it with what a reader gives, to standard output.
+fn perform_on<R: Print + AllocGlobal + Threads + Wait + Sync + RandomSource, I: Read>(
+    rt: &R,
+    task: Task,
+    explain: bool,
+    input: &mut I,
+) -> Result<Outcome, Failure>
+    requires { IsTaskWithinLimits task }
+{
+    let output = &mut io::writer(rt);
+    match task {
+        Task::OfScript(job) => run(rt, job, explain, input, output),
+        Task::OfTrace(format) => judge_trace(rt.alloc(), format, input, output),
+    }
+}
+
+/// Does what is asked for, from the input's source to standard output, and says on standard error where it fails.
 ///
 /// Why a script is refused is told on a terminal too.
 fn perform<R: Print + Eprint + Input + Files + AllocGlobal + Threads + Wait + Sync + RandomSource>(
@@ -28,14 +44,14 @@ fn perform<R: Print + Eprint + Input + Files + AllocGlobal + Threads + Wait + Sy
     request: Request<'_>,
     is_terminal: bool,
 ) -> Ending
-    requires { IsWithinLimits request.job }
+    requires { IsTaskWithinLimits request.task }
 {
-    let job = request.job;
+    let task = request.task;
     let explain = request.explain || is_terminal;
     let answer = match request.source {
-        Source::Standard => run(rt, job, explain, &mut rt.reader(), &mut io::writer(rt)),
+        Source::Standard => perform_on(rt, task, explain, &mut rt.reader()),
         Source::File(name) => match fs::open(rt, name) {
-            Ok(mut file) => run(rt, job, explain, &mut file, &mut io::writer(rt)),
+            Ok(mut file) => perform_on(rt, task, explain, &mut file),
             Err(error) => Err(Failure::of_open(&error)),
         },
     };

@@ -1,8 +1,8 @@
 //! Command lines that are read or refused.
 
 use clap::error::ErrorKind;
-use sab_command::{Job, Source, request_of};
-use sab_report::{Format, Lines, Telling};
+use sab_command::{Job, Source, Task, request_of};
+use sab_report::{Format, Lines, Telling, VerdictFormat};
 use sab_tool::Share;
 use std::alloc::Global;
 
@@ -12,10 +12,10 @@ const PLAIN: Telling = Telling {
     lines: Lines::All,
 };
 
-/// Whether the words ask for just this job.
-fn asks(alloc: Global, words: &[&str], job: Job) -> bool {
+/// Whether the words ask for just this.
+fn asks(alloc: Global, words: &[&str], task: Task) -> bool {
     match request_of(alloc, words) {
-        Ok(request) => request.job == job,
+        Ok(request) => request.task == task,
         Err(_) => false,
     }
 }
@@ -135,7 +135,34 @@ fn a_command_line_is_read(rt: HostRuntime) {
         ),
     ];
     for (words, job) in table {
-        assert!(rt; asks(rt.alloc(), words, job), "{job:?}");
+        assert!(rt; asks(rt.alloc(), words, Task::OfScript(job)), "{job:?}");
+    }
+}
+
+#[test]
+fn a_judge_is_asked_for(rt: HostRuntime) {
+    let judge = |format, finish| Task::OfScript(Job::Judge { format, finish });
+    let table: [(&[&str], Task); 5] = [
+        (&["sabsim", "judge"], judge(VerdictFormat::Plain, false)),
+        (
+            &["sabsim", "judge", "--format", "json", "--finish"],
+            judge(VerdictFormat::Json, true),
+        ),
+        (
+            &["sabsim", "judge", "--format=plain", "a.json"],
+            judge(VerdictFormat::Plain, false),
+        ),
+        (
+            &["sabsim", "judge", "--trace"],
+            Task::OfTrace(VerdictFormat::Plain),
+        ),
+        (
+            &["sabsim", "judge", "--format=json", "--trace", "-"],
+            Task::OfTrace(VerdictFormat::Json),
+        ),
+    ];
+    for (words, task) in table {
+        assert!(rt; asks(rt.alloc(), words, task), "{task:?}");
     }
 }
 
@@ -149,8 +176,23 @@ fn is_refused(alloc: Global, words: &[&str], kind: ErrorKind, to_stderr: bool) -
 
 #[test]
 fn another_command_line_is_refused(rt: HostRuntime) {
-    let table: [(&[&str], ErrorKind, bool); 17] = [
+    let table: [(&[&str], ErrorKind, bool); 20] = [
         (&["sabsim"], ErrorKind::MissingSubcommand, true),
+        (
+            &["sabsim", "judge", "--trace", "--finish"],
+            ErrorKind::ArgumentConflict,
+            true,
+        ),
+        (
+            &["sabsim", "judge", "--explain", "--trace"],
+            ErrorKind::ArgumentConflict,
+            true,
+        ),
+        (
+            &["sabsim", "judge", "--format", "svg"],
+            ErrorKind::InvalidValue,
+            true,
+        ),
         (&["sabsim", "play"], ErrorKind::InvalidSubcommand, true),
         (
             &["sabsim", "replay", "script.json", "script.json"],

@@ -75,6 +75,7 @@ fn race(first: usize, second: usize, is_data_race: bool) -> Race {
         first,
         second,
         is_data_race,
+        seen: None,
     }
 }
 
@@ -82,7 +83,29 @@ fn race(first: usize, second: usize, is_data_race: bool) -> Race {
 fn expect_races(alloc: Global, trace: &[Event], races: &[Race]) -> Result<(), Fail> {
     let verdict = judged(alloc, trace, 10)?;
     expect(verdict.races.as_slice() == races, "other races are told")?;
+    expect(
+        verdict.has_no_race() == races.is_empty(),
+        "it is mistaken whether there is a race",
+    )?;
     expect(verdict.rest == 0, "races are left")
+}
+
+#[test]
+fn a_race_tells_what_was_seen(rt: HostRuntime) -> Result<(), Fail> {
+    let trace = [
+        write(0, DATA),
+        store(0, FLAG),
+        write(0, DATA),
+        load(1, FLAG),
+        read(1, DATA),
+    ];
+    let late = Race {
+        first: 2,
+        second: 4,
+        is_data_race: true,
+        seen: Some(1),
+    };
+    expect_races(rt.alloc(), &trace, &[late])
 }
 
 #[test]

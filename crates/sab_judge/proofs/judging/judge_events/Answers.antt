@@ -6,7 +6,8 @@ use Rattle.sab_judge.proofs.judging.judge_events.Goals as goal
 
 pub loop-j-init : goal.loop-j-init
 loop-j-init c = record {
-  clocked = no_clocks c.args.trace.now c.new-clocks.result.items c.new-clocks.ensures.items;
+  room = c.in_ok-clocks.ensures.capacity;
+  clocked = no_clocks c.args.trace.now c.in_ok-clocks.clocks.items c.in_ok-clocks.ensures.items;
   past = c.new-past.ensures c.args.trace.now;
   seen = c.new-seen.ensures c.args.trace.now;
   told = nothing_told c.args.trace.now c.args.most c.new.result.items c.new.ensures.items;
@@ -16,8 +17,9 @@ pub loop-j-preserved : goal.loop-j-preserved
 loop-j-preserved c =
     let few : c.loop-j.j < 2 ^ 20 = omega (arith, c.loop-j-test.true, c.requires.short) in
     record {
+      room = rw c.push_reserved.ensures.capacity c.loop-j.invariant.room;
       clocked = one_clock_more c.clock_of-clock.result c.loop-j.invariant.clocked c.clock_of-clock.ensures
-          c.in_ok-push.ensures.items;
+          c.push_reserved.ensures.items;
       past = c.in_ok-note.ensures;
       seen = c.in_ok-keep.ensures;
       told = next_event few c.in_ok-tell_or_count.ensures;

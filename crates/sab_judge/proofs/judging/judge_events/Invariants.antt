@@ -1,3 +1,4 @@
+use Rattle.std.proofs.Common.{◌≤◌, length, vec_capacity}
 use Rattle.sab_judge.specs.Clock.{AreClocks}
 use Rattle.sab_judge.specs.Past.{IsPast}
 use Rattle.sab_judge.specs.Seen.{IsSeen}
@@ -7,6 +8,7 @@ use Rattle.sab_judge.proofs.judging.judge_events.Given as goal
 -- the clocks so far, what is kept of events and of accesses, and the races so far
 abbrev pub invariant-loop-j : goal.invariant-loop-j
 invariant-loop-j l = record {
+  room : length l.trace ≤ vec_capacity l.clocks;
   clocked : AreClocks l.trace l.j l.clocks.items;
   past : IsPast l.trace l.j l.past;
   seen : IsSeen l.trace l.j l.seen;

@@ -7,9 +7,17 @@ pub returns-in_ok-push : goal.returns-in_ok-push
 returns-in_ok-push c =
     let fewer : length c.args.verdict.now.races.items < c.args.most = omega (arith, c.if-len-most.true, c.len.ensures) in
     rw c.in_ok-push.ensures.items
-    (told_one (record { first = c.args.i; second = c.args.j; is_data_race = c.is_data_race-is_data_race.result })
-    c.requires.told fewer
-    (record { is_race = c.requires.race; data_race = c.is_data_race-is_data_race.ensures }) refl refl)
+    (told_one (record {
+      first = c.args.i;
+      second = c.args.j;
+      is_data_race = c.is_data_race-is_data_race.result;
+      seen = c.last_seen-seen.result;
+    }) c.requires.told fewer
+    (record {
+      is_race = c.requires.race;
+      data_race = c.is_data_race-is_data_race.ensures;
+      seen = c.last_seen-seen.ensures;
+    }) refl refl)
 
 pub returns-else-len-most : goal.returns-else-len-most
 returns-else-len-most c =

@@ -1,0 +1,29 @@
+-- A verdict that tells no race, and leaves none.
+use Rattle.std.proofs.Common.{◌≡◌, ℕ, ◌+◌, List, length, inl, inr, refl, arith}
+use Rattle.sab_judge.specs.declared.event.Event.{Event}
+use Rattle.sab_judge.specs.declared.race.Race.{Race}
+use Rattle.sab_judge.specs.Race.{HaveNoRace, Counts, below_none, one_more, no_more, CountsRaces, of_none, and_of}
+use Rattle.sab_judge.specs.Verdict.{IsVerdict}
+
+none_counted : {P : ℕ → Type 0} {n count : ℕ} → Counts P n count → ((i : ℕ) → ¬ P i) → count ≡ 0
+none_counted below_none apart = refl
+none_counted (one_more counted p) apart = absurd (apart _ p)
+none_counted (no_more counted q) apart = none_counted counted apart
+
+no_races_counted : {trace : List Event} {n total : ℕ} → CountsRaces trace n total → HaveNoRace trace → total ≡ 0
+no_races_counted of_none apart = refl
+no_races_counted (and_of counted here) apart =
+    omega (arith, no_races_counted counted apart, none_counted here (λ i. apart i _))
+
+-- where there is no race, none is told, and none is left
+pub none_left : (trace : List Event) (most : ℕ) (told : List Race) (rest : ℕ) → IsVerdict trace most told rest
+    → HaveNoRace trace → length told + rest ≡ 0
+none_left trace most told rest v apart = no_races_counted v.count apart
+
+-- where none is told, and none is left, there is no race
+pub no_race : (trace : List Event) (most : ℕ) (told : List Race) (rest : ℕ) → IsVerdict trace most told rest
+    → length told + rest ≡ 0 → HaveNoRace trace
+no_race trace most told rest v clean i j race = elim (v.each i j race) [
+  | inl among ↦ omega (arith, among.inside, clean)
+  | inr left ↦ omega (arith, left.some, clean)
+]

@@ -1,0 +1,39 @@
+-- What judging a script's run answers.
+use Rattle.std.specs.Prelude.{◌≡◌, ◌↔◌, ℕ, false, Bool, List, Option}
+use Rattle.std.specs.Io.KnownBytes.{Appends}
+use Rattle.sab_plan.specs.Plan.{PlanParts}
+use Rattle.sab_sim.specs.Report.{ReportParts}
+use Rattle.sab_script.specs.Views.{view_names}
+use Rattle.sab_script.specs.Setup.{SetupParts}
+use Rattle.sab_script.specs.Script.{IsScriptOf}
+use Rattle.sab_judge.specs.declared.race.Race.{Race}
+use Rattle.sab_judge.specs.Race.{HaveNoRace}
+use Rattle.sab_judge.specs.Verdict.{IsVerdict}
+use Rattle.sab_events.specs.Events.{events_of}
+use Rattle.sab_text.specs.declared.format.VerdictFormat.{VerdictFormat}
+use Rattle.sab_verdict.specs.Verdict.{run_verdict_text}
+use Rattle.sab_tool.specs.Replay.{IsReportOf}
+use Rattle.sab_tool.specs.Ended.{ended_of}
+use Rattle.sab_report.specs.declared.judging.TheConstants.{MAX_TOLD}
+use Rattle.sab_report.specs.declared.judging.Judged.{Judged}
+
+-- just the verdict on the events of the run came behind what the writer held, and it is said truly whether two of them
+-- race
+pub record TellsVerdict (format : VerdictFormat) (names : List (List ℕ)) (plan : PlanParts) (report : ReportParts)
+    (old new : Option (List ℕ)) (is_racy : Bool) : Type 0 where
+  pub races : List Race
+  pub rest : ℕ
+  pub verdict : IsVerdict (events_of plan report.journal) MAX_TOLD races rest
+  pub racy : (is_racy ≡ false) ↔ HaveNoRace (events_of plan report.journal)
+  pub written : Appends old new
+      (run_verdict_text names plan report.journal (events_of plan report.journal) format races rest)
+
+-- the script spells a setup, the run of its one report was judged, and so it ended
+pub record JudgesAs (format : VerdictFormat) (old new : Option (List ℕ)) (script : List ℕ) (judged : Judged) :
+    Type 0 where
+  pub setup : SetupParts
+  pub spelled : IsScriptOf script setup
+  pub report : ReportParts
+  pub is_its : IsReportOf setup report
+  pub told : TellsVerdict format (view_names setup.views) setup.plan report old new judged.is_racy
+  pub ended_is : judged.ended ≡ ended_of report

@@ -1,0 +1,84 @@
+//! From a script to the verdict on its run.
+
+ghost use Rattle.std.specs.Prelude.{IfOk, IfErr};
+ghost use Rattle.sab_sim.specs.Report.{Fits};
+ghost use Rattle.sab_fact_json.specs.CallData.{AreNames};
+ghost use Rattle.sab_tool.specs.Replay.{IsReplayFault};
+ghost use Rattle.sab_report.specs.Telling.{IsTellingFault};
+ghost use Rattle.sab_report.specs.Judging.{JudgesAs, TellsVerdict};
+
+use crate::names::names_of;
+use sab_events::trace_of;
+use sab_fact_text::Name;
+use sab_judge::judge;
+use sab_sim::{Plan, Report};
+use sab_text::VerdictFormat;
+use sab_tool::{Ended, ToolFault, replay_moves, setup_of};
+use sab_verdict::write_run_verdict;
+use std::alloc::Global;
+use std::io::Write;
+
+/// How many races of a run are told at most; the others are counted.
+pub const MAX_TOLD: usize = 100;
+
+// The clauses cite the constant: so its number is held here.
+const _: () = prove!(MAX_TOLD == 100);
+
+/// What a run came to that was judged.
+#[derive(Clone, Copy, Debug)]
+pub struct Judged {
+    /// How the run ended.
+    pub ended: Ended,
+    /// Whether two of its accesses race.
+    pub is_racy: bool,
+}
+
+/// Runs a script, judges the run for data races, writes the verdict, and answers what the run came to; it doesn't flush.
+///
+/// Told are the first races, at most [`MAX_TOLD`]. WriteFailed where a write failed; nothing is said then of how much
+/// was written. Every other fault is a refusal of the script, or want of memory, and nothing was written.
+#[tactic(auto, using(sab_tool::proofs::ReplaySteps::keeps_same))]
+pub fn judge_as<W: Write>(
+    alloc: Global,
+    script: &[u8],
+    format: VerdictFormat,
+    w: &mut W,
+) -> Result<Judged, ToolFault>
+    ensures ok { IfOk result (JudgesAs format (W.contents w.old) (W.contents w.new) script.now) }
+    ensures err { IfErr result (IsReplayFault (W.contents w.old) (W.contents w.new) script.now) }
+{
+    let setup = setup_of(alloc, script)?;
+    let names = names_of(alloc, &setup)?;
+    let (plan, schedule) = setup.into_parts();
+    let report = replay_moves(alloc, plan.copy(alloc)?, schedule.as_slice())?;
+    let is_racy = judge_report(alloc, &plan, &names, &report, format, w)?;
+    Ok(Judged {
+        ended: Ended::of(&report),
+        is_racy,
+    })
+}
+
+/// Judges the run of a report, writes the verdict, and answers whether the run has a race.
+#[tactic(auto, using(sab_tool::proofs::ReplaySteps::keeps_same, sab_events::proofs::Fitting::few_in_report, sab_events::proofs::Fitting::agents_in_report))]
+fn judge_report<W: Write>(
+    alloc: Global,
+    plan: &Plan,
+    names: &[Name],
+    report: &Report,
+    format: VerdictFormat,
+    w: &mut W,
+) -> Result<bool, ToolFault>
+    requires fits { Fits plan.now report.now }
+    requires names { AreNames names.now }
+    ensures ok { IfOk result
+        (TellsVerdict format names.now plan.now report.now (W.contents w.old) (W.contents w.new)) }
+    ensures err { IfErr result (IsTellingFault (W.contents w.old) (W.contents w.new)) }
+{
+    let journal = report.journal.as_slice();
+    let trace = trace_of(alloc, plan, journal)?;
+    let verdict = judge(alloc, &trace, MAX_TOLD)?;
+    match write_run_verdict(names, plan, journal, &trace, &verdict, format, w) {
+        Ok(()) => Ok(!verdict.has_no_race()),
+        Err(_) => Err(ToolFault::WriteFailed),
+    }
+}

@@ -1,0 +1,60 @@
+-- What judging a trace answers.
+use Rattle.std.specs.Prelude.{◌≡◌, ◌⊎◌, ℕ, List, Option, IfSome}
+use Rattle.std.specs.Io.KnownBytes.{Appends, Keeps}
+use Rattle.sab_judge.specs.declared.event.Event.{Event}
+use Rattle.sab_judge.specs.declared.race.Race.{Race}
+use Rattle.sab_judge.specs.Race.{HaveNoRace}
+use Rattle.sab_judge.specs.Verdict.{IsVerdict}
+use Rattle.sab_trace.specs.declared.refusal.Refusal.{Refusal}
+use Rattle.sab_trace.specs.declared.line_fault.LineFault.{LineFault}
+use Rattle.sab_trace.specs.declared.line_fault.LineFault.TheVariants as L
+use Rattle.sab_trace.specs.Reading.{SpellsTrace, IsRefusedBy}
+use Rattle.sab_text.specs.declared.format.VerdictFormat.{VerdictFormat}
+use Rattle.sab_verdict.specs.Verdict.{trace_verdict_text}
+use Rattle.sab_tool.specs.declared.tool_fault.ToolFault.TheVariants.{TooMany, OutOfMemory, BadShape, BadNumber, BadAgent, NotJson, WriteFailed, TooLong, ReadFailed}
+use Rattle.sab_report.specs.declared.judging.TheConstants.{MAX_TOLD}
+use Rattle.sab_ending.specs.declared.outcome.Outcome.{Outcome}
+use Rattle.sab_ending.specs.declared.outcome.Outcome.TheVariants.{Done, Racy}
+use Rattle.sab_run.specs.declared.failure.Explanation.TheVariants.{AtLine}
+use Rattle.sab_run.specs.declared.failure.Failure.{Failure}
+use Rattle.sab_run.specs.Failure.{untold}
+
+-- the outcome says truly whether two of the events race
+abbrev pub IsOutcomeOf : List Event → Outcome → Type 0
+IsOutcomeOf events outcome =
+    ((outcome ≡ Done) × HaveNoRace events) ⊎ ((outcome ≡ Racy) × (¬ HaveNoRace events))
+
+-- the bytes spell a trace, and just the verdict on it came behind what the writer held
+pub record JudgesTrace (format : VerdictFormat) (outcome : Outcome) (old new : Option (List ℕ)) (bytes : List ℕ) :
+    Type 0 where
+  pub events : List Event
+  pub spelled : SpellsTrace bytes events
+  pub races : List Race
+  pub rest : ℕ
+  pub verdict : IsVerdict events MAX_TOLD races rest
+  pub written : Appends old new (trace_verdict_text events format races rest)
+  pub outcome_is : IsOutcomeOf events outcome
+
+-- what the program tells of a trace that is refused: the fault, and at which line
+abbrev pub told_of : LineFault → ℕ → Failure
+told_of L.OutOfMemory line = untold OutOfMemory
+told_of L.ReadFailed line = untold ReadFailed
+told_of L.TooMany line = record { fault = TooMany; explanation = AtLine line }
+told_of L.TooLong line = record { fault = TooLong; explanation = AtLine line }
+told_of L.NotJson line = record { fault = NotJson; explanation = AtLine line }
+told_of L.BadShape line = record { fault = BadShape; explanation = AtLine line }
+told_of L.BadNumber line = record { fault = BadNumber; explanation = AtLine line }
+told_of L.BadBytes line = record { fault = BadNumber; explanation = AtLine line }
+told_of L.BadAgent line = record { fault = BadAgent; explanation = AtLine line }
+
+abbrev pub refused_at : Refusal → Failure
+refused_at refusal = told_of refusal.fault refusal.line
+
+-- the bytes are refused at a line and nothing was written, or there was no memory and nothing was written, or a write
+-- failed
+abbrev pub IsTraceFailure : Option (List ℕ) → Option (List ℕ) → Option (List ℕ) → Failure → Type 0
+IsTraceFailure known old new failure =
+    ((refusal : Refusal) × (failure ≡ refused_at refusal) × Keeps old new
+    × IfSome known (λ bytes. IsRefusedBy bytes refusal))
+    ⊎ ((failure ≡ untold OutOfMemory) × Keeps old new)
+    ⊎ (failure ≡ untold WriteFailed)
