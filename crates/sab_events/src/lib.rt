@@ -1,0 +1,11 @@
+//! The events of a journal, which `sab_judge` judges.
+//!
+//! [`trace_of`] makes one event of each entry: what its move read and wrote, and in whose waiters' critical section it
+//! was. An entry that doesn't act is an event that accesses nothing.
+#![tactic(auto)]
+
+mod events;
+mod raw;
+mod target;
+
+pub use events::trace_of;
