@@ -1,0 +1,3 @@
+mod WrittenBytes
+mod Runs
+pub mod Fitting

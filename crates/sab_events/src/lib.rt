@@ -5,7 +5,12 @@
 #![tactic(auto)]
 
 mod events;
+mod laws;
+mod probe;
 mod raw;
 mod target;
 
 pub use events::trace_of;
+pub use laws::{
+    an_entry_changes_what_its_event_writes, an_event_reads_what_was_left, an_unwritten_byte_is_zero,
+};
