@@ -1,11 +1,10 @@
 -- The bytes that a run leaves.
-use Rattle.std.proofs.Common.{◌≡◌, ◌≢◌, ◌⊎◌, inl, inr, ℕ, zero, suc, ◌+◌, ◌-◌, ◌<◌, ◌≤◌, Bool, true, false, ◌&&◌, nat_eq, ℤ, List, [], ◌∷◌, ◌++◌, length, take, drop, map, replicate, set, slice_get, slice_set, slice_index, get_or, Option, Some, None, refl, ap, sym, ◌∙◌, subst, arith, All, eq-eqb}
-use Rattle.std.specs.Prelude.{cond, option_map, option_and_then, slice_index_or, ◌==◌, filter}
+use Rattle.std.proofs.Common.{◌≡◌, inl, inr, ℕ, zero, suc, ◌+◌, ◌<◌, ◌≤◌, Bool, true, false, ◌&&◌, List, [], ◌∷◌, ◌++◌, length, take, drop, map, replicate, slice_get, slice_set, slice_index, get_or, Option, Some, refl, ap, sym, ◌∙◌, subst, arith, eq-eqb}
+use Rattle.std.specs.Prelude.{cond, option_and_then, ◌==◌}
 use Rattle.std.proofs.lemmas.Bool.{cases_eq}
-use Rattle.std.proofs.lemmas.Option.{slice_get-map, slice_get_within, slice_get-get_or, get_or_from_slice_get}
-use Rattle.std.proofs.lemmas.List.{length-replicate, take-append-drop, take-take, get_or-take, get_or-drop, take-map, drop-map, length-drop, length-take, get_or-replicate, get_or_past, get_or-map, length-map}
+use Rattle.std.proofs.lemmas.Option.{slice_get_within, get_or_from_slice_get}
+use Rattle.std.proofs.lemmas.List.{length-replicate, take-append-drop, take-take, get_or-take, get_or-drop, take-map, drop-map, length-drop, length-take, get_or-map, length-map}
 use Rattle.std.proofs.lemmas.List.Elements.{filter-append, All-get_or}
-use Rattle.std.proofs.Math.ListN.{length-set}
 use Rattle.std.proofs.Math.Seq.{map-set_same}
 use Rattle.std.proofs.Common.{get_or-set_same, get_or-set_other}
 use Rattle.sab_block.specs.declared.access.Access.{Access}
@@ -19,24 +18,23 @@ use Rattle.sab_plan.specs.declared.call.Call.{Call}
 use Rattle.sab_plan.specs.declared.call.Call.TheVariants as C
 use Rattle.sab_plan.specs.declared.plan_view.PlanView.{PlanView}
 use Rattle.sab_plan.specs.Call.{view_of, index_of}
-use Rattle.sab_plan.specs.Plan.{PlanParts, IsPlan, call_of, calls_in}
+use Rattle.sab_plan.specs.Plan.{PlanParts, IsPlan}
 use Rattle.sab_sim.specs.declared.answer.Answer.TheVariants as A
 use Rattle.sab_sim.specs.declared.entry.What.{What}
-use Rattle.sab_sim.specs.declared.entry.What.TheVariants.{Began, Acted, Enlisted, Left, Returned, Stuck}
+use Rattle.sab_sim.specs.declared.entry.What.TheVariants.{Acted, Enlisted, Left}
 use Rattle.sab_sim.specs.declared.entry.Entry.{Entry}
 use Rattle.sab_sim.specs.Entry.{is_act}
 use Rattle.sab_sim.specs.Object.{State, bytes_of, zero_blocks, opening, DoesCall, Does}
 use Rattle.sab_sim.specs.Journal.{acts_of, Run, Reaches}
-use Rattle.sab_sim.proofs.OnlyAct.{one_value, Run-append}
+use Rattle.sab_sim.proofs.OnlyAct.{Run-append}
 use Rattle.sab_sim.proofs.PlaceLine.{Reaches-one}
 use Rattle.sab_judge.specs.declared.event.Event.{Event}
 use Rattle.sab_judge.specs.Event.{event_at, writes_byte, idle_event, some_is}
 use Rattle.sab_judge.specs.Access.{covers}
 use Rattle.sab_judge.specs.declared.access.Access as Accesses
-use Rattle.sab_judge.specs.HappensBefore.{ReadsByteFrom}
 use Rattle.sab_events.specs.declared.target.Target.{Target}
-use Rattle.sab_events.specs.Events.{target_on, target_of, access_of, access_by, event_of, events_of}
-use Rattle.sab_events.specs.Reading.{byte_in, ChangesWhatItWrites, ReadsWhatWasLeft, ReadsZeros}
+use Rattle.sab_events.specs.Events.{target_of, access_of, access_by, event_of, events_of}
+use Rattle.sab_events.specs.Reading.{ChangesWhatItWrites, ReadsWhatWasLeft, ReadsZeros}
 use Rattle.sab_events.proofs.WrittenBytes.{ActsAt-outside, ActsAt-length, place-inside, is_inside}
 
 -- ---- one act
@@ -167,7 +165,7 @@ Does-leaves plan S e T block byte is_plan are d =
     let leaves = DoesCall-leaves d.script.can_block e.agent d.view d.call S e.what T block byte
     (has_block plan S.mem (view_of d.call) d.view is_plan are d.view_is) d.does in record {
       same = λ w. leaves.same (λ p at. sym (ap (λ (o : Option Target). some_is (λ (a : Accesses.Access). a.writes && covers a block byte)
-      (option_and_then (λ t. access_by e.what t.call t) o)) (target_is d p at)) ∙ w);
+          (option_and_then (λ t. access_by e.what t.call t) o)) (target_is d p at)) ∙ w);
       lens = leaves.lens;
     }
 
@@ -190,7 +188,7 @@ Run-leaves plan S (e ∷ es) T block byte is_plan are r =
     go (λ U are' r'. Run-leaves plan U es T block byte is_plan are' r') (is_act e.what) r
   where
     go : ((U : State) → AreOf plan U.mem → Run plan U (acts_of es) T
-            → Leaves (AreUnwritten plan es block byte) U.mem T.mem block byte)
+        → Leaves (AreUnwritten plan es block byte) U.mem T.mem block byte)
         → (act : Bool) → Run plan S (cond act (e ∷ acts_of es) (acts_of es)) T
         → Leaves (AreUnwritten plan (e ∷ es) block byte) S.mem T.mem block byte
     go rest true s =

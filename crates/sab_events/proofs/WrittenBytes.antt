@@ -1,19 +1,16 @@
 -- The bytes that an access leaves.
-use Rattle.std.proofs.Common.{◌≡◌, Some, ◌⊎◌, inl, inr, ℕ, zero, suc, ◌+◌, ◌-◌, ◌*◌, ◌/◌, ◌%◌, ◌^◌, ◌<◌, ◌≤◌, Bool, true, false, ◌&&◌, nat_le, nat_lt, nat_eq, ℤ, pos, negsuc, ◌+ℤ◌, ◌-ℤ◌, List, ◌++◌, length, take, drop, map, slice_index, get_or, cond, refl, ap, sym, ◌∙◌, subst, arith, rules, length-append, length-drop, eq-eqb}
+use Rattle.std.proofs.Common.{◌≡◌, Some, ◌⊎◌, inl, inr, ℕ, ◌+◌, ◌-◌, ◌*◌, ◌^◌, ◌<◌, ◌≤◌, Bool, true, false, ◌&&◌, nat_le, nat_lt, ℤ, pos, negsuc, ◌+ℤ◌, ◌-ℤ◌, List, ◌++◌, length, take, drop, slice_index, cond, ap, sym, ◌∙◌, arith, rules, length-append, length-drop, eq-eqb}
 use Rattle.std.proofs.lemmas.Bool.{cases_eq}
 use Rattle.std.proofs.lemmas.Option.{cond_some}
 use borrow.Author.Tests.{ltb-true}
 use Rattle.std.proofs.lemmas.Bool.Decides.{nat_tests}
-use Rattle.std.proofs.lemmas.Grind.{common_steps}
 use Rattle.std.proofs.lemmas.Int.{ints}
 use Rattle.std.proofs.Math.Nat.{mod-eq_of_lt, mul-le-mul_right, pow-le-pow_right}
 use Rattle.std.proofs.Math.ListN.{get_or-append}
 use Rattle.std.proofs.lemmas.List.{length-map, length-take, get_or-take, get_or-append_right, get_or-drop}
 use Rattle.std.proofs.lemmas.List.FromFn.{length-range_with_len}
-use Rattle.std.specs.List.{range_with_len}
 use Rattle.std.specs.Int.{w128}
 use Rattle.std.specs.Prelude.{FitsSigned, ◌==◌}
-use Rattle.std.specs.Int.RustNames.{unsigned_abs}
 use Rattle.sab_block.specs.declared.kind.Kind.{Kind}
 use Rattle.sab_block.specs.declared.access.Access.{Access}
 use Rattle.sab_block.specs.declared.access.Access.TheVariants as X
@@ -23,7 +20,7 @@ use Rattle.sab_block.specs.Block.{digits, put}
 use Rattle.sab_block.specs.Kind.{element_size, is_signed, is_big, raw_count}
 use Rattle.sab_block.specs.Operand.{raw, value, modulo, whole_of, operand}
 use Rattle.sab_block.specs.View.{kind_of, block_len_of, offset_of, len_of, place}
-use Rattle.sab_block.specs.Access.{ActsAt, element, raw_of, value_at}
+use Rattle.sab_block.specs.Access.{ActsAt, element, raw_of}
 use Rattle.sab_block.proofs.RawElements.{modulo-pow, raw-lt, element_bits}
 use Rattle.sab_block.proofs.WholeNumbers.{kept}
 use Rattle.sab_events.specs.declared.target.Target.{Target}
@@ -39,9 +36,12 @@ length-front mem p size r h = simp (length-append, length-map, length-range_with
 pub length-put : (mem : List ℕ) (p size r : ℕ) → p + size ≤ length mem → length (put mem p size r) ≡ length mem
 unfolding put
 length-put mem p size r h =
-    omega
-    (arith, length-append (take p mem ++ digits size r) (drop (p + size) mem), length-front mem p size r h,
-    length-drop (p + size) mem)
+    omega (
+      arith,
+      length-append (take p mem ++ digits size r) (drop (p + size) mem),
+      length-front mem p size r h,
+      length-drop (p + size) mem,
+    )
 
 -- and those before and after the element are as they were
 put-before : (mem : List ℕ) (p size r byte : ℕ) → p + size ≤ length mem → byte < p

@@ -38,16 +38,9 @@ fn event_of(plan: &Plan, entry: Entry) -> Event
 {
     let acts = matches!(entry.what, What::Acted(_) | What::Enlisted | What::Left(_));
     let target = if acts { target_of(plan, entry) } else { None };
-    match target {
-        Some(target) => Event {
-            agent: entry.agent,
-            access: target.access(entry.what),
-            waiters: target.waiters(entry.what),
-        },
-        None => Event {
-            agent: entry.agent,
-            access: None,
-            waiters: None,
-        },
+    Event {
+        agent: entry.agent,
+        access: target.and_then(|target| target.access(entry.what)),
+        waiters: target.and_then(|target| target.waiters(entry.what)),
     }
 }

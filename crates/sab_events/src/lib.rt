@@ -6,7 +6,6 @@
 
 mod events;
 mod laws;
-mod probe;
 mod raw;
 mod target;
 

@@ -96,7 +96,10 @@ impl Target {
             → ForSome result (λ p. HasBytes p 1) }
     {
         let enters = match self.call {
-            Call::Wait { .. } => matches!(what, What::Acted(Answer::NotEqual) | What::Enlisted | What::Left(_)),
+            Call::Wait { .. } => matches!(
+                what,
+                What::Acted(Answer::NotEqual) | What::Enlisted | What::Left(_)
+            ),
             Call::Notify { .. } => matches!(what, What::Acted(Answer::Count(_))),
             Call::Access { .. } => false,
         };
