@@ -1,3 +1,3 @@
 mod WrittenBytes
-mod Runs
+pub mod Runs
 pub mod Fitting

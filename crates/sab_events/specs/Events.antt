@@ -73,6 +73,7 @@ enters (Left x) (C.Wait n index y timeout) = true
 enters (Acted (Count k)) (C.Notify n index count) = true
 enters what call = false
 
+-- the place whose waiters they are
 abbrev pub waiters_by : What → Target → Option Place
 waiters_by what t = if enters what t.call then Some t.place else None
 
