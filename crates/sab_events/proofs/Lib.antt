@@ -1,0 +1,3 @@
+mod WrittenBytes
+pub mod Runs
+pub mod Fitting
