@@ -15,7 +15,7 @@ mod view;
 pub use access::Access;
 pub use block::Block;
 pub use kind::Kind;
-pub use operand::{Operand, from_raw, to_raw};
+pub use operand::{Operand, from_raw, to_raw, wrapped};
 pub use rmw_op::RmwOp;
 pub use thrown::Thrown;
 pub use view::View;

@@ -107,9 +107,10 @@ pub fn from_raw(kind: Kind, raw: u64) -> Operand
     Operand::of(kind.is_big(), unwrapped(kind, raw))
 }
 
-/// The low bits of a whole number, as many as an element has.
+/// The raw element that a whole number is written as, whether or not the kind's elements are BigInts: its low bits, as
+/// many as an element has (NumericToRawBytes).
 #[tactic(auto, using(crate::proofs::RawElements::wraps))]
-fn wrapped(kind: Kind, v: i128) -> u64
+pub fn wrapped(kind: Kind, v: i128) -> u64
     ensures value { result ≡ raw kind v }
     ensures fits { result < raw_count kind }
 {

@@ -6,7 +6,6 @@
 
 mod events;
 mod laws;
-mod raw;
 mod target;
 
 pub use events::trace_of;

@@ -10,8 +10,7 @@ ghost use Rattle.sab_plan.specs.Call.{view_of};
 ghost use Rattle.sab_plan.specs.Plan.{call_of};
 ghost use Rattle.sab_events.specs.Events.{target_on, target_of, seq_cst, access_of, access_by, waiters_by};
 
-use crate::raw::raw;
-use sab_block::{Operand, View};
+use sab_block::{Operand, View, wrapped};
 use sab_judge::{Access, Order, Place};
 use sab_plan::{Call, Plan, PlanView};
 use sab_sim::{Answer, Entry, What};
@@ -139,6 +138,6 @@ impl Target {
     fn raw_of(self, operand: Operand) -> u64
         ensures { result ≡ accesses.raw_of self.view operand }
     {
-        raw(self.view.kind(), operand.whole())
+        wrapped(self.view.kind(), operand.whole())
     }
 }
