@@ -86,35 +86,32 @@ fn with_telling<'a>(alloc: Global, command: Command<'a>) -> Result<Command<'a>, 
         .help(help::FORMAT)
         .default_value("plain")
         .value_parser(FORMATS.as_slice());
-    let acts = Arg::new(alloc, "acts")
-        .long("acts")
-        .help(help::ACTS)
-        .action(ArgAction::SetTrue);
-    let command = command.arg(format)?.arg(acts)?;
+    let command = command.arg(format)?;
+    let acts = flag(alloc, "acts", help::ACTS);
+    let command = command.arg(acts)?;
     with_ends(alloc, command)
 }
 
 /// The command that takes besides whether all calls are to return, and whether a refusal is explained.
 fn with_ends<'a>(alloc: Global, command: Command<'a>) -> Result<Command<'a>, AllocError> {
-    let finish = Arg::new(alloc, "finish")
-        .long("finish")
-        .help(help::FINISH)
-        .action(ArgAction::SetTrue);
-    let explain = Arg::new(alloc, "explain")
-        .long("explain")
-        .help(help::EXPLAIN)
-        .action(ArgAction::SetTrue);
-    command.arg(finish)?.arg(explain)
+    let finish = flag(alloc, "finish", help::FINISH);
+    let command = command.arg(finish)?;
+    let explain = flag(alloc, "explain", help::EXPLAIN);
+    command.arg(explain)
+}
+
+/// An argument that is there or not, called by its name.
+fn flag<'a>(alloc: Global, name: &'a str, help: &'a str) -> Arg<'a> {
+    Arg::new(alloc, name)
+        .long(name)
+        .help(help)
+        .action(ArgAction::SetTrue)
 }
 
 /// The command that judges a run for data races.
 fn judge_command<'a>(alloc: Global) -> Result<Command<'a>, AllocError> {
-    let trace = Arg::new(alloc, "trace")
-        .long("trace")
-        .help(help::TRACE)
-        .action(ArgAction::SetTrue)
-        .conflicts_with("finish")?
-        .conflicts_with("explain")?;
+    let trace = flag(alloc, "trace", help::TRACE).conflicts_with("finish")?;
+    let trace = trace.conflicts_with("explain")?;
     let format = Arg::new(alloc, "format")
         .long("format")
         .value_name("FORMAT")
@@ -123,58 +120,75 @@ fn judge_command<'a>(alloc: Global) -> Result<Command<'a>, AllocError> {
         .value_parser(VERDICT_FORMATS.as_slice());
     let judge = Command::new(alloc, "judge")
         .about(help::JUDGE)
-        .after_help(help::JUDGE_FORMS)
-        .arg(trace)?
-        .arg(format)?;
+        .after_help(help::JUDGE_FORMS);
+    let judge = judge.arg(trace)?;
+    let judge = judge.arg(format)?;
     let judge = with_ends(alloc, judge)?;
     with_file(alloc, judge)
 }
 
-/// The command line, with its help.
-fn command<'a>(alloc: Global) -> Result<Command<'a>, AllocError> {
+/// The command that replays a script.
+fn replay_command<'a>(alloc: Global) -> Result<Command<'a>, AllocError> {
     let replay = Command::new(alloc, "replay")
         .about(help::REPLAY)
         .after_help(help::REPLAY_FORMS);
     let replay = with_telling(alloc, replay)?;
-    let replay = with_file(alloc, replay)?;
+    with_file(alloc, replay)
+}
+
+/// The command that runs a script's agents in threads.
+fn race_command<'a>(alloc: Global) -> Result<Command<'a>, AllocError> {
+    let race = Command::new(alloc, "race")
+        .about(help::RACE)
+        .after_help(help::RACE_FORMS);
+    let race = with_ways(alloc, race)?;
+    let race = with_telling(alloc, race)?;
+    with_file(alloc, race)
+}
+
+/// The command that takes besides how threads share the simulator, how often they step at a wait, and their seed.
+fn with_ways<'a>(alloc: Global, command: Command<'a>) -> Result<Command<'a>, AllocError> {
     let share = Arg::new(alloc, "share")
         .long("share")
         .value_name("WAY")
         .help(help::SHARE)
         .required(true)
         .value_parser(SHARES.as_slice());
+    let command = command.arg(share)?;
     let spins = Arg::new(alloc, "spins")
         .long("spins")
         .value_name("N")
         .help(help::SPINS)
         .default_value("0")
         .value_parser(value_parser!(u32).range(0..=MAX_SPINS as i64));
+    let command = command.arg(spins)?;
     let mix = Arg::new(alloc, "mix")
         .long("mix")
         .value_name("SEED")
         .help(help::MIX)
         .value_parser(value_parser!(u64));
-    let race = Command::new(alloc, "race")
-        .about(help::RACE)
-        .after_help(help::RACE_FORMS)
-        .arg(share)?
-        .arg(spins)?
-        .arg(mix)?;
-    let race = with_telling(alloc, race)?;
-    let race = with_file(alloc, race)?;
+    command.arg(mix)
+}
+
+/// The command that checks a script.
+fn check_command<'a>(alloc: Global) -> Result<Command<'a>, AllocError> {
     let check = Command::new(alloc, "check")
         .about(help::CHECK)
         .after_help(help::CHECK_FORMS);
-    let check = with_file(alloc, check)?;
-    Command::new(alloc, "sabsim")
+    with_file(alloc, check)
+}
+
+/// The command line, with its help.
+fn command<'a>(alloc: Global) -> Result<Command<'a>, AllocError> {
+    let sabsim = Command::new(alloc, "sabsim")
         .version(help::VERSION)
         .about(help::ABOUT)
         .after_help(help::STATUSES)
-        .subcommand_required(true)
-        .subcommand(replay)?
-        .subcommand(race)?
-        .subcommand(judge_command(alloc)?)?
-        .subcommand(check)
+        .subcommand_required(true);
+    let sabsim = sabsim.subcommand(replay_command(alloc)?)?;
+    let sabsim = sabsim.subcommand(race_command(alloc)?)?;
+    let sabsim = sabsim.subcommand(judge_command(alloc)?)?;
+    sabsim.subcommand(check_command(alloc)?)
 }
 
 /// How the agents are to share the simulator.
