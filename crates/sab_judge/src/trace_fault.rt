@@ -4,7 +4,7 @@ use std::error::Error;
 use std::fmt;
 
 /// Why a trace doesn't take an event.
-#[derive(Clone, Copy, Debug, PartialEq, Eq, Hash)]
+#[derive(Clone, Copy, Debug, PartialEq, Eq)]
 pub enum TraceFault {
     /// There are 2^20 events.
     Full,
