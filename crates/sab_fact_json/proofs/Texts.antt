@@ -75,7 +75,7 @@ call_json names call h =
 -- ---- members that may be left out
 
 -- a member that may be left out, before others
-member_before : (key : List ℕ) (o : Option Data) (rest : Members) → escape key ≡ key
+pub member_before : (key : List ℕ) (o : Option Data) (rest : Members) → escape key ≡ key
     → members_text true (member_if key o rest) ≡ member_text_if key o ++ members_text true rest
 member_before key None rest h = refl
 member_before key (Some d) rest h =
@@ -86,14 +86,14 @@ member_before key (Some d) rest h =
     ∙ sym (append_assoc key (34 ∷ 58 ∷ text) others))
 
 -- the same before a text
-then_member : (key : List ℕ) (o : Option Data) (rest : Members) (end : List ℕ) → escape key ≡ key
+pub then_member : (key : List ℕ) (o : Option Data) (rest : Members) (end : List ℕ) → escape key ≡ key
     → members_text true (member_if key o rest) ++ end ≡ member_text_if key o ++ (members_text true rest ++ end)
 then_member key o rest end h =
     ap (λ (s : List ℕ). s ++ end) (member_before key o rest h)
     ∙ append_assoc (member_text_if key o) (members_text true rest) end
 
 -- the same between two texts
-text_then : (text key : List ℕ) (o : Option Data) (rest : Members) (end : List ℕ) → escape key ≡ key
+pub text_then : (text key : List ℕ) (o : Option Data) (rest : Members) (end : List ℕ) → escape key ≡ key
     → (text ++ members_text true (member_if key o rest)) ++ end
     ≡ text ++ (member_text_if key o ++ (members_text true rest ++ end))
 text_then text key o rest end h =

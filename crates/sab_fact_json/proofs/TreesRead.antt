@@ -36,7 +36,7 @@ earlier : (n : ℕ) (k l : List ℕ) (ms : Members) → IsBefore k l → FollowI
 earlier n k l no_members lt h = tt
 earlier n k l (member m d ms) lt h = (nat_list_cmp_total.trans k l m lt h.0, h.1)
 
-follow_if : (n : ℕ) (k l : List ℕ) (o : Option Data) (ms : Members) → IsBefore k l → IfSome o (IsInOrder n)
+pub follow_if : (n : ℕ) (k l : List ℕ) (o : Option Data) (ms : Members) → IsBefore k l → IfSome o (IsInOrder n)
     → FollowInOrder n l ms → FollowInOrder n k (member_if l o ms)
 follow_if n k l None ms lt h others = earlier n k l ms lt others
 follow_if n k l (Some d) ms lt h others = (lt, (h, others))
@@ -66,11 +66,11 @@ more_in_order n (C.Access view access) = operands_in_order n access
 more_in_order n (C.Wait view index x timeout) = (operand_in_order n x, limit_in_order n timeout)
 more_in_order n (C.Notify view index count) = limit_in_order n count
 
-call_in_order : (n : ℕ) (names : List (List ℕ)) (call : Call) → IsInOrder (suc n) (call_data names call)
+pub call_in_order : (n : ℕ) (names : List (List ℕ)) (call : Call) → IsInOrder (suc n) (call_data names call)
 unfolding call_data
 call_in_order n names call = (tt, (tt, (tt, more_in_order n call)))
 
-does_in_order : (n : ℕ) (names : List (List ℕ)) (o : Option Call)
+pub does_in_order : (n : ℕ) (names : List (List ℕ)) (o : Option Call)
     → IfSome (option_map (call_data names) o) (IsInOrder (suc n))
 does_in_order n names None = tt
 does_in_order n names (Some call) = call_in_order n names call
@@ -107,7 +107,7 @@ unfolding place_data
 place_in_order n None = tt
 place_in_order n (Some p) = (tt, (refl, (tt, tt)))
 
-since_in_order : (n : ℕ) (o : Option ℕ) → IfSome (option_map natural o) (IsInOrder n)
+pub since_in_order : (n : ℕ) (o : Option ℕ) → IfSome (option_map natural o) (IsInOrder n)
 since_in_order n None = tt
 since_in_order n (Some k) = tt
 

@@ -22,11 +22,13 @@ const MORE_LEN: usize = 87;
 /// The most bytes of a bracket and a function of `Atomics`, in quotes, and of what stands between it and the name.
 const FUNCTION_LEN: usize = 20;
 
-/// The most bytes of a call: its function, a name, an index and what else it takes.
-pub(crate) const CALL_LEN: usize = 190;
+/// The most bytes of a call as JSON: its function, a name, an index and what else it takes.
+pub const CALL_LEN: usize = 190;
 
-/// Puts a call last, as `["load","m",0]`.
-pub(crate) fn push_call(names: &[Name], call: Call, chunk: &mut Chunk)
+/// Puts a call last, as `["load","m",0]`: at most [`CALL_LEN`] bytes.
+///
+/// `names` has the names of the plan's views, of letters, digits and `_`. A view without one has an empty name.
+pub fn push_call(names: &[Name], call: Call, chunk: &mut Chunk)
     requires names { AreNames names.now }
     requires room { length chunk.old + CALL_LEN ≤ Chunk.ROOM }
     ensures bytes { chunk.new ≡ chunk.old ++ compact_text (call_data names.now call) }

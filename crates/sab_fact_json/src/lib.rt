@@ -9,4 +9,6 @@ mod small;
 mod standing;
 mod writing;
 
+pub use call::{CALL_LEN, push_call};
+pub use small::push_small;
 pub use writing::write_json;

@@ -4,10 +4,10 @@ ghost use Rattle.std.specs.Prelude.{◌≡◌, ◌+◌, ◌≤◌, ◌++◌, len
 
 use sab_text::Chunk;
 
-/// Puts a number last, in decimal, as [`Chunk::push_number`] does: sooner where it has one digit, as that of an agent,
-/// a block or a count mostly has.
+/// Puts a number last, in decimal, as [`Chunk::push_number`] does: at most 20 bytes. It is sooner done where the number
+/// has one digit, as that of an agent, a block or a count mostly has.
 #[tactic(auto, using(std::proofs::lemmas::Fmt::decimal_digit))]
-pub(crate) fn push_small(n: u32, chunk: &mut Chunk)
+pub fn push_small(n: u32, chunk: &mut Chunk)
     requires { length chunk.old + 20 ≤ Chunk.ROOM }
     ensures bytes { chunk.new ≡ chunk.old ++ decimal n }
     ensures len { length chunk.new ≤ length chunk.old + 20 }

@@ -1,0 +1,9 @@
+pub mod Shapes
+pub mod Events
+pub mod Faults
+pub mod LineCuts
+pub mod Spellings
+pub mod Steps
+pub mod Pieces
+pub mod OneEvent
+pub mod OneTrace

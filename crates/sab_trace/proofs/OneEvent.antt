@@ -1,0 +1,163 @@
+-- A line spells one event at most, and one with a fault spells none.
+use Rattle.std.proofs.Common.{◌≡◌, ℕ, suc, ◌<◌, ◌≤◌, ◌^◌, ℤ, pos, negsuc, List, length, Bool, true, false, Option, Some, None, refl, ap, sym, subst, ◌∙◌, arith}
+use Rattle.std.specs.Prelude.{IsTrue, ◌||◌}
+use Rattle.serde_json.specs.Data.{Data, Num, unsigned}
+use Rattle.serde_json.specs.Find.{of_integer}
+use Rattle.sab_judge.specs.declared.event.Event.{Event}
+use Rattle.sab_judge.specs.declared.place.Place.{Place}
+use Rattle.sab_trace.specs.declared.line_fault.LineFault.{LineFault}
+use Rattle.sab_trace.specs.declared.line_fault.LineFault.TheVariants.{TooMany, OutOfMemory, BadShape, BadNumber, BadAgent, NotJson, TooLong, ReadFailed, BadBytes}
+use Rattle.sab_trace.specs.declared.numbers.Numbers.{Numbers}
+use Rattle.sab_trace.specs.Members.{Values, IsShaped, event_object}
+use Rattle.sab_trace.specs.Numbers.{IsWhole, AreWhole, IsAgent, AreBytes}
+use Rattle.sab_trace.specs.Spelling.{needs_bytes, event_of, SpellsEvent, SpellsLine, ReadsAs}
+use Rattle.sab_trace.specs.LineFault.{HasNumbers, IsTreeFault, IsReadingFault, IsLineFault}
+use Rattle.sab_trace.specs.Reading.{IsOfLine}
+
+-- a line reads as one tree
+same_tree : (line : List ℕ) (d e : Data) → ReadsAs line d → ReadsAs line e → d ≡ e
+same_tree line d e p q = let a = p.is in let b = q.is in cc
+
+-- a tree has one value for each member
+same_values : (tree : Data) (v w : Values) → IsShaped tree v → IsShaped tree w → v ≡ w
+same_values tree v w p q =
+    let trees : event_object v p.does p.source ≡ event_object w q.does q.source = sym p.is ∙ q.is in
+    let agent : v.agent ≡ w.agent = cc in
+    let atomic : v.atomic ≡ w.atomic = cc in
+    let block : v.block ≡ w.block = cc in
+    let byte : v.byte ≡ w.byte = cc in
+    let call : v.call ≡ w.call = cc in
+    let event : v.event ≡ w.event = cc in
+    let read : v.read ≡ w.read = cc in
+    let size : v.size ≡ w.size = cc in
+    let waiters : v.waiters ≡ w.waiters = cc in
+    let write : v.write ≡ w.write = cc in
+    λ i. record {
+      agent = agent i;
+      atomic = atomic i;
+      block = block i;
+      byte = byte i;
+      call = call i;
+      event = event i;
+      read = read i;
+      size = size i;
+      waiters = waiters i;
+      write = write i;
+    }
+
+-- a number is one whole number
+one_integer : (y z : ℤ) → of_integer y ≡ of_integer z → y ≡ z
+one_integer (pos m) (pos n) e = let same : m ≡ n = cc in ap pos same
+one_integer (pos m) (negsuc n) e = cc
+one_integer (negsuc m) (pos n) e = cc
+one_integer (negsuc m) (negsuc n) e = cc
+
+same_whole : (x : Num) (y z : ℤ) → IsWhole x y → IsWhole x z → y ≡ z
+same_whole x y z p q = one_integer y z (sym p.is ∙ q.is)
+
+same_numbers : (position : ℕ) (v : Values) (m n : Numbers) → AreWhole position v m → AreWhole position v n → m ≡ n
+same_numbers position v m n p q =
+    let agent = same_whole v.agent m.agent n.agent p.agent q.agent in
+    let block = same_whole v.block m.block n.block p.block q.block in
+    let byte = same_whole v.byte m.byte n.byte p.byte q.byte in
+    let call = same_whole v.call m.call n.call p.call q.call in
+    let event = same_whole v.event m.event n.event p.event q.event in
+    let size = same_whole v.size m.size n.size p.size q.size in
+    λ i. record { agent = agent i; block = block i; byte = byte i; call = call i; event = event i; size = size i }
+
+same_agent : (n : Numbers) (a b : ℕ) → IsAgent n a → IsAgent n b → a ≡ b
+same_agent n a b p q = let e : pos a ≡ pos b = sym p.is ∙ q.is in cc
+
+same_place : (n : Numbers) (p q : Place) (k l : ℕ) → AreBytes n p k → AreBytes n q l → p ≡ q
+same_place n p q k l g h =
+    let blocks : pos p.block ≡ pos q.block = sym g.block ∙ h.block in
+    let bytes : pos p.byte ≡ pos q.byte = sym g.byte ∙ h.byte in
+    let block : p.block ≡ q.block = cc in
+    let byte : p.byte ≡ q.byte = cc in
+    λ i. record { block = block i; byte = byte i }
+
+same_len : (n : Numbers) (p q : Place) (k l : ℕ) → AreBytes n p k → AreBytes n q l → k ≡ l
+same_len n p q k l g h = let sizes : pos k ≡ pos l = sym g.size ∙ h.size in cc
+
+-- where bytes aren't needed, it is one event whichever they are
+same_event : (v : Values) (a : ℕ) (p q : Place) (k l : ℕ)
+    → (IsTrue (needs_bytes v) → p ≡ q) → (IsTrue (needs_bytes v) → k ≡ l) → event_of v a p k ≡ event_of v a q l
+same_event v a p q k l places lens = by (needs_bytes v) refl
+  where
+    idle : (read write waiters : Bool) → ((read || write) || waiters) ≡ false
+        → event_of (record v { read = read; write = write; waiters = waiters }) a p k
+        ≡ event_of (record v { read = read; write = write; waiters = waiters }) a q l
+    idle false false false e = refl
+    idle true write waiters e = cc
+    idle false true waiters e = cc
+    idle false false true e = cc
+
+    by : (b : Bool) → needs_bytes v ≡ b → event_of v a p k ≡ event_of v a q l
+    by true e = let place = places e in let len = lens e in λ i. event_of v a (place i) (len i)
+    by false e = idle v.read v.write v.waiters e
+
+pub one_event : (position : ℕ) (tree : Data) (e f : Event) → SpellsEvent position tree e → SpellsEvent position tree f
+    → e ≡ f
+one_event position tree e f p q =
+    let values = same_values tree p.values q.values p.shaped q.shaped in
+    let whole : AreWhole position p.values q.numbers = rw values q.whole in
+    let numbers = same_numbers position p.values p.numbers q.numbers p.whole whole in
+    let by : IsAgent p.numbers q.agent = rw numbers q.by in
+    let agent = same_agent p.numbers p.agent q.agent p.by by in
+    let bytes : IsTrue (needs_bytes p.values) → AreBytes p.numbers q.place q.len = rw (values, numbers) q.bytes in
+    let event : event_of p.values p.agent p.place p.len ≡ event_of p.values p.agent q.place q.len =
+    same_event p.values p.agent p.place q.place p.len q.len
+    (λ needed. same_place p.numbers p.place q.place p.len q.len (p.bytes needed) (bytes needed))
+    (λ needed. same_len p.numbers p.place q.place p.len q.len (p.bytes needed) (bytes needed)) in
+    p.is ∙ event ∙ (λ i. event_of (values i) (agent i) q.place q.len) ∙ sym q.is
+
+pub one_line : (position : ℕ) (line : List ℕ) (e f : Event) → SpellsLine position line e → SpellsLine position line f
+    → e ≡ f
+one_line position line e f p q =
+    let trees = same_tree line p.tree q.tree p.reading q.reading in
+    let other : SpellsEvent position p.tree f = rw trees q.spelled in
+    one_event position p.tree e f p.spelled other
+
+-- a tree with a fault spells no event
+tree_fault : (position : ℕ) (tree : Data) (fault : LineFault) (e : Event) → IsTreeFault position tree fault
+    → IsOfLine fault → SpellsEvent position tree e → ⊥
+tree_fault position tree BadShape e h of s = h s.values s.shaped
+tree_fault position tree BadNumber e h of s =
+    let values = same_values tree h.0 s.values h.1 s.shaped in h.2 s.numbers (rw values s.whole)
+tree_fault position tree BadAgent e h of s =
+    let found = h.0 in
+    let values = same_values tree found.values s.values found.shaped s.shaped in
+    let whole : AreWhole position found.values s.numbers = rw values s.whole in
+    let numbers = same_numbers position found.values found.numbers s.numbers found.whole whole in
+    h.1 s.agent (rw numbers s.by)
+tree_fault position tree BadBytes e h of s =
+    let found = h.0 in
+    let values = same_values tree found.values s.values found.shaped s.shaped in
+    let whole : AreWhole position found.values s.numbers = rw values s.whole in
+    let numbers = same_numbers position found.values found.numbers s.numbers found.whole whole in
+    let needed : IsTrue (needs_bytes s.values) = rw (← values) h.1 in
+    h.2 s.place s.len (rw numbers (s.bytes needed))
+tree_fault position tree OutOfMemory e h of s = h
+tree_fault position tree TooMany e h of s = h
+tree_fault position tree NotJson e h of s = h
+tree_fault position tree TooLong e h of s = h
+tree_fault position tree ReadFailed e h of s = h
+
+read_fault : (position : ℕ) (line : List ℕ) (fault : LineFault) (e : Event)
+    → (tree : Data) × ReadsAs line tree × IsTreeFault position tree fault → IsOfLine fault
+    → SpellsLine position line e → ⊥
+read_fault position line fault e h of s =
+    let trees = same_tree line h.0 s.tree h.1 s.reading in
+    tree_fault position h.0 fault e h.2 of (rw trees s.spelled)
+
+pub fault_spells_none : (position : ℕ) (line : List ℕ) (fault : LineFault) (e : Event)
+    → IsLineFault position line fault → IsOfLine fault → SpellsLine position line e → ⊥
+fault_spells_none position line TooLong e h of s = let short = s.short in omega arith
+fault_spells_none position line TooMany e h of s = let few = s.few in let many = h.1 in omega arith
+fault_spells_none position line NotJson e h of s = h.2 s.tree s.reading
+fault_spells_none position line OutOfMemory e h of s = of
+fault_spells_none position line ReadFailed e h of s = of
+fault_spells_none position line BadShape e h of s = read_fault position line BadShape e h.2 of s
+fault_spells_none position line BadNumber e h of s = read_fault position line BadNumber e h.2 of s
+fault_spells_none position line BadAgent e h of s = read_fault position line BadAgent e h.2 of s
+fault_spells_none position line BadBytes e h of s = read_fault position line BadBytes e h.2 of s

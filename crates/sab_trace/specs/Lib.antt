@@ -1,0 +1,9 @@
+pub mod Lines
+pub mod Members
+pub mod Seen
+pub mod Numbers
+pub mod Spelling
+pub mod LineFault
+pub mod Refusal
+pub mod Reading
+pub mod Progress

@@ -1,0 +1,68 @@
+-- The faults of a line: their table, and when each comes.
+use Rattle.std.specs.Prelude.{◌≡◌, ℕ, ◌<◌, ◌≤◌, ◌^◌, List, codes, length, IsTrue, ⊤}
+use Rattle.serde_json.specs.Data.{Data}
+use Rattle.sab_judge.specs.declared.place.Place.{Place}
+use Rattle.sab_trace.specs.declared.line_fault.LineFault.{LineFault}
+use Rattle.sab_trace.specs.declared.line_fault.LineFault.TheVariants.{TooMany, OutOfMemory, BadShape, BadNumber, BadAgent, NotJson, TooLong, ReadFailed, BadBytes}
+use Rattle.sab_trace.specs.declared.numbers.Numbers.{Numbers}
+use Rattle.sab_trace.specs.Members.{Values, IsShaped}
+use Rattle.sab_trace.specs.Numbers.{AreWhole, IsAgent, AreBytes}
+use Rattle.sab_trace.specs.Spelling.{needs_bytes, ReadsAs}
+
+-- what a fault is called
+pub record Label : Type 0 where
+  pub number : ℕ
+  pub name : List ℕ
+
+abbrev pub label : ℕ → List ℕ → Label
+label number name = record { number = number; name = name }
+
+-- the table: number, name
+abbrev pub label_of : LineFault → Label
+label_of TooMany = label 3 (codes "TooMany")
+label_of OutOfMemory = label 5 (codes "OutOfMemory")
+label_of BadShape = label 10 (codes "BadShape")
+label_of BadNumber = label 12 (codes "BadNumber")
+label_of BadAgent = label 15 (codes "BadAgent")
+label_of NotJson = label 16 (codes "NotJson")
+label_of TooLong = label 18 (codes "TooLong")
+label_of ReadFailed = label 19 (codes "ReadFailed")
+label_of BadBytes = label 21 (codes "BadBytes")
+
+abbrev pub number_of : LineFault → ℕ
+number_of fault = (label_of fault).number
+
+abbrev pub name_of : LineFault → List ℕ
+name_of fault = (label_of fault).name
+
+-- all is well with the tree up to its numbers, which are these
+pub record HasNumbers (position : ℕ) (tree : Data) : Type 0 where
+  pub values : Values
+  pub shaped : IsShaped tree values
+  pub numbers : Numbers
+  pub whole : AreWhole position values numbers
+
+-- the first thing that is amiss with a tree
+abbrev pub IsTreeFault : ℕ → Data → LineFault → Type 0
+IsTreeFault position tree BadShape = (values : Values) → ¬ IsShaped tree values
+IsTreeFault position tree BadNumber =
+    (values : Values) × IsShaped tree values × ((numbers : Numbers) → ¬ AreWhole position values numbers)
+IsTreeFault position tree BadAgent =
+    (found : HasNumbers position tree) × ((agent : ℕ) → ¬ IsAgent found.numbers agent)
+IsTreeFault position tree BadBytes =
+    (found : HasNumbers position tree) × IsTrue (needs_bytes found.values)
+    × ((place : Place) (len : ℕ) → ¬ AreBytes found.numbers place len)
+IsTreeFault position tree _ = ⊥
+
+-- the first thing that is amiss with a line of at most 1,024 bytes, of which there can be so many
+abbrev pub IsReadingFault : ℕ → List ℕ → LineFault → Type 0
+IsReadingFault position line NotJson = (tree : Data) → ¬ ReadsAs line tree
+IsReadingFault position line OutOfMemory = ⊤
+IsReadingFault position line fault = (tree : Data) × ReadsAs line tree × IsTreeFault position tree fault
+
+-- the first thing that is amiss with a line
+abbrev pub IsLineFault : ℕ → List ℕ → LineFault → Type 0
+IsLineFault position line TooLong = 1024 < length line
+IsLineFault position line TooMany = (length line ≤ 1024) × (2 ^ 20 ≤ position)
+IsLineFault position line fault =
+    (length line ≤ 1024) × (position < 2 ^ 20) × IsReadingFault position line fault

@@ -1,0 +1,17 @@
+//! Reads traces of the recorder: from lines of JSON, each of which tells an event, to the events that a judge takes.
+#![tactic(auto)]
+
+mod laws;
+mod line;
+mod line_fault;
+mod members;
+mod numbers;
+mod reading;
+mod refusal;
+mod spelling;
+
+pub use laws::{bytes_spell_one_trace, refused_bytes_spell_none};
+pub use line::MAX_LINE;
+pub use line_fault::LineFault;
+pub use reading::read_trace;
+pub use refusal::Refusal;

@@ -1,0 +1,72 @@
+//! A line on its way from a reader.
+
+ghost use Rattle.std.specs.Prelude.{◌≡◌, ◌+◌, ◌<◌, ◌≤◌, ◌++◌, [], length, IfErr, OnOk};
+
+use crate::line_fault::LineFault;
+use std::marker::Model;
+
+/// How many bytes a line can have, its line feed not counted.
+pub const MAX_LINE: usize = 1_024;
+
+// The clauses cite the constant: so its number is held here.
+const _: () = prove!(MAX_LINE == 1_024);
+
+/// The bytes of a line that were read so far.
+#[derive(Drop)]
+pub(crate) struct Line {
+    bytes: [u8; MAX_LINE],
+    len: usize,
+}
+
+impl Model for Line {
+    ghost use Rattle.std.specs.Prelude.{ℕ, List, take, ◌≤◌};
+
+    ghost Value = { List ℕ };
+
+    ghost view = { λ s. take s.len s.bytes };
+
+    ghost invariant = { λ s. s.len ≤ 1024 };
+}
+
+impl Line {
+    /// A line of no bytes.
+    pub(crate) fn new() -> Line
+        ensures { result ≡ [] }
+    {
+        Line {
+            bytes: [0; MAX_LINE],
+            len: 0,
+        }
+    }
+
+    /// Its bytes.
+    pub(crate) fn bytes(&self) -> &[u8]
+        ensures bytes { result.now ≡ self.now }
+        ensures short { length self.now ≤ 1024 }
+    {
+        &self.bytes[..self.len]
+    }
+
+    /// Empties it.
+    pub(crate) fn clear(&mut self)
+        ensures { self.new ≡ [] }
+    {
+        self.len = 0;
+    }
+
+    /// Puts bytes last; TooLong, where it would have more bytes than a line can have.
+    pub(crate) fn push(&mut self, piece: &[u8]) -> Result<(), LineFault>
+        ensures ok { OnOk result (self.new ≡ self.old ++ piece.now) }
+        ensures short { OnOk result (length self.new ≤ 1024) }
+        ensures err { IfErr result (λ fault. (fault ≡ LineFault.TooLong) × (1024 < length self.old + length piece.now)) }
+    {
+        let start = self.len;
+        if MAX_LINE - start < piece.len() {
+            return Err(LineFault::TooLong);
+        }
+        let end = start + piece.len();
+        self.bytes[start..end].copy_from_slice(piece);
+        self.len = end;
+        Ok(())
+    }
+}

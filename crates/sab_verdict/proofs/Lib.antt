@@ -1,0 +1,5 @@
+pub mod Racing
+pub mod Counting
+pub mod Texts
+pub mod Telling
+pub mod TreesRead

@@ -1,0 +1,43 @@
+-- A verdict as JSON.
+use Rattle.std.specs.Prelude.{ℕ, ◌-◌, List, codes, option_map}
+use Rattle.serde_json.specs.Data.{Data, boolean, object, no_members, member}
+use Rattle.sab_plan.specs.Plan.{PlanParts}
+use Rattle.sab_sim.specs.declared.entry.Entry.{Entry}
+use Rattle.sab_judge.specs.declared.event.Event.{Event}
+use Rattle.sab_judge.specs.declared.race.Race.{Race}
+use Rattle.sab_judge.specs.Order.{is_seq_cst}
+use Rattle.sab_fact_json.specs.Members.{member_if}
+use Rattle.sab_fact_json.specs.CallData.{natural, call_data}
+use Rattle.sab_verdict.specs.declared.side.Side.{Side}
+use Rattle.sab_verdict.specs.Events.{call_at, overlap_of, accesses_of, agents_of}
+
+-- an event of a script's run, by its call
+unfoldable pub call_side : List (List ℕ) → PlanParts → List Entry → Side → Data
+call_side names plan journal side =
+    object (member (codes "agent") (natural side.agent)
+    (member_if (codes "does") (option_map (call_data names) (call_at plan journal side.at))
+    (member (codes "entry") (natural side.at) no_members)))
+
+-- an event of a trace, by its access
+unfoldable pub access_side : Side → Data
+access_side side =
+    object (member (codes "agent") (natural side.agent)
+    (member (codes "atomic") (boolean (is_seq_cst side.access.order))
+    (member (codes "byte") (natural side.access.place.byte) (member (codes "event") (natural side.at)
+    (member (codes "read") (boolean side.access.reads) (member (codes "size") (natural side.access.len)
+    (member (codes "write") (boolean side.access.writes) no_members)))))))
+
+-- a race of two events
+unfoldable pub race_data : (Side → Data) → Race → Side → Side → Data
+race_data tell race first second =
+    let shared = overlap_of first.access second.access in
+    object (member (codes "block") (natural first.access.place.block) (member (codes "byte") (natural shared.start)
+    (member (codes "data_race") (boolean race.is_data_race) (member (codes "first") (tell first)
+    (member (codes "second") (tell second) (member_if (codes "seen") (option_map natural race.seen)
+    (member (codes "size") (natural (shared.end - shared.start)) no_members)))))))
+
+-- how many accesses, agents and races there are, of which so many are told
+unfoldable pub count_data : List Event → ℕ → ℕ → Data
+count_data trace told rest =
+    object (member (codes "accesses") (natural (accesses_of trace)) (member (codes "agents") (natural (agents_of trace))
+    (member (codes "more") (natural rest) (member (codes "races") (natural told) no_members))))

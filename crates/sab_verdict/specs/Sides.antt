@@ -1,0 +1,24 @@
+-- What each way of telling a race's events stands for.
+use Rattle.std.specs.Prelude.{ℕ, List, ⊤}
+use Rattle.serde_json.specs.Data.{Data}
+use Rattle.sab_fact_json.specs.CallData.{AreNames}
+use Rattle.sab_verdict.specs.declared.side.Side.{Side}
+use Rattle.sab_verdict.specs.declared.sides.Sides.{Sides}
+use Rattle.sab_verdict.specs.declared.sides.Sides.TheVariants.{Calls, Accesses}
+use Rattle.sab_verdict.specs.Plain.{by_call, by_access}
+use Rattle.sab_verdict.specs.Json.{call_side, access_side}
+
+-- in words
+abbrev pub words_of : Sides → Side → List ℕ
+words_of (Calls run) = by_call run.names.now run.plan.now run.journal.now
+words_of Accesses = by_access
+
+-- as JSON
+abbrev pub data_of : Sides → Side → Data
+data_of (Calls run) = call_side run.names.now run.plan.now run.journal.now
+data_of Accesses = access_side
+
+-- the names are of letters, digits and `_`, where there are some
+abbrev pub HaveNames : Sides → Type 0
+HaveNames (Calls run) = AreNames run.names.now
+HaveNames Accesses = ⊤

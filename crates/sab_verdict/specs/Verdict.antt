@@ -1,0 +1,43 @@
+-- The text of a verdict.
+use Rattle.std.specs.Prelude.{ℕ, List, ◌++◌, length, flat_map}
+use Rattle.serde_json.specs.Data.{Data}
+use Rattle.sab_plan.specs.Plan.{PlanParts}
+use Rattle.sab_sim.specs.declared.entry.Entry.{Entry}
+use Rattle.sab_judge.specs.declared.event.Event.{Event}
+use Rattle.sab_judge.specs.declared.race.Race.{Race}
+use Rattle.sab_fact_json.specs.Lines.{line}
+use Rattle.sab_verdict.specs.declared.format.VerdictFormat.{VerdictFormat}
+use Rattle.sab_verdict.specs.declared.format.VerdictFormat.TheVariants.{Plain, Json}
+use Rattle.sab_verdict.specs.declared.side.Side.{Side}
+use Rattle.sab_verdict.specs.Events.{side_at}
+use Rattle.sab_verdict.specs.Plain.{by_call, by_access, race_text, end_text}
+use Rattle.sab_verdict.specs.Json.{call_side, access_side, race_data, count_data}
+
+-- the line of a race of two events, which are told so in words, and so as JSON
+abbrev pub race_line : VerdictFormat → (Side → List ℕ) → (Side → Data) → Race → Side → Side → List ℕ
+race_line Plain words tree race first second = race_text words race first second
+race_line Json words tree race first second = line (race_data tree race first second)
+
+-- the same by the trace of the two
+abbrev pub line_of : VerdictFormat → (Side → List ℕ) → (Side → Data) → List Event → Race → List ℕ
+line_of format words tree trace race =
+    race_line format words tree race (side_at trace race.first) (side_at trace race.second)
+
+-- what stands behind the races, of which so many are told and so many aren't
+abbrev pub last_line : VerdictFormat → List Event → ℕ → ℕ → List ℕ
+last_line Plain trace told rest = end_text trace told rest
+last_line Json trace told rest = line (count_data trace told rest)
+
+abbrev pub verdict_text : VerdictFormat → (Side → List ℕ) → (Side → Data) → List Event → List Race → ℕ → List ℕ
+verdict_text format words tree trace races rest =
+    flat_map (line_of format words tree trace) races ++ last_line format trace (length races) rest
+
+-- of a script's run, whose events were made of the journal's entries
+abbrev pub run_verdict_text : List (List ℕ) → PlanParts → List Entry → List Event → VerdictFormat → List Race → ℕ
+    → List ℕ
+run_verdict_text names plan journal trace format =
+    verdict_text format (by_call names plan journal) (call_side names plan journal) trace
+
+-- of a trace
+abbrev pub trace_verdict_text : List Event → VerdictFormat → List Race → ℕ → List ℕ
+trace_verdict_text trace format = verdict_text format by_access access_side trace

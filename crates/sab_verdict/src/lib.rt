@@ -1,0 +1,14 @@
+//! What a judge says of a run, as plain text and as JSON.
+#![tactic(auto)]
+
+mod byte_range;
+mod count;
+mod format;
+mod json;
+mod plain;
+mod side;
+mod sides;
+mod writing;
+
+pub use format::VerdictFormat;
+pub use writing::{write_run_verdict, write_trace_verdict};

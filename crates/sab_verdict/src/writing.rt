@@ -1,0 +1,154 @@
+//! From a verdict to its text.
+
+ghost use Rattle.std.specs.Prelude.{◌≡◌, ◌+◌, ◌<◌, ◌≤◌, ◌++◌, length, All, OnOk, flat_map};
+ghost use Rattle.std.specs.Io.KnownBytes.{Appends, append_known};
+ghost use Rattle.sab_judge.specs.declared.event.Event.{Event};
+ghost use Rattle.sab_judge.specs.Verdict.{IsTold};
+ghost use Rattle.sab_fact_json.specs.CallData.{AreNames};
+ghost use Rattle.sab_verdict.specs.Json.{call_side, access_side};
+ghost use Rattle.sab_verdict.specs.ReadsBack.{LinesReadBack};
+ghost use Rattle.sab_verdict.specs.Verdict.{line_of, last_line, verdict_text, run_verdict_text, trace_verdict_text};
+ghost use Rattle.sab_verdict.specs.Sides.{words_of, data_of, HaveNames};
+
+use crate::format::VerdictFormat;
+use crate::side::side_at;
+use crate::sides::{Run, Sides};
+use crate::{json, plain};
+use sab_fact_text::Name;
+use sab_judge::{Event, Race, Trace, Verdict};
+use sab_sim::{Entry, Plan};
+use sab_text::Chunk;
+use std::io;
+use std::io::Write;
+
+/// Writes what a judge says of a script's run, whose trace has an event for each entry of the journal: a line for each
+/// race that is told, with the calls of its two events, and what stands behind them.
+///
+/// Each line of JSON is read as its tree, if the tree's numbers fit 64 bits.
+///
+/// `names` has the names of the plan's views, of letters, digits and `_`. It takes no memory, and doesn't flush. Where
+/// a write failed nothing is said of how much was written.
+#[tactic(auto, using(crate::proofs::TreesRead::run_lines_read_back))]
+pub fn write_run_verdict<W: Write>(
+    names: &[Name],
+    plan: &Plan,
+    journal: &[Entry],
+    trace: &Trace,
+    verdict: &Verdict,
+    format: VerdictFormat,
+    w: &mut W,
+) -> io::Result<()>
+    requires names { AreNames names.now }
+    requires told { All (IsTold trace.now) verdict.now.races.items }
+    ensures written { OnOk result (Appends (W.contents w.old) (W.contents w.new) (run_verdict_text names.now plan.now
+        journal.now trace.now format verdict.now.races.items verdict.now.rest)) }
+    ensures read_back { LinesReadBack (call_side names.now plan.now journal.now) }
+{
+    let run = Run {
+        names,
+        plan,
+        journal,
+    };
+    write_verdict(&Sides::Calls(run), trace, verdict, format, w)
+}
+
+/// Writes what a judge says of a trace: a line for each race that is told, with the accesses of its two events, and
+/// what stands behind them.
+///
+/// Each line of JSON is read as its tree, if the tree's numbers fit 64 bits.
+///
+/// It takes no memory, and doesn't flush. Where a write failed nothing is said of how much was written.
+#[tactic(auto, using(crate::proofs::TreesRead::trace_lines_read_back))]
+pub fn write_trace_verdict<W: Write>(
+    trace: &Trace,
+    verdict: &Verdict,
+    format: VerdictFormat,
+    w: &mut W,
+) -> io::Result<()>
+    requires { All (IsTold trace.now) verdict.now.races.items }
+    ensures written { OnOk result (Appends (W.contents w.old) (W.contents w.new)
+        (trace_verdict_text trace.now format verdict.now.races.items verdict.now.rest)) }
+    ensures read_back { LinesReadBack access_side }
+{
+    write_verdict(&Sides::Accesses, trace, verdict, format, w)
+}
+
+/// Writes what a judge says of a trace, whose events are told so.
+#[tactic(auto, using(sab_text::proofs::Appending::appends_both, sab_text::proofs::Appending::kept_out))]
+fn write_verdict<W: Write>(
+    sides: &Sides,
+    trace: &Trace,
+    verdict: &Verdict,
+    format: VerdictFormat,
+    w: &mut W,
+) -> io::Result<()>
+    requires names { HaveNames sides.now }
+    requires told { All (IsTold trace.now) verdict.now.races.items }
+    ensures { OnOk result (Appends (W.contents w.old) (W.contents w.new) (verdict_text format (words_of sides.now)
+        (data_of sides.now) trace.now verdict.now.races.items verdict.now.rest)) }
+{
+    let events = trace.events();
+    let mut chunk = Chunk::new();
+    write_races(sides, events, &verdict.races, format, &mut chunk, w)?;
+    push_last(
+        events,
+        verdict.races.len(),
+        verdict.rest,
+        format,
+        &mut chunk,
+    );
+    chunk.write(w)
+}
+
+/// Writes a line for each race; the last lines may stay in the chunk.
+#[tactic(auto, using(sab_text::proofs::Appending::all_left, sab_text::proofs::Appending::none_left, crate::proofs::Telling::races_after))]
+fn write_races<W: Write>(
+    sides: &Sides,
+    events: &[Event],
+    races: &[Race],
+    format: VerdictFormat,
+    chunk: &mut Chunk,
+    w: &mut W,
+) -> io::Result<()>
+    requires names { HaveNames sides.now }
+    requires told { All (IsTold events.now) races.now }
+    requires room { length chunk.old + Chunk.LINE_ROOM ≤ Chunk.ROOM }
+    ensures appended { OnOk result (Appends (append_known (W.contents w.old) chunk.old)
+        (append_known (W.contents w.new) chunk.new)
+        (flat_map (line_of format (words_of sides.now) (data_of sides.now) events.now) races.now)) }
+    ensures room { OnOk result (length chunk.new + Chunk.LINE_ROOM ≤ Chunk.ROOM) }
+{
+    for race in races {
+        push_race(sides, events, *race, format, chunk);
+        chunk.make_room(w)?;
+    }
+    Ok(())
+}
+
+/// Puts the line of a race last.
+#[tactic(auto, using(crate::proofs::Racing::first_within, crate::proofs::Racing::second_within, crate::proofs::Racing::first_accesses, crate::proofs::Racing::second_accesses, crate::proofs::Racing::they_overlap))]
+fn push_race(sides: &Sides, events: &[Event], race: Race, format: VerdictFormat, chunk: &mut Chunk)
+    requires names { HaveNames sides.now }
+    requires told { IsTold events.now race }
+    requires room { length chunk.old + Chunk.LINE_ROOM ≤ Chunk.ROOM }
+    ensures { chunk.new ≡ chunk.old ++ line_of format (words_of sides.now) (data_of sides.now) events.now race }
+{
+    let first = side_at(events, race.first);
+    let second = side_at(events, race.second);
+    match format {
+        VerdictFormat::Plain => plain::push_race(sides, race, first, second, chunk),
+        VerdictFormat::Json => json::push_race(sides, race, first, second, chunk),
+    }
+}
+
+/// Puts last what stands behind the races, of which so many are told and so many aren't.
+fn push_last(events: &[Event], told: usize, rest: u64, format: VerdictFormat, chunk: &mut Chunk)
+    requires agents { All (λ (e : Event). e.agent < 16) events.now }
+    requires room { length chunk.old + Chunk.LINE_ROOM ≤ Chunk.ROOM }
+    ensures { chunk.new ≡ chunk.old ++ last_line format events.now told rest }
+{
+    match format {
+        VerdictFormat::Plain => plain::push_end(events, told, rest, chunk),
+        VerdictFormat::Json => json::push_count(events, told, rest, chunk),
+    }
+}
