@@ -6,8 +6,8 @@ use Rattle.sab_sim.specs.declared.entry.Entry.{Entry}
 use Rattle.sab_judge.specs.declared.event.Event.{Event}
 use Rattle.sab_judge.specs.declared.race.Race.{Race}
 use Rattle.sab_fact_json.specs.Lines.{line}
-use Rattle.sab_verdict.specs.declared.format.VerdictFormat.{VerdictFormat}
-use Rattle.sab_verdict.specs.declared.format.VerdictFormat.TheVariants.{Plain, Json}
+use Rattle.sab_text.specs.declared.format.VerdictFormat.{VerdictFormat}
+use Rattle.sab_text.specs.declared.format.VerdictFormat.TheVariants.{Plain, Json}
 use Rattle.sab_verdict.specs.declared.side.Side.{Side}
 use Rattle.sab_verdict.specs.Events.{side_at}
 use Rattle.sab_verdict.specs.Plain.{by_call, by_access, race_text, end_text}

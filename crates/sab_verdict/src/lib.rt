@@ -3,12 +3,10 @@
 
 mod byte_range;
 mod count;
-mod format;
 mod json;
 mod plain;
 mod side;
 mod sides;
 mod writing;
 
-pub use format::VerdictFormat;
 pub use writing::{write_run_verdict, write_trace_verdict};

@@ -10,14 +10,13 @@ ghost use Rattle.sab_verdict.specs.ReadsBack.{LinesReadBack};
 ghost use Rattle.sab_verdict.specs.Verdict.{line_of, last_line, verdict_text, run_verdict_text, trace_verdict_text};
 ghost use Rattle.sab_verdict.specs.Sides.{words_of, data_of, HaveNames};
 
-use crate::format::VerdictFormat;
 use crate::side::side_at;
 use crate::sides::{Run, Sides};
 use crate::{json, plain};
 use sab_fact_text::Name;
 use sab_judge::{Event, Race, Trace, Verdict};
 use sab_sim::{Entry, Plan};
-use sab_text::Chunk;
+use sab_text::{Chunk, VerdictFormat};
 use std::io;
 use std::io::Write;
 
