@@ -15,7 +15,10 @@ const README = readFileSync(join(TOP, "README.md"), "utf8");
 const hasKit = spawnSync("rt", ["version"]).status === 0;
 const withKit = { skip: hasKit ? false : "there is no rt on this machine", timeout: 600_000 };
 
-/** How each command is tried: here, with the status that it ends with, or by another test, which has these words. */
+/**
+ * How each command is tried: here, with the status that it ends with, behind another one where it needs what that one
+ * leaves; or by another test, which has these words.
+ */
 const COMMANDS = new Map([
   ["node recorder/record.mjs recorder/examples/mutex-naive.agents.mjs --seeds 1..200 --out found", { status: 1 }],
   ["cd crates/sabsim && rt try -- replay --format explained < ../../examples/lost-wake-up.json",
@@ -24,6 +27,12 @@ const COMMANDS = new Map([
     { status: 1, isInRepository: true }],
   ["sabsim race --share ring --format explained examples/futex-mutex.json", { status: 0, when: withSabsim }],
   ["sabsim check script.json", { status: 0, when: withSabsim }],
+  ["sabsim judge script.json", { status: 0, when: withSabsim }],
+  ["sabsim judge --trace found/seed-29.trace.jsonl", {
+    status: 0,
+    when: withSabsim,
+    behind: "node recorder/record.mjs recorder/examples/mutex-naive.agents.mjs --seeds 1..200 --out found",
+  }],
   ["./build", { by: "tests/build", words: "building\n" }],
   ["./build --package", { by: "tests/build", words: "building --package\n" }],
   ["npm pack", { by: "tests/install/install.test.mjs", words: '"npm", ["pack",' }],
@@ -88,7 +97,7 @@ test("README has just the commands that are tried", () => {
 
 const shownBy = new Map(commandsOf(README).map(({ command, shown }) => [command, shown]));
 
-for (const [command, { status, when = {}, isInRepository = false, by, words }] of COMMANDS) {
+for (const [command, { status, when = {}, isInRepository = false, behind = ":", by, words }] of COMMANDS) {
   if (by !== undefined) {
     test(`${command} is run by ${by}`, () => {
       assert.ok(readFileSync(join(TOP, by), "utf8").includes(words));
@@ -99,7 +108,9 @@ for (const [command, { status, when = {}, isInRepository = false, by, words }] o
     const folder = ownFolder(the);
     const env = { ...WITHOUT_SABSIM, PATH: `${join(folder, "path")}${delimiter}${process.env.PATH}` };
     const cwd = isInRepository ? TOP : folder;
-    const ran = spawnSync("sh", ["-c", command], { cwd, env, encoding: "utf8", maxBuffer: 2 ** 26 });
+    const options = { cwd, env, encoding: "utf8", maxBuffer: 2 ** 26 };
+    spawnSync("sh", ["-c", behind], options);
+    const ran = spawnSync("sh", ["-c", command], options);
     assert.equal(ran.status, status, ran.stderr);
     const shown = shownBy.get(command) ?? [];
     const isAsShown = shown.length === 0 || areShown(shown, ran.stdout.trimEnd().split("\n"));
