@@ -5,7 +5,7 @@ ghost use Rattle.std.specs.Prelude.{◌≤◌};
 use std::fmt;
 
 /// The first bytes of a text, at most 32, and whether there are more.
-#[derive(Clone, Copy, Debug, PartialEq, Eq, Hash)]
+#[derive(Clone, Copy, Debug)]
 pub struct Excerpt {
     bytes: [u8; Excerpt::ROOM],
     len: usize,

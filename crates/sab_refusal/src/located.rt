@@ -10,7 +10,7 @@ use std::fmt;
 /// Why a JSON value is refused as a script, and where.
 ///
 /// Its text is `{at}: {number} {name}: {why}`, as `agents[3].calls[37][1]: 11 BadName: no view is called "lokc"`.
-#[derive(Clone, Copy, Debug, PartialEq, Eq, Hash)]
+#[derive(Clone, Copy, Debug)]
 pub struct Located {
     /// Where.
     pub at: Location,

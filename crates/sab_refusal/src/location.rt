@@ -4,7 +4,7 @@ use crate::member::Member;
 use std::fmt;
 
 /// Where in a script a value stands, by the members and indices that lead to it.
-#[derive(Clone, Copy, Debug, PartialEq, Eq, Hash)]
+#[derive(Clone, Copy, Debug)]
 pub enum Location {
     /// It is the script.
     Script,

@@ -3,7 +3,7 @@
 use std::fmt;
 
 /// A member that an object of a script can have.
-#[derive(Clone, Copy, Debug, PartialEq, Eq, Hash)]
+#[derive(Clone, Copy, Debug)]
 pub enum Member {
     /// Of a script: its agents.
     Agents,

@@ -5,7 +5,7 @@ use std::error::Error;
 use std::fmt;
 
 /// Why a JSON value is refused as a script.
-#[derive(Clone, Copy, Debug, PartialEq, Eq, Hash)]
+#[derive(Clone, Copy, Debug, PartialEq, Eq)]
 pub enum ReadFault {
     /// A block has more than 65,536 bytes, or there are more than 4 blocks, 64 views, 16 agents, 1,000 calls of an
     /// agent or 100,000 moves.

@@ -6,7 +6,7 @@ use std::error::Error;
 use std::fmt;
 
 /// Why bytes are refused as a script, and where.
-#[derive(Clone, Copy, Debug, PartialEq, Eq, Hash)]
+#[derive(Clone, Copy, Debug)]
 pub enum Refusal {
     /// They are no JSON text in UTF-8.
     NotJson {

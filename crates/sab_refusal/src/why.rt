@@ -6,7 +6,7 @@ use crate::read_fault::ReadFault;
 use std::fmt;
 
 /// What a value has to be.
-#[derive(Clone, Copy, Debug, PartialEq, Eq, Hash)]
+#[derive(Clone, Copy, Debug)]
 pub enum Wanted {
     /// An object.
     Object,
@@ -27,7 +27,7 @@ pub enum Wanted {
 }
 
 /// What there can be too many of.
-#[derive(Clone, Copy, Debug, PartialEq, Eq, Hash)]
+#[derive(Clone, Copy, Debug)]
 pub enum Unit {
     /// Bytes of a block.
     Bytes,
@@ -44,7 +44,7 @@ pub enum Unit {
 }
 
 /// What is told by its position.
-#[derive(Clone, Copy, Debug, PartialEq, Eq, Hash)]
+#[derive(Clone, Copy, Debug)]
 pub enum Counted {
     /// An agent.
     Agent,
@@ -53,7 +53,7 @@ pub enum Counted {
 }
 
 /// Why a view doesn't fit its block, as its offset or its length shows.
-#[derive(Clone, Copy, Debug, PartialEq, Eq, Hash)]
+#[derive(Clone, Copy, Debug)]
 pub enum Misfit {
     /// The number is negative.
     BelowZero(i64),
@@ -68,7 +68,7 @@ pub enum Misfit {
 }
 
 /// What is wrong with a value of a script.
-#[derive(Clone, Copy, Debug, PartialEq, Eq, Hash)]
+#[derive(Clone, Copy, Debug)]
 pub enum Why {
     /// It is of another type than this.
     Type(Wanted),
