@@ -77,19 +77,21 @@ fn with_telling<'a>(alloc: Global, command: Command<'a>) -> Result<Command<'a>, 
         .help(help::FORMAT)
         .default_value("plain")
         .value_parser(FORMATS.as_slice());
-    let acts = Arg::new(alloc, "acts")
-        .long("acts")
-        .help(help::ACTS)
-        .action(ArgAction::SetTrue);
-    let finish = Arg::new(alloc, "finish")
-        .long("finish")
-        .help(help::FINISH)
-        .action(ArgAction::SetTrue);
-    let explain = Arg::new(alloc, "explain")
-        .long("explain")
-        .help(help::EXPLAIN)
-        .action(ArgAction::SetTrue);
-    command.arg(format)?.arg(acts)?.arg(finish)?.arg(explain)
+    let command = command.arg(format)?;
+    let acts = flag(alloc, "acts", help::ACTS);
+    let command = command.arg(acts)?;
+    let finish = flag(alloc, "finish", help::FINISH);
+    let command = command.arg(finish)?;
+    let explain = flag(alloc, "explain", help::EXPLAIN);
+    command.arg(explain)
+}
+
+/// An argument that is there or not, called by its name.
+fn flag<'a>(alloc: Global, name: &'a str, help: &'a str) -> Arg<'a> {
+    Arg::new(alloc, name)
+        .long(name)
+        .help(help)
+        .action(ArgAction::SetTrue)
 }
 
 /// The command line, with its help.
