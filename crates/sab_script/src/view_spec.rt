@@ -3,7 +3,7 @@
 use sab_block::Kind;
 
 /// What a script says of a view, but for its name.
-#[derive(Clone, Copy, Debug, PartialEq, Eq, Hash)]
+#[derive(Clone, Copy, Debug, PartialEq, Eq)]
 pub struct ViewSpec {
     /// The kind of its elements.
     pub kind: Kind,
