@@ -6,7 +6,7 @@ ghost use Rattle.sab_block.specs.Kind.{element_size, is_signed, is_big, is_atomi
 use std::fmt;
 
 /// The kind of a typed array's elements: an element type of the standard's table "The TypedArray Constructors".
-#[derive(Clone, Copy, Debug, PartialEq, Eq, Hash)]
+#[derive(Clone, Copy, Debug, PartialEq, Eq)]
 pub enum Kind {
     Int8,
     Uint8,

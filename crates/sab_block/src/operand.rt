@@ -10,7 +10,7 @@ use crate::thrown::Thrown;
 use std::fmt;
 
 /// A Number or a BigInt that is whole: what a call is handed, and the value that it answers.
-#[derive(Clone, Copy, PartialEq, Eq, Hash)]
+#[derive(Clone, Copy, PartialEq, Eq)]
 pub struct Operand {
     big: bool,
     // The whole number as the bytes of an i128, lowest first. An i128 lies at a multiple of 16 bytes, and an entry of a

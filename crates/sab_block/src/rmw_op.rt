@@ -7,7 +7,7 @@ ghost use Rattle.sab_block.specs.RmwOp.{combined, function_of_op};
 use crate::kind::Kind;
 
 /// What a read-modify-write makes of the old element and its operand (AtomicReadModifyWrite).
-#[derive(Clone, Copy, Debug, PartialEq, Eq, Hash)]
+#[derive(Clone, Copy, Debug, PartialEq, Eq)]
 pub enum RmwOp {
     /// The operand itself (`Atomics.exchange`).
     Exchange,

@@ -4,7 +4,7 @@ use std::error::Error;
 use std::fmt;
 
 /// The error that a call throws, in place of an answer.
-#[derive(Clone, Copy, Debug, PartialEq, Eq, Hash)]
+#[derive(Clone, Copy, Debug, PartialEq, Eq)]
 pub enum Thrown {
     /// The view has the wrong kind, an operand is of the other numeric type, or the agent can't block.
     TypeError,

@@ -10,7 +10,7 @@ use crate::thrown::Thrown;
 /// A typed array: the elements of one kind that lie one after the other in a block.
 ///
 /// It is made for blocks of one length, and holds no block.
-#[derive(Clone, Copy, Debug, PartialEq, Eq, Hash)]
+#[derive(Clone, Copy, Debug, PartialEq, Eq)]
 pub struct View {
     kind: Kind,
     block_len: u32,

@@ -8,7 +8,7 @@ use crate::status::status_of;
 use sab_tool::ToolFault;
 
 /// How the program ends.
-#[derive(Clone, Copy, Debug, PartialEq, Eq, Hash)]
+#[derive(Clone, Copy, Debug, PartialEq, Eq)]
 pub enum Ending {
     /// What was asked for is done, which can be help.
     Done,

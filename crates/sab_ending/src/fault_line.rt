@@ -6,7 +6,7 @@ use std::fmt;
 /// What the program says on standard error of a fault.
 ///
 /// Its text is `sabsim: {number} {name}`, without a line feed.
-#[derive(Clone, Copy, Debug, PartialEq, Eq, Hash)]
+#[derive(Clone, Copy, Debug, PartialEq, Eq)]
 pub struct FaultLine(pub ToolFault);
 
 impl fmt::Display for FaultLine {

@@ -6,7 +6,7 @@ ghost use Rattle.sab_ending.specs.Outcome.{outcome_of};
 use sab_tool::Ended;
 
 /// What a job came to that wrote all that it had to.
-#[derive(Clone, Copy, Debug, PartialEq, Eq, Hash)]
+#[derive(Clone, Copy, Debug, PartialEq, Eq)]
 pub enum Outcome {
     /// What was asked for is done.
     Done,

@@ -64,7 +64,7 @@ pub enum Found {
 }
 
 /// A check of a call.
-#[derive(Clone, Copy, Debug, PartialEq, Eq, Hash)]
+#[derive(Clone, Copy, Debug, PartialEq, Eq)]
 pub enum Check {
     /// The kind of the view is one that the call takes.
     Kind,

@@ -6,7 +6,7 @@ ghost use Rattle.sab_plan.specs.Call.{function_of, view_of, index_of};
 use sab_block::{Access, Operand};
 
 /// A call of an agent, on a view that is named by its position in the plan.
-#[derive(Clone, Copy, Debug, PartialEq, Eq, Hash)]
+#[derive(Clone, Copy, Debug, PartialEq, Eq)]
 pub enum Call {
     /// One of the functions that read or write an element.
     Access {

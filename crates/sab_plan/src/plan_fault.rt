@@ -4,7 +4,7 @@ use std::error::Error;
 use std::fmt;
 
 /// Why a plan is refused.
-#[derive(Clone, Copy, Debug, PartialEq, Eq, Hash)]
+#[derive(Clone, Copy, Debug, PartialEq, Eq)]
 pub enum PlanFault {
     /// There are more than 4 blocks, 64 views or 16 agents, a block has more than 65,536 bytes, or an agent has more
     /// than 1,000 calls.

@@ -3,7 +3,7 @@
 use sab_block::View;
 
 /// A view on one of a plan's blocks.
-#[derive(Clone, Copy, Debug, PartialEq, Eq, Hash)]
+#[derive(Clone, Copy, Debug, PartialEq, Eq)]
 pub struct PlanView {
     /// The position of its block in the plan.
     pub block: u32,

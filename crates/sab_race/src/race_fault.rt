@@ -5,7 +5,7 @@ use std::error::Error;
 use std::fmt;
 
 /// Why a race is refused.
-#[derive(Clone, Copy, Debug, PartialEq, Eq, Hash)]
+#[derive(Clone, Copy, Debug, PartialEq, Eq)]
 pub enum RaceFault {
     /// The moves of all agents are more than 2^20.
     TooManyMoves,

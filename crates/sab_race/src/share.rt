@@ -1,7 +1,7 @@
 //! Ways of sharing.
 
 /// How agents in threads share one simulator.
-#[derive(Clone, Copy, Debug, PartialEq, Eq, Hash)]
+#[derive(Clone, Copy, Debug, PartialEq, Eq)]
 pub enum Share {
     /// By a lock, which an agent takes for each of its moves.
     Lock,

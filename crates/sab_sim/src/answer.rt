@@ -3,7 +3,7 @@
 use sab_block::{Operand, Thrown};
 
 /// The answer of a call.
-#[derive(Clone, Copy, Debug, PartialEq, Eq, Hash)]
+#[derive(Clone, Copy, Debug, PartialEq, Eq)]
 pub enum Answer {
     /// An access: its value.
     Value(Operand),

@@ -3,7 +3,7 @@
 use crate::answer::Answer;
 
 /// What a move did: one entry of the journal.
-#[derive(Clone, Copy, Debug, PartialEq, Eq, Hash)]
+#[derive(Clone, Copy, Debug, PartialEq, Eq)]
 pub struct Entry {
     /// The agent whose move it was.
     pub agent: u32,
@@ -14,7 +14,7 @@ pub struct Entry {
 }
 
 /// What a move did.
-#[derive(Clone, Copy, Debug, PartialEq, Eq, Hash)]
+#[derive(Clone, Copy, Debug, PartialEq, Eq)]
 pub enum What {
     /// The agent's next call began.
     Began,
@@ -31,7 +31,7 @@ pub enum What {
 }
 
 /// Why a move had no effect.
-#[derive(Clone, Copy, Debug, PartialEq, Eq, Hash)]
+#[derive(Clone, Copy, Debug, PartialEq, Eq)]
 pub enum Why {
     /// All calls of the agent have returned.
     Done,

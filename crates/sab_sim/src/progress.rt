@@ -1,7 +1,7 @@
 //! How far agents came.
 
 /// How far an agent came.
-#[derive(Clone, Copy, Debug, PartialEq, Eq, Hash)]
+#[derive(Clone, Copy, Debug, PartialEq, Eq)]
 pub struct Progress {
     /// How many of its calls returned.
     pub returned: u32,

@@ -4,7 +4,7 @@ use std::error::Error;
 use std::fmt;
 
 /// Why a move is refused.
-#[derive(Clone, Copy, Debug, PartialEq, Eq, Hash)]
+#[derive(Clone, Copy, Debug, PartialEq, Eq)]
 pub enum SimFault {
     /// The move names an agent that isn't there.
     NoAgent,

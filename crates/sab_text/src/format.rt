@@ -3,7 +3,7 @@
 use crate::lines::Lines;
 
 /// The formats of a report.
-#[derive(Clone, Copy, Debug, PartialEq, Eq, Hash)]
+#[derive(Clone, Copy, Debug, PartialEq, Eq)]
 pub enum Format {
     /// A line for each entry, block and agent.
     Plain,
@@ -16,7 +16,7 @@ pub enum Format {
 }
 
 /// How a report is told.
-#[derive(Clone, Copy, Debug, PartialEq, Eq, Hash)]
+#[derive(Clone, Copy, Debug, PartialEq, Eq)]
 pub struct Telling {
     /// Its format.
     pub format: Format,

@@ -7,7 +7,7 @@ ghost use Rattle.sab_tool.specs.Ended.{has_returned, ended_of};
 use sab_sim::{Progress, Report};
 
 /// How a run ended.
-#[derive(Clone, Copy, Debug, PartialEq, Eq, Hash)]
+#[derive(Clone, Copy, Debug, PartialEq, Eq)]
 pub enum Ended {
     /// All calls of all agents have returned.
     Finished,

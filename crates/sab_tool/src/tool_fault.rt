@@ -10,7 +10,7 @@ use thiserror::Error;
 /// Why a tool doesn't do what it was asked for.
 ///
 /// Its text is its name.
-#[derive(Clone, Copy, Debug, PartialEq, Eq, Hash, Error)]
+#[derive(Clone, Copy, Debug, PartialEq, Eq, Error)]
 pub enum ToolFault {
     /// A script has more bytes in a block, or more blocks, views, agents, calls or moves than it can have.
     #[error("TooMany")]
