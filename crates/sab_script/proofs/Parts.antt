@@ -26,12 +26,12 @@ on_err (Ok x) p = tt
 on_err (Err e) p = p
 
 -- the members of an object
-inner : Data → Members
+abbrev inner : Data → Members
 inner (object members) = members
 inner _ = no_members
 
 -- the members behind the first
-rest_of : Members → Members
+abbrev rest_of : Members → Members
 rest_of (member name d rest) = rest
 rest_of no_members = no_members
 
