@@ -17,6 +17,7 @@ abbrev pub no_access : Access
 no_access =
     record { place = record { block = 0; byte = 0 }; len = 0; reads = false; writes = false; order = Unordered }
 
+-- the access of an event, which an event of a race has
 abbrev pub access_in : Option Access → Access
 access_in None = no_access
 access_in (Some a) = a

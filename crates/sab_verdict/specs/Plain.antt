@@ -34,13 +34,14 @@ call_words names (Some call) = codes " in " ++ call_text names call
 unfoldable pub by_call : List (List ℕ) → PlanParts → List Entry → Side → List ℕ
 by_call names plan journal side = call_words names (call_at plan journal side.at)
 
--- what an access does that reads, and one that writes
+-- what an access does, by whether it reads and whether it writes
 abbrev pub verb : Bool → Bool → List ℕ
 verb true true = codes " changes "
 verb true false = codes " reads "
 verb false true = codes " writes "
 verb false false = codes " accesses "
 
+-- whether it is one of Atomics
 abbrev pub order_text : Order → List ℕ
 order_text Unordered = []
 order_text SeqCst = codes " by Atomics"

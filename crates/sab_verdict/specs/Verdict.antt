@@ -13,12 +13,12 @@ use Rattle.sab_verdict.specs.Events.{side_at}
 use Rattle.sab_verdict.specs.Plain.{by_call, by_access, race_text, end_text}
 use Rattle.sab_verdict.specs.Json.{call_side, access_side, race_data, count_data}
 
--- the line of a race of two events, which are told so in words, and so as JSON
+-- the line of a race of two events, by how the two are told in words, and by how they are told as JSON
 abbrev pub race_line : VerdictFormat → (Side → List ℕ) → (Side → Data) → Race → Side → Side → List ℕ
 race_line Plain words tree race first second = race_text words race first second
 race_line Json words tree race first second = line (race_data tree race first second)
 
--- the same by the trace of the two
+-- the same of events of the trace
 abbrev pub line_of : VerdictFormat → (Side → List ℕ) → (Side → Data) → List Event → Race → List ℕ
 line_of format words tree trace race =
     race_line format words tree race (side_at trace race.first) (side_at trace race.second)
@@ -28,6 +28,7 @@ abbrev pub last_line : VerdictFormat → List Event → ℕ → ℕ → List ℕ
 last_line Plain trace told rest = end_text trace told rest
 last_line Json trace told rest = line (count_data trace told rest)
 
+-- a line for each race that is told, and what stands behind them
 abbrev pub verdict_text : VerdictFormat → (Side → List ℕ) → (Side → Data) → List Event → List Race → ℕ → List ℕ
 verdict_text format words tree trace races rest =
     flat_map (line_of format words tree trace) races ++ last_line format trace (length races) rest

@@ -20,7 +20,7 @@ use sab_judge::{Event, Race};
 use sab_text::Chunk;
 
 /// The most bytes of an event of a race.
-const SIDE_LEN: usize = 280;
+const SIDE_LEN: usize = 257;
 
 /// The most bytes of a call as a member.
 const DOES_LEN: usize = 8 + CALL_LEN;
