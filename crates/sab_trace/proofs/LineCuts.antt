@@ -1,8 +1,7 @@
 -- Where a text is cut into lines.
 use Rattle.std.proofs.Common.{◌≡◌, ◌≢◌, ℕ, zero, suc, ◌≤◌, ◌<◌, ◌==◌, List, [], ◌∷◌, ◌++◌, length, false, refl, ap, sym, ◌∙◌, arith}
 use Rattle.std.proofs.lemmas.Bool.{ne_eqb}
-use Rattle.sab_trace.specs.Lines.{in_front, lines_of}
-use Rattle.sab_trace.specs.Progress.{HasNoLineFeed}
+use Rattle.sab_trace.specs.Lines.{HasNoLineFeed, in_front, lines_of}
 
 -- a byte that is no line feed goes to the first line
 in_first : (b : ℕ) (rest : List ℕ) → (b ≡ 10 → ⊥) → lines_of (b ∷ rest) ≡ in_front b (lines_of rest)

@@ -1,7 +1,8 @@
 -- A line spells one event at most, and one with a fault spells none.
-use Rattle.std.proofs.Common.{◌≡◌, ℕ, suc, ◌<◌, ◌≤◌, ◌^◌, ℤ, pos, negsuc, List, length, Bool, true, false, Option, Some, None, refl, ap, sym, subst, ◌∙◌, arith}
+use Rattle.std.proofs.Common.{◌≡◌, ℕ, zero, suc, ◌<◌, ◌≤◌, ◌^◌, ℤ, pos, negsuc, List, length, Bool, true, false, Option, Some, None, refl, ap, sym, subst, ◌∙◌, arith}
 use Rattle.std.specs.Prelude.{IsTrue, ◌||◌}
-use Rattle.serde_json.specs.Data.{Data, Num, unsigned}
+use Rattle.serde_json.specs.Data.{Data, Num, unsigned, Members, no_members, member}
+use Rattle.serde_json.specs.Data as json
 use Rattle.serde_json.specs.Find.{of_integer}
 use Rattle.sab_judge.specs.declared.event.Event.{Event}
 use Rattle.sab_judge.specs.declared.place.Place.{Place}
@@ -18,20 +19,50 @@ use Rattle.sab_trace.specs.Reading.{IsOfLine}
 same_tree : (line : List ℕ) (d e : Data) → ReadsAs line d → ReadsAs line e → d ≡ e
 same_tree line d e p q = let a = p.is in let b = q.is in cc
 
+-- the values of an object's members, by their positions
+abbrev members_in : Data → Members
+members_in json.null = no_members
+members_in (json.boolean b) = no_members
+members_in (json.number n) = no_members
+members_in (json.string s) = no_members
+members_in (json.array ds) = no_members
+members_in (json.object ms) = ms
+
+abbrev value_at : ℕ → Members → Data
+value_at k no_members = json.null
+value_at zero (member name d ms) = d
+value_at (suc k) (member name d ms) = value_at k ms
+
+abbrev number_in : Data → Num
+number_in json.null = unsigned 0
+number_in (json.boolean b) = unsigned 0
+number_in (json.number n) = n
+number_in (json.string s) = unsigned 0
+number_in (json.array ds) = unsigned 0
+number_in (json.object ms) = unsigned 0
+
+abbrev flag_in : Data → Bool
+flag_in json.null = false
+flag_in (json.boolean b) = b
+flag_in (json.number n) = false
+flag_in (json.string s) = false
+flag_in (json.array ds) = false
+flag_in (json.object ms) = false
+
 -- a tree has one value for each member
 same_values : (tree : Data) (v w : Values) → IsShaped tree v → IsShaped tree w → v ≡ w
 same_values tree v w p q =
     let trees : event_object v p.does p.source ≡ event_object w q.does q.source = sym p.is ∙ q.is in
-    let agent : v.agent ≡ w.agent = cc in
-    let atomic : v.atomic ≡ w.atomic = cc in
-    let block : v.block ≡ w.block = cc in
-    let byte : v.byte ≡ w.byte = cc in
-    let call : v.call ≡ w.call = cc in
-    let event : v.event ≡ w.event = cc in
-    let read : v.read ≡ w.read = cc in
-    let size : v.size ≡ w.size = cc in
-    let waiters : v.waiters ≡ w.waiters = cc in
-    let write : v.write ≡ w.write = cc in
+    let agent : v.agent ≡ w.agent = ap (λ d. number_in (value_at 0 (members_in d))) trees in
+    let atomic : v.atomic ≡ w.atomic = ap (λ d. flag_in (value_at 1 (members_in d))) trees in
+    let block : v.block ≡ w.block = ap (λ d. number_in (value_at 2 (members_in d))) trees in
+    let byte : v.byte ≡ w.byte = ap (λ d. number_in (value_at 3 (members_in d))) trees in
+    let call : v.call ≡ w.call = ap (λ d. number_in (value_at 4 (members_in d))) trees in
+    let event : v.event ≡ w.event = ap (λ d. number_in (value_at 6 (members_in d))) trees in
+    let read : v.read ≡ w.read = ap (λ d. flag_in (value_at 7 (members_in d))) trees in
+    let size : v.size ≡ w.size = ap (λ d. number_in (value_at 8 (members_in d))) trees in
+    let waiters : v.waiters ≡ w.waiters = ap (λ d. flag_in (value_at 10 (members_in d))) trees in
+    let write : v.write ≡ w.write = ap (λ d. flag_in (value_at 11 (members_in d))) trees in
     λ i. record {
       agent = agent i;
       atomic = atomic i;

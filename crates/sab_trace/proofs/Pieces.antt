@@ -9,7 +9,8 @@ use Rattle.sab_trace.specs.declared.line_fault.LineFault.{LineFault}
 use Rattle.sab_trace.specs.declared.line_fault.LineFault.TheVariants.{TooLong, ReadFailed}
 use Rattle.sab_trace.specs.declared.refusal.Refusal.{Refusal}
 use Rattle.sab_trace.specs.Reading.{IsRefusedBy}
-use Rattle.sab_trace.specs.Progress.{HasNoLineFeed, SpellsNext, RefusesNext, IsReadTo, ReadsOn, RefusesWithin, most_read}
+use Rattle.sab_trace.specs.Lines.{HasNoLineFeed}
+use Rattle.sab_trace.specs.Progress.{SpellsNext, RefusesNext, IsReadTo, ReadsOn, RefusesWithin, most_read}
 use Rattle.sab_trace.proofs.Steps.{nothing_read, line_more, line_ended, ended_refused, long_refused, read_failed}
 
 -- of a piece all but the rest is read
@@ -54,7 +55,8 @@ pub piece_long : (piece rest part behind : List ℕ) (old : List Event) (begun_o
     → HasReadPiece piece rest old begun_old new begun_new → rest ≡ part ++ behind → HasNoLineFeed part
     → 1024 < length begun_new + length part → refusal.line ≡ length new + 1 → refusal.fault ≡ TooLong
     → RefusesWithin piece old begun_old refusal
-piece_long piece rest part behind old begun_old new begun_new refusal h cut in_line long number fault = λ before more to.
+piece_long piece rest part behind old begun_old new begun_new refusal h cut in_line long number fault =
+    λ before more to.
     let on = h.on before to in
     let r = long_refused (before ++ h.front) part (behind ++ more) new begun_new refusal on in_line long number fault in
     let same : ((before ++ h.front) ++ part) ++ (behind ++ more) ≡ ((before ++ h.front) ++ rest) ++ more =
@@ -99,7 +101,8 @@ piece_read piece rest part behind old begun_old new begun_new line further begun
       grown =
           let more = next.is in
           let one : length further ≡ length new + 1 = rw more (length-append new (next.event ∷ [])) in
-          let whole : length begun_new + length part ≤ 1024 = let s = rw is at short in omega (arith, length-append begun_new part) in
+          let short_line = rw is at short in
+          let whole : length begun_new + length part ≤ 1024 = omega (arith, length-append begun_new part) in
           let none : length begun_then ≡ 0 = rw empty refl in
           let grown = h.grown in
           omega (arith, length-append (h.front ++ part) (10 ∷ []), length-append h.front part);

@@ -7,11 +7,11 @@ use Rattle.sab_judge.specs.declared.event.Event.{Event}
 use Rattle.sab_trace.specs.declared.line_fault.LineFault.{LineFault}
 use Rattle.sab_trace.specs.declared.line_fault.LineFault.TheVariants.{TooMany, OutOfMemory, BadShape, BadNumber, BadAgent, NotJson, TooLong, ReadFailed, BadBytes}
 use Rattle.sab_trace.specs.declared.refusal.Refusal.{Refusal}
-use Rattle.sab_trace.specs.Lines.{lines_of}
+use Rattle.sab_trace.specs.Lines.{HasNoLineFeed, lines_of}
 use Rattle.sab_trace.specs.LineFault.{IsLineFault}
 use Rattle.sab_trace.specs.Reading.{SpellsEach, SpellsTrace, IsFaultAt, IsRefusedBy}
 use Rattle.sab_trace.specs.Spelling.{SpellsLine}
-use Rattle.sab_trace.specs.Progress.{HasNoLineFeed, SpellsNext, RefusesNext, IsReadTo, ReadsOn, RefusesWithin, most_read}
+use Rattle.sab_trace.specs.Progress.{SpellsNext, RefusesNext, IsReadTo, ReadsOn, RefusesWithin, most_read}
 use Rattle.sab_trace.proofs.LineCuts.{none_of_none, ended_line, last_line, IsFirstLong, begun_line}
 use Rattle.sab_trace.proofs.Spellings.{as_many, one_more, few_lines, front_of, next_of}
 
@@ -30,7 +30,8 @@ pub line_more : (before : List ℕ) (events : List Event) (begun piece : List �
     → HasNoLineFeed piece → length (begun ++ piece) ≤ 1024 → IsReadTo (before ++ piece) events (begun ++ piece)
 line_more before events begun piece h in_line short = record {
   lines = h.lines;
-  split = λ more. let s = h.split (piece ++ more) in rw (append_assoc before piece more, append_assoc begun piece more) s;
+  split = λ more.
+      let s = h.split (piece ++ more) in rw (append_assoc before piece more, append_assoc begun piece more) s;
   spelled = h.spelled;
   in_line = All-append (λ (byte : ℕ). byte ≡ 10 → ⊥) begun piece h.in_line in_line;
   short = short;
@@ -122,8 +123,9 @@ pub all_read : (bytes : List ℕ) (events : List Event) → IsReadTo bytes event
 all_read bytes events h =
     let s = h.split [] in
     let cut : lines_of bytes ≡ h.lines =
-    ap lines_of (sym (append-nil bytes)) ∙ s ∙ ap (λ (ls : List (List ℕ)). h.lines ++ ls) none_of_none ∙ append-nil h.lines
-    in rw cut h.spelled
+    ap lines_of (sym (append-nil bytes)) ∙ s ∙ ap (λ (ls : List (List ℕ)). h.lines ++ ls) none_of_none
+    ∙ append-nil h.lines in
+    rw cut h.spelled
 
 cut_last : (bytes : List ℕ) (events : List Event) (line : List ℕ) (h : IsReadTo bytes events line) → 0 < length line
     → lines_of bytes ≡ h.lines ++ line ∷ []

@@ -9,31 +9,17 @@ use Rattle.sab_trace.specs.Members.{Values, IsShaped}
 use Rattle.sab_trace.specs.Numbers.{AreWhole, IsAgent, AreBytes}
 use Rattle.sab_trace.specs.Spelling.{needs_bytes, ReadsAs}
 
--- what a fault is called
-pub record Label : Type 0 where
-  pub number : ℕ
-  pub name : List ℕ
-
-abbrev pub label : ℕ → List ℕ → Label
-label number name = record { number = number; name = name }
-
--- the table: number, name
-abbrev pub label_of : LineFault → Label
-label_of TooMany = label 3 (codes "TooMany")
-label_of OutOfMemory = label 5 (codes "OutOfMemory")
-label_of BadShape = label 10 (codes "BadShape")
-label_of BadNumber = label 12 (codes "BadNumber")
-label_of BadAgent = label 15 (codes "BadAgent")
-label_of NotJson = label 16 (codes "NotJson")
-label_of TooLong = label 18 (codes "TooLong")
-label_of ReadFailed = label 19 (codes "ReadFailed")
-label_of BadBytes = label 21 (codes "BadBytes")
-
-abbrev pub number_of : LineFault → ℕ
-number_of fault = (label_of fault).number
-
+-- the table of names
 abbrev pub name_of : LineFault → List ℕ
-name_of fault = (label_of fault).name
+name_of TooMany = codes "TooMany"
+name_of OutOfMemory = codes "OutOfMemory"
+name_of BadShape = codes "BadShape"
+name_of BadNumber = codes "BadNumber"
+name_of BadAgent = codes "BadAgent"
+name_of NotJson = codes "NotJson"
+name_of TooLong = codes "TooLong"
+name_of ReadFailed = codes "ReadFailed"
+name_of BadBytes = codes "BadBytes"
 
 -- all is well with the tree up to its numbers, which are these
 pub record HasNumbers (position : ℕ) (tree : Data) : Type 0 where

@@ -1,5 +1,8 @@
 -- The lines of a text.
-use Rattle.std.specs.Prelude.{ℕ, ◌==◌, List, [], ◌∷◌, if◌then◌else◌}
+use Rattle.std.specs.Prelude.{◌≢◌, ℕ, ◌==◌, List, [], ◌∷◌, All, if◌then◌else◌}
+
+abbrev pub HasNoLineFeed : List ℕ → Type 0
+HasNoLineFeed bytes = All (λ byte. byte ≢ 10) bytes
 
 -- the byte stands before the first line
 abbrev pub in_front : ℕ → List (List ℕ) → List (List ℕ)

@@ -1,14 +1,11 @@
 -- How far a trace is read.
-use Rattle.std.specs.Prelude.{◌≡◌, ◌≢◌, ℕ, ◌+◌, ◌*◌, ◌≤◌, List, [], ◌∷◌, ◌++◌, length, All}
+use Rattle.std.specs.Prelude.{◌≡◌, ℕ, ◌+◌, ◌*◌, ◌≤◌, List, [], ◌∷◌, ◌++◌, length}
 use Rattle.sab_judge.specs.declared.event.Event.{Event}
 use Rattle.sab_trace.specs.declared.refusal.Refusal.{Refusal}
-use Rattle.sab_trace.specs.Lines.{lines_of}
+use Rattle.sab_trace.specs.Lines.{HasNoLineFeed, lines_of}
 use Rattle.sab_trace.specs.LineFault.{IsLineFault}
 use Rattle.sab_trace.specs.Reading.{SpellsEach, IsRefusedBy}
 use Rattle.sab_trace.specs.Spelling.{SpellsLine}
-
-abbrev pub HasNoLineFeed : List ℕ → Type 0
-HasNoLineFeed bytes = All (λ byte. byte ≢ 10) bytes
 
 -- the line behind those of the old events spells one more
 pub record SpellsNext (old : List Event) (line : List ℕ) (new : List Event) : Type 0 where

@@ -1,6 +1,7 @@
-//! A line on its way from a reader.
+//! Lines, and where they end.
 
-ghost use Rattle.std.specs.Prelude.{◌≡◌, ◌+◌, ◌<◌, ◌≤◌, ◌++◌, [], length, IfErr, OnOk};
+ghost use Rattle.std.specs.Prelude.{◌≡◌, ◌+◌, ◌<◌, ◌≤◌, ◌++◌, ◌∷◌, [], length, IfSome, IfNone, IfErr, OnOk};
+ghost use Rattle.sab_trace.specs.Lines.{HasNoLineFeed};
 
 use crate::line_fault::LineFault;
 use std::marker::Model;
@@ -10,6 +11,16 @@ pub const MAX_LINE: usize = 1_024;
 
 // The clauses cite the constant: so its number is held here.
 const _: () = prove!(MAX_LINE == 1_024);
+
+/// The bytes before the first line feed, and those behind it; none, where there is no line feed.
+pub(crate) fn split_line(bytes: &[u8]) -> Option<(&[u8], &[u8])>
+    ensures some { IfSome result (λ p. HasNoLineFeed p.0.now × (bytes.now ≡ p.0.now ++ 10 ∷ p.1.now)) }
+    ensures none { IfNone result (HasNoLineFeed bytes.now) }
+    ensures shorter { IfSome result (λ p. length p.1.now < length bytes.now) }
+{
+    let end = bytes.iter().position(|byte| *byte == b'\n')?;
+    Some((&bytes[..end], &bytes[end + 1..]))
+}
 
 /// The bytes of a line that were read so far.
 #[derive(Drop)]
@@ -58,7 +69,8 @@ impl Line {
     pub(crate) fn push(&mut self, piece: &[u8]) -> Result<(), LineFault>
         ensures ok { OnOk result (self.new ≡ self.old ++ piece.now) }
         ensures short { OnOk result (length self.new ≤ 1024) }
-        ensures err { IfErr result (λ fault. (fault ≡ LineFault.TooLong) × (1024 < length self.old + length piece.now)) }
+        ensures err { IfErr result (λ fault. (fault ≡ LineFault.TooLong)
+            × (1024 < length self.old + length piece.now)) }
     {
         let start = self.len;
         if MAX_LINE - start < piece.len() {

@@ -7,7 +7,7 @@ use std::fmt;
 /// Why a trace can't be read.
 ///
 /// Its text is its name.
-#[derive(Clone, Copy, Debug, PartialEq, Eq, Hash)]
+#[derive(Clone, Copy, Debug, PartialEq, Eq)]
 pub enum LineFault {
     /// There are 2^20 lines before it.
     TooMany,
@@ -30,24 +30,7 @@ pub enum LineFault {
 }
 
 impl LineFault {
-    ghost use Rattle.sab_trace.specs.LineFault.{number_of, name_of};
-
-    /// The number that it is told by.
-    pub fn number(self) -> u32
-        ensures { result ≡ number_of self }
-    {
-        match self {
-            LineFault::TooMany => 3,
-            LineFault::OutOfMemory => 5,
-            LineFault::BadShape => 10,
-            LineFault::BadNumber => 12,
-            LineFault::BadAgent => 15,
-            LineFault::NotJson => 16,
-            LineFault::TooLong => 18,
-            LineFault::ReadFailed => 19,
-            LineFault::BadBytes => 21,
-        }
-    }
+    ghost use Rattle.sab_trace.specs.LineFault.{name_of};
 
     /// Its name, as it is spelled here.
     pub fn name(self) -> &'static str

@@ -40,8 +40,10 @@ fn object(tree: &Value) -> Option<Rest<'_>>
 
 /// The next member, which has this name.
 fn member<'a>(rest: &mut Rest<'a>, name: &str) -> Option<&'a Value>
-    ensures some { IfSome result (λ tree. members_view rest.old ≡ member_then name.now (view tree.now) (members_view rest.new)) }
-    ensures none { IfNone result ((d : Data) (ms : MemberList) → members_view rest.old ≡ member_then name.now d ms → ⊥) }
+    ensures some { IfSome result (λ tree. members_view rest.old
+        ≡ member_then name.now (view tree.now) (members_view rest.new)) }
+    ensures none { IfNone result ((d : Data) (ms : MemberList)
+        → members_view rest.old ≡ member_then name.now d ms → ⊥) }
 {
     match rest.next() {
         Some((found, tree)) if found.as_str() == name => Some(tree),

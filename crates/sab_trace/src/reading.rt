@@ -1,12 +1,12 @@
 //! Traces as bytes.
 
-ghost use Rattle.std.specs.Prelude.{◌≡◌, ◌<◌, ◌≤◌, ◌++◌, ◌∷◌, [], ◌+◌, ℕ, List, length, IfSome, IfNone, IfOk, IfErr, OnOk, OnErr};
+ghost use Rattle.std.specs.Prelude.{◌≡◌, ◌≤◌, ◌+◌, [], ℕ, List, length, IfSome, IfOk, IfErr, OnOk, OnErr};
 ghost use Rattle.std.specs.Io.KnownBytes.{IsAtEnd};
-ghost use Rattle.sab_trace.specs.Progress.{HasNoLineFeed, SpellsNext, RefusesNext, IsReadTo, ReadsOn, RefusesWithin, most_read};
+ghost use Rattle.sab_trace.specs.Progress.{SpellsNext, RefusesNext, IsReadTo, ReadsOn, RefusesWithin, most_read};
 ghost use Rattle.sab_trace.specs.Reading.{SpellsTrace, IsRefusedBy};
 ghost use Rattle.sab_trace.specs.LineFault.{IsLineFault};
 
-use crate::line::Line;
+use crate::line::{Line, split_line};
 use crate::line_fault::LineFault;
 use crate::refusal::Refusal;
 use crate::spelling::read_line;
@@ -14,17 +14,7 @@ use sab_judge::{Trace, TraceFault};
 use std::alloc::Global;
 use std::io::Read;
 
-/// The bytes before the first line feed, and those behind it; none, where there is no line feed.
-fn split_line(bytes: &[u8]) -> Option<(&[u8], &[u8])>
-    ensures some { IfSome result (λ p. HasNoLineFeed p.0.now × (bytes.now ≡ p.0.now ++ 10 ∷ p.1.now)) }
-    ensures none { IfNone result (HasNoLineFeed bytes.now) }
-    ensures shorter { IfSome result (λ p. length p.1.now < length bytes.now) }
-{
-    let end = bytes.iter().position(|byte| *byte == b'\n')?;
-    Some((&bytes[..end], &bytes[end + 1..]))
-}
-
-/// A refusal at the line that is behind those of the events.
+/// A refusal at the line behind those of the trace's events.
 fn refusal(trace: &Trace, fault: LineFault) -> Refusal
     ensures line { result.line ≡ length trace.now + 1 }
     ensures fault { result.fault ≡ fault }
@@ -69,7 +59,8 @@ fn end_line(alloc: Global, trace: &mut Trace, line: &mut Line) -> Result<(), Ref
     }
 }
 
-/// Reads a piece of the input, which goes on with a line that has begun.
+/// Reads a piece of the input, which goes on with the line that has begun: appends the events of the lines that end in
+/// it, and leaves what begins the next one.
 fn read_piece(
     alloc: Global,
     trace: &mut Trace,
@@ -94,7 +85,7 @@ fn read_piece(
     }
 }
 
-/// The trace at the end of the input, where the last line may have begun.
+/// The trace at the end of the input: what has begun is the last line, where it isn't empty.
 fn finish(alloc: Global, mut trace: Trace, line: &mut Line) -> Result<Trace, Refusal>
     ensures ok { IfOk result (λ whole. (bytes : List ℕ) → IsReadTo bytes trace line.old → SpellsTrace bytes whole) }
     ensures err { IfErr result (λ refusal. (bytes : List ℕ) → IsReadTo bytes trace line.old
@@ -103,13 +94,22 @@ fn finish(alloc: Global, mut trace: Trace, line: &mut Line) -> Result<Trace, Ref
     if line.bytes().is_empty() {
         return Ok(trace);
     }
-    match end_line(alloc, &mut trace, line) {
-        Ok(()) => Ok(trace),
-        Err(refusal) => Err(refusal),
-    }
+    end_line(alloc, &mut trace, line)?;
+    Ok(trace)
 }
 
-/// The events of a trace.
+/// The events that the lines of a trace spell, one event a line: reads to the end.
+///
+/// A line ends with a line feed; behind the last one there is another line where more bytes follow. At the first line
+/// that spells no event reading stops, and that line is told. TooLong, where it has more than 1,024 bytes; TooMany,
+/// where there are 2^20 lines before it; NotJson, where it is no JSON text in UTF-8; BadShape, where that is no object
+/// with exactly the members of an event, each of its type; BadNumber, where a number isn't whole, `call` is below 0, or
+/// `event` isn't the count of the lines before; BadAgent, where `agent` isn't 0 to 15; BadBytes, where the event
+/// accesses bytes or is in a critical section, and no block can have these bytes. Of several the first in this order is
+/// told. ReadFailed at the first read that answers a fault, and OutOfMemory where there is no memory for an event or for
+/// a line's tree.
+///
+/// It keeps the events, and of the input a piece of 16,384 bytes and a line.
 pub fn read_trace<R: Read>(alloc: Global, r: &mut R) -> Result<Trace, Refusal>
     ensures ok { IfOk result (λ trace. IfSome (R.remaining r.old) (λ bytes. SpellsTrace bytes trace)) }
     ensures end { OnOk result (IsAtEnd (R.remaining r.new)) }
