@@ -35,7 +35,7 @@
  * @property {number} size on how many bytes the two overlap
  */
 
-/** @typedef {boolean[][]} Relation whether the i-th event is related to the j-th: `relation[i][j]` */
+/** @typedef {Uint8Array[]} Relation whether the i-th event is related to the j-th: `relation[i][j]` is 1, and else 0 */
 
 /** @param {Event} event */
 const accesses = ({ read, write }) => read || write;
@@ -108,18 +108,18 @@ function synchronizes(events, writers, i, j) {
 function happensBefore(events, writers) {
   const isDirect = (/** @type {number} */ i, /** @type {number} */ j) =>
     i < j && (events[i].agent === events[j].agent || synchronizes(events, writers, i, j));
-  const before = events.map((_, i) => events.map((__, j) => isDirect(i, j)));
+  const before = events.map((_, i) => Uint8Array.from(events, (__, j) => (isDirect(i, j) ? 1 : 0)));
   for (let m = 0; m < events.length; m += 1) {
     for (let i = 0; i < events.length; i += 1) {
-      if (before[i][m]) addAll(before[i], before[m]);
+      if (before[i][m] === 1) addAll(before[i], before[m]);
     }
   }
   return before;
 }
 
-/** @param {boolean[]} row @param {boolean[]} more */
+/** @param {Uint8Array} row @param {Uint8Array} more */
 function addAll(row, more) {
-  for (let j = 0; j < row.length; j += 1) row[j] ||= more[j];
+  for (let j = 0; j < row.length; j += 1) row[j] |= more[j];
 }
 
 /**
@@ -133,7 +133,7 @@ function addAll(row, more) {
 function race(events, before, i, j) {
   const [one, other] = [events[i], events[j]];
   return i < j && one.agent !== other.agent && accesses(one) && accesses(other) && overlap(one, other) &&
-    (one.write || other.write) && !areAlike(one, other) && !before[i][j];
+    (one.write || other.write) && !areAlike(one, other) && before[i][j] === 0;
 }
 
 /**
@@ -148,7 +148,7 @@ function race(events, before, i, j) {
 function isDataRace(events, writers, before, i, j) {
   const [one, other] = [events[i], events[j]];
   const meet = (one.write && other.write && overlap(one, other)) || writers[j].has(i);
-  return !before[i][j] && meet && !areAlike(one, other);
+  return before[i][j] === 0 && meet && !areAlike(one, other);
 }
 
 /** @param {Event[]} events @param {number} event @returns {Side} */
@@ -165,7 +165,7 @@ function sideOf(events, event) {
  * @param {number} j
  */
 const lastSeen = (events, before, i, j) =>
-  events.findLastIndex(({ agent }, event) => agent === events[i].agent && before[event][j]);
+  events.findLastIndex(({ agent }, event) => agent === events[i].agent && before[event][j] === 1);
 
 /**
  * All races of a trace.

@@ -6,9 +6,9 @@ import { NoSabsim, differenceOf } from "./sabsim.mjs";
 // A worker has one.
 const parentPort = /** @type {import("node:worker_threads").MessagePort} */ (portOfParent);
 
-parentPort.on("message", (outcome) => {
+parentPort.on("message", (run) => {
   try {
-    parentPort.postMessage({ difference: differenceOf(workerData.path, outcome) });
+    parentPort.postMessage({ difference: differenceOf(workerData.path, run) });
   } catch (error) {
     if (!(error instanceof NoSabsim)) throw error;
     parentPort.postMessage({ missing: error.message });

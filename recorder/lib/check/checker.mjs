@@ -1,7 +1,7 @@
 // Checks that go on beside the runs. Starting a program stops the thread that does it for some milliseconds, so
 // threads of their own do it.
 
-import { Difference, NoSabsim } from "./sabsim.mjs";
+import { NoSabsim, differenceError } from "./sabsim.mjs";
 import { Thread } from "../run/thread.mjs";
 
 const CHECK_WORKER = new URL("./check-worker.mjs", import.meta.url);
@@ -27,12 +27,12 @@ export class Checker {
   }
 
   /**
-   * @param {import("./sabsim.mjs").Scripted} outcome
+   * @param {import("./sabsim.mjs").Checkable} run
    * @returns {Promise<void>} fails with a Difference where there is one
    */
-  async check(outcome) {
+  async check(run) {
     const thread = await this.#takeThread();
-    thread.post(outcome);
+    thread.post(run);
     const { message, ended } = await thread.next();
     if (ended !== undefined) {
       this.#replace();
@@ -41,7 +41,7 @@ export class Checker {
     this.#giveBack(thread);
     if (message.missing !== undefined) throw new NoSabsim(message.missing);
     const { difference } = message;
-    if (difference !== undefined) throw new Difference(difference.message, outcome, difference.replayed);
+    if (difference !== undefined) throw differenceError(run, difference);
   }
 
   /** @returns {Promise<Thread>} */

@@ -32,15 +32,15 @@ function lineOf(position, event, source) {
 
 /**
  * @param {import("./log.mjs").Log} log
- * @param {string[][]} sources the positions of each agent's code, by their numbers
+ * @param {string[][]} [sources] the positions of each agent's code, by their numbers; without, none is told
  * @returns {string}
  */
-export function traceText(log, sources) {
+export function traceText(log, sources = []) {
   const spelled = sources.map((list) => list.map((source) => JSON.stringify(source || null)));
   const lines = [];
   for (let position = 0; position < log.length; position += 1) {
     const event = log.at(position);
-    lines.push(lineOf(position, event, spelled[event.agent][event.source] ?? "null"));
+    lines.push(lineOf(position, event, spelled[event.agent]?.[event.source] ?? "null"));
   }
   return lines.join("");
 }

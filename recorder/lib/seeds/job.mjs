@@ -2,7 +2,7 @@
 
 import { Checker } from "../check/checker.mjs";
 import { Group } from "../run/group.mjs";
-import { foundSabsim } from "../check/sabsim.mjs";
+import { checkable, foundSabsim } from "../check/sabsim.mjs";
 
 /**
  * @typedef {object} CheckOptions
@@ -49,10 +49,10 @@ export class Job {
     const { checker } = this;
     const isBehind = () => checker !== undefined && checker.waiting > MOST_WAITING;
     while (this.checks.size > 0 && isBehind()) await Promise.race(this.checks);
-    await this.group.run(seeds, (outcome) => {
+    await this.group.run(seeds, (outcome, judgement) => {
       if (this.failure !== undefined) return;
       onOutcome(outcome);
-      if (checker !== undefined && outcome.script !== undefined) this.#check(checker, outcome);
+      if (checker !== undefined && outcome.script !== undefined) this.#check(checker, checkable(outcome, judgement));
     });
     if (this.failure !== undefined) throw this.failure;
   }
@@ -65,15 +65,15 @@ export class Job {
 
   /**
    * @param {Checker} checker
-   * @param {import("../run/group.mjs").Outcome} outcome of which a check needs little: the rest isn't kept for it
+   * @param {import("../check/sabsim.mjs").Checkable} run
    */
-  #check(checker, { seed, script, report }) {
-    const agreed = () => this.onCheck(seed);
+  #check(checker, run) {
+    const agreed = () => this.onCheck(run.seed);
     /** @param {unknown} failure */
     const fail = (failure) => {
       this.failure ??= failure;
     };
-    const checked = checker.check({ seed, script, report });
+    const checked = checker.check(run);
     const checking = checked.then(agreed, fail).finally(() => this.checks.delete(checking));
     this.checks.add(checking);
   }
