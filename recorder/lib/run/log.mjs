@@ -217,7 +217,8 @@ export class Log {
    * @returns {Log}
    */
   static from(events) {
-    return new Log(events.buffer, Int32Array.of(events.length / EACH), 0);
+    // A message may bring them amid other memory.
+    return new Log(events.slice().buffer, Int32Array.of(events.length / EACH), 0);
   }
 
   /**
