@@ -2,15 +2,14 @@
 // definitions alone. On rows by hand, on random traces and on the runs of known programs all say the same.
 
 import assert from "node:assert/strict";
+import { fork } from "node:child_process";
 import { readFileSync, readdirSync } from "node:fs";
 import { describe, it, test } from "node:test";
 import { checkedOptions } from "../lib/library-options.mjs";
 import { Group } from "../lib/run/group.mjs";
-import { Log } from "../lib/run/log.mjs";
-import { isRacy, racesOf } from "../lib/run/races.mjs";
 import { SABSIM, withSabsim } from "./common.mjs";
-import { start } from "./programs.mjs";
-import { randomTrace } from "./random-traces.mjs";
+import { detected, detectedPairs } from "./detected.mjs";
+import { pathOf, start } from "./programs.mjs";
 import { seedsTo } from "./recorded.mjs";
 import { eventsOfTrace, slowJudge } from "./slow-judge.mjs";
 import { jsonText, plainText, statusOf } from "./verdict-texts.mjs";
@@ -20,31 +19,22 @@ const KNOWN = new URL("./known/", import.meta.url);
 const LEAST_ROWS = 20;
 const RANDOM = 5_000;
 const KNOWN_SEEDS = 5;
+// A spin's trace is as long as the run may be, and the slow judge is slow.
+const KNOWN_MOVES = 1_500;
 
-// How many programs run at a time: to start one takes longer than to judge a short trace.
-const LANES = 8;
+// To start a program takes longer than to judge a short trace, so several processes do it.
+const PROCESSES = 4;
 
 /** The names of a folder's files with an ending, without it. @param {URL} folder @param {string} ending */
 const namesIn = (folder, ending) =>
   readdirSync(folder).filter((name) => name.endsWith(ending)).map((name) => name.slice(0, -ending.length));
 
-/** Does something for each item of a list, for some at a time. */
-async function inLanes(items, act) {
-  const left = items.values();
-  const lane = async () => {
-    for (const item of left) await act(item);
-  };
-  await Promise.all(Array.from({ length: LANES }, lane));
-}
-
 /** What `sabsim judge --trace` says. @param {string} trace @param {string[]} [words] */
 const judgedBySabsim = (trace, words = []) => start(SABSIM, ["judge", "--trace", ...words], trace).ended;
 
 /** Sabsim says of a trace what it must, in words or as JSON. */
-async function demandOfSabsim(trace, words, { output, status }, name) {
-  const told = await judgedBySabsim(trace, words);
-  const expected = { status, signal: null, output, errors: "" };
-  assert.deepEqual(told, expected, name);
+async function demandOfSabsim(trace, words, expected) {
+  assert.deepEqual(await judgedBySabsim(trace, words), { signal: null, errors: "", ...expected });
 }
 
 describe("rows by hand", () => {
@@ -61,7 +51,9 @@ describe("rows by hand", () => {
     const verdict = read(`${name}.verdict`);
     const judged = slowJudge(eventsOfTrace(trace));
     it(`${name}, by the slow judge`, () => assert.equal(plainText(judged), verdict));
-    it(`${name}, by the recorder's detector`, () => demandOfDetector(trace, judged));
+    it(`${name}, by the recorder's detector`, () => {
+      assert.deepEqual(detected(eventsOfTrace(trace)), detectedPairs(judged));
+    });
     it(`${name}, by sabsim`, withSabsim, async () => {
       const status = statusOf(judged);
       await demandOfSabsim(trace, [], { output: verdict, status });
@@ -71,40 +63,32 @@ describe("rows by hand", () => {
   }
 });
 
-/** The recorder's own detector finds just the races that there are, where each access has a line of its own. */
-function demandOfDetector(trace, { races }, name) {
-  const events = eventsOfTrace(trace);
-  const agents = 1 + Math.max(-1, ...events.map(({ agent }) => agent));
-  const log = Log.of(events.map((event, position) => ({ ...event, source: position + 1 })));
-  const told = racesOf(log, agents).map(({ one, other }) => [one, other]);
-  const inOrder = told.sort(([one, later], [other, latest]) => later - latest || one - other);
-  assert.deepEqual(inOrder, races.map(({ first, second }) => [first.event, second.event]), name);
-  assert.equal(isRacy(log, agents), races.length > 0, name);
-}
-
-test(`the recorder's detector and the slow judge agree on ${RANDOM} random traces`, () => {
-  let racy = 0;
-  for (const seed of seedsTo(RANDOM)) {
-    const trace = randomTrace(seed);
-    const judged = slowJudge(eventsOfTrace(trace));
-    demandOfDetector(trace, judged, `seed ${seed}`);
-    racy += judged.races.length > 0 ? 1 : 0;
-  }
-  assert.ok(racy > RANDOM / 4 && racy < RANDOM * 3 / 4, `${racy} of them are racy`);
+/** What a process finds of the random traces from a seed on. @param {number} first */
+const foundFrom = (first) => new Promise((done) => {
+  const words = [first, RANDOM, PROCESSES].map(String);
+  const child = fork(pathOf("recorder/tests/judge-process.mjs"), withSabsim.skip ? words : [...words, SABSIM]);
+  const found = { seeds: 0, racy: 0, differing: [] };
+  child.on("message", ({ isRacy, differing }) => {
+    found.seeds += 1;
+    if (isRacy) found.racy += 1;
+    if (differing !== undefined) found.differing.push(differing);
+  });
+  child.on("exit", () => done(found));
 });
 
-test(`sabsim and the slow judge agree on ${RANDOM} random traces`, withSabsim, async () => {
-  await inLanes(seedsTo(RANDOM), async (seed) => {
-    const trace = randomTrace(seed);
-    const judged = slowJudge(eventsOfTrace(trace));
-    const expected = { output: jsonText(judged), status: statusOf(judged) };
-    await demandOfSabsim(trace, ["--format", "json"], expected, `seed ${seed}`);
-  });
+test(`sabsim, the recorder's detector and the slow judge agree on ${RANDOM} random traces`, async () => {
+  const found = await Promise.all(seedsTo(PROCESSES).map(foundFrom));
+  const [first] = found.flatMap(({ differing }) => differing).sort((one, other) => one.seed - other.seed);
+  assert.deepEqual(first?.said, first?.expected, `seed ${first?.seed}`);
+  const sum = (name) => found.reduce((all, { [name]: part }) => all + part, 0);
+  assert.equal(sum("seeds"), RANDOM);
+  assert.ok(sum("racy") > RANDOM / 4 && sum("racy") < RANDOM * 3 / 4, `${sum("racy")} of them are racy`);
 });
 
 /** Runs of a known program, with their traces. @param {string} name */
 async function runsOf(name) {
-  const options = checkedOptions({ module: new URL(`${name}.mjs`, KNOWN), trace: true, seconds: 5 }, () => undefined);
+  const module = new URL(`${name}.mjs`, KNOWN);
+  const options = checkedOptions({ module, trace: true, seconds: 5, maxMoves: KNOWN_MOVES }, () => undefined);
   const group = await Group.open({ ...options, fresh: false });
   const outcomes = [];
   try {
@@ -135,7 +119,7 @@ function demandOfRun({ seed, races, trace }) {
   assert.deepEqual(later, toldSide(events[slow.second.event]), `seed ${seed}`);
 }
 
-describe("runs of known programs race where the slow judge says so", { concurrency: 2 }, () => {
+describe("runs of known programs race where the slow judge says so", { concurrency: 3 }, () => {
   for (const name of namesIn(KNOWN, ".mjs")) {
     it(name, async () => {
       const outcomes = await runsOf(name);
