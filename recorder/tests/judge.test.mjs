@@ -63,6 +63,15 @@ describe("rows by hand", () => {
   }
 });
 
+test("what is no event's line is refused, and it is said which line", withSabsim, async () => {
+  const trace = readFileSync(new URL("mutex.jsonl", ROWS), "utf8");
+  const lines = trace.split("\n");
+  for (const line of ['{"event":1}', "[]"]) {
+    const { status, output, errors } = await judgedBySabsim(lines.with(1, line).join("\n"));
+    assert.deepEqual([status, output, errors], [1, "", "sabsim: 10 BadShape: line 2\n"]);
+  }
+});
+
 /** What a process finds of the random traces from a seed on. @param {number} first */
 const foundFrom = (first) => new Promise((done) => {
   const words = [first, RANDOM, PROCESSES].map(String);

@@ -167,7 +167,8 @@ export class Summary {
     if (this.checked === 0) return ["no run was checked"];
     const same = `${counted(this.checked, "run")} checked: sabsim says the same`;
     if (this.ordinary !== "watch") return [same];
-    return [same, `of data races in ${this.checked === 1 ? "it" : "them"} sabsim's judge, which is proved, says the same`];
+    const which = this.checked === 1 ? "it" : "them";
+    return [same, `of data races in ${which} sabsim's judge, which is proved, says the same`];
   }
 
   #scriptLines() {

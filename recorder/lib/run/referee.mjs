@@ -297,7 +297,7 @@ const namesOf = (each) =>
   each.list().map((/** @type {string} */ place) => (place === "" ? "" : sourceName(place, options.module)));
 
 /**
- * How the races of the run that was made last were judged here, where its script is told too and so both can be checked.
+ * How the races of the run that was made last were judged here, where its script is told, so that both can be checked.
  * @param {Outcome} outcome
  * @param {Made} found
  * @returns {Judgement | undefined}

@@ -13,6 +13,9 @@ import { checkable, foundSabsim } from "../check/sabsim.mjs";
 // How many checks may wait before more runs are made.
 const MOST_WAITING = 64;
 
+// How many words of events checks may hold by then.
+const MOST_WORDS = 2 ** 24;
+
 export class Job {
   /**
    * @param {import("../run/group.mjs").GroupOptions & CheckOptions} options
@@ -35,6 +38,8 @@ export class Job {
     this.onCheck = onCheck;
     /** @type {Set<Promise<void>>} */
     this.checks = new Set();
+    /** How many words of events these hold. */
+    this.words = 0;
     /** @type {unknown} */
     this.failure = undefined;
   }
@@ -47,7 +52,7 @@ export class Job {
    */
   async run(seeds, onOutcome) {
     const { checker } = this;
-    const isBehind = () => checker !== undefined && checker.waiting > MOST_WAITING;
+    const isBehind = () => checker !== undefined && (checker.waiting > MOST_WAITING || this.words > MOST_WORDS);
     while (this.checks.size > 0 && isBehind()) await Promise.race(this.checks);
     await this.group.run(seeds, (outcome, judgement) => {
       if (this.failure !== undefined) return;
@@ -73,8 +78,12 @@ export class Job {
     const fail = (failure) => {
       this.failure ??= failure;
     };
-    const checked = checker.check(run);
-    const checking = checked.then(agreed, fail).finally(() => this.checks.delete(checking));
+    const words = run.judgement?.events.length ?? 0;
+    const checking = checker.check(run).then(agreed, fail).finally(() => {
+      this.checks.delete(checking);
+      this.words -= words;
+    });
     this.checks.add(checking);
+    this.words += words;
   }
 }
