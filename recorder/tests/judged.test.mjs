@@ -146,6 +146,13 @@ describe("the judge of checked runs", withSabsim, () => {
     assert.match(stderr.trimEnd(), told);
   });
 
+  it("is asked by a process of its own; where that is ended, it is told", (context) => {
+    const folder = temporaryFolder(context);
+    const { status, stderr } = run(agentsPath("cases"), "--sabsim", judging(folder, "kill -9 $PPID"), ...addition);
+    assert.equal(status, 3);
+    assert.match(stderr, /a check's process ended: SIGKILL$/m);
+  });
+
   it("isn't asked of a run that isn't checked", (context) => {
     const folder = temporaryFolder(context);
     const words = ["--sabsim", judging(folder, FINDS_ONE), "--check", "0", ...addition];
