@@ -37,6 +37,8 @@ export const HOW_TO_BUILD = "`./build`, in the root of the repository, builds sa
 // The longest report has 100,000 lines, and the bytes of four blocks.
 const MOST_OUTPUT = 2 ** 26;
 const MOST_MILLISECONDS = 60_000;
+// The longest trace has a million lines.
+const MOST_JUDGING_MILLISECONDS = 600_000;
 
 // How the program ends: refused words of its command line, races found.
 const REFUSED_WORDS = 2;
@@ -113,11 +115,12 @@ export function sabsimFor({ path, isAsked }) {
  * @param {string} path
  * @param {string[]} words of its command line
  * @param {string} input
+ * @param {number} [timeout] how many milliseconds it may take
  * @returns {{ status: number | null, output: string, errors: string }}
  */
-export function sabsim(path, words, input) {
+export function sabsim(path, words, input, timeout = MOST_MILLISECONDS) {
   const encoding = /** @type {const} */ ("utf8");
-  const options = { input, encoding, maxBuffer: MOST_OUTPUT, timeout: MOST_MILLISECONDS };
+  const options = { input, encoding, maxBuffer: MOST_OUTPUT, timeout };
   const { error, status, stdout, stderr } = spawnSync(path, words, options);
   // A program that ends before it has read all is told of by its status.
   if (error !== undefined && error.code !== "EPIPE") throw new NoSabsim(`${path} can't be run: ${error.message}`);
@@ -179,7 +182,7 @@ function replayDifference(path, { seed, script, report }) {
  */
 function raceDifference(path, seed, replayed, { racy, events, told }) {
   const trace = traceText(Log.from(events));
-  const { status, output, errors } = sabsim(path, ["judge", "--trace"], trace);
+  const { status, output, errors } = sabsim(path, ["judge", "--trace"], trace, MOST_JUDGING_MILLISECONDS);
   if (status === REFUSED_WORDS) {
     throw new NoSabsim(`${path} can't judge data races, so it is older than the recorder: ${HOW_TO_BUILD}`);
   }
