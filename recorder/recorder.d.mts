@@ -18,10 +18,13 @@ export class NoSabsim extends Error {}
 
 /** What the code saw isn't what sabsim says: a defect of one of them. The message has both sides. */
 export class Difference extends Error {
-  constructor(message: string, outcome: Difference["outcome"], replayed: string);
-  outcome: Pick<Outcome, "seed" | "script" | "report">;
-  /** What sabsim wrote. */
+  constructor(message: string, outcome: Difference["outcome"], replayed: string, judged?: string);
+  /** It has its trace where its data races are what differs. */
+  outcome: Pick<Outcome, "seed" | "script" | "report" | "trace">;
+  /** The report that sabsim wrote. */
   replayed: string;
+  /** What sabsim says of its data races, where these are what differs. */
+  judged?: string;
 }
 
 export interface RecordOptions {
@@ -101,7 +104,7 @@ export interface Outcome {
   report?: string;
   /** Each event as an object of JSON, a line each. */
   trace?: string;
-  /** Whether sabsim has replayed the run, and said the same. */
+  /** Whether sabsim has replayed the run and judged its data races, and said the same. */
   checked: boolean;
   /** Why it hasn't. */
   unchecked?: string;

@@ -1,6 +1,6 @@
 // The recorder as a library.
 
-import { HOW_TO_BUILD, check as checkWithSabsim, sabsimFor, sabsimPlaces } from "./check/sabsim.mjs";
+import { HOW_TO_BUILD, check as checkWithSabsim, checkable, sabsimFor, sabsimPlaces } from "./check/sabsim.mjs";
 import { checkedOptions } from "./library-options.mjs";
 import { folderOfCaller } from "./module-url.mjs";
 import { Group } from "./run/group.mjs";
@@ -14,7 +14,7 @@ export { moduleUrl } from "./module-url.mjs";
 
 /**
  * @typedef {object} Check
- * @property {boolean} checked whether sabsim has replayed the run, and said the same
+ * @property {boolean} checked whether sabsim has replayed the run and judged its data races, and said the same
  * @property {string} [unchecked] why it hasn't
  */
 
@@ -32,13 +32,13 @@ export async function record(options) {
   const sabsim = isLeftOut ? undefined : sabsimFor({ path, isAsked: asked === true });
   const group = await Group.open({ ...rest, fresh: false });
   try {
-    /** @type {import("./run/group.mjs").Outcome[]} */
-    const outcomes = [];
-    await group.run([{ seed, whole: true }], (only) => void outcomes.push(only));
-    const [outcome] = outcomes;
+    /** @type {Parameters<Parameters<Group["run"]>[1]>[]} */
+    const runs = [];
+    await group.run([{ seed, whole: true }], (...only) => void runs.push(only));
+    const [[outcome, judgement]] = runs;
     const unchecked = whyUnchecked(isLeftOut, sabsim, outcome);
     if (unchecked !== undefined || sabsim === undefined) return { ...outcome, checked: false, unchecked };
-    checkWithSabsim(sabsim, outcome);
+    checkWithSabsim(sabsim, checkable(outcome, judgement));
     return { ...outcome, checked: true };
   } finally {
     await group.close();

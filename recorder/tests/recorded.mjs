@@ -1,7 +1,7 @@
-// Runs of one program under several seeds, by one group of workers, each told whole and replayed by sabsim.
+// Runs of one program under several seeds, by one group of workers, each told whole, and replayed and judged by sabsim.
 
 import { readFileSync } from "node:fs";
-import { check as checkWithSabsim } from "../lib/check/sabsim.mjs";
+import { check as checkWithSabsim, checkable } from "../lib/check/sabsim.mjs";
 import { Summary } from "../lib/command/summary.mjs";
 import { checkedOptions } from "../lib/library-options.mjs";
 import { Group } from "../lib/run/group.mjs";
@@ -16,16 +16,16 @@ import { SABSIM, agentsPath } from "./common.mjs";
  */
 export async function recorded(options, seeds = [1]) {
   const group = await Group.open({ ...checkedOptions({ seconds: 5, ...options }, () => undefined), fresh: false });
-  const outcomes = [];
+  const runs = [];
   try {
-    await group.run(seeds.map((seed) => ({ seed, whole: true })), (outcome) => outcomes.push(outcome));
+    await group.run(seeds.map((seed) => ({ seed, whole: true })), (...run) => runs.push(run));
   } finally {
     await group.close();
   }
-  for (const outcome of outcomes) {
-    if (outcome.script !== undefined) checkWithSabsim(SABSIM, outcome);
+  for (const [outcome, judgement] of runs) {
+    if (outcome.script !== undefined) checkWithSabsim(SABSIM, checkable(outcome, judgement));
   }
-  return outcomes;
+  return runs.map(([outcome]) => outcome);
 }
 
 /** The seeds from 1 to a last one. @param {number} last */

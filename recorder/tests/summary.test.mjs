@@ -59,6 +59,7 @@ test("a summary tells first what failed, and it is the same in whatever order th
     "  1 run deadlock, seed 191 the first: 0800",
     "  185 runs finished, seed 1 the first: 0900",
     "28 runs checked: sabsim says the same",
+    "of data races in them sabsim's judge, which is proved, says the same",
     // 185 times 40 and 9 times 2; 185 times 5.
     "194 runs made 7,418 calls of Atomics, and 925 ordinary reads and writes",
   ];
@@ -144,7 +145,8 @@ test("scripts that hold a part, and runs that have none, are told", () => {
     "first failing seed: 4, bound", "  it is too long", "  it has no script: it would have 2,000 calls",
   ]);
   const checked = lines.indexOf("1 run checked: sabsim says the same");
-  assert.deepEqual(lines.slice(checked + 1, checked + 3), [
+  assert.deepEqual(lines.slice(checked + 1, checked + 4), [
+    "of data races in it sabsim's judge, which is proved, says the same",
     "2 scripts hold only the ordinary writes of bytes that calls touch, since all don't fit; their other bytes " +
       "weren't compared",
     "1 run has no script, and wasn't checked: it would have 2,000 calls",

@@ -51,6 +51,7 @@ declare namespace NodeJS {
     readonly stdin: Input;
     readonly stdout: Output;
     exitCode?: number;
+    exit(): never;
     hrtime: HighResolutionTime;
     uptime(): number;
     cwd(): string;
@@ -150,6 +151,7 @@ declare module "node:child_process" {
   interface ForkOptions {
     stdio: string[];
     execArgv: string[];
+    env?: Record<string, string | undefined>;
     serialization: "advanced" | "json";
     detached: boolean;
     windowsHide: boolean;
@@ -168,6 +170,7 @@ declare module "node:child_process" {
   }
   export type ChildProcess = Child;
   export function fork(program: string, options: ForkOptions): Child;
+  export function fork(program: string, words: string[], options: ForkOptions): Child;
   export function spawn(program: string, words: string[], options: { stdio: "inherit" }): Child;
   export function spawnSync(program: string, words: string[], options: SyncOptions): SyncEnd;
   const all: object;

@@ -1,23 +1,69 @@
-// Checks that go on beside the runs. Starting a program stops the thread that does it for some milliseconds, so
-// threads of their own do it.
+// Checks that go on beside the runs, in processes of their own. The more memory a process has, the longer it takes to
+// start a program, and a job's process has much.
 
-import { Difference, NoSabsim } from "./sabsim.mjs";
-import { Thread } from "../run/thread.mjs";
+import { fork } from "node:child_process";
+import { fileURLToPath } from "node:url";
+import { NoSabsim, differenceError } from "./sabsim.mjs";
 
-const CHECK_WORKER = new URL("./check-worker.mjs", import.meta.url);
+/** @typedef {import("./sabsim.mjs").Checkable} Checkable */
 
-// More don't make it faster: starting programs takes turns inside one process.
-const MOST_THREADS = 2;
+/**
+ * @typedef {object} Answer of a check's process
+ * @property {import("./sabsim.mjs").Differing} [difference] undefined: sabsim says the same
+ * @property {string} [missing] why sabsim can't be asked
+ * @property {string} [ended] why the process is no more
+ */
+
+const PROGRAM = fileURLToPath(new URL("./check-process.mjs", import.meta.url));
+
+// More hardly make it faster, since the runs take their time too.
+const MOST_PROCESSES = 2;
+
+/** A process that checks one run at a time. */
+class CheckProcess {
+  /** @param {string} path of sabsim */
+  constructor(path) {
+    const stdio = ["ignore", "inherit", "inherit", "ipc"];
+    // What node's own words load is for agents alone.
+    const env = { ...process.env, NODE_OPTIONS: "" };
+    const options = { execArgv: [], env, serialization: /** @type {const} */ ("advanced"), windowsHide: true };
+    // It is of the same group of processes, and so ends with a job that is ended.
+    this.child = fork(PROGRAM, [path], { ...options, stdio, detached: false });
+    /** @type {string | undefined} */
+    this.ended = undefined;
+    /** @type {(answer: Answer) => void} what is done with the answer to what is asked */
+    this.tell = () => {};
+    this.child.on("message", (answer) => this.tell(answer));
+    this.child.on("exit", (code, signal) => this.#end(signal ?? `status ${code}`));
+    this.child.on("error", (error) => this.#end(error.message));
+  }
+
+  /** @param {Checkable} run @returns {Promise<Answer>} */
+  ask(run) {
+    return new Promise((done) => {
+      this.tell = done;
+      // Where it can't be sent, the process is about to end, and its exit tells it.
+      if (this.ended === undefined) this.child.send(run, () => {});
+      else done({ ended: this.ended });
+    });
+  }
+
+  /** @param {string} why */
+  #end(why) {
+    this.ended = why;
+    this.tell({ ended: why });
+  }
+}
 
 export class Checker {
   /** @param {string} path of sabsim */
   constructor(path) {
     this.path = path;
-    /** How many there are. */
-    this.threads = 0;
-    /** @type {Thread[]} */
+    /** How many processes there are. */
+    this.processes = 0;
+    /** @type {CheckProcess[]} */
     this.idle = [];
-    /** @type {((thread: Thread) => void)[]} */
+    /** @type {((process: CheckProcess) => void)[]} */
     this.queue = [];
   }
 
@@ -27,49 +73,47 @@ export class Checker {
   }
 
   /**
-   * @param {import("./sabsim.mjs").Scripted} outcome
+   * @param {Checkable} run
    * @returns {Promise<void>} fails with a Difference where there is one
    */
-  async check(outcome) {
-    const thread = await this.#takeThread();
-    thread.post(outcome);
-    const { message, ended } = await thread.next();
+  async check(run) {
+    const checking = await this.#taken();
+    const { difference, missing, ended } = await checking.ask(run);
     if (ended !== undefined) {
       this.#replace();
-      throw new Error(`a check's worker failed: ${ended}`);
+      throw new Error(`a check's process ended: ${ended}`);
     }
-    this.#giveBack(thread);
-    if (message.missing !== undefined) throw new NoSabsim(message.missing);
-    const { difference } = message;
-    if (difference !== undefined) throw new Difference(difference.message, outcome, difference.replayed);
+    this.#giveBack(checking);
+    if (missing !== undefined) throw new NoSabsim(missing);
+    if (difference !== undefined) throw differenceError(run, difference);
   }
 
-  /** @returns {Promise<Thread>} */
-  #takeThread() {
+  /** @returns {Promise<CheckProcess>} */
+  #taken() {
     const idle = this.idle.pop();
     if (idle !== undefined) return Promise.resolve(idle);
-    if (this.threads < MOST_THREADS) return Promise.resolve(this.#started());
+    if (this.processes < MOST_PROCESSES) return Promise.resolve(this.#started());
     return new Promise((take) => {
       this.queue.push(take);
     });
   }
 
-  /** @returns {Thread} */
+  /** @returns {CheckProcess} */
   #started() {
-    this.threads += 1;
-    return new Thread(CHECK_WORKER, { path: this.path });
+    this.processes += 1;
+    return new CheckProcess(this.path);
   }
 
-  /** Starts another thread for one that has ended, where a check waits for it. */
+  /** Starts another process for one that has ended, where a check waits for it. */
   #replace() {
-    this.threads -= 1;
+    this.processes -= 1;
     if (this.queue.length > 0) this.#giveBack(this.#started());
   }
 
-  /** @param {Thread} thread */
-  #giveBack(thread) {
+  /** @param {CheckProcess} free */
+  #giveBack(free) {
     const next = this.queue.shift();
-    if (next === undefined) this.idle.push(thread);
-    else next(thread);
+    if (next === undefined) this.idle.push(free);
+    else next(free);
   }
 }

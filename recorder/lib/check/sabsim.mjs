@@ -1,12 +1,32 @@
-// The second side of every check: `sabsim replay`, run on the script of a run.
+// The second side of every check: `sabsim replay`, run on the script of a run, and `sabsim judge`, run on its trace.
 
 import { spawnSync } from "node:child_process";
 import { accessSync, constants, statSync } from "node:fs";
 import { firstDifference } from "../../script/report.mjs";
 import { programPath } from "../program.mjs";
+import { Log } from "../run/log.mjs";
+import { traceText } from "../run/trace.mjs";
 
 /** @typedef {import("../run/group.mjs").Outcome} Outcome */
-/** @typedef {Pick<Outcome, "seed" | "script" | "report">} Scripted what a check needs of an outcome */
+/** @typedef {import("../run/group.mjs").Judgement} Judgement */
+/** @typedef {Pick<Outcome, "seed" | "script" | "report" | "trace">} Scripted what is told of an outcome that differs */
+
+/**
+ * @typedef {object} Checkable what a check needs of a run
+ * @property {number} seed
+ * @property {string} script
+ * @property {string} report
+ * @property {Judgement & { told: string }} [judgement] how its data races were judged, with what is told of the first
+ * one; undefined: they weren't
+ */
+
+/**
+ * @typedef {object} Differing how both sides differ
+ * @property {string} message
+ * @property {string} replayed what `sabsim replay` wrote
+ * @property {string} [judged] what `sabsim judge` wrote
+ * @property {string} [trace] that it was given
+ */
 
 /** Where the program lies: in the package, or where the repository builds it. */
 export const DEFAULT_SABSIM = programPath();
@@ -17,6 +37,12 @@ export const HOW_TO_BUILD = "`./build`, in the root of the repository, builds sa
 // The longest report has 100,000 lines, and the bytes of four blocks.
 const MOST_OUTPUT = 2 ** 26;
 const MOST_MILLISECONDS = 60_000;
+// The longest trace has a million lines.
+const MOST_JUDGING_MILLISECONDS = 600_000;
+
+// How the program ends: refused words of its command line, races found.
+const REFUSED_WORDS = 2;
+const FOUND_RACES = 5;
 
 /** The program isn't there, or can't be run. */
 export class NoSabsim extends Error {}
@@ -25,13 +51,15 @@ export class NoSabsim extends Error {}
 export class Difference extends Error {
   /**
    * @param {string} message both sides
-   * @param {Scripted} outcome with its script and report
-   * @param {string} replayed what sabsim wrote
+   * @param {Scripted} outcome with its script and report, and with its trace where its data races are what differs
+   * @param {string} replayed the report that sabsim wrote
+   * @param {string} [judged] what sabsim says of its data races, where these are what differs
    */
-  constructor(message, outcome, replayed) {
+  constructor(message, outcome, replayed, judged) {
     super(message);
     this.outcome = outcome;
     this.replayed = replayed;
+    this.judged = judged;
   }
 }
 
@@ -87,11 +115,12 @@ export function sabsimFor({ path, isAsked }) {
  * @param {string} path
  * @param {string[]} words of its command line
  * @param {string} input
+ * @param {number} [timeout] how many milliseconds it may take
  * @returns {{ status: number | null, output: string, errors: string }}
  */
-export function sabsim(path, words, input) {
+export function sabsim(path, words, input, timeout = MOST_MILLISECONDS) {
   const encoding = /** @type {const} */ ("utf8");
-  const options = { input, encoding, maxBuffer: MOST_OUTPUT, timeout: MOST_MILLISECONDS };
+  const options = { input, encoding, maxBuffer: MOST_OUTPUT, timeout };
   const { error, status, stdout, stderr } = spawnSync(path, words, options);
   // A program that ends before it has read all is told of by its status.
   if (error !== undefined && error.code !== "EPIPE") throw new NoSabsim(`${path} can't be run: ${error.message}`);
@@ -99,12 +128,35 @@ export function sabsim(path, words, input) {
 }
 
 /**
+ * What a check needs of an outcome.
+ * @param {Outcome} outcome that has a script
+ * @param {Judgement} [judgement]
+ * @returns {Checkable}
+ */
+export function checkable({ seed, script = "", report = "", races }, judgement) {
+  if (judgement === undefined) return { seed, script, report };
+  const found = races.length > 0 ? races[0].text : "a data race";
+  return { seed, script, report, judgement: { ...judgement, told: judgement.racy ? found : "no data race" } };
+}
+
+/**
+ * Replays a run, and has its data races judged.
+ * @param {string} path of sabsim
+ * @param {Checkable} run
+ * @returns {Differing | undefined} how the code or the recorder and sabsim differ, if they do
+ */
+export function differenceOf(path, run) {
+  const { seed, report, judgement } = run;
+  return replayDifference(path, run) ?? (judgement && raceDifference(path, seed, report, judgement));
+}
+
+/**
  * Replays a run, and compares every answer, how far each agent came, and the bytes at the end.
  * @param {string} path of sabsim
- * @param {Scripted} outcome with its script and report
- * @returns {{ message: string, replayed: string } | undefined} how they differ
+ * @param {Checkable} run
+ * @returns {Differing | undefined}
  */
-export function differenceOf(path, { seed, script = "", report = "" }) {
+function replayDifference(path, { seed, script, report }) {
   const { status, output, errors } = sabsim(path, ["replay"], script);
   if (status !== 0) {
     const message = `seed ${seed}: sabsim ended with status ${status} on the script: ${errors.trim()}`;
@@ -121,12 +173,48 @@ export function differenceOf(path, { seed, script = "", report = "" }) {
 }
 
 /**
- * The same, in this thread.
+ * Has the data races of a run judged, by the events that the recorder judged them by.
+ * @param {string} path of sabsim
+ * @param {number} seed
+ * @param {string} replayed what sabsim has written of the run before
+ * @param {Judgement & { told: string }} judgement the recorder's
+ * @returns {Differing | undefined} how they differ, where one of both says that there is a race
+ */
+function raceDifference(path, seed, replayed, { racy, events, told }) {
+  const trace = traceText(Log.from(events));
+  const { status, output, errors } = sabsim(path, ["judge", "--trace"], trace, MOST_JUDGING_MILLISECONDS);
+  if (status === REFUSED_WORDS) {
+    throw new NoSabsim(`${path} can't judge data races, so it is older than the recorder: ${HOW_TO_BUILD}`);
+  }
+  if (status === (racy ? FOUND_RACES : 0)) return undefined;
+  if (status !== 0 && status !== FOUND_RACES) {
+    const message = `seed ${seed}: sabsim ended with status ${status} on the trace: ${errors.trim()}`;
+    return { message, replayed, judged: output, trace };
+  }
+  const message = [
+    `seed ${seed}: the recorder and sabsim differ on data races`,
+    `  the recorder: ${told}`,
+    `  sabsim:       ${output.split("\n", 1)[0]}`,
+  ].join("\n");
+  return { message, replayed, judged: output, trace };
+}
+
+/**
+ * The error that tells of a difference.
+ * @param {Checkable} run
+ * @param {Differing} difference
+ */
+export function differenceError({ seed, script, report }, { message, replayed, judged, trace }) {
+  return new Difference(message, { seed, script, report, trace }, replayed, judged);
+}
+
+/**
+ * Checks a run in this thread.
  * @param {string} path
- * @param {Scripted} outcome with its script and report
+ * @param {Checkable} run
  * @throws {Difference}
  */
-export function check(path, outcome) {
-  const difference = differenceOf(path, outcome);
-  if (difference !== undefined) throw new Difference(difference.message, outcome, difference.replayed);
+export function check(path, run) {
+  const difference = differenceOf(path, run);
+  if (difference !== undefined) throw differenceError(run, difference);
 }

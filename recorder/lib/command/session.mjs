@@ -75,8 +75,9 @@ export class Session {
   #keepMore(stopped) {
     if (this.keeper === undefined) return;
     if (stopped instanceof Difference) {
-      const { outcome: { seed, script, report }, replayed } = stopped;
-      this.keeper.keepAll(seed, { json: script, report, "sabsim-report": replayed });
+      const { outcome: { seed, script, report, trace }, replayed, judged } = stopped;
+      const theirs = { "sabsim-report": replayed, "sabsim-verdict": judged };
+      this.keeper.keepAll(seed, { json: script, report, "trace.jsonl": trace, ...theirs });
     } else if (this.keeper.seed !== undefined) {
       this.#keepPictures(this.keeper, this.summary.failing);
     }

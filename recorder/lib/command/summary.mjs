@@ -165,7 +165,10 @@ export class Summary {
   #checkLines() {
     if (this.missing !== undefined) return uncheckedLines(this.missing);
     if (this.checked === 0) return ["no run was checked"];
-    return [`${counted(this.checked, "run")} checked: sabsim says the same`];
+    const same = `${counted(this.checked, "run")} checked: sabsim says the same`;
+    if (this.ordinary !== "watch") return [same];
+    const which = this.checked === 1 ? "it" : "them";
+    return [same, `of data races in ${which} sabsim's judge, which is proved, says the same`];
   }
 
   #scriptLines() {

@@ -42,6 +42,13 @@ import { Thread } from "./thread.mjs";
  * @property {boolean} whole whether answers, script and report are told even of a run that finishes
  */
 
+/**
+ * @typedef {object} Judgement how the recorder has judged the data races of a run, and by what; told beside an outcome
+ * that has a script, where ordinary accesses are watched
+ * @property {boolean} racy whether it has found any
+ * @property {Int32Array} events those of the run's log
+ */
+
 /** @typedef {(buffers: SharedArrayBuffer[], about: { agents: number, args: string[] }) => unknown} OfBuffers */
 
 /**
@@ -156,7 +163,7 @@ export class Group {
   /**
    * Makes a run for each seed, in their order.
    * @param {Wanted[]} seeds
-   * @param {(outcome: Outcome) => void} onOutcome
+   * @param {(outcome: Outcome, judgement?: Judgement) => void} onOutcome
    */
   async run(seeds, onOutcome) {
     const referee = started(this.referee);
@@ -165,7 +172,7 @@ export class Group {
       const { message, ended } = await referee.next();
       if (ended !== undefined) throw new Error(`the referee's worker failed: ${ended}`);
       if (message.finished) return;
-      if (message.outcome) onOutcome(message.outcome);
+      if (message.outcome) onOutcome(message.outcome, message.judgement);
       if (message.replace) {
         await Promise.all(message.replace.map((/** @type {number} */ agent) => this.#replace(agent)));
         referee.post({ replaced: true });

@@ -59,7 +59,7 @@ export class Log {
   }
 
   /**
-   * @param {SharedArrayBuffer} memory
+   * @param {ArrayBufferLike} memory
    * @param {Int32Array} words in which one tells how many events there are
    * @param {number} count the position of that word
    */
@@ -204,6 +204,21 @@ export class Log {
       offset: events[at + OFFSET],
       length: events[at + LENGTH],
     };
+  }
+
+  /** @returns {Int32Array} all events, in memory of their own, which the next run leaves as it is */
+  taken() {
+    return this.events.slice(0, this.length * EACH);
+  }
+
+  /**
+   * A log of events that were taken from one.
+   * @param {Int32Array} events
+   * @returns {Log}
+   */
+  static from(events) {
+    // A message may bring them amid other memory.
+    return new Log(events.slice().buffer, Int32Array.of(events.length / EACH), 0);
   }
 
   /**

@@ -21,6 +21,7 @@ import { traceText } from "./trace.mjs";
 import { ownCalls, transcriptOf, waitingText } from "./transcript.mjs";
 
 /** @typedef {import("./group.mjs").Outcome} Outcome */
+/** @typedef {import("./group.mjs").Judgement} Judgement */
 
 /**
  * @typedef {object} Made what a run came to, before it is told
@@ -296,9 +297,19 @@ const namesOf = (each) =>
   each.list().map((/** @type {string} */ place) => (place === "" ? "" : sourceName(place, options.module)));
 
 /**
+ * How the races of the run that was made last were judged here, where its script is told, so that both can be checked.
+ * @param {Outcome} outcome
+ * @param {Made} found
+ * @returns {Judgement | undefined}
+ */
+function judgementOf({ script }, { racy }) {
+  return script === undefined || options.ordinary !== "watch" ? undefined : { racy, events: log.taken() };
+}
+
+/**
  * The outcome of a seed.
  * @param {import("./group.mjs").Wanted} wanted
- * @returns {Promise<Outcome>}
+ * @returns {Promise<{ outcome: Outcome, judgement?: Judgement }>}
  */
 async function outcomeOf({ seed, whole }) {
   let hasSources = tellsNext;
@@ -313,16 +324,18 @@ async function outcomeOf({ seed, whole }) {
   found = await judged(found);
   const outcome = briefly(seed, found);
   if (whole || outcome.fails) tellWhole(outcome, found);
+  // Here the log has all events: one with lines of code, in a run that is made once more, may lack some reads.
+  const judgement = judgementOf(outcome, found);
   await replaced(options.fresh ? agents : found.gone);
   await addSources(outcome, found, hasSources);
   if (outcome.ending === "race") outcome.detail = outcome.races.map(({ text }) => text).join("\n");
   tellsNext = options.trace || (found.racy && !isCut);
-  return outcome;
+  return { outcome, judgement };
 }
 
 /** @param {{ seeds: import("./group.mjs").Wanted[] }} work */
 async function record({ seeds }) {
-  for (const wanted of seeds) port.postMessage({ outcome: await outcomeOf(wanted) });
+  for (const wanted of seeds) port.postMessage(await outcomeOf(wanted));
   port.once("message", record);
   port.postMessage({ finished: true });
 }

@@ -16,6 +16,11 @@ function nameOf({ what, method }) {
   return what === WRITE ? "write" : "read";
 }
 
+/** What an event does, as a trace spells it, by its flags. */
+const EFFECTS = Array.from({ length: 16 }, (_, flags) =>
+  `"read":${(flags & FLAG.READS) !== 0},"write":${(flags & FLAG.WRITES) !== 0},` +
+  `"atomic":${(flags & FLAG.ATOMIC) !== 0},"waiters":${(flags & FLAG.WAITERS) !== 0}`);
+
 /**
  * What JSON.stringify makes of an event as an object, faster: a trace may have a million lines.
  * @param {number} position
@@ -25,22 +30,36 @@ function nameOf({ what, method }) {
 function lineOf(position, event, source) {
   const { agent, call, block, from, to, flags } = event;
   return `{"event":${position},"agent":${agent},"call":${call},"does":"${nameOf(event)}",` +
-    `"block":${block},"byte":${from},"size":${to - from},` +
-    `"read":${(flags & FLAG.READS) !== 0},"write":${(flags & FLAG.WRITES) !== 0},` +
-    `"atomic":${(flags & FLAG.ATOMIC) !== 0},"waiters":${(flags & FLAG.WAITERS) !== 0},"source":${source}}\n`;
+    `"block":${block},"byte":${from},"size":${to - from},${EFFECTS[flags & 15]},"source":${source}}\n`;
 }
+
+// So many lines are joined at once: a million strings of many parts each take long to join, and much memory.
+const JOINED = 1_024;
 
 /**
  * @param {import("./log.mjs").Log} log
- * @param {string[][]} sources the positions of each agent's code, by their numbers
+ * @param {string[][]} [sources] the positions of each agent's code, by their numbers; without, none is told
  * @returns {string}
  */
-export function traceText(log, sources) {
+export function traceText(log, sources = []) {
   const spelled = sources.map((list) => list.map((source) => JSON.stringify(source || null)));
+  const parts = [];
+  for (let first = 0; first < log.length; first += JOINED) parts.push(linesFrom(log, first, spelled));
+  return parts.join("");
+}
+
+/**
+ * The lines of some events.
+ * @param {import("./log.mjs").Log} log
+ * @param {number} first
+ * @param {string[][]} spelled the positions of each agent's code, in JSON
+ */
+function linesFrom(log, first, spelled) {
   const lines = [];
-  for (let position = 0; position < log.length; position += 1) {
+  const end = Math.min(first + JOINED, log.length);
+  for (let position = first; position < end; position += 1) {
     const event = log.at(position);
-    lines.push(lineOf(position, event, spelled[event.agent][event.source] ?? "null"));
+    lines.push(lineOf(position, event, spelled[event.agent]?.[event.source] ?? "null"));
   }
   return lines.join("");
 }

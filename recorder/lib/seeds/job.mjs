@@ -2,7 +2,7 @@
 
 import { Checker } from "../check/checker.mjs";
 import { Group } from "../run/group.mjs";
-import { foundSabsim } from "../check/sabsim.mjs";
+import { checkable, foundSabsim } from "../check/sabsim.mjs";
 
 /**
  * @typedef {object} CheckOptions
@@ -12,6 +12,9 @@ import { foundSabsim } from "../check/sabsim.mjs";
 
 // How many checks may wait before more runs are made.
 const MOST_WAITING = 64;
+
+// How many words of events checks may hold by then.
+const MOST_WORDS = 2 ** 24;
 
 export class Job {
   /**
@@ -35,6 +38,8 @@ export class Job {
     this.onCheck = onCheck;
     /** @type {Set<Promise<void>>} */
     this.checks = new Set();
+    /** How many words of events these hold. */
+    this.words = 0;
     /** @type {unknown} */
     this.failure = undefined;
   }
@@ -47,12 +52,12 @@ export class Job {
    */
   async run(seeds, onOutcome) {
     const { checker } = this;
-    const isBehind = () => checker !== undefined && checker.waiting > MOST_WAITING;
+    const isBehind = () => checker !== undefined && (checker.waiting > MOST_WAITING || this.words > MOST_WORDS);
     while (this.checks.size > 0 && isBehind()) await Promise.race(this.checks);
-    await this.group.run(seeds, (outcome) => {
+    await this.group.run(seeds, (outcome, judgement) => {
       if (this.failure !== undefined) return;
       onOutcome(outcome);
-      if (checker !== undefined && outcome.script !== undefined) this.#check(checker, outcome);
+      if (checker !== undefined && outcome.script !== undefined) this.#check(checker, checkable(outcome, judgement));
     });
     if (this.failure !== undefined) throw this.failure;
   }
@@ -65,16 +70,20 @@ export class Job {
 
   /**
    * @param {Checker} checker
-   * @param {import("../run/group.mjs").Outcome} outcome of which a check needs little: the rest isn't kept for it
+   * @param {import("../check/sabsim.mjs").Checkable} run
    */
-  #check(checker, { seed, script, report }) {
-    const agreed = () => this.onCheck(seed);
+  #check(checker, run) {
+    const agreed = () => this.onCheck(run.seed);
     /** @param {unknown} failure */
     const fail = (failure) => {
       this.failure ??= failure;
     };
-    const checked = checker.check({ seed, script, report });
-    const checking = checked.then(agreed, fail).finally(() => this.checks.delete(checking));
+    const words = run.judgement?.events.length ?? 0;
+    const checking = checker.check(run).then(agreed, fail).finally(() => {
+      this.checks.delete(checking);
+      this.words -= words;
+    });
     this.checks.add(checking);
+    this.words += words;
   }
 }

@@ -31,6 +31,7 @@ import { jobWords } from "./node-words.mjs";
  * @property {string} message
  * @property {import("../check/sabsim.mjs").Scripted} [outcome] of a difference
  * @property {string} [replayed] of a difference
+ * @property {string} [judged] of a difference
  */
 
 const PROGRAM = fileURLToPath(new URL("./job-process.mjs", import.meta.url));
@@ -48,7 +49,8 @@ const KINDS = { Refused, NoSabsim, LostJob };
  */
 export function packed(error) {
   if (error instanceof Difference) {
-    return { kind: "Difference", message: error.message, outcome: error.outcome, replayed: error.replayed };
+    const { message, outcome, replayed, judged } = error;
+    return { kind: "Difference", message, outcome, replayed, judged };
   }
   const kind = Object.keys(KINDS).find((name) => error instanceof KINDS[name]);
   if (!(error instanceof Error)) return { kind, message: String(error) };
@@ -56,8 +58,8 @@ export function packed(error) {
 }
 
 /** @param {Packed} packed */
-function unpacked({ kind = "", message, outcome, replayed = "" }) {
-  if (kind === "Difference" && outcome !== undefined) return new Difference(message, outcome, replayed);
+function unpacked({ kind = "", message, outcome, replayed = "", judged }) {
+  if (kind === "Difference" && outcome !== undefined) return new Difference(message, outcome, replayed, judged);
   return new (KINDS[kind] ?? Error)(message);
 }
 

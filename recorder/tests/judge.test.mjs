@@ -1,0 +1,139 @@
+// Who judges a run's data races: sabsim, the recorder's own detector, and a slow judge that is written from the
+// definitions alone. On rows by hand, on random traces and on the runs of known programs all say the same.
+
+import assert from "node:assert/strict";
+import { fork } from "node:child_process";
+import { readFileSync, readdirSync } from "node:fs";
+import { describe, it, test } from "node:test";
+import { checkedOptions } from "../lib/library-options.mjs";
+import { Group } from "../lib/run/group.mjs";
+import { SABSIM, withSabsim } from "./common.mjs";
+import { detected, detectedPairs } from "./detected.mjs";
+import { pathOf, start } from "./programs.mjs";
+import { seedsTo } from "./recorded.mjs";
+import { eventsOfTrace, slowJudge } from "./slow-judge.mjs";
+import { jsonText, plainText, statusOf } from "./verdict-texts.mjs";
+
+const ROWS = new URL("./judge-rows/", import.meta.url);
+const KNOWN = new URL("./known/", import.meta.url);
+const LEAST_ROWS = 20;
+const RANDOM = 5_000;
+const KNOWN_SEEDS = 5;
+// A spin's trace is as long as the run may be, and the slow judge is slow.
+const KNOWN_MOVES = 1_500;
+
+// To start a program takes longer than to judge a short trace, so several processes do it.
+const PROCESSES = 4;
+
+/** The names of a folder's files with an ending, without it. @param {URL} folder @param {string} ending */
+const namesIn = (folder, ending) =>
+  readdirSync(folder).filter((name) => name.endsWith(ending)).map((name) => name.slice(0, -ending.length));
+
+/** What `sabsim judge --trace` says. @param {string} trace @param {string[]} [words] */
+const judgedBySabsim = (trace, words = []) => start(SABSIM, ["judge", "--trace", ...words], trace).ended;
+
+/** Sabsim says of a trace what it must, in words or as JSON. */
+async function demandOfSabsim(trace, words, expected) {
+  assert.deepEqual(await judgedBySabsim(trace, words), { signal: null, errors: "", ...expected });
+}
+
+describe("rows by hand", () => {
+  const names = namesIn(ROWS, ".jsonl");
+  const read = (name) => readFileSync(new URL(name, ROWS), "utf8");
+
+  it("are many, each with its verdict", () => {
+    assert.ok(names.length >= LEAST_ROWS);
+    assert.deepEqual(namesIn(ROWS, ".verdict"), names);
+  });
+
+  for (const name of names) {
+    const trace = read(`${name}.jsonl`);
+    const verdict = read(`${name}.verdict`);
+    const judged = slowJudge(eventsOfTrace(trace));
+    it(`${name}, by the slow judge`, () => assert.equal(plainText(judged), verdict));
+    it(`${name}, by the recorder's detector`, () => {
+      assert.deepEqual(detected(eventsOfTrace(trace)), detectedPairs(judged));
+    });
+    it(`${name}, by sabsim`, withSabsim, async () => {
+      const status = statusOf(judged);
+      await demandOfSabsim(trace, [], { output: verdict, status });
+      await demandOfSabsim(trace, ["--format", "plain"], { output: verdict, status });
+      await demandOfSabsim(trace, ["--format", "json"], { output: jsonText(judged), status });
+    });
+  }
+});
+
+test("what is no event's line is refused, and it is said which line", withSabsim, async () => {
+  const trace = readFileSync(new URL("mutex.jsonl", ROWS), "utf8");
+  const lines = trace.split("\n");
+  for (const line of ['{"event":1}', "[]"]) {
+    const { status, output, errors } = await judgedBySabsim(lines.with(1, line).join("\n"));
+    assert.deepEqual([status, output, errors], [1, "", "sabsim: 10 BadShape: line 2\n"]);
+  }
+});
+
+/** What a process finds of the random traces from a seed on. @param {number} first */
+const foundFrom = (first) => new Promise((done) => {
+  const words = [first, RANDOM, PROCESSES].map(String);
+  const child = fork(pathOf("recorder/tests/judge-process.mjs"), withSabsim.skip ? words : [...words, SABSIM]);
+  const found = { seeds: 0, racy: 0, differing: [] };
+  child.on("message", ({ isRacy, differing }) => {
+    found.seeds += 1;
+    if (isRacy) found.racy += 1;
+    if (differing !== undefined) found.differing.push(differing);
+  });
+  child.on("exit", () => done(found));
+});
+
+test(`sabsim, the recorder's detector and the slow judge agree on ${RANDOM} random traces`, async () => {
+  const found = await Promise.all(seedsTo(PROCESSES).map(foundFrom));
+  const [first] = found.flatMap(({ differing }) => differing).sort((one, other) => one.seed - other.seed);
+  assert.deepEqual(first?.said, first?.expected, `seed ${first?.seed}`);
+  const sum = (name) => found.reduce((all, { [name]: part }) => all + part, 0);
+  assert.equal(sum("seeds"), RANDOM);
+  assert.ok(sum("racy") > RANDOM / 4 && sum("racy") < RANDOM * 3 / 4, `${sum("racy")} of them are racy`);
+});
+
+/** Runs of a known program, with their traces. @param {string} name */
+async function runsOf(name) {
+  const module = new URL(`${name}.mjs`, KNOWN);
+  const options = checkedOptions({ module, trace: true, seconds: 5, maxMoves: KNOWN_MOVES }, () => undefined);
+  const group = await Group.open({ ...options, fresh: false });
+  const outcomes = [];
+  try {
+    const seeds = seedsTo(KNOWN_SEEDS).map((seed) => ({ seed, whole: true }));
+    await group.run(seeds, (outcome) => outcomes.push(outcome));
+  } finally {
+    await group.close();
+  }
+  return outcomes;
+}
+
+/** A side as the recorder tells it, of an event of the trace. */
+function toldSide({ agent, read, write, atomic, block, byte, size, call, source }) {
+  const access = [...(read ? ["read"] : []), ...(write ? ["write"] : [])].join(" and ");
+  return { agent, access, atomic, block, byte, size, call, source };
+}
+
+/**
+ * A run has races where the slow judge finds some in its trace, and the first later access is the same.
+ * @param {import("../lib/run/group.mjs").Outcome} outcome
+ */
+function demandOfRun({ seed, races, trace }) {
+  const events = eventsOfTrace(trace);
+  const { races: [slow] } = slowJudge(events);
+  assert.equal(races.length > 0, slow !== undefined, `seed ${seed}`);
+  if (slow === undefined) return;
+  const { element: _, ...later } = races[0].sides[1];
+  assert.deepEqual(later, toldSide(events[slow.second.event]), `seed ${seed}`);
+}
+
+describe("runs of known programs race where the slow judge says so", { concurrency: 3 }, () => {
+  for (const name of namesIn(KNOWN, ".mjs")) {
+    it(name, async () => {
+      const outcomes = await runsOf(name);
+      assert.equal(outcomes.length, KNOWN_SEEDS);
+      outcomes.forEach(demandOfRun);
+    });
+  }
+});

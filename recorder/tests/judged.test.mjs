@@ -1,0 +1,175 @@
+// Checked runs are judged by sabsim too: what it is given, and what is told where it and the recorder differ.
+
+import assert from "node:assert/strict";
+import { spawnSync } from "node:child_process";
+import { readFileSync, readdirSync, writeFileSync } from "node:fs";
+import { join } from "node:path";
+import { describe, it } from "node:test";
+import { fileURLToPath } from "node:url";
+import { Difference, NoSabsim, record } from "../recorder.mjs";
+import { RECORD, SABSIM, agentsPath, recordCase, temporaryFolder, withSabsim } from "./common.mjs";
+import { eventsOfTrace, slowJudge } from "./slow-judge.mjs";
+import { plainText, statusOf } from "./verdict-texts.mjs";
+
+const RING = fileURLToPath(new URL("./known/ring-frees-first.mjs", import.meta.url));
+const RACING_SEED = 2;
+const RACE = "data race at byte 1 of block 0: agent 0 writes byte 1 at 2, agent 1 reads byte 1 at 5; " +
+  "nothing of agent 0 happens before 5";
+const MEMBERS = [
+  "event", "agent", "call", "does", "block", "byte", "size", "read", "write", "atomic", "waiters", "source",
+];
+
+/**
+ * A program that is sabsim, but has a judge of its own.
+ * @param {string} folder
+ * @param {string} judge what it does in place of judging, in the shell's words; its input is in the file `given`
+ */
+function judging(folder, judge) {
+  const path = join(folder, "judging");
+  const own = `cat > ${folder}/given; ${judge}`;
+  writeFileSync(path, `#!/bin/sh\nif [ "$1" = judge ]; then ${own}; fi\nexec ${SABSIM} "$@"\n`, { mode: 0o755 });
+  return path;
+}
+
+/** One that says that there is a race, and one that says that there is none. */
+const FINDS_ONE = `echo "${RACE}"; exit 5`;
+const FINDS_NONE = 'echo "no data race: 12 accesses by 3 agents"; exit 0';
+
+/** Runs the command line to its end. @param {string[]} words */
+function run(...words) {
+  const { status, stdout, stderr } = spawnSync(process.execPath, [RECORD, ...words], { encoding: "utf8" });
+  return { status, stdout, stderr };
+}
+
+const addition = ["--agents", "2", "--buffers", "12", "--seeds", "7", "--", "addition"];
+
+describe("the judge of checked runs", withSabsim, () => {
+  it("is given the run's trace, and says what the slow judge finds in it", async (context) => {
+    const folder = temporaryFolder(context);
+    for (const seed of [1, RACING_SEED]) {
+      const sabsim = judging(folder, `${SABSIM} judge --trace < ${folder}/given > ${folder}/said; exit $?`);
+      const { checked, races } = await record({ module: RING, seed, sabsim });
+      const events = eventsOfTrace(readFileSync(join(folder, "given"), "utf8"));
+      const judged = slowJudge(events);
+      assert.ok(checked);
+      assert.equal(readFileSync(join(folder, "said"), "utf8"), plainText(judged));
+      assert.equal(statusOf(judged), races.length > 0 ? 5 : 0);
+      assert.equal(races.length > 0, seed === RACING_SEED);
+      events.forEach((event, at) => assert.deepEqual([Object.keys(event), event.event], [MEMBERS, at]));
+    }
+  });
+
+  it("is given the same calls as are told in the outcome's trace, without their lines of code", async (context) => {
+    const folder = temporaryFolder(context);
+    const { trace } = await recordCase("addition", { sabsim: judging(folder, FINDS_NONE), trace: true });
+    const without = trace.replaceAll(/"source":"[^"]*"/g, '"source":null');
+    assert.equal(readFileSync(join(folder, "given"), "utf8"), without);
+  });
+
+  it("says that there is a race, and the recorder has found none: both sides are told", async (context) => {
+    const sabsim = judging(temporaryFolder(context), FINDS_ONE);
+    await assert.rejects(recordCase("addition", { sabsim, seed: 9 }), (error) => {
+      assert.ok(error instanceof Difference);
+      assert.equal(error.message, [
+        "seed 9: the recorder and sabsim differ on data races",
+        "  the recorder: no data race",
+        `  sabsim:       ${RACE}`,
+      ].join("\n"));
+      assert.equal(error.judged, `${RACE}\n`);
+      assert.equal(error.outcome.report, error.replayed);
+      assert.equal(statusOf(slowJudge(eventsOfTrace(error.outcome.trace))), 0);
+      return true;
+    });
+  });
+
+  it("says that there is none, and the recorder has found a race: both sides are told", async (context) => {
+    const found = /^ {2}the recorder: agent 1 reads Uint8_b1\[0\] at ring-frees-first\.mjs:32:17, .*; agent 0 writes /;
+    const sabsim = judging(temporaryFolder(context), FINDS_NONE);
+    for (const races of ["fail", "allow"]) {
+      await assert.rejects(record({ module: RING, seed: RACING_SEED, sabsim, races }), (error) => {
+        assert.ok(error instanceof Difference);
+        const [title, recorder, other] = error.message.split("\n");
+        assert.equal(title, "seed 2: the recorder and sabsim differ on data races");
+        assert.match(recorder, found);
+        assert.equal(other, "  sabsim:       no data race: 12 accesses by 3 agents");
+        return true;
+      });
+    }
+  });
+
+  it("refuses the trace: that is a difference too", async (context) => {
+    const sabsim = judging(temporaryFolder(context), "echo 'sabsim: 10 BadShape: line 12' >&2; exit 1");
+    await assert.rejects(recordCase("addition", { sabsim, seed: 9 }), (error) => {
+      assert.ok(error instanceof Difference);
+      assert.equal(error.message, "seed 9: sabsim ended with status 1 on the trace: sabsim: 10 BadShape: line 12");
+      return true;
+    });
+  });
+
+  it("differs under the command line: status 3, and what both went by is kept", (context) => {
+    const folder = temporaryFolder(context);
+    const out = join(folder, "out");
+    const sabsim = ["--sabsim", judging(folder, FINDS_ONE), "--out", out];
+    const { status, stdout, stderr } = run(agentsPath("cases"), ...sabsim, ...addition);
+    assert.equal(status, 3);
+    assert.match(stderr, /^record: seed 7: the recorder and sabsim differ on data races$/m);
+    const kept = ["json", "report", "sabsim-report", "sabsim-verdict", "trace.jsonl"];
+    assert.deepEqual(readdirSync(out).sort(), kept.map((ending) => `seed-7.${ending}`));
+    const read = (ending) => readFileSync(join(out, `seed-7.${ending}`), "utf8");
+    assert.equal(read("sabsim-verdict"), `${RACE}\n`);
+    assert.equal(read("trace.jsonl"), readFileSync(join(folder, "given"), "utf8"));
+    assert.match(stdout, /^no run was checked$/m);
+  });
+
+  it("isn't asked where ordinary accesses aren't watched, since the recorder looks for no races then", (context) => {
+    const sabsim = judging(temporaryFolder(context), FINDS_ONE);
+    for (const ordinary of ["store", "refuse"]) {
+      const words = ["--sabsim", sabsim, "--ordinary", ordinary, ...addition];
+      const { status, stdout } = run(agentsPath("cases"), ...words);
+      assert.equal(status, 0, stdout);
+      assert.match(stdout, /^1 run checked: sabsim says the same$/m);
+      assert.ok(!stdout.includes("judge"), stdout);
+    }
+  });
+
+  it("isn't there in a sabsim that is older: that is told, with status 3", async (context) => {
+    const folder = temporaryFolder(context);
+    const sabsim = judging(folder, "echo \"error: unrecognized subcommand 'judge'\" >&2; exit 2");
+    const told = /judging can't judge data races, so it is older than the recorder: `\.\/build`, .*, builds sabsim$/;
+    await assert.rejects(recordCase("addition", { sabsim }), (error) => {
+      assert.ok(error instanceof NoSabsim);
+      assert.match(error.message, told);
+      return true;
+    });
+    const { status, stderr } = run(agentsPath("cases"), "--sabsim", sabsim, ...addition);
+    assert.equal(status, 3);
+    assert.match(stderr.trimEnd(), told);
+  });
+
+  it("is asked by a process of its own; where that is ended, it is told", (context) => {
+    const folder = temporaryFolder(context);
+    const { status, stderr } = run(agentsPath("cases"), "--sabsim", judging(folder, "kill -9 $PPID"), ...addition);
+    assert.equal(status, 3);
+    assert.match(stderr, /a check's process ended: SIGKILL$/m);
+  });
+
+  it("isn't asked of a run that isn't checked", (context) => {
+    const folder = temporaryFolder(context);
+    const words = ["--sabsim", judging(folder, FINDS_ONE), "--check", "0", ...addition];
+    assert.equal(run(agentsPath("cases"), ...words).status, 0);
+    assert.ok(!readdirSync(folder).includes("given"));
+  });
+
+  it("judges what init left as no access, and of a run whose init throws nothing", async (context) => {
+    const folder = temporaryFolder(context);
+    const options = { sabsim: judging(folder, `exec ${SABSIM} judge --trace < ${folder}/given`) };
+    const given = () => readFileSync(join(folder, "given"), "utf8");
+    const filled = await recordCase("addition", { ...options, init: ([buffer]) => new Uint8Array(buffer).fill(1) });
+    assert.deepEqual([filled.ending, eventsOfTrace(given()).length], ["finished", filled.calls]);
+    const init = () => {
+      throw new Error("no");
+    };
+    const { ending, checked } = await recordCase("addition", { ...options, init });
+    assert.deepEqual([ending, checked, given()], ["failed", true, ""]);
+  });
+});
