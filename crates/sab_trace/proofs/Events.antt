@@ -1,13 +1,11 @@
 -- Events of a tree.
-use Rattle.std.proofs.Common.{◌≡◌, ℕ, zero, Bool, true, false, Some, None, refl, ap, sym, ◌∙◌}
+use Rattle.std.proofs.Common.{◌≡◌, ℕ, Bool, true, false, None, refl}
 use Rattle.std.specs.Prelude.{IsTrue, ◌||◌}
 use Rattle.serde_json.specs.Data.{Data}
-use Rattle.sab_judge.specs.declared.event.Event.{Event}
-use Rattle.sab_judge.specs.declared.place.Place.{Place}
 use Rattle.sab_trace.specs.declared.numbers.Numbers.{Numbers}
 use Rattle.sab_trace.specs.Members.{Values, IsShaped}
-use Rattle.sab_trace.specs.Numbers.{AreWhole, IsAgent, AreBytes}
-use Rattle.sab_trace.specs.Spelling.{needs_bytes, event_of, SpellsEvent}
+use Rattle.sab_trace.specs.Numbers.{AreWhole, IsAgent}
+use Rattle.sab_trace.specs.Spelling.{needs_bytes, SpellsEvent}
 
 pub reading_event : (v : Values) → v.read ≡ true → IsTrue (needs_bytes v)
 reading_event v e = rw e refl

@@ -1,5 +1,5 @@
 -- A line spells one event at most, and one with a fault spells none.
-use Rattle.std.proofs.Common.{◌≡◌, ℕ, zero, suc, ◌<◌, ◌≤◌, ◌^◌, ℤ, pos, negsuc, List, length, Bool, true, false, Option, Some, None, refl, ap, sym, subst, ◌∙◌, arith}
+use Rattle.std.proofs.Common.{◌≡◌, ℕ, zero, suc, ℤ, pos, negsuc, List, Bool, true, false, refl, ap, sym, ◌∙◌, arith}
 use Rattle.std.specs.Prelude.{IsTrue, ◌||◌}
 use Rattle.serde_json.specs.Data.{Data, Num, unsigned, Members, no_members, member}
 use Rattle.serde_json.specs.Data as json
@@ -12,7 +12,7 @@ use Rattle.sab_trace.specs.declared.numbers.Numbers.{Numbers}
 use Rattle.sab_trace.specs.Members.{Values, IsShaped, event_object}
 use Rattle.sab_trace.specs.Numbers.{IsWhole, AreWhole, IsAgent, AreBytes}
 use Rattle.sab_trace.specs.Spelling.{needs_bytes, event_of, SpellsEvent, SpellsLine, ReadsAs}
-use Rattle.sab_trace.specs.LineFault.{HasNumbers, IsTreeFault, IsReadingFault, IsLineFault}
+use Rattle.sab_trace.specs.LineFault.{IsTreeFault, IsLineFault}
 use Rattle.sab_trace.specs.Reading.{IsOfLine}
 
 -- a line reads as one tree

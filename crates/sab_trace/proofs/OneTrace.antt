@@ -1,6 +1,6 @@
 -- Bytes are a trace of one list of events at most, and where they are refused of none.
-use Rattle.std.proofs.Common.{◌≡◌, ℕ, ◌+◌, List, [], ◌∷◌, length, Option, Some, None, refl, ap, sym, arith}
-use Rattle.std.specs.Prelude.{slice_get, IsSomeAnd}
+use Rattle.std.proofs.Common.{◌≡◌, ℕ, ◌+◌, List, [], ◌∷◌, length, Option, Some, None, refl, arith}
+use Rattle.std.specs.Prelude.{slice_get}
 use Rattle.sab_judge.specs.declared.event.Event.{Event}
 use Rattle.sab_trace.specs.declared.line_fault.LineFault.{LineFault}
 use Rattle.sab_trace.specs.declared.line_fault.LineFault.TheVariants.{TooMany, OutOfMemory, BadShape, BadNumber, BadAgent, NotJson, TooLong, ReadFailed, BadBytes}

@@ -1,17 +1,16 @@
 -- Reading a piece, and all pieces.
-use Rattle.std.proofs.Common.{◌≡◌, ℕ, suc, ◌+◌, ◌*◌, ◌-◌, ◌<◌, ◌≤◌, ◌^◌, ◌==◌, true, false, List, [], ◌∷◌, ◌++◌, length, Option, Some, None, IfSome, Result, Ok, Err, IfErr, refl, ap, sym, subst, ◌∙◌, arith, append_assoc, append-nil, length-append}
-use Rattle.std.specs.Prelude.{take, IsErrAnd}
+use Rattle.std.proofs.Common.{◌≡◌, ℕ, ◌+◌, ◌<◌, ◌≤◌, ◌==◌, true, false, List, [], ◌∷◌, ◌++◌, length, Option, Some, None, IfSome, Result, IfErr, refl, ap, sym, subst, ◌∙◌, arith, append_assoc, append-nil, length-append}
+use Rattle.std.specs.Prelude.{IsErrAnd}
 use Rattle.std.specs.Io.KnownBytes.{Consumes, IsAtEnd}
 use Rattle.std.proofs.lemmas.Bool.{eqb-true}
 use Rattle.std.proofs.lemmas.Result.{err_from_is_err_and}
 use Rattle.sab_judge.specs.declared.event.Event.{Event}
-use Rattle.sab_trace.specs.declared.line_fault.LineFault.{LineFault}
 use Rattle.sab_trace.specs.declared.line_fault.LineFault.TheVariants.{TooLong, ReadFailed}
 use Rattle.sab_trace.specs.declared.refusal.Refusal.{Refusal}
 use Rattle.sab_trace.specs.Reading.{IsRefusedBy}
 use Rattle.sab_trace.specs.Lines.{HasNoLineFeed}
 use Rattle.sab_trace.specs.Progress.{SpellsNext, RefusesNext, IsReadTo, ReadsOn, RefusesWithin, most_read}
-use Rattle.sab_trace.proofs.Steps.{nothing_read, line_more, line_ended, ended_refused, long_refused, read_failed}
+use Rattle.sab_trace.proofs.Steps.{line_more, line_ended, ended_refused, long_refused, read_failed}
 
 -- of a piece all but the rest is read
 pub record HasReadPiece (piece rest : List ℕ) (old : List Event) (begun_old : List ℕ) (new : List Event)
@@ -22,24 +21,11 @@ pub record HasReadPiece (piece rest : List ℕ) (old : List Event) (begun_old : 
   pub on : ReadsOn front old begun_old new begun_new
   pub grown : most_read old begun_old + length front ≤ most_read new begun_new
 
-pub no_piece : (piece : List ℕ) (events : List Event) (begun : List ℕ)
-    → HasReadPiece piece piece events begun events begun
-no_piece piece events begun = record {
-  front = [];
-  is = refl;
-  on = λ before h. rw append-nil h;
-  grown = omega arith;
-}
-
 -- what a reader had is read up to there, and what it has left isn't
 pub record HasRead (had left : Option (List ℕ)) (events : List Event) (begun : List ℕ) : Type 0 where
   pub read : List ℕ
   pub consumed : Consumes had left read
   pub to : IsReadTo read events begun
-
-pub no_read : (had : Option (List ℕ)) → HasRead had had [] []
-no_read None = record { read = []; consumed = tt; to = nothing_read }
-no_read (Some bytes) = record { read = []; consumed = refl; to = nothing_read }
 
 -- a piece that was read, and one behind it that is refused
 within : (front behind piece before more : List ℕ) (refusal : Refusal) → front ++ behind ≡ piece

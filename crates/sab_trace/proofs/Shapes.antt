@@ -1,6 +1,6 @@
 -- The shape of an event's object.
-use Rattle.std.proofs.Common.{◌≡◌, ◌⊎◌, inl, inr, ℕ, List, codes, Bool, true, false, Option, Some, None, refl, sym, ap, ◌∙◌}
-use Rattle.std.specs.Prelude.{◌↔◌, ◌||◌, IsTrue, IfNone, is_some}
+use Rattle.std.proofs.Common.{◌≡◌, ℕ, List, Bool, true, Option, Some, None, refl, ap, ◌∙◌}
+use Rattle.std.specs.Prelude.{◌↔◌, IsTrue, IfNone, is_some}
 use Rattle.serde_json.specs.Data.{Data, Num, object, Members}
 use Rattle.serde_json.specs.Data as json
 use Rattle.serde_json.specs.Find.{as_null, as_str}

@@ -1,5 +1,5 @@
 -- Lines that spell events, one after another.
-use Rattle.std.proofs.Common.{◌≡◌, ℕ, zero, suc, ◌+◌, ◌<◌, ◌≤◌, ◌^◌, List, [], ◌∷◌, ◌++◌, length, take, Option, Some, None, refl, ap, sym, subst, ◌∙◌, arith, add-one}
+use Rattle.std.proofs.Common.{◌≡◌, ℕ, zero, suc, ◌+◌, List, [], ◌∷◌, ◌++◌, length, take, Some, refl, ap, sym, subst, arith}
 use Rattle.std.specs.Prelude.{slice_get}
 use Rattle.sab_judge.specs.declared.event.Event.{Event}
 use Rattle.sab_trace.specs.Reading.{SpellsEach}
@@ -21,16 +21,6 @@ one_more p (l ∷ ls) [] line event h s = absurd h
 one_more p (l ∷ ls) (e ∷ es) line event h s =
     let same : p + suc (length es) ≡ (p + 1) + length es = omega arith in
     (h.0, one_more (p + 1) ls es line event h.1 (subst (λ n. SpellsLine n line event) same s))
-
--- there are no more lines than there can be
-pub few_lines : (p : ℕ) (lines : List (List ℕ)) (events : List Event) → p ≤ 2 ^ 20 → SpellsEach p lines events
-    → p + length events ≤ 2 ^ 20
-few_lines p [] [] small h = omega arith
-few_lines p [] (e ∷ es) small h = absurd h
-few_lines p (l ∷ ls) [] small h = absurd h
-few_lines p (l ∷ ls) (e ∷ es) small h =
-    let here = h.0.few in
-    let rest = few_lines (p + 1) ls es (omega arith) h.1 in omega arith
 
 -- the line at a position spells an event
 pub line_at : (p k : ℕ) (lines : List (List ℕ)) (events : List Event) (line : List ℕ) → SpellsEach p lines events

@@ -1,7 +1,6 @@
 -- Reading on.
-use Rattle.std.proofs.Common.{◌≡◌, ℕ, suc, ◌+◌, ◌*◌, ◌<◌, ◌≤◌, ◌^◌, List, [], ◌∷◌, ◌++◌, length, Option, Some, None, IfSome, refl, ap, sym, ◌∙◌, arith, append_assoc, append-nil, length-append}
+use Rattle.std.proofs.Common.{◌≡◌, ℕ, suc, ◌+◌, ◌<◌, ◌≤◌, List, [], ◌∷◌, ◌++◌, length, Option, Some, ap, sym, ◌∙◌, arith, append_assoc, append-nil, length-append}
 use Rattle.std.specs.Prelude.{slice_get, take}
-use Rattle.std.specs.Io.KnownBytes.{Consumes, IsAtEnd}
 use Rattle.std.proofs.lemmas.List.Elements.{All-append, All-nil}
 use Rattle.sab_judge.specs.declared.event.Event.{Event}
 use Rattle.sab_trace.specs.declared.line_fault.LineFault.{LineFault}
@@ -11,19 +10,9 @@ use Rattle.sab_trace.specs.Lines.{HasNoLineFeed, lines_of}
 use Rattle.sab_trace.specs.LineFault.{IsLineFault}
 use Rattle.sab_trace.specs.Reading.{SpellsEach, SpellsTrace, IsFaultAt, IsRefusedBy}
 use Rattle.sab_trace.specs.Spelling.{SpellsLine}
-use Rattle.sab_trace.specs.Progress.{SpellsNext, RefusesNext, IsReadTo, ReadsOn, RefusesWithin, most_read}
+use Rattle.sab_trace.specs.Progress.{SpellsNext, RefusesNext, IsReadTo}
 use Rattle.sab_trace.proofs.LineCuts.{none_of_none, ended_line, last_line, IsFirstLong, begun_line}
-use Rattle.sab_trace.proofs.Spellings.{as_many, one_more, few_lines, front_of, next_of}
-
--- nothing is read
-pub nothing_read : IsReadTo [] [] []
-nothing_read = record {
-  lines = [];
-  split = λ more. refl;
-  spelled = tt;
-  in_line = All-nil (λ (byte : ℕ). byte ≡ 10 → ⊥);
-  short = omega arith;
-}
+use Rattle.sab_trace.proofs.Spellings.{as_many, one_more, front_of, next_of}
 
 -- more of a line
 pub line_more : (before : List ℕ) (events : List Event) (begun piece : List ℕ) → IsReadTo before events begun
@@ -162,9 +151,3 @@ read_failed before more events begun refusal h number fault =
       before = rw front h.spelled;
       fault = rw fault tt;
     }
-
-pub few_read : (bytes : List ℕ) (events : List Event) (begun : List ℕ) → IsReadTo bytes events begun
-    → most_read events begun < 2 ^ 20 * 1025 + 1025
-few_read bytes events begun h =
-    let few = few_lines 0 h.lines events (omega arith) h.spelled in
-    let short = h.short in omega arith

@@ -1,5 +1,5 @@
 -- The faults of a line: their table, and when each comes.
-use Rattle.std.specs.Prelude.{◌≡◌, ℕ, ◌<◌, ◌≤◌, ◌^◌, List, codes, length, IsTrue, ⊤}
+use Rattle.std.specs.Prelude.{ℕ, ◌<◌, ◌≤◌, ◌^◌, List, codes, length, IsTrue, ⊤}
 use Rattle.serde_json.specs.Data.{Data}
 use Rattle.sab_judge.specs.declared.place.Place.{Place}
 use Rattle.sab_trace.specs.declared.line_fault.LineFault.{LineFault}

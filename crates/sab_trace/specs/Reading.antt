@@ -1,5 +1,5 @@
 -- Which events the bytes of a trace spell, and when they are refused.
-use Rattle.std.specs.Prelude.{◌≡◌, ℕ, ◌+◌, List, [], ◌∷◌, length, take, slice_get, Option, Some, None, IsSomeAnd, ⊤}
+use Rattle.std.specs.Prelude.{◌≡◌, ℕ, ◌+◌, List, [], ◌∷◌, length, take, slice_get, Option, IsSomeAnd, ⊤}
 use Rattle.sab_judge.specs.declared.event.Event.{Event}
 use Rattle.sab_trace.specs.declared.line_fault.LineFault.{LineFault}
 use Rattle.sab_trace.specs.declared.line_fault.LineFault.TheVariants.{OutOfMemory, ReadFailed}

@@ -1,5 +1,5 @@
 -- Which event a line of a trace spells.
-use Rattle.std.specs.Prelude.{◌≡◌, ℕ, ◌<◌, ◌≤◌, ◌^◌, ◌||◌, List, length, Bool, true, false, IsTrue, IsUtf8, Option, Some, None, if◌then◌else◌}
+use Rattle.std.specs.Prelude.{◌≡◌, ℕ, ◌<◌, ◌≤◌, ◌^◌, ◌||◌, List, length, Bool, IsTrue, IsUtf8, Option, Some, None, if◌then◌else◌}
 use Rattle.serde_json.specs.Data.{Data}
 use Rattle.serde_json.specs.Read.{read}
 use Rattle.sab_judge.specs.declared.access.Access.{Access}

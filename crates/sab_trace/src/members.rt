@@ -1,7 +1,7 @@
 //! The members of an event's object.
 
 ghost use Rattle.std.specs.Prelude.{◌≡◌, ◌↔◌, ℕ, Bool, List, Option, IfSome, IfNone, IsTrue, codes};
-ghost use Rattle.serde_json.specs.Data.{Num, Data, Members as MemberList, number as number_data, boolean, string, object as object_data, member as member_then, no_members};
+ghost use Rattle.serde_json.specs.Data.{Num, Data, Members as MemberList, number as number_data, boolean, string, object as object_data, member as member_then};
 ghost use Rattle.serde_json.specs.View.{view, members_view, number_view};
 ghost use Rattle.sab_trace.specs.Members.{Values, IsDeed, IsShaped, source_data, agent_to_byte, call_to_read, size_to_write};
 ghost use Rattle.sab_trace.specs.Seen.{values_of};

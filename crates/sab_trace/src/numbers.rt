@@ -1,6 +1,6 @@
 //! The numbers of an event's object.
 
-ghost use Rattle.std.specs.Prelude.{◌≡◌, ◌<◌, ◌^◌, ℕ, ℤ, IfSome, IfNone};
+ghost use Rattle.std.specs.Prelude.{ℕ, ℤ, IfSome, IfNone};
 ghost use Rattle.serde_json.specs.View.{number_view};
 ghost use Rattle.sab_judge.specs.declared.place.Place.{Place};
 ghost use Rattle.sab_trace.specs.declared.numbers.Numbers.{Numbers};

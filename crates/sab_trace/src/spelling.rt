@@ -3,7 +3,7 @@
 ghost use Rattle.std.specs.Prelude.{◌≡◌, ◌<◌, ◌≤◌, ◌^◌, IfOk, IfErr, length};
 ghost use Rattle.serde_json.specs.View.{view};
 ghost use Rattle.sab_trace.specs.Seen.{values_of};
-ghost use Rattle.sab_trace.specs.Spelling.{access_of, waiters_of, needs_bytes, SpellsEvent, SpellsLine, ReadsAs};
+ghost use Rattle.sab_trace.specs.Spelling.{access_of, waiters_of, SpellsEvent, SpellsLine};
 ghost use Rattle.sab_trace.specs.LineFault.{IsTreeFault, IsReadingFault};
 
 use crate::line_fault::LineFault;

@@ -1,4 +1,4 @@
-use Rattle.std.proofs.Common.{length, rules, arith}
+use Rattle.std.proofs.Common.{length, rules}
 use Rattle.sab_trace.proofs.Faults.{exit_line_fault}
 use Rattle.sab_trace.proofs.reading.append.Goals as goal
 

@@ -1,4 +1,4 @@
-use Rattle.std.proofs.Common.{[], ◌∷◌, append-nil, sym, ◌∙◌, arith}
+use Rattle.std.proofs.Common.{[], ◌∷◌, append-nil, sym, ◌∙◌}
 use Rattle.sab_trace.specs.Progress.{RefusesWithin}
 use Rattle.sab_trace.proofs.Pieces.{piece_long, piece_refused, piece_read, exit_with}
 use Rattle.sab_trace.proofs.reading.read_piece.Goals as goal

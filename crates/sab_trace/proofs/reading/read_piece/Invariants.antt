@@ -1,4 +1,4 @@
-use Rattle.std.proofs.Common.{ℕ, length}
+use Rattle.std.proofs.Common.{length}
 use Rattle.sab_trace.proofs.Pieces.{HasReadPiece}
 use Rattle.sab_trace.proofs.reading.read_piece.Given as goal
 

@@ -1,4 +1,4 @@
-use Rattle.std.proofs.Common.{IfSome, take}
+use Rattle.std.proofs.Common.{IfSome}
 use Rattle.sab_trace.specs.Reading.{IsRefusedBy}
 use Rattle.sab_trace.proofs.Pieces.{read_on, refused_on, failed_on, exit_with}
 use Rattle.sab_trace.proofs.reading.read_trace.Goals as goal

@@ -1,6 +1,4 @@
-use Rattle.std.proofs.Common.{◌≡◌, ℕ, true, false, refl, sym, ◌∙◌}
 use Rattle.std.specs.Prelude.{IsTrue}
-use Rattle.sab_judge.specs.declared.place.Place.{Place}
 use Rattle.sab_trace.specs.Seen.{values_of}
 use Rattle.sab_trace.specs.Spelling.{needs_bytes}
 use Rattle.sab_trace.proofs.Events.{idle_event, reading_event, writing_event, waiting_event}
