@@ -1,6 +1,7 @@
 //! From a script to the verdict on its run.
 
 ghost use Rattle.std.specs.Prelude.{IfOk, IfErr};
+ghost use Rattle.sab_plan.specs.Plan.{IsPlan};
 ghost use Rattle.sab_sim.specs.Report.{Fits};
 ghost use Rattle.sab_fact_json.specs.CallData.{AreNames};
 ghost use Rattle.sab_tool.specs.Replay.{IsReplayFault};
@@ -68,6 +69,7 @@ fn judge_report<W: Write>(
     format: VerdictFormat,
     w: &mut W,
 ) -> Result<bool, ToolFault>
+    requires plan { IsPlan plan.now }
     requires fits { Fits plan.now report.now }
     requires names { AreNames names.now }
     ensures ok { IfOk result

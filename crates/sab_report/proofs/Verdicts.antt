@@ -1,0 +1,40 @@
+-- A verdict that was told.
+use Rattle.std.proofs.Common.{◌≡◌, ◌↔◌, ℕ, true, false, not, Bool, IsTrue, List, Option, refl, sym, ap, subst, ◌∙◌}
+use Rattle.std.specs.Io.KnownBytes.{Appends}
+use Rattle.std.proofs.lemmas.Bool.{false≢true}
+use Rattle.sab_plan.specs.Plan.{PlanParts}
+use Rattle.sab_sim.specs.declared.entry.Entry.{Entry}
+use Rattle.sab_sim.specs.Report.{ReportParts}
+use Rattle.sab_judge.specs.declared.event.Event.{Event}
+use Rattle.sab_judge.specs.declared.race.Race.{Race}
+use Rattle.sab_judge.specs.Race.{HaveNoRace}
+use Rattle.sab_judge.specs.Verdict.{IsVerdict}
+use Rattle.sab_events.specs.Events.{events_of}
+use Rattle.sab_text.specs.declared.format.VerdictFormat.{VerdictFormat}
+use Rattle.sab_verdict.specs.Verdict.{run_verdict_text}
+use Rattle.sab_report.specs.declared.judging.TheConstants.{MAX_TOLD}
+use Rattle.sab_report.specs.Judging.{TellsVerdict}
+
+-- there is none exactly where it isn't answered that there is one
+turned : {P : Type 0} (b : Bool) → (IsTrue b ↔ P) → (not b ≡ false) ↔ P
+turned true same = (λ e. same.0 refl, λ p. refl)
+turned false same = (λ e. absurd (false≢true (sym e)), λ p. absurd (false≢true (same.1 p)))
+
+-- the verdict on the events of a report's journal was told
+pub verdict_told : (format : VerdictFormat) (names : List (List ℕ)) (plan : PlanParts) (report : ReportParts)
+    (journal : List Entry) (trace : List Event) (races : List Race) (rest : ℕ) (clean : Bool) (old new : Option (List ℕ))
+    → journal ≡ report.journal → trace ≡ events_of plan journal → IsVerdict trace MAX_TOLD races rest
+    → (IsTrue clean ↔ HaveNoRace trace)
+    → Appends old new (run_verdict_text names plan journal trace format races rest)
+    → TellsVerdict format names plan report old new (not clean)
+verdict_told format names plan report journal trace races rest clean old new same made verdict none written =
+    let is : trace ≡ events_of plan report.journal = made ∙ ap (λ (j : List Entry). events_of plan j) same in
+    record {
+      races = races;
+      rest = rest;
+      verdict = subst (λ (t : List Event). IsVerdict t MAX_TOLD races rest) is verdict;
+      racy = turned clean (subst (λ (t : List Event). IsTrue clean ↔ HaveNoRace t) is none);
+      written = subst (λ (t : List Event). Appends old new (run_verdict_text names plan report.journal t format races rest))
+          is (subst (λ (j : List Entry). Appends old new (run_verdict_text names plan j trace format races rest))
+          same written);
+    }
