@@ -131,7 +131,8 @@ pub(crate) const JUDGE: &str =
     "Makes a script's moves, or takes a recorder's trace, and tells the data races of the run";
 
 /// What a verdict says, and an example.
-pub(crate) const JUDGE_FORMS: &str = r#"The script is that of `sabsim replay --help`, and its moves are made as by `sabsim replay`. With
+pub(crate) const JUDGE_FORMS: &str =
+    r#"The script is that of `sabsim replay --help`, and its moves are made as by `sabsim replay`. With
 --trace the input is a trace that the recorder kept, seed-N.trace.jsonl: a line for each event,
 of at most 1,024 bytes, and at most 1,048,576 lines.
 

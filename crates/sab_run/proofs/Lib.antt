@@ -1,3 +1,4 @@
 pub mod Flushed
 pub mod KeptRaces
 pub mod Given
+pub mod Traced

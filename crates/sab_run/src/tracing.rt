@@ -1,13 +1,14 @@
 //! From a trace to the verdict on its run.
 
-ghost use Rattle.std.specs.Prelude.{◌≡◌, IfOk, IfErr, IfSome, OnOk};
+ghost use Rattle.std.specs.Prelude.{◌≡◌, All, IfOk, IfErr, IfSome, OnOk};
 ghost use Rattle.std.specs.Io.KnownBytes.{Appends, IsAtEnd};
-ghost use Rattle.sab_judge.specs.Race.{HaveNoRace};
+ghost use Rattle.sab_judge.specs.Verdict.{IsTold};
+ghost use Rattle.sab_verdict.specs.Verdict.{trace_verdict_text};
 ghost use Rattle.sab_run.specs.Tracing.{JudgesTrace, IsTraceFailure, refused_at};
 
 use crate::failure::{Explanation, Failure};
 use sab_ending::Outcome;
-use sab_judge::judge;
+use sab_judge::{Trace, Verdict, judge};
 use sab_report::{MAX_TOLD, VerdictFormat};
 use sab_tool::ToolFault;
 use sab_trace::{LineFault, Refusal, read_trace};
@@ -20,7 +21,6 @@ use std::io::{Read, Write};
 /// Told are the first races, at most [`MAX_TOLD`]. A line of the trace that is refused is told with its fault. ReadFailed
 /// where a read failed, OutOfMemory where there is no memory, and WriteFailed where a write or the flush failed; nothing
 /// is said then of how much was written. After every other fault nothing was written.
-#[tactic(auto, using(crate::proofs::Flushed::appends_kept))]
 pub fn judge_trace<R: Read, W: Write>(
     alloc: Global,
     format: VerdictFormat,
@@ -40,14 +40,29 @@ pub fn judge_trace<R: Read, W: Write>(
     let Ok(verdict) = judge(alloc, &trace, MAX_TOLD) else {
         return Err(Failure::from(ToolFault::OutOfMemory));
     };
-    if write_trace_verdict(&trace, &verdict, format, output).is_err() || output.flush().is_err() {
-        return Err(Failure::from(ToolFault::WriteFailed));
-    }
+    tell(&trace, &verdict, format, output)?;
     if verdict.has_no_race() {
         Ok(Outcome::Done)
     } else {
         Ok(Outcome::Racy)
     }
+}
+
+/// Writes the verdict on a trace, and flushes.
+#[tactic(auto, using(crate::proofs::Flushed::appends_kept))]
+fn tell<W: Write>(
+    trace: &Trace,
+    verdict: &Verdict,
+    format: VerdictFormat,
+    output: &mut W,
+) -> Result<(), ToolFault>
+    requires { All (IsTold trace.now) verdict.now.races.items }
+    ensures ok { OnOk result (Appends (W.contents output.old) (W.contents output.new)
+        (trace_verdict_text trace.now format verdict.now.races.items verdict.now.rest)) }
+    ensures err { IfErr result (λ fault. fault ≡ ToolFault.WriteFailed) }
+{
+    write_trace_verdict(trace, verdict, format, output).map_err(|_| ToolFault::WriteFailed)?;
+    output.flush().map_err(|_| ToolFault::WriteFailed)
 }
 
 /// That of a trace that is refused. Of a read that failed, and of want of memory, the line isn't told.

@@ -5,8 +5,8 @@ ghost use Rattle.sab_command.specs.Job.{IsWithinLimits};
 use crate::scripts::{STORE_AND_LOAD, report_of};
 use sab_command::{Job, Source};
 use sab_ending::Outcome;
-use sab_report::{Format, Lines, Telling};
-use sab_run::{Failure, run};
+use sab_report::{Format, Lines, Telling, VerdictFormat};
+use sab_run::{Failure, judge_trace, run};
 use sab_tool::{Share, ToolFault};
 use std::alloc::Global;
 use std::io;
@@ -131,6 +131,83 @@ fn a_check_flushes_what_it_says(rt: HostRuntime) {
         let (found, taken) = checked(&rt, script, true);
         assert!(rt; found.is_none() && taken.as_slice() == text);
     }
+}
+
+/// What a judge says of a script's run, by what came of it; none where the writer failed.
+fn judged<R: AllocGlobal + Threads + Wait + Sync + RandomSource>(
+    rt: &R,
+    script: &str,
+    is_stuck: bool,
+) -> (Option<Outcome>, Vec<u8>) {
+    let mut input = script.as_bytes();
+    let mut output = Basin {
+        taken: Vec::new(rt.alloc()),
+        is_flushed: false,
+        is_stuck,
+    };
+    let job = Job::Judge {
+        format: VerdictFormat::Plain,
+        finish: true,
+    };
+    let outcome = match run(rt, job, false, &mut input, &mut output) {
+        Ok(outcome) if output.is_flushed => Some(outcome),
+        _ => None,
+    };
+    (outcome, output.taken)
+}
+
+#[test]
+fn a_judge_flushes_what_it_says(rt: HostRuntime) {
+    let said = b"no data race: 2 accesses by 1 agent\n";
+    let (found, taken) = judged(&rt, STORE_AND_LOAD, false);
+    assert!(rt; found == Some(Outcome::Done) && taken.as_slice() == said);
+    let (found, taken) = judged(&rt, STORE_AND_LOAD, true);
+    assert!(rt; found.is_none() && taken.as_slice() == said);
+}
+
+/// Two agents that write one byte.
+const RACY_TRACE: &str =
+    r#"{"event":0,"agent":0,"call":0,"does":"write","block":0,"byte":7,"size":1,"read":false,"write":true,"atomic":false,"waiters":false,"source":null}
+{"event":1,"agent":1,"call":0,"does":"write","block":0,"byte":7,"size":1,"read":false,"write":true,"atomic":false,"waiters":false,"source":null}
+"#;
+
+/// What a judge says of a trace, by what came of it; or what is said where it is refused.
+fn judged_trace(
+    alloc: Global,
+    trace: &str,
+    is_stuck: bool,
+) -> Result<(Option<Outcome>, Vec<u8>, String), Fail> {
+    let mut input = trace.as_bytes();
+    let mut output = Basin {
+        taken: Vec::new(alloc),
+        is_flushed: false,
+        is_stuck,
+    };
+    let answer = judge_trace(alloc, VerdictFormat::Plain, &mut input, &mut output);
+    let (outcome, complaint) = match answer {
+        Ok(outcome) if output.is_flushed => (Some(outcome), String::new(alloc)),
+        Ok(_) => (None, String::new(alloc)),
+        Err(failure) => {
+            let complaint = failure.complaint(Source::Standard);
+            (None, complaint.to_string(alloc)?)
+        }
+    };
+    Ok((outcome, output.taken, complaint))
+}
+
+#[test]
+fn a_trace_is_judged_or_refused(rt: HostRuntime) -> Result<(), Fail> {
+    let told =
+        b"data race at byte 7 of block 0: agent 0 writes byte 7 at 0, agent 1 writes byte 7 at 1; nothing of agent 0 happens before 1\n";
+    let (outcome, taken, complaint) = judged_trace(rt.alloc(), RACY_TRACE, false)?;
+    assert!(rt; outcome == Some(Outcome::Racy) && taken.as_slice() == told && complaint.is_empty());
+    let (outcome, taken, complaint) = judged_trace(rt.alloc(), RACY_TRACE, true)?;
+    assert!(rt; outcome.is_none() && taken.as_slice() == told);
+    assert!(rt; complaint.as_str() == "sabsim: 17 WriteFailed\n");
+    let (outcome, taken, complaint) = judged_trace(rt.alloc(), "{}\n", false)?;
+    assert!(rt; outcome.is_none() && taken.is_empty());
+    assert!(rt; complaint.as_str() == "sabsim: 10 BadShape: line 1\n");
+    Ok(())
 }
 
 #[test]
