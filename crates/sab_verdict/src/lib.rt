@@ -1,9 +1,9 @@
 //! What a judge says of a run, as plain text and as JSON.
 #![tactic(auto)]
 
+mod as_json;
 mod byte_range;
 mod count;
-mod json;
 mod plain;
 mod side;
 mod sides;

@@ -12,7 +12,7 @@ ghost use Rattle.sab_verdict.specs.Sides.{words_of, data_of, HaveNames};
 
 use crate::side::side_at;
 use crate::sides::{Run, Sides};
-use crate::{json, plain};
+use crate::{as_json, plain};
 use sab_fact_text::Name;
 use sab_judge::{Event, Race, Trace, Verdict};
 use sab_sim::{Entry, Plan};
@@ -136,7 +136,7 @@ fn push_race(sides: &Sides, events: &[Event], race: Race, format: VerdictFormat,
     let second = side_at(events, race.second);
     match format {
         VerdictFormat::Plain => plain::push_race(sides, race, first, second, chunk),
-        VerdictFormat::Json => json::push_race(sides, race, first, second, chunk),
+        VerdictFormat::Json => as_json::push_race(sides, race, first, second, chunk),
     }
 }
 
@@ -148,6 +148,6 @@ fn push_last(events: &[Event], told: usize, rest: u64, format: VerdictFormat, ch
 {
     match format {
         VerdictFormat::Plain => plain::push_end(events, told, rest, chunk),
-        VerdictFormat::Json => json::push_count(events, told, rest, chunk),
+        VerdictFormat::Json => as_json::push_count(events, told, rest, chunk),
     }
 }

@@ -5,7 +5,7 @@ use Rattle.serde_json.specs.Data.{boolean}
 use Rattle.serde_json.specs.Written.{compact_text}
 use Rattle.sab_fact_json.proofs.Pieces.{behind, behind_as}
 use Rattle.sab_verdict.proofs.Texts.{access_side_json}
-use Rattle.sab_verdict.proofs.json.push_access_side.Goals as goal
+use Rattle.sab_verdict.proofs.as_json.push_access_side.Goals as goal
 
 pub returns-clause-bytes : goal.returns-clause-bytes
 returns-clause-bytes c =

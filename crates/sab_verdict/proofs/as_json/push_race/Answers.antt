@@ -5,7 +5,7 @@ use Rattle.sab_fact_json.proofs.Pieces.{behind, behind_as}
 use Rattle.sab_verdict.specs.declared.byte_range.ByteRange.{ByteRange}
 use Rattle.sab_verdict.specs.Sides.{data_of}
 use Rattle.sab_verdict.proofs.Texts.{race_json}
-use Rattle.sab_verdict.proofs.json.push_race.Goals as goal
+use Rattle.sab_verdict.proofs.as_json.push_race.Goals as goal
 
 pub returns : goal.returns
 returns c =

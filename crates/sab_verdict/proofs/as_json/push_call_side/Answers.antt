@@ -1,7 +1,7 @@
 -- The pieces, one behind the other.
 use Rattle.sab_fact_json.proofs.Pieces.{behind}
 use Rattle.sab_verdict.proofs.Texts.{call_side_json}
-use Rattle.sab_verdict.proofs.json.push_call_side.Goals as goal
+use Rattle.sab_verdict.proofs.as_json.push_call_side.Goals as goal
 
 pub returns-clause-bytes : goal.returns-clause-bytes
 returns-clause-bytes c =

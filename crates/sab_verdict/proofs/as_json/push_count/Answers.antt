@@ -3,7 +3,7 @@ use Rattle.std.proofs.Common.{ap}
 use Rattle.std.specs.Fmt.{decimal}
 use Rattle.sab_fact_json.proofs.Pieces.{behind, behind_as}
 use Rattle.sab_verdict.proofs.Texts.{count_json}
-use Rattle.sab_verdict.proofs.json.push_count.Goals as goal
+use Rattle.sab_verdict.proofs.as_json.push_count.Goals as goal
 
 pub returns : goal.returns
 returns c =
