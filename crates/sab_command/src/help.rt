@@ -146,9 +146,9 @@ Standard output has a line for each of the first 100 races, by their later acces
   data race at byte 1 of block 0: agent 0 in store(w, 0, 1) at 1, agent 1 in load(b, 1) at 4; nothing of agent 0 happens before 4
 A number behind `at`, `up to` and `before` is the position of an entry of the report, or of an
 event of the trace. Behind the semicolon stands how much of the one agent the other had seen.
-A line begins with `race` where this run has no data race in the words of the standard, but
-another order of the same accesses has one. `12 more` ends the lines where there are more
-races. Where there is none, it has
+A line begins with `race` where the two aren't in a data race of this very run, as the standard
+has it, but would be in another order of the same accesses. `12 more` ends the lines where there
+are more races. Where there is none, standard output has
   no data race: 12 accesses by 3 agents
 With --format json each race is an object on a line, and the last line has the counts.
 
