@@ -158,7 +158,7 @@ fn judged<R: AllocGlobal + Threads + Wait + Sync + RandomSource>(
 
 #[test]
 fn a_judge_flushes_what_it_says(rt: HostRuntime) {
-    let said = b"no data race: 2 accesses by 1 agent\n";
+    let said = "no data race: 2 accesses by 1 agent\n".as_bytes();
     let (found, taken) = judged(&rt, STORE_AND_LOAD, false);
     assert!(rt; found == Some(Outcome::Done) && taken.as_slice() == said);
     let (found, taken) = judged(&rt, STORE_AND_LOAD, true);
@@ -198,7 +198,7 @@ fn judged_trace(
 #[test]
 fn a_trace_is_judged_or_refused(rt: HostRuntime) -> Result<(), Fail> {
     let told =
-        b"data race at byte 7 of block 0: agent 0 writes byte 7 at 0, agent 1 writes byte 7 at 1; nothing of agent 0 happens before 1\n";
+        "data race at byte 7 of block 0: agent 0 writes byte 7 at 0, agent 1 writes byte 7 at 1; nothing of agent 0 happens before 1\n".as_bytes();
     let (outcome, taken, complaint) = judged_trace(rt.alloc(), RACY_TRACE, false)?;
     assert!(rt; outcome == Some(Outcome::Racy) && taken.as_slice() == told && complaint.is_empty());
     let (outcome, taken, complaint) = judged_trace(rt.alloc(), RACY_TRACE, true)?;
