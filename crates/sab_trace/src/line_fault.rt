@@ -7,7 +7,7 @@ use std::fmt;
 /// Why a trace can't be read.
 ///
 /// Its text is its name.
-#[derive(Clone, Copy, Debug, PartialEq, Eq)]
+#[derive(Clone, Copy, Debug)]
 pub enum LineFault {
     /// There are 2^20 lines before it.
     TooMany,

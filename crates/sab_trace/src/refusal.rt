@@ -5,7 +5,7 @@ use std::error::Error;
 use std::fmt;
 
 /// Why a trace isn't read, and at which line.
-#[derive(Clone, Copy, Debug, PartialEq, Eq)]
+#[derive(Clone, Copy, Debug)]
 pub struct Refusal {
     /// The line, counted from 1, at which reading stopped.
     pub line: u32,

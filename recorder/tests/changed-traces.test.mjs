@@ -1,0 +1,115 @@
+// Traces of which one byte is changed. A reader that is written from docs/FORMATS.md alone says of each which line is
+// refused, and for what; and where none is, the slow judge says whether it races. Sabsim must say the same.
+
+import assert from "node:assert/strict";
+import { readFileSync } from "node:fs";
+import { test } from "node:test";
+import { SABSIM, withSabsim } from "./common.mjs";
+import { start } from "./programs.mjs";
+import { slowJudge } from "./slow-judge.mjs";
+import { jsonText, statusOf } from "./verdict-texts.mjs";
+
+const ROWS = new URL("./judge-rows/", import.meta.url);
+const LINE_FEED = 10;
+
+// What a byte is changed to: signs of JSON, digits, what ends a line, and a byte that no text in UTF-8 has alone.
+const SIGNS = [...Buffer.from('"019-e}],: \n.'), 0x80];
+const EACH = 3;
+const AT_ONCE = 8;
+
+const WORDS = [
+  "load", "store", "add", "sub", "and", "or", "xor", "exchange", "compareExchange", "wait", "notify", "leave", "time-up",
+  "read", "write",
+];
+
+/** @param {unknown} value */
+const isWhole = (value) => Number.isSafeInteger(value) && !Object.is(value, -0);
+
+/** The type of each member. */
+const MEMBERS = {
+  event: "number", agent: "number", call: "number", does: "string", block: "number", byte: "number", size: "number",
+  read: "boolean", write: "boolean", atomic: "boolean", waiters: "boolean", source: "string",
+};
+
+/** @param {any} object */
+function hasShape(object) {
+  if (typeof object !== "object" || object === null || Array.isArray(object)) return false;
+  const names = Object.keys(MEMBERS);
+  if (Object.keys(object).length !== names.length || !names.every((name) => Object.hasOwn(object, name))) return false;
+  const hasType = (name) => typeof object[name] === MEMBERS[name] || (name === "source" && object[name] === null);
+  return names.every(hasType) && WORDS.includes(object.does);
+}
+
+/** @param {any} event */
+const isThere = ({ block, byte, size }) =>
+  block >= 0 && block <= 3 && byte >= 0 && size >= 1 && byte + size <= 65_536;
+
+/** What is amiss with an event. @param {any} event @param {number} position */
+function faultOf(event, position) {
+  if (!hasShape(event)) return "10 BadShape";
+  const { agent, call, block, byte, size, read, write, waiters } = event;
+  const numbers = [event.event, agent, call, block, byte, size];
+  if (!numbers.every(isWhole) || call < 0 || event.event !== position) return "12 BadNumber";
+  if (agent < 0 || agent > 15) return "15 BadAgent";
+  return (read || write || waiters) && !isThere(event) ? "12 BadNumber" : undefined;
+}
+
+/** The lines of a trace, each without its line feed. @param {Uint8Array} bytes */
+function linesOf(bytes) {
+  const lines = [];
+  for (let from = 0; from < bytes.length;) {
+    const end = bytes.indexOf(LINE_FEED, from);
+    const to = end < 0 ? bytes.length : end;
+    lines.push(bytes.subarray(from, to));
+    from = to + 1;
+  }
+  return lines;
+}
+
+/** A line as a value of JSON; undefined where it is none. @param {Uint8Array} line */
+function valueOf(line) {
+  try {
+    return JSON.parse(new TextDecoder("utf-8", { fatal: true, ignoreBOM: true }).decode(line));
+  } catch {
+    return undefined;
+  }
+}
+
+/** What must be said of a trace. @param {Uint8Array} bytes */
+function expectedOf(bytes) {
+  const events = linesOf(bytes).map(valueOf);
+  const faults = events.map((event, at) => (event === undefined ? "16 NotJson" : faultOf(event, at)));
+  const first = faults.findIndex((fault) => fault !== undefined);
+  if (first >= 0) return { status: 1, output: "", errors: `sabsim: ${faults[first]}: line ${first + 1}\n` };
+  const judged = slowJudge(events);
+  return { status: statusOf(judged), output: jsonText(judged), errors: "" };
+}
+
+/** The traces of which one byte is changed. @param {Uint8Array} bytes */
+function* changesOf(bytes) {
+  for (let at = 0; at < bytes.length; at += 1) {
+    for (let nth = 0; nth < EACH; nth += 1) {
+      const sign = SIGNS[(at * EACH + nth) % SIGNS.length];
+      if (sign !== bytes[at]) yield Uint8Array.from(bytes).fill(sign, at, at + 1);
+    }
+  }
+}
+
+/** Asks sabsim of a trace, and says what it must say. @param {Uint8Array} bytes */
+async function demandOf(bytes) {
+  const expected = expectedOf(bytes);
+  const said = await start(SABSIM, ["judge", "--trace", "--format", "json"], bytes).ended;
+  assert.deepEqual(said, { signal: null, ...expected }, Buffer.from(bytes).toString("latin1"));
+  return expected.status;
+}
+
+test("a trace of which one byte is changed is refused at its line, or judged as it stands", withSabsim, async () => {
+  const trace = readFileSync(new URL("chain-broken-by-a-store.jsonl", ROWS));
+  const changes = [...changesOf(trace)];
+  const statuses = new Set();
+  for (let from = 0; from < changes.length; from += AT_ONCE) {
+    const some = changes.slice(from, from + AT_ONCE);
+    for (const status of await Promise.all(some.map(demandOf))) statuses.add(status);
+  }
+  assert.deepEqual([...statuses].sort(), [0, 1, 5]);
+});
