@@ -80,24 +80,15 @@ fn with_file<'a>(alloc: Global, command: Command<'a>) -> Result<Command<'a>, All
 
 /// The command that takes besides how a report is told, and what [`with_ends`] has.
 fn with_telling<'a>(alloc: Global, command: Command<'a>) -> Result<Command<'a>, AllocError> {
-    let format = Arg::new(alloc, "format")
-        .long("format")
-        .value_name("FORMAT")
-        .help(help::FORMAT)
-        .default_value("plain")
-        .value_parser(FORMATS.as_slice());
-    let command = command.arg(format)?;
-    let acts = flag(alloc, "acts", help::ACTS);
-    let command = command.arg(acts)?;
+    let command = command.arg(format_argument(alloc, help::FORMAT, FORMATS.as_slice()))?;
+    let command = command.arg(flag(alloc, "acts", help::ACTS))?;
     with_ends(alloc, command)
 }
 
 /// The command that takes besides whether all calls are to return, and whether a refusal is explained.
 fn with_ends<'a>(alloc: Global, command: Command<'a>) -> Result<Command<'a>, AllocError> {
-    let finish = flag(alloc, "finish", help::FINISH);
-    let command = command.arg(finish)?;
-    let explain = flag(alloc, "explain", help::EXPLAIN);
-    command.arg(explain)
+    let command = command.arg(flag(alloc, "finish", help::FINISH))?;
+    command.arg(flag(alloc, "explain", help::EXPLAIN))
 }
 
 /// An argument that is there or not, called by its name.
@@ -108,39 +99,82 @@ fn flag<'a>(alloc: Global, name: &'a str, help: &'a str) -> Arg<'a> {
         .action(ArgAction::SetTrue)
 }
 
-/// The command that judges a run for data races.
-fn judge_command<'a>(alloc: Global) -> Result<Command<'a>, AllocError> {
-    let trace = flag(alloc, "trace", help::TRACE).conflicts_with("finish")?;
-    let trace = trace.conflicts_with("explain")?;
-    let format = Arg::new(alloc, "format")
+/// The argument that names a format, one of these.
+fn format_argument<'a>(alloc: Global, help: &'a str, formats: &'a [&'a str]) -> Arg<'a> {
+    Arg::new(alloc, "format")
         .long("format")
         .value_name("FORMAT")
-        .help(help::VERDICT_FORMAT)
+        .help(help)
         .default_value("plain")
-        .value_parser(VERDICT_FORMATS.as_slice());
-    let judge = Command::new(alloc, "judge")
-        .about(help::JUDGE)
-        .after_help(help::JUDGE_FORMS);
-    let judge = judge.arg(trace)?;
-    let judge = judge.arg(format)?;
+        .value_parser(formats)
+}
+
+/// The argument that says how threads share the simulator.
+fn share_argument<'a>(alloc: Global) -> Arg<'a> {
+    Arg::new(alloc, "share")
+        .long("share")
+        .value_name("WAY")
+        .help(help::SHARE)
+        .required(true)
+        .value_parser(SHARES.as_slice())
+}
+
+/// The argument that says how often an agent steps at a wait.
+fn spins_argument<'a>(alloc: Global) -> Arg<'a> {
+    Arg::new(alloc, "spins")
+        .long("spins")
+        .value_name("N")
+        .help(help::SPINS)
+        .default_value("0")
+        .value_parser(value_parser!(u32).range(0..=MAX_SPINS as i64))
+}
+
+/// The argument that has the seed by which threads are mixed.
+fn mix_argument<'a>(alloc: Global) -> Arg<'a> {
+    Arg::new(alloc, "mix")
+        .long("mix")
+        .value_name("SEED")
+        .help(help::MIX)
+        .value_parser(value_parser!(u64))
+}
+
+/// The flag that says that a trace is judged, which neither ends nor is explained.
+fn trace_flag<'a>(alloc: Global) -> Result<Arg<'a>, AllocError> {
+    let trace = flag(alloc, "trace", help::TRACE).conflicts_with("finish")?;
+    trace.conflicts_with("explain")
+}
+
+/// A command of the program, with its help.
+fn described<'a>(alloc: Global, name: &'a str, about: &'a str, forms: &'a str) -> Command<'a> {
+    Command::new(alloc, name).about(about).after_help(forms)
+}
+
+/// The command that judges a run for data races.
+fn judge_command<'a>(alloc: Global) -> Result<Command<'a>, AllocError> {
+    let judge = described(alloc, "judge", help::JUDGE, help::JUDGE_FORMS);
+    let judge = with_trace(alloc, judge)?;
     let judge = with_ends(alloc, judge)?;
     with_file(alloc, judge)
 }
 
+/// The command that takes besides whether a trace is judged, and how a verdict is told.
+fn with_trace<'a>(alloc: Global, command: Command<'a>) -> Result<Command<'a>, AllocError> {
+    let trace = trace_flag(alloc)?;
+    let command = command.arg(trace)?;
+    let format = format_argument(alloc, help::VERDICT_FORMAT, VERDICT_FORMATS.as_slice());
+    command.arg(format)
+}
+
 /// The command that replays a script.
 fn replay_command<'a>(alloc: Global) -> Result<Command<'a>, AllocError> {
-    let replay = Command::new(alloc, "replay")
-        .about(help::REPLAY)
-        .after_help(help::REPLAY_FORMS);
+    let replay = described(alloc, "replay", help::REPLAY, help::REPLAY_FORMS);
     let replay = with_telling(alloc, replay)?;
     with_file(alloc, replay)
 }
 
 /// The command that runs a script's agents in threads.
 fn race_command<'a>(alloc: Global) -> Result<Command<'a>, AllocError> {
-    let race = Command::new(alloc, "race")
-        .about(help::RACE)
-        .after_help(help::RACE_FORMS);
+    let race = described(alloc, "race", help::RACE, help::RACE_FORMS);
     let race = with_ways(alloc, race)?;
     let race = with_telling(alloc, race)?;
     with_file(alloc, race)
@@ -148,47 +182,34 @@ fn race_command<'a>(alloc: Global) -> Result<Command<'a>, AllocError> {
 
 /// The command that takes besides how threads share the simulator, how often they step at a wait, and their seed.
 fn with_ways<'a>(alloc: Global, command: Command<'a>) -> Result<Command<'a>, AllocError> {
-    let share = Arg::new(alloc, "share")
-        .long("share")
-        .value_name("WAY")
-        .help(help::SHARE)
-        .required(true)
-        .value_parser(SHARES.as_slice());
-    let command = command.arg(share)?;
-    let spins = Arg::new(alloc, "spins")
-        .long("spins")
-        .value_name("N")
-        .help(help::SPINS)
-        .default_value("0")
-        .value_parser(value_parser!(u32).range(0..=MAX_SPINS as i64));
-    let command = command.arg(spins)?;
-    let mix = Arg::new(alloc, "mix")
-        .long("mix")
-        .value_name("SEED")
-        .help(help::MIX)
-        .value_parser(value_parser!(u64));
-    command.arg(mix)
+    let command = command.arg(share_argument(alloc))?;
+    let command = command.arg(spins_argument(alloc))?;
+    command.arg(mix_argument(alloc))
 }
 
 /// The command that checks a script.
 fn check_command<'a>(alloc: Global) -> Result<Command<'a>, AllocError> {
-    let check = Command::new(alloc, "check")
-        .about(help::CHECK)
-        .after_help(help::CHECK_FORMS);
+    let check = described(alloc, "check", help::CHECK, help::CHECK_FORMS);
     with_file(alloc, check)
 }
 
 /// The command line, with its help.
 fn command<'a>(alloc: Global) -> Result<Command<'a>, AllocError> {
-    let sabsim = Command::new(alloc, "sabsim")
+    let sabsim = described(alloc, "sabsim", help::ABOUT, help::STATUSES)
         .version(help::VERSION)
-        .about(help::ABOUT)
-        .after_help(help::STATUSES)
         .subcommand_required(true);
-    let sabsim = sabsim.subcommand(replay_command(alloc)?)?;
-    let sabsim = sabsim.subcommand(race_command(alloc)?)?;
-    let sabsim = sabsim.subcommand(judge_command(alloc)?)?;
-    sabsim.subcommand(check_command(alloc)?)
+    let sabsim = with_subcommand(sabsim, replay_command(alloc))?;
+    let sabsim = with_subcommand(sabsim, race_command(alloc))?;
+    let sabsim = with_subcommand(sabsim, judge_command(alloc))?;
+    with_subcommand(sabsim, check_command(alloc))
+}
+
+/// The command with another one below it, where that could be made.
+fn with_subcommand<'a>(
+    command: Command<'a>,
+    made: Result<Command<'a>, AllocError>,
+) -> Result<Command<'a>, AllocError> {
+    command.subcommand(made?)
 }
 
 /// How the agents are to share the simulator.

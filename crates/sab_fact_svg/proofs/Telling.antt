@@ -1,5 +1,6 @@
 -- What is drawn of entries, one after the other, and the whole picture.
-use Rattle.std.proofs.Common.{◌≡◌, ℕ, ◌+◌, List, [], ◌∷◌, ◌++◌, length, Option, refl, ap, ap₂, sym, subst, ◌∙◌, arith, append_assoc}
+use Rattle.std.proofs.Common.{◌≡◌, ℕ, ◌+◌, List, [], ◌∷◌, ◌++◌, length, Option, Result, OnOk, refl, ap, ap₂, sym, subst, ◌∙◌, arith, append_assoc}
+use Rattle.std.proofs.lemmas.Result.{on_ok_weaker}
 use Rattle.std.specs.Prelude.{codes}
 use Rattle.std.specs.Io.KnownBytes.{Appends, Keeps, append_known}
 use Rattle.sab_sim.specs.declared.entry.Entry.{Entry}
@@ -20,7 +21,7 @@ use Rattle.sab_fact_svg.specs.Pieces.{newline}
 use Rattle.sab_fact_svg.specs.Moves.{drawn_entry, drawn_entries}
 use Rattle.sab_fact_svg.specs.Ends.{drawn_ends, drawn_blocks}
 use Rattle.sab_fact_svg.specs.Frame.{root_attributes, root_start, background, lanes, legend}
-use Rattle.sab_fact_svg.specs.Picture.{drawn, picture_by, svg_text, DrawsEntries, Draws}
+use Rattle.sab_fact_svg.specs.Picture.{drawn, picture_by, svg_text, DrawsEntries, DrawsBelow, Draws}
 use Rattle.sab_fact_svg.proofs.Writing.{room_then}
 use Rattle.sab_fact_svg.proofs.Room.{calls_have_room}
 use Rattle.sab_fact_svg.proofs.Named.{picture_document}
@@ -135,44 +136,56 @@ picture_text names plan shape report facts standings =
     (nodes_text (nodes entries)) (nodes_text (nodes ends)) (nodes_text (nodes blocks))
     (nodes_text (nodes (legend shape))) (codes "</svg>\n"))
 
-five : (a b c d e y : Option (List ℕ)) (p q r s t : List ℕ) → Appends a b p → Appends b c q → Appends c d r
-    → Appends d e s → Appends e y t → Appends a y (p ++ (q ++ (r ++ (s ++ t))))
-five a b c d e y p q r s t f g h i j =
-    appends_both a b y p (q ++ (r ++ (s ++ t))) f (appends_both b c y q (r ++ (s ++ t)) g
-    (appends_both c d y r (s ++ t) h (appends_both d e y s t i j)))
+three : (a b c y : Option (List ℕ)) (p q r : List ℕ) → Appends a b p → Appends b c q → Appends c y r
+    → Appends a y (p ++ (q ++ r))
+three a b c y p q r f g h = appends_both a b y p (q ++ r) f (appends_both b c y q r g h)
 
 -- what an explainer did, all of which was drawn
 pub draws : (names : List (List ℕ)) (plan : PlanParts) (shape : Shape) (moves : List Move) (sim : SimParts)
-    (report : ReportParts) (standings : List (Option Standing)) (a b c d e y : Option (List ℕ)) (chunk : List ℕ)
+    (report : ReportParts) (a b c y : Option (List ℕ)) (chunk : List ℕ)
     → chunk ≡ [] → shape ≡ shape_of names plan (length moves) → sim.plan ≡ plan → sim.moves ≡ moves
-    → AreStandings sim.plan sim.journal standings → Fits sim.plan report → IsOnly sim.plan report
+    → Fits sim.plan report → IsOnly sim.plan report
     → report.schedule ≡ sim.moves → report.journal ≡ sim.journal → report.blocks ≡ sim.blocks
     → Appends (append_known a chunk) b (start_text shape) → DrawsEntries names plan shape sim.journal b c
-    → Appends c d (nodes_text (nodes (drawn_ends names shape standings 0 shape.agents)))
-    → Appends d e (nodes_text (nodes (drawn_blocks shape 0 sim.blocks)))
-    → Appends e y (nodes_text (nodes (legend shape)) ++ codes "</svg>\n")
+    → DrawsBelow names shape sim c y
     → Draws names plan moves a y report
-draws names plan shape moves sim report standings a b c d e y chunk empty measured p m s fits one schedule journal
-    blocks f t g h i =
+draws names plan shape moves sim report a b c y chunk empty measured p m fits one schedule journal blocks f t d =
     let same : shape_of names plan (length report.schedule) ≡ shape =
     ap (λ (ms : List Move). shape_of names plan (length ms)) (schedule ∙ m) ∙ sym measured in
-    let written = five (append_known a chunk) b c d e y (start_text shape)
+    let written = three (append_known a chunk) b c y (start_text shape)
     (nodes_text (nodes (drawn_entries names plan shape no_sinces 0 sim.journal t.facts)))
-    (nodes_text (nodes (drawn_ends names shape standings 0 shape.agents)))
-    (nodes_text (nodes (drawn_blocks shape 0 sim.blocks))) (nodes_text (nodes (legend shape)) ++ codes "</svg>\n") f
-    t.written g h i in
-    let text = ap (λ (h : Shape). node_text (picture_by names plan h report t.facts standings) ++ codes "\n") same
-    ∙ picture_text names plan shape report t.facts standings in
+    (nodes_text (nodes (drawn_ends names shape d.standings 0 shape.agents))
+    ++ (nodes_text (nodes (drawn_blocks shape 0 sim.blocks)) ++ (nodes_text (nodes (legend shape)) ++ codes "</svg>\n"))) f
+    t.written d.written in
+    let text = ap (λ (h : Shape). node_text (picture_by names plan h report t.facts d.standings) ++ codes "\n") same
+    ∙ picture_text names plan shape report t.facts d.standings in
     record {
       fits = rw (← p) fits;
       one = rw (← p) one;
       schedule = schedule ∙ m;
       facts = t.facts;
       facts_are = rw journal t.are;
-      standings = standings;
-      standings_are = rw (← p, journal) s;
-      written = from_empty a y chunk (svg_text names plan report t.facts standings) empty
+      standings = d.standings;
+      standings_are = rw (← p, journal) d.are;
+      written = from_empty a y chunk (svg_text names plan report t.facts d.standings) empty
           (subst (Appends (append_known a chunk) y) (sym text) (rw (journal, blocks) written));
-      well_formed = picture_document names plan report t.facts standings;
+      well_formed = picture_document names plan report t.facts d.standings;
       room = calls_have_room names plan (length report.schedule);
     }
+
+-- where an explainer's moves have led, all of which was drawn
+pub draws_below : {T E : Type 0} (r : Result T E) (names : List (List ℕ)) (shape : Shape) (sim : SimParts)
+    (standings : List (Option Standing)) (blocks : List (List ℕ)) (a b c y : Option (List ℕ))
+    → AreStandings sim.plan sim.journal standings → blocks ≡ sim.blocks
+    → Appends a b (nodes_text (nodes (drawn_ends names shape standings 0 shape.agents)))
+    → Appends b c (nodes_text (nodes (drawn_blocks shape 0 blocks)))
+    → OnOk r (Appends c y (nodes_text (nodes (legend shape)) ++ codes "</svg>\n"))
+    → OnOk r (DrawsBelow names shape sim a y)
+draws_below r names shape sim standings blocks a b c y s e f g last =
+    on_ok_weaker r (λ h. record {
+      standings = standings;
+      are = s;
+      written = three a b c y (nodes_text (nodes (drawn_ends names shape standings 0 shape.agents)))
+          (nodes_text (nodes (drawn_blocks shape 0 sim.blocks))) (nodes_text (nodes (legend shape)) ++ codes "</svg>\n")
+          f (subst (λ (bs : List (List ℕ)). Appends b c (nodes_text (nodes (drawn_blocks shape 0 bs)))) e g) h;
+    }) last

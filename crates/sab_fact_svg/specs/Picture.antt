@@ -4,6 +4,7 @@ use Rattle.std.specs.Io.KnownBytes.{Appends}
 use Rattle.sab_plan.specs.declared.schedule.Move.{Move}
 use Rattle.sab_sim.specs.declared.entry.Entry.{Entry}
 use Rattle.sab_plan.specs.Plan.{PlanParts}
+use Rattle.sab_sim.specs.Sim.{SimParts}
 use Rattle.sab_sim.specs.Report.{ReportParts, Fits, IsOnly}
 use Rattle.sab_explain.specs.declared.fact.Fact.{Fact}
 use Rattle.sab_explain.specs.declared.standing.Standing.{Standing}
@@ -44,6 +45,15 @@ pub record DrawsEntries (names : List (List ℕ)) (plan : PlanParts) (shape : Sh
   pub facts : List Fact
   pub are : AreFacts plan journal facts
   pub written : Appends old new (nodes_text (nodes (drawn_entries names plan shape no_sinces 0 journal facts)))
+
+-- what is drawn of where the moves of a simulator have led came behind what was told
+pub record DrawsBelow (names : List (List ℕ)) (shape : Shape) (sim : SimParts) (old new : Option (List ℕ))
+    : Type 0 where
+  pub standings : List (Option Standing)
+  pub are : AreStandings sim.plan sim.journal standings
+  pub written : Appends old new (nodes_text (nodes (drawn_ends names shape standings 0 shape.agents))
+      ++ (nodes_text (nodes (drawn_blocks shape 0 sim.blocks))
+      ++ (nodes_text (nodes (legend shape)) ++ codes "</svg>\n")))
 
 -- the one report of the moves fits, its picture came behind what the writer held, the text is a document of XML, and
 -- no call runs into another lane

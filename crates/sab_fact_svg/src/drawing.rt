@@ -5,7 +5,7 @@ ghost use Rattle.std.specs.Io.KnownBytes.{Appends, append_known};
 ghost use Rattle.sab_plan.specs.Schedule.{agent_of};
 ghost use Rattle.sab_xml.specs.Xml.{nodes, nodes_text};
 ghost use Rattle.sab_fact_svg.specs.Frame.{root_start, background, lanes, legend};
-ghost use Rattle.sab_fact_svg.specs.Picture.{DrawsEntries, Draws};
+ghost use Rattle.sab_fact_svg.specs.Picture.{DrawsEntries, DrawsBelow, Draws};
 
 use crate::blocks::write_blocks;
 use crate::ends::write_ends;
@@ -57,10 +57,7 @@ pub fn write_svg<W: Write>(
         &mut chunk,
         w,
     )?;
-    let standings = standings_of(&explainer);
-    write_ends(names, shape, &standings, &mut scratch, &mut chunk, w)?;
-    write_blocks(shape, explainer.sim().blocks(), &mut scratch, &mut chunk, w)?;
-    write_last(shape, &mut chunk, w)?;
+    write_below(names, shape, &explainer, &mut scratch, &mut chunk, w)?;
     Ok(explainer.finish())
 }
 
@@ -134,6 +131,26 @@ fn write_entries<W: Write>(
         note(&mut sinces, k as u32, told.entry);
     }
     Ok(())
+}
+
+/// Writes what stands below the entries, of where the moves have led, and what the chunk holds. What the scratch held is
+/// lost.
+fn write_below<W: Write>(
+    names: &[Name],
+    shape: Shape,
+    explainer: &Explainer,
+    scratch: &mut Chunk,
+    chunk: &mut Chunk,
+    w: &mut W,
+) -> io::Result<()>
+    requires { length explainer.now.plan.lens ≡ shape.blocks }
+    ensures { OnOk result (DrawsBelow names.now shape explainer.now
+        (append_known (W.contents w.old) chunk.old) (W.contents w.new)) }
+{
+    let standings = standings_of(explainer);
+    write_ends(names, shape, &standings, scratch, chunk, w)?;
+    write_blocks(shape, explainer.sim().blocks(), scratch, chunk, w)?;
+    write_last(shape, chunk, w)
 }
 
 /// Writes what stands behind everything else, and what the chunk holds.

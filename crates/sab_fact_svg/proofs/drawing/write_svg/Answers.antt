@@ -1,11 +1,9 @@
 -- What the explainer did, all of which was drawn.
-use Rattle.std.proofs.Common.{◌≡◌, ℕ, List, length, ap, subst, ◌∙◌}
-use Rattle.std.specs.Io.KnownBytes.{Appends, append_known}
+use Rattle.std.proofs.Common.{◌≡◌, length, ap, ◌∙◌}
+use Rattle.std.specs.Io.KnownBytes.{append_known}
 use Rattle.sab_plan.specs.Plan.{PlanParts}
 use Rattle.sab_sim.specs.Sim.{SimParts}
-use Rattle.sab_xml.specs.Xml.{nodes, nodes_text}
 use Rattle.sab_fact_svg.specs.Shape.{shape_of}
-use Rattle.sab_fact_svg.specs.Ends.{drawn_blocks}
 use Rattle.sab_fact_svg.proofs.Telling.{draws}
 use Rattle.sab_fact_svg.proofs.drawing.write_svg.Goals as goal
 
@@ -17,18 +15,12 @@ returns g c =
     let measured : shape ≡ shape_of c.args.names.now c.args.explainer.plan (length c.args.schedule.now) =
     ◌∙◌ {b = shape_of c.args.names.now c.plan.result.now (length c.args.schedule.now)} c.of-shape.ensures
     (ap (λ (p : PlanParts). shape_of c.args.names.now p (length c.args.schedule.now)) plan) in
-    let blocks = c.blocks-2.ensures.blocks ∙ ap (λ (s : SimParts). s.blocks) c.sim-2.ensures in
-    let third = append_known (g.W.Write.contents c.write_ends.new.w) c.write_ends.new.chunk in
-    let fourth = append_known (g.W.Write.contents c.write_blocks.new.w) c.write_blocks.new.chunk in
     draws c.args.names.now c.args.explainer.plan shape c.args.schedule.now c.write_entries.new.explainer c.finish.result
-    c.standings_of-standings.result (g.W.Write.contents c.args.w.now)
+    (g.W.Write.contents c.args.w.now)
     (append_known (g.W.Write.contents c.write_start.new.w) c.write_start.new.chunk)
-    (append_known (g.W.Write.contents c.write_entries.new.w) c.write_entries.new.chunk) third fourth
-    (g.W.Write.contents c.write_last.new.w) c.new-chunk.result c.new-chunk.ensures measured
-    c.in_ok-write_entries.ensures.plan c.in_ok-write_entries.ensures.moves c.standings_of-standings.ensures
+    (append_known (g.W.Write.contents c.write_entries.new.w) c.write_entries.new.chunk)
+    (g.W.Write.contents c.write_below.new.w) c.new-chunk.result c.new-chunk.ensures measured
+    c.in_ok-write_entries.ensures.plan c.in_ok-write_entries.ensures.moves
     c.finish.ensures.fits c.finish.ensures.one c.finish.ensures.schedule c.finish.ensures.journal
     c.finish.ensures.blocks c.in_ok-write_start.ensures c.in_ok-write_entries.ensures.drawn
-    c.in_ok-write_ends.ensures
-    (subst (λ (bs : List (List ℕ)). Appends third fourth (nodes_text (nodes (drawn_blocks shape 0 bs)))) blocks
-    c.in_ok-write_blocks.ensures)
-    c.in_ok-write_last.ensures
+    c.in_ok-write_below.ensures
