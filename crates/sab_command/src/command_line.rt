@@ -72,31 +72,9 @@ pub enum Job {
     },
 }
 
-/// The command that takes besides where the script is read from.
-fn with_file<'a>(alloc: Global, command: Command<'a>) -> Result<Command<'a>, AllocError> {
-    let file = Arg::new(alloc, "file").value_name("FILE").help(help::FILE);
-    command.arg(file)
-}
-
-/// The command that takes besides how a report is told, and what [`with_ends`] has.
-fn with_telling<'a>(alloc: Global, command: Command<'a>) -> Result<Command<'a>, AllocError> {
-    let command = command.arg(format_argument(alloc, help::FORMAT, FORMATS.as_slice()))?;
-    let command = command.arg(flag(alloc, "acts", help::ACTS))?;
-    with_ends(alloc, command)
-}
-
-/// The command that takes besides whether all calls are to return, and whether a refusal is explained.
-fn with_ends<'a>(alloc: Global, command: Command<'a>) -> Result<Command<'a>, AllocError> {
-    let command = command.arg(flag(alloc, "finish", help::FINISH))?;
-    command.arg(flag(alloc, "explain", help::EXPLAIN))
-}
-
-/// An argument that is there or not, called by its name.
-fn flag<'a>(alloc: Global, name: &'a str, help: &'a str) -> Arg<'a> {
-    Arg::new(alloc, name)
-        .long(name)
-        .help(help)
-        .action(ArgAction::SetTrue)
+/// The argument that names the input's file.
+fn file_argument<'a>(alloc: Global) -> Arg<'a> {
+    Arg::new(alloc, "file").value_name("FILE").help(help::FILE)
 }
 
 /// The argument that names a format, one of these.
@@ -138,59 +116,78 @@ fn mix_argument<'a>(alloc: Global) -> Arg<'a> {
         .value_parser(value_parser!(u64))
 }
 
-/// The flag that says that a trace is judged, which neither ends nor is explained.
+/// An argument that is there or not, called by its name.
+fn flag<'a>(alloc: Global, name: &'a str, help: &'a str) -> Arg<'a> {
+    Arg::new(alloc, name)
+        .long(name)
+        .help(help)
+        .action(ArgAction::SetTrue)
+}
+
+/// What says how a report is told, whether all calls are to return, whether a refusal is explained, and the file.
+fn report_arguments<'a>(alloc: Global) -> Result<Vec<Arg<'a>>, AllocError> {
+    Ok(vec![in alloc;
+        format_argument(alloc, help::FORMAT, FORMATS.as_slice()),
+        flag(alloc, "acts", help::ACTS),
+        flag(alloc, "finish", help::FINISH),
+        flag(alloc, "explain", help::EXPLAIN),
+        file_argument(alloc),
+    ]?)
+}
+
+/// What says how threads share the simulator, how often they step at a wait, and their seed.
+fn thread_arguments<'a>(alloc: Global) -> Result<Vec<Arg<'a>>, AllocError> {
+    Ok(vec![in alloc; share_argument(alloc), spins_argument(alloc), mix_argument(alloc)]?)
+}
+
+/// The flag that says that a trace is judged, to which `--finish` and `--explain` mean nothing.
 fn trace_flag<'a>(alloc: Global) -> Result<Arg<'a>, AllocError> {
     let trace = flag(alloc, "trace", help::TRACE).conflicts_with("finish")?;
     trace.conflicts_with("explain")
 }
 
-/// A command of the program, with its help.
+/// What says how a verdict is told, and of what.
+fn judge_arguments<'a>(alloc: Global) -> Result<Vec<Arg<'a>>, AllocError> {
+    Ok(vec![in alloc;
+        trace_flag(alloc)?,
+        format_argument(alloc, help::VERDICT_FORMAT, VERDICT_FORMATS.as_slice()),
+        flag(alloc, "finish", help::FINISH),
+        flag(alloc, "explain", help::EXPLAIN),
+        file_argument(alloc),
+    ]?)
+}
+
+/// A command, with its help.
 fn described<'a>(alloc: Global, name: &'a str, about: &'a str, forms: &'a str) -> Command<'a> {
     Command::new(alloc, name).about(about).after_help(forms)
 }
 
-/// The command that judges a run for data races.
-fn judge_command<'a>(alloc: Global) -> Result<Command<'a>, AllocError> {
-    let judge = described(alloc, "judge", help::JUDGE, help::JUDGE_FORMS);
-    let judge = with_trace(alloc, judge)?;
-    let judge = with_ends(alloc, judge)?;
-    with_file(alloc, judge)
-}
-
-/// The command that takes besides whether a trace is judged, and how a verdict is told.
-fn with_trace<'a>(alloc: Global, command: Command<'a>) -> Result<Command<'a>, AllocError> {
-    let trace = trace_flag(alloc)?;
-    let command = command.arg(trace)?;
-    let format = format_argument(alloc, help::VERDICT_FORMAT, VERDICT_FORMATS.as_slice());
-    command.arg(format)
-}
-
 /// The command that replays a script.
 fn replay_command<'a>(alloc: Global) -> Result<Command<'a>, AllocError> {
-    let replay = described(alloc, "replay", help::REPLAY, help::REPLAY_FORMS);
-    let replay = with_telling(alloc, replay)?;
-    with_file(alloc, replay)
+    let arguments = report_arguments(alloc)?;
+    described(alloc, "replay", help::REPLAY, help::REPLAY_FORMS).args(arguments)
 }
 
 /// The command that runs a script's agents in threads.
 fn race_command<'a>(alloc: Global) -> Result<Command<'a>, AllocError> {
-    let race = described(alloc, "race", help::RACE, help::RACE_FORMS);
-    let race = with_ways(alloc, race)?;
-    let race = with_telling(alloc, race)?;
-    with_file(alloc, race)
+    let race = with_threads(alloc, described(alloc, "race", help::RACE, help::RACE_FORMS))?;
+    race.args(report_arguments(alloc)?)
 }
 
-/// The command that takes besides how threads share the simulator, how often they step at a wait, and their seed.
-fn with_ways<'a>(alloc: Global, command: Command<'a>) -> Result<Command<'a>, AllocError> {
-    let command = command.arg(share_argument(alloc))?;
-    let command = command.arg(spins_argument(alloc))?;
-    command.arg(mix_argument(alloc))
+/// The command that takes besides what is said of threads.
+fn with_threads<'a>(alloc: Global, command: Command<'a>) -> Result<Command<'a>, AllocError> {
+    command.args(thread_arguments(alloc)?)
+}
+
+/// The command that judges a run for data races.
+fn judge_command<'a>(alloc: Global) -> Result<Command<'a>, AllocError> {
+    let arguments = judge_arguments(alloc)?;
+    described(alloc, "judge", help::JUDGE, help::JUDGE_FORMS).args(arguments)
 }
 
 /// The command that checks a script.
 fn check_command<'a>(alloc: Global) -> Result<Command<'a>, AllocError> {
-    let check = described(alloc, "check", help::CHECK, help::CHECK_FORMS);
-    with_file(alloc, check)
+    described(alloc, "check", help::CHECK, help::CHECK_FORMS).arg(file_argument(alloc))
 }
 
 /// The command line, with its help.
@@ -198,10 +195,20 @@ fn command<'a>(alloc: Global) -> Result<Command<'a>, AllocError> {
     let sabsim = described(alloc, "sabsim", help::ABOUT, help::STATUSES)
         .version(help::VERSION)
         .subcommand_required(true);
-    let sabsim = with_subcommand(sabsim, replay_command(alloc))?;
-    let sabsim = with_subcommand(sabsim, race_command(alloc))?;
-    let sabsim = with_subcommand(sabsim, judge_command(alloc))?;
-    with_subcommand(sabsim, check_command(alloc))
+    let sabsim = with_runs(alloc, sabsim)?;
+    with_checks(alloc, sabsim)
+}
+
+/// The command with those below it that run agents.
+fn with_runs<'a>(alloc: Global, command: Command<'a>) -> Result<Command<'a>, AllocError> {
+    let command = with_subcommand(command, replay_command(alloc))?;
+    with_subcommand(command, race_command(alloc))
+}
+
+/// The command with those below it that say something of a script or a trace.
+fn with_checks<'a>(alloc: Global, command: Command<'a>) -> Result<Command<'a>, AllocError> {
+    let command = with_subcommand(command, judge_command(alloc))?;
+    with_subcommand(command, check_command(alloc))
 }
 
 /// The command with another one below it, where that could be made.

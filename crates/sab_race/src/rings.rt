@@ -63,20 +63,40 @@ pub fn run_rings_mixed<R: Threads, G: Gate + 'static>(
     ensures only { IfOk result (λ report. IsOnly plan report) }
     ensures too_many { IsErrOf result RaceFault.TooManyMoves ↔ (2 ^ 20 < count_of plan.scripts spins) }
 {
-    let mut route = Route::new(seed);
     let mut race = Race::new(alloc, plan, spins)?;
     let mut lanes = Vec::with_capacity(alloc, race.agents() as usize)?;
+    let mut route = Route::new(seed);
+    run_threads(
+        rt, alloc, &mut race, &mut lanes, &gate, &mut route, patience,
+    )?;
+    drain(&mut race, &mut lanes, &*gate, &mut route);
+    Ok(race.complete())
+}
+
+/// Runs each agent in a thread that sends its moves by a ring of these, makes what comes, and waits for the threads to
+/// end.
+fn run_threads<R: Threads, G: Gate + 'static>(
+    rt: &R,
+    alloc: Global,
+    race: &mut Race,
+    lanes: &mut Vec<Lane>,
+    gate: &Arc<G>,
+    route: &mut Route,
+    patience: u32,
+) -> Result<(), RaceFault>
+    ensures plan { race.new.plan ≡ race.old.plan }
+    ensures spins { race.new.spins ≡ race.old.spins }
+    ensures err { IsErrOf result RaceFault.TooManyMoves → ⊥ }
+{
     let mut threads = Vec::with_capacity(alloc, race.agents() as usize)?;
-    let outcome = start_all(rt, alloc, &race, &mut lanes, &mut threads, &gate);
+    let outcome = start_all(rt, alloc, race, lanes, &mut threads, gate);
     if outcome.is_ok() {
-        poll(&mut race, &mut lanes, &*gate, &mut route, patience);
+        poll(race, lanes, &**gate, route, patience);
     }
     for thread in threads {
         thread.join(rt);
     }
-    outcome?;
-    drain(&mut race, &mut lanes, &*gate, &mut route);
-    Ok(race.complete())
+    outcome
 }
 
 /// Starts a thread for each agent, up to the first that can't be started.
