@@ -80,8 +80,8 @@ made n i schedule r x there room is no_agent =
 pub returns-in_err-step-clause-refused : goal.returns-in_err-step-clause-refused
 returns-in_err-step-clause-refused c =
     let at = c.loop-m in
-    let few = subst (λ (t : SimParts). length t.journal ≤ 2 ^ 20) (c.sim-in-loop-m.view_is ∙ c.in_err-step.ensures.err)
-    c.sim-in-loop-m.invariant.0.few in
+    let few = subst (λ (t : SimParts). length t.journal ≤ 2 ^ 20) (c.sim.view_is ∙ c.in_err-step.ensures.err)
+    c.sim.invariant.0.few in
     let agents : length at.sim.plan.scripts ≡ length c.args.plan.scripts =
     ap (λ (p : PlanParts). length p.scripts) at.invariant.plan in
     let cases = refused (length c.args.plan.scripts) at.m-index c.args.schedule.now c.step.result
@@ -97,7 +97,7 @@ pub loop-m-preserved : goal.loop-m-preserved
 loop-m-preserved c =
     let at = c.loop-m in
     let few =
-    subst (λ (t : SimParts). length t.journal ≤ 2 ^ 20) c.sim-in-loop-m.view_is c.sim-in-loop-m.invariant.0.few in
+    subst (λ (t : SimParts). length t.journal ≤ 2 ^ 20) c.sim.view_is c.sim.invariant.0.few in
     let agents : length at.sim.plan.scripts ≡ length c.args.plan.scripts =
     ap (λ (p : PlanParts). length p.scripts) at.invariant.plan in
     let next = made (length c.args.plan.scripts) at.m-index c.args.schedule.now c.step.result c.in_ok-step.field-0
