@@ -1,6 +1,6 @@
 -- A part that spells nothing makes the whole spell nothing.
 use Rattle.std.proofs.Common.{◌≡◌, Result, Ok, Err}
-use Rattle.std.specs.Prelude.{IsErrAnd}
+use Rattle.std.specs.Prelude.{IsErrAnd, IfErr}
 use Rattle.std.proofs.lemmas.Result.{err_from_is_err_and}
 use Rattle.sab_refusal.specs.declared.read_fault.ReadFault.{ReadFault}
 use Rattle.sab_refusal.specs.declared.read_fault.ReadFault.TheVariants.{TooMany, OutOfMemory, BadShape, BadName, BadNumber, BadCall, BadView, BadAgent, NoBlock}
@@ -43,6 +43,11 @@ refuses_all Q NoBlock h = h
 pub exit_none : {X Z : Type 0} (view : X → Z) (Q : Z → Type 0) (r : Result X Located) (e : Located)
     → IsErrAnd r (λ y. y ≡ e) → ((z : Z) → Q z → ⊥) → Finds view Q r
 exit_none view Q r e h none = let p = err_from_is_err_and r h in rw (p.1, p.2) (refuses_all Q (fault_of e.why) none)
+
+pub exit_spells_none : {X Z : Type 0} (Q : Z → Type 0) (r : Result X Located) (e : Located)
+    → IsErrAnd r (λ y. y ≡ e) → ((z : Z) → Q z → ⊥) → IfErr r (λ y. Refuses Q (fault_of y.why))
+exit_spells_none Q r e h none =
+    let p = err_from_is_err_and r h in rw (p.1, p.2) (refuses_all Q (fault_of e.why) none)
 
 -- at the exit of a `?` on a growth that was refused
 pub exit_memory : {X Z : Type 0} (view : X → Z) (Q : Z → Type 0) (r : Result X Located)

@@ -50,12 +50,6 @@ restated d form agents lens_tree moves views e p h =
       schedule = rw moves_are h.schedule;
     }
 
--- the tree of a script whose members' arrays are known
-pub with_items : (d : Data) (form : Form) (a l s v : Data) (agents moves views : Items) → d ≡ script_object form a l s v
-    → a ≡ array agents → s ≡ array moves → v ≡ array views
-    → d ≡ script_object form (array agents) l (array moves) (array views)
-with_items d form a l s v agents moves views e p q r = e ∙ (λ i. script_object form (p i) l (q i) (r i))
-
 -- a length has one tree
 same_len : (d : Data) (m n : ℕ) → SpellsLen d m → SpellsLen d n → m ≡ n
 same_len d m n p q =

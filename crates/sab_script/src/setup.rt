@@ -1,11 +1,12 @@
 //! Setups, and the scripts that spell them.
 
 ghost use Rattle.std.specs.Prelude.{◌≡◌, IfOk, IfErr, OnErr};
-ghost use Rattle.serde_json.specs.Data.{Data};
-ghost use Rattle.serde_json.specs.View.{view};
+ghost use Rattle.serde_json.specs.Data.{Data, array};
+ghost use Rattle.serde_json.specs.View.{view, items_view};
 ghost use Rattle.sab_plan.specs.Plan.{IsPlan, parts_of};
 ghost use Rattle.sab_refusal.specs.declared.read_fault.ReadFault.TheVariants.{OutOfMemory};
-ghost use Rattle.sab_script.specs.Reading.{Reads, Finds};
+ghost use Rattle.sab_refusal.specs.Why.{fault_of};
+ghost use Rattle.sab_script.specs.Reading.{Refuses, Reads, Finds};
 ghost use Rattle.sab_script.specs.Views.{named_views};
 ghost use Rattle.sab_script.specs.Setup.{IsSetup, Spells, IsOnlySetup, script_object};
 
@@ -113,6 +114,19 @@ fn members_in(tree: &Value, form: Form) -> Result<(&Value, &Value, &Value, &Valu
     Ok((agents, lens, schedule, views))
 }
 
+/// The values of a script's members, of which its agents, its schedule and its views are arrays; and its form.
+fn script_parts(tree: &Value) -> Result<(Form, (&[Value], &Value, &[Value], &[Value])), Located>
+    ensures ok { IfOk result (λ p. view tree.now ≡ script_object p.0 (array (items_view p.1.0.now)) (view p.1.1.now)
+        (array (items_view p.1.2.now)) (array (items_view p.1.3.now))) }
+    ensures err { IfErr result (λ e. Refuses (Spells (view tree.now)) (fault_of e.why)) }
+{
+    let (form, (agents, lens, schedule, views)) = script_members(tree)?;
+    let agents = items(Location::Member(Member::Agents), agents)?;
+    let schedule = items(Location::Member(Member::Schedule), schedule)?;
+    let views = items(Location::Member(Member::Views), views)?;
+    Ok((form, (agents, lens, schedule, views)))
+}
+
 /// A plan of parts that make one.
 fn plan_of(lens: Vec<u32>, views: Vec<PlanView>, scripts: Vec<Script>) -> Plan
     requires { IsPlan (parts_of lens.items views.items scripts.items) }
@@ -131,13 +145,10 @@ pub fn locate_setup(alloc: Global, tree: &Value) -> Result<Setup, Located>
     ensures spelled { Finds (λ setup. setup) (Spells (view tree.now)) result }
     ensures only { IfOk result (IsOnlySetup (view tree.now)) }
 {
-    let (form, (agents_tree, lens_tree, schedule_tree, views_tree)) = script_members(tree)?;
+    let (form, (agent_trees, lens_tree, move_trees, view_trees)) = script_parts(tree)?;
     let at_agents = Location::Member(Member::Agents);
     let at_schedule = Location::Member(Member::Schedule);
     let at_views = Location::Member(Member::Views);
-    let agent_trees = items(at_agents, agents_tree)?;
-    let move_trees = items(at_schedule, schedule_tree)?;
-    let view_trees = items(at_views, views_tree)?;
     let lens = read_lens(alloc, Location::Member(form.lens_member()), form, lens_tree)?;
     let (views, plan_views) = read_views(alloc, at_views, form, &lens, view_trees)?;
     let scripts = read_agents(alloc, at_agents, &views, agent_trees)?;
