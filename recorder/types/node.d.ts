@@ -179,7 +179,7 @@ declare module "node:child_process" {
 
 declare module "node:crypto" {
   interface Hash {
-    update(text: string): this;
+    update(data: string | Uint8Array): this;
     digest(encoding: "base64" | "hex"): string;
   }
   interface WebCrypto {
@@ -212,7 +212,7 @@ declare module "node:fs" {
   export function existsSync(path: string): boolean;
   export function mkdirSync(path: string, options: { recursive: true }): void;
   export function openSync(path: string, flags: string): number;
-  export function readFileSync(path: string | URL, encoding: "latin1" | "utf8"): string;
+  export function readFileSync(file: string | URL | number, encoding: "latin1" | "utf8"): string;
   export function readFileSync(path: string | URL): Buffer;
   export function readlinkSync(path: string): string;
   export function realpathSync(path: string): string;

@@ -15,6 +15,7 @@ export { LostJob } from "./remote-job.mjs";
  * @property {number} jobs how many groups work side by side, each in a process of its own
  * @property {number} checkEvery every run that fails is checked, and one in so many of the others; 0: none at all
  * @property {string} [sabsim] the program's path; it isn't needed where nothing is checked
+ * @property {number} [origin] the seed from which one in so many is counted; the first if it isn't given
  * @property {boolean} [failFast] whether the first failing run is the last
  */
 
@@ -33,10 +34,11 @@ class Row {
    * @param {number} first
    * @param {number} last
    * @param {number} every one in how many outcomes is wanted whole; 0: none
+   * @param {number} origin the seed from which they are counted
    * @param {number} batch
    */
-  constructor(first, last, every, batch) {
-    this.first = first;
+  constructor(first, last, every, origin, batch) {
+    this.origin = origin;
     this.next = first;
     this.last = last;
     this.every = every;
@@ -47,7 +49,7 @@ class Row {
   take() {
     const seeds = [];
     while (this.next <= this.last && seeds.length < this.batch) {
-      const whole = this.every > 0 && (this.next - this.first) % this.every === 0;
+      const whole = this.every > 0 && (this.next - this.origin) % this.every === 0;
       seeds.push({ seed: this.next, whole });
       this.next += 1;
     }
@@ -70,12 +72,12 @@ class Row {
  * process was lost, and where it is to stop, with the reason for that
  */
 export async function recordSeeds(options, onOutcome, { onCheck = () => {}, signal } = {}) {
-  const { first, last, checkEvery, sabsim, failFast = false } = options;
+  const { first, last, checkEvery, sabsim, origin = first, failFast = false } = options;
   if (checkEvery > 0) foundSabsim(sabsim);
   let checked = 0;
   const count = last - first + 1;
   const batch = failFast ? 1 : Math.max(1, Math.min(BATCH, Math.ceil(count / options.jobs)));
-  const row = new Row(first, last, checkEvery, batch);
+  const row = new Row(first, last, checkEvery, origin, batch);
   const told = listener(first, failFast, row, onOutcome, (seed) => {
     checked += 1;
     onCheck(seed);
