@@ -1,7 +1,7 @@
 // The command line.
 
 import { parseArgs } from "node:util";
-import { DEFAULT_CHECK_EVERY, DEFAULT_SECONDS, SCRIPT_LIMITS } from "../../script/limits.mjs";
+import { DEFAULT_CHECK_EVERY, DEFAULT_SECONDS, MOST_JOBS, SCRIPT_LIMITS } from "../../script/limits.mjs";
 import { nearest } from "../nearest.mjs";
 import { checkedAgents, checkedBuffers, checkedChoice, DEFAULT_TIMEOUTS, Refused } from "../run/plan.mjs";
 import { countOf, shardOf } from "../seeds/ranges.mjs";
@@ -68,7 +68,6 @@ const SHAPE = {
   help: { type: "boolean" },
 };
 
-const MOST_JOBS = 64;
 const LEAST_SECONDS = 0.001;
 const MOST_SECONDS = 3_600;
 

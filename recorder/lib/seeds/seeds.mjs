@@ -2,6 +2,7 @@
 
 import { foundSabsim } from "../check/sabsim.mjs";
 import { InOrder } from "./in-order.mjs";
+import { LocalJob } from "./local-job.mjs";
 import { LostJob, RemoteJob } from "./remote-job.mjs";
 
 export { LostJob } from "./remote-job.mjs";
@@ -17,16 +18,28 @@ export { LostJob } from "./remote-job.mjs";
  * @property {string} [sabsim] the program's path; it isn't needed where nothing is checked
  * @property {number} [origin] the seed from which one in so many is counted; the first if it isn't given
  * @property {boolean} [failFast] whether the first failing run is the last
+ * @property {boolean} [here] whether the jobs' workers are of this process, and not of one for each job
+ */
+
+/**
+ * @typedef {object} Pace how far the jobs may go ahead of who takes what they find
+ * @property {(seed: number) => boolean} isAhead whether a seed is too far to be begun yet
+ * @property {() => Promise<void>} next is settled when that may have changed
+ * @property {(failure: unknown) => void} onFailure is told of what ends a job, while others may still be at work
  */
 
 /**
  * @typedef {object} Listening
  * @property {(seed: number) => void} [onCheck] is told of each run that sabsim says the same of
  * @property {AbortSignal} [signal] that it is to stop
+ * @property {Pace} [pace] as fast as they can, if it isn't given
  */
 
-// How many seeds a job is given at a time.
-const BATCH = 16;
+/** How many seeds a job is given at a time. */
+export const BATCH = 16;
+
+/** @type {Pace} */
+const UNHINDERED = { isAhead: () => false, next: () => Promise.resolve(), onFailure() {} };
 
 /** Seeds in their order, some at a time. */
 class Row {
@@ -56,6 +69,11 @@ class Row {
     return seeds;
   }
 
+  /** @returns {boolean} whether all were taken */
+  get isEmpty() {
+    return this.next > this.last;
+  }
+
   /** Leaves nothing to take. */
   stop() {
     this.next = this.last + 1;
@@ -71,7 +89,7 @@ class Row {
  * @returns {Promise<{ checked: number }>} how many runs were checked; fails at the first difference, where a job's
  * process was lost, and where it is to stop, with the reason for that
  */
-export async function recordSeeds(options, onOutcome, { onCheck = () => {}, signal } = {}) {
+export async function recordSeeds(options, onOutcome, { onCheck = () => {}, signal, pace = UNHINDERED } = {}) {
   const { first, last, checkEvery, sabsim, origin = first, failFast = false } = options;
   if (checkEvery > 0) foundSabsim(sabsim);
   let checked = 0;
@@ -83,9 +101,10 @@ export async function recordSeeds(options, onOutcome, { onCheck = () => {}, sign
     onCheck(seed);
   });
   const needed = Math.min(options.jobs, Math.ceil(count / batch));
-  const jobs = Array.from({ length: needed }, () => new RemoteJob(told.addCheck));
+  const OneJob = options.here ? LocalJob : RemoteJob;
+  const jobs = Array.from({ length: needed }, () => new OneJob(told.addCheck));
   try {
-    await unlessStopped(signal, recordAll(jobs, { ...options, checks: checkEvery > 0 }, row, told.add));
+    await unlessStopped(signal, recordAll(jobs, { ...options, checks: checkEvery > 0 }, row, told.add, pace));
   } finally {
     await Promise.all(jobs.map((job) => job.close()));
     told.finish();
@@ -131,16 +150,19 @@ function unlessStopped(signal, promise) {
   });
 }
 
+/** @typedef {RemoteJob | LocalJob} AnyJob */
+
 /**
  * Has the jobs make all runs.
- * @param {RemoteJob[]} jobs
+ * @param {AnyJob[]} jobs
  * @param {Parameters<RemoteJob["open"]>[0]} options
  * @param {Row} row
  * @param {(outcome: Outcome) => void} onOutcome
+ * @param {Pace} pace
  */
-async function recordAll(jobs, options, row, onOutcome) {
+async function recordAll(jobs, options, row, onOutcome, pace) {
   await settled(jobs.map((job) => job.open(options)));
-  await settled(jobs.map((job) => work(job, row, onOutcome)));
+  await settled(jobs.map((job) => work(job, row, onOutcome, pace)));
 }
 
 /**
@@ -161,23 +183,43 @@ async function settled(promises) {
 
 /**
  * Keeps one job at work until there are no seeds, or something failed. Where the job is lost the others go on.
- * @param {RemoteJob} job
+ * @param {AnyJob} job
  * @param {Row} row
  * @param {(outcome: Outcome) => void} onOutcome
+ * @param {Pace} pace
  * @returns {Promise<void>}
  */
-async function work(job, row, onOutcome) {
+async function work(job, row, onOutcome, pace) {
   try {
-    for (let seeds = row.take(); seeds.length > 0; seeds = row.take()) await runBatch(job, seeds, onOutcome);
+    for (let seeds = await taken(job, row, pace); seeds.length > 0; seeds = await taken(job, row, pace)) {
+      await runBatch(job, seeds, onOutcome);
+    }
     await job.finish();
   } catch (failure) {
+    pace.onFailure(failure);
     if (!(failure instanceof LostJob)) row.stop();
     throw failure;
   }
 }
 
 /**
- * @param {RemoteJob} job
+ * The seeds that a job is to run next, when it may begin them.
+ * @param {AnyJob} job
+ * @param {Row} row
+ * @param {Pace} pace
+ */
+async function taken(job, row, pace) {
+  const isAhead = () => !row.isEmpty && pace.isAhead(row.next);
+  while (isAhead()) {
+    // Who takes the outcomes may wait for a check of this job.
+    await job.finish();
+    if (isAhead()) await pace.next();
+  }
+  return row.take();
+}
+
+/**
+ * @param {AnyJob} job
  * @param {import("../run/group.mjs").Wanted[]} seeds in their order
  * @param {(outcome: Outcome) => void} onOutcome
  */
