@@ -34,13 +34,28 @@ export function explore(options) {
  * @returns {AsyncGenerator<Outcome, void, void>}
  */
 export function explored(options, callersFolder) {
-  const { signal, seeds, sabsim: asked, ...rest } = exploreOptions(options, callersFolder);
-  const isLeftOut = asked === false || rest.checkEvery === 0;
+  const checked = exploreOptions(options, callersFolder);
+  const sabsim = sabsimOf(checked);
+  const { signal, seeds, jobs, checkEvery: every } = checked;
+  const asking = { isLeftOut: isLeftOut(checked), sabsim, every };
+  const checkEvery = sabsim === undefined ? 0 : every;
+  return outcomesOf({ ...checked, ...seeds, sabsim, checkEvery, here: jobs === 1 }, asking, signal);
+}
+
+/** @typedef {ReturnType<typeof exploreOptions>} Checked */
+
+/** @param {Checked} options @returns {boolean} whether they say that sabsim isn't to be asked */
+const isLeftOut = ({ sabsim, checkEvery }) => sabsim === false || checkEvery === 0;
+
+/**
+ * Where sabsim is that many runs are to be checked by.
+ * @param {Checked} options
+ * @returns {string | undefined} undefined: nowhere, or it isn't to be asked
+ */
+export function sabsimOf(options) {
+  const { sabsim: asked } = options;
   const path = typeof asked === "string" ? asked : undefined;
-  const sabsim = isLeftOut ? undefined : sabsimFor({ path, isAsked: asked === true });
-  const checkEvery = sabsim === undefined ? 0 : rest.checkEvery;
-  const asking = { isLeftOut, sabsim, every: rest.checkEvery };
-  return outcomesOf({ ...rest, ...seeds, sabsim, checkEvery, here: rest.jobs === 1 }, asking, signal);
+  return isLeftOut(options) ? undefined : sabsimFor({ path, isAsked: asked === true });
 }
 
 /**

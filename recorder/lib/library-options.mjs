@@ -53,6 +53,7 @@ import { checkedAgents, checkedBuffers, checkedChoice, checkedNoBlock } from "./
  */
 
 /** @typedef {Omit<RecordOptions, "seed"> & ManyOptions} ExploreOptions */
+/** @typedef {Omit<ExploreOptions, "failFast"> & { out?: string }} TrialOptions */
 
 const MOST_SECONDS = 3_600;
 
@@ -201,4 +202,13 @@ export function exploreOptions(options, callersFolder) {
     throw new Refused(`\`${name}\` can't be given: ${why}; leave \`jobs\` out, or export it from the agents' module`);
   }
   return checked;
+}
+
+/**
+ * The options of a trial, whose `out` alone was looked at.
+ * @param {TrialOptions} options
+ */
+export function checkedOut(options) {
+  if (options?.out !== undefined && !isName(options.out)) throw new Refused("`out` must be the path of a folder");
+  return options ?? {};
 }

@@ -2,7 +2,9 @@
 
 import * as declared from "../recorder.mjs";
 import * as written from "../lib/recorder.mjs";
-import type { ExploreOptions, WithBuffers } from "../lib/library-options.mjs";
+import * as declaredTesting from "../testing.mjs";
+import * as writtenTesting from "../lib/suite/tests.mjs";
+import type { ExploreOptions, TrialOptions, WithBuffers } from "../lib/library-options.mjs";
 import type { Ending } from "../lib/run/group.mjs";
 import type { Side, Told } from "../lib/run/findings.mjs";
 
@@ -17,6 +19,8 @@ type Holds<T extends true> = T;
 export type Held = [
   Holds<Same<Flat<declared.RecordOptions>, Flat<written.RecordOptions>>>,
   Holds<Same<Flat<declared.ExploreOptions>, Flat<ExploreOptions>>>,
+  Holds<Same<Flat<declaredTesting.TrialOptions>, Flat<TrialOptions>>>,
+  Holds<Same<keyof typeof declaredTesting, keyof typeof writtenTesting>>,
   Holds<Same<Flat<declared.Outcome>, Flat<written.Outcome>>>,
   Holds<Same<declared.Ending, Ending>>,
   Holds<Same<Flat<declared.Race>, Flat<Told>>>,
@@ -35,4 +39,8 @@ export type Held = [
 export const record: typeof declared.record = written.record;
 export const explore: typeof declared.explore = written.explore;
 export const sameExplore: typeof written.explore = declared.explore;
+export const testAgents: typeof declaredTesting.testAgents = writtenTesting.testAgents;
+export const sameTestAgents: typeof writtenTesting.testAgents = declaredTesting.testAgents;
+export const assertAgents: typeof declaredTesting.assertAgents = writtenTesting.assertAgents;
+export const sameAssertAgents: typeof writtenTesting.assertAgents = declaredTesting.assertAgents;
 export const sameRecord: typeof written.record = declared.record;
