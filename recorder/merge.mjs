@@ -7,6 +7,7 @@ import { merged, partsOf } from "./lib/command/merging.mjs";
 import { print } from "./lib/command/print.mjs";
 import { toldOf } from "./lib/command/problems.mjs";
 import { STATUS } from "./lib/command/status.mjs";
+import { missingText } from "./lib/command/summary-text.mjs";
 import { Refused } from "./lib/run/plan.mjs";
 
 const USAGE = `usage: node recorder/merge.mjs FILE.. [options]
@@ -50,8 +51,9 @@ async function run(words) {
   const format = checkedFormat(values.format);
   const summary = merged(files.flatMap(partsOf));
   await print(formatted(summary, format));
-  summary.problems.forEach(complain);
-  if (summary.stopped !== null || summary.problems.length > 0) return STATUS.NOT_DONE;
+  const problems = [...summary.missing.map(missingText), ...summary.problems];
+  problems.forEach(complain);
+  if (summary.stopped !== null || problems.length > 0) return STATUS.NOT_DONE;
   return summary.failed > 0 ? STATUS.SOME_FAILED : STATUS.NONE_FAILED;
 }
 

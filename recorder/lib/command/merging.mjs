@@ -2,7 +2,7 @@
 
 import { readFileSync } from "node:fs";
 import { Refused } from "../run/plan.mjs";
-import { countOf, rangeText, united, without } from "../seeds/ranges.mjs";
+import { united, without } from "../seeds/ranges.mjs";
 import { differenceOf } from "./asked.mjs";
 import { FORM, whyNoSummary } from "./summary-form.mjs";
 import { Summary } from "./summary.mjs";
@@ -75,7 +75,8 @@ export function merged(parts) {
   const askedSeeds = united(summaries.flatMap((summary) => summary.asked.seeds));
   const seeds = united(summaries.flatMap((summary) => summary.seeds));
   const missing = without(askedSeeds, seeds);
-  const told = joined.told({ stopped: stoppedOf(summaries, missing), problems: problemsOf(summaries, missing) });
+  const problems = summaries.flatMap((summary) => summary.problems);
+  const told = joined.told({ stopped: stoppedOf(summaries), missing, problems });
   const shard = null;
   return { summary: FORM, asked: { ...asked, seeds: askedSeeds, shard }, seeds, ...told, ...leftBy(summaries, told) };
 }
@@ -105,24 +106,13 @@ function needsFitting(parts) {
 
 /**
  * @param {WholeSummary[]} summaries
- * @param {import("../seeds/ranges.mjs").Range[]} missing seeds that none of them has
- * @returns {import("./summary.mjs").Stop | null}
+ * @returns {import("./summary.mjs").Stop | null} that not all of their runs were made
  */
-function stoppedOf(summaries, missing) {
+function stoppedOf(summaries) {
   const whys = summaries.flatMap(({ stopped }) => (stopped === null ? [] : [stopped.why]));
-  if (whys.length === 0 && missing.length === 0) return null;
-  const wanted = summaries.map(({ stopped, runs }) => stopped?.wanted ?? runs);
-  const all = [...wanted, ...missing.map(countOf)].reduce((sum, count) => sum + count, 0);
-  return { why: whys.length === 0 ? "stopped" : [...new Set(whys)].join(", "), wanted: all };
-}
-
-/**
- * @param {WholeSummary[]} summaries
- * @param {import("../seeds/ranges.mjs").Range[]} missing
- */
-function problemsOf(summaries, missing) {
-  const untold = missing.map((range) => `no summary has the ${rangeText(range)}`);
-  return [...summaries.flatMap(({ problems }) => problems), ...untold];
+  if (whys.length === 0) return null;
+  const wanted = summaries.reduce((sum, { stopped, runs }) => sum + (stopped?.wanted ?? runs), 0);
+  return { why: [...new Set(whys)].join(", "), wanted };
 }
 
 /**

@@ -61,6 +61,7 @@ const MEMBERS = object({
   }),
   seeds: list(range),
   stopped: orNull(object({ why: text, wanted: whole })),
+  missing: list(range),
   runs: whole,
   failed: whole,
   endings: object({ failing: endings, passing: endings }),

@@ -1,6 +1,7 @@
 // The plain text of a summary. It is made from the object that `--format json` tells, and from nothing else.
 
 import { HOW_TO_BUILD } from "../check/sabsim.mjs";
+import { rangeText } from "../seeds/ranges.mjs";
 import { counted, digits, listed } from "./words.mjs";
 
 /** @typedef {import("./summary.mjs").Told} Told */
@@ -17,8 +18,8 @@ const MOST_LISTED = 8;
  * @returns {string} lines, each with its end
  */
 export function summaryText(summary) {
-  const { stopped, runs, unseen, kept, notKept } = summary;
-  const lines = [];
+  const { stopped, missing, runs, unseen, kept, notKept } = summary;
+  const lines = missing.map(missingText);
   if (stopped !== null) lines.push(`${stopped.why} after ${digits(runs)} of ${counted(stopped.wanted, "run")}`);
   if (runs > 0) {
     lines.push(endingLine(summary), ...failingLines(summary), ...raceLines(summary), ...stateLines(summary));
@@ -27,6 +28,12 @@ export function summaryText(summary) {
   if (kept !== null) lines.push(`kept in ${kept.folder}: ${kept.files.join(", ")}`);
   return [...lines, ...notKept].map((line) => `${line}\n`).join("");
 }
+
+/**
+ * @param {import("../seeds/ranges.mjs").Range} range of seeds of which nothing is known
+ * @returns {string}
+ */
+export const missingText = (range) => `no summary has the ${rangeText(range)}`;
 
 /** @param {Told} summary */
 function endingLine({ runs, failed, endings }) {

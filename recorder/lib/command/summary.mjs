@@ -40,6 +40,7 @@ import { Tally } from "./tally.mjs";
 /**
  * @typedef {object} Told what is told of many runs: an object of JSON, with members that docs/FORMATS.md explains
  * @property {Stop | null} stopped
+ * @property {import("../seeds/ranges.mjs").Range[]} missing seeds that were asked for, and of which nothing is known
  * @property {number} runs
  * @property {number} failed
  * @property {Record<"failing" | "passing", { ending: string, runs: number, first: number }[]>} endings
@@ -66,7 +67,7 @@ import { Tally } from "./tally.mjs";
  * runs
  */
 
-/** @typedef {Partial<Pick<Told, "stopped" | "kept" | "notKept" | "problems">>} Ending how all ended, and what is left */
+/** @typedef {Partial<Pick<Told, "stopped" | "missing" | "kept" | "notKept" | "problems">>} Ending how all ended, and what is left */
 
 // In the order in which they are told.
 const FAILING = ["deadlock", "failed", "check", "race", "bound"];
@@ -171,9 +172,10 @@ export class Summary {
    * @returns {Told} all that is told, as an object of JSON: the plain text is made from it
    */
   told(ending = {}) {
-    const { stopped = null, kept = null, notKept = [], problems = [] } = ending;
+    const { stopped = null, missing = [], kept = null, notKept = [], problems = [] } = ending;
     return {
       stopped,
+      missing,
       runs: this.runs,
       failed: this.failed,
       endings: {
