@@ -10,9 +10,6 @@ import { whyUnchecked } from "./unchecked.mjs";
 /** @typedef {import("./recorder.mjs").Outcome} Outcome */
 /** @typedef {import("./library-options.mjs").ExploreOptions} ExploreOptions */
 
-// How many batches of a job may be under way, or wait to be taken: one is made while the other is taken.
-const BATCHES = 2;
-
 /**
  * Runs the agents under the schedules of many seeds. The outcomes come in the order of the seeds. Nothing is started
  * before the first one is asked for, and when no more is asked for, all that was started is ended. A relative path of
@@ -66,7 +63,8 @@ export function sabsimOf(options) {
  */
 async function* outcomesOf({ failFast, ...options }, asking, signal) {
   if (signal?.aborted) throw signal.reason;
-  const delivery = new Delivery(options, options.jobs * BATCH * BATCHES, options.checkEvery > 0);
+  // Each job makes a batch while the one before is taken.
+  const delivery = new Delivery(options, options.jobs * BATCH, options.checkEvery > 0);
   const end = new AbortController();
   const stop = () => delivery.fail(signal?.reason);
   signal?.addEventListener("abort", stop);

@@ -28,7 +28,7 @@ class Later {
 export class Delivery {
   /**
    * @param {import("./ranges.mjs").Range} range the seeds
-   * @param {number} most how many seeds may be under way, or wait to be taken
+   * @param {number} most how far a seed that is begun may be from the next one to be taken
    * @param {boolean} checks whether runs that have a script are checked
    */
   constructor({ first, last }, most, checks) {
