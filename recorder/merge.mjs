@@ -22,11 +22,13 @@ Status: 0 no run failed, 1 some did, 2 a file is no summary, or they don't fit t
 other options, or have the same seed; 3 not all runs were made: one was stopped, or the seeds of a shard are missing.
 `;
 
+/** @type {Record<string, { type: "string" | "boolean" }>} */
+const SHAPE = { format: { type: "string" }, help: { type: "boolean" } };
+
 /** @param {string[]} words of the command line */
 function wordsOf(words) {
   try {
-    const options = { format: { type: /** @type {const} */ ("string") }, help: { type: /** @type {const} */ ("boolean") } };
-    return parseArgs({ args: words, options, allowPositionals: true, strict: true });
+    return parseArgs({ args: words, options: SHAPE, allowPositionals: true, strict: true });
   } catch (error) {
     throw new Refused(/** @type {Error} */ (error).message.split("\n")[0]);
   }

@@ -122,7 +122,9 @@ const MANY_CHECKS = {
   signal: that((value) => value instanceof AbortSignal, "an AbortSignal"),
 };
 
-const OF_ALL = { ...DEFAULTS, args: /** @type {string[]} */ ([]), maxMoves: SCRIPT_LIMITS.moves, seconds: DEFAULT_SECONDS };
+const OF_ALL = {
+  ...DEFAULTS, args: /** @type {string[]} */ ([]), maxMoves: SCRIPT_LIMITS.moves, seconds: DEFAULT_SECONDS,
+};
 const OWN_DEFAULTS = { ...OF_ALL, seed: 1 };
 const MANY_DEFAULTS = {
   ...OF_ALL, seeds: { first: 1, last: 100 }, jobs: 1, checkEvery: DEFAULT_CHECK_EVERY, fresh: false, failFast: false,

@@ -7,7 +7,8 @@ import { framesHere } from "./agent/sources.mjs";
 import { Refused } from "./run/plan.mjs";
 
 // The library itself: what calls its functions is looked for.
-const OWN = ["./", "../recorder.mjs", "../testing.mjs"].map((place) => new URL(place, import.meta.url).href).concat("node:");
+const FILES = ["./", "../recorder.mjs", "../testing.mjs"];
+const OWN = [...FILES.map((place) => new URL(place, import.meta.url).href), "node:"];
 
 // Code that is typed in has no file: it is taken to be in the working directory, as node itself takes it.
 const TYPED_IN = /^(\[eval|\[stdin|REPL\d)/;

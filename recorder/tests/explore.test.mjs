@@ -22,7 +22,7 @@ async function allOf(runs) {
   return all;
 }
 
-test("the outcomes come in the order of the seeds, and are those of record, whatever the jobs", withSabsim, async () => {
+test("outcomes come in the order of the seeds, and are those of record, whatever the jobs", withSabsim, async () => {
   const options = { module: agentsPath("naive-mutex"), sabsim: SABSIM };
   const one = await allOf(explore({ ...options, seeds: "20..60", checkEvery: 4 }));
   assert.deepEqual(one.map(({ seed }) => seed), Array.from({ length: 41 }, (_, at) => at + 20));
@@ -49,7 +49,7 @@ test("which seeds are meant", async () => {
   assert.equal((await seedsOf(undefined)).length, 100);
 });
 
-test("options that can't be are refused at once, and a module that can't be when the first run is asked for", async () => {
+test("options that can't be are refused at once, and a module that can't be when a run is asked for", async () => {
   const module = agentsPath("cases");
   const wrong = {
     seeds: ["", "5..1", "a..b", "1..2..3", 0, -1, 1.5, 2 ** 53, null, {}, { first: 2, last: 1 }, { first: 1 }, [1, 2]],
@@ -94,7 +94,7 @@ test("the functions init and check are called here, for each run", async () => {
   assert.deepEqual(outcomes.map(({ ending }) => ending), ["finished", "finished", "finished", "check"]);
 });
 
-test("with failFast the first failing run is the last, and workers are kept unless they are to be fresh", async (context) => {
+test("with failFast the first failing run is the last, and with fresh workers aren't kept", async (context) => {
   for (const jobs of [1, 3]) {
     const outcomes = await allOf(explore({ ...naive, seeds: "10..100000", failFast: true, jobs }));
     assert.deepEqual([outcomes.length, outcomes.at(-1).seed, outcomes.at(-1).fails], [20, 29, true]);

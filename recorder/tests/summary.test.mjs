@@ -253,7 +253,8 @@ test("the object of a summary has all that its text has, and what the text leave
   const lines = summaryText(told).split("\n");
   assert.equal(lines[0], "stopped after 4 of 9 runs");
   assert.deepEqual(lines.slice(-3), ["kept in found: seed-4.report", "not kept: this", ""]);
-  const asked = { module: "m.mjs", digest: "", seeds: [], shard: null, options: { ...SEEN, args: [], preloads: false } };
+  const options = { ...SEEN, args: [], preloads: false };
+  const asked = { module: "m.mjs", digest: "", seeds: [], shard: null, options };
   assert.equal(whyNoSummary({ summary: 1, asked, seeds: [], ...told }), undefined);
 });
 

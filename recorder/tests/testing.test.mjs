@@ -39,7 +39,7 @@ async function suite(context, code, env = {}, reporter = "spec") {
 
 const AGENTS = 'testAgents("no wake-up is lost", { module: "./agents.mjs", seeds: "1..200" });';
 
-test("a failing test shows the seed, how it ended, its explained end, and where its files lie", withSabsim, async (the) => {
+test("a failing test shows seed, ending, its explained end, and where its files lie", withSabsim, async (the) => {
   const { folder, temporary, output, status } = await suite(the, AGENTS);
   assert.equal(status, 1);
   const [made] = readdirSync(temporary);
@@ -59,7 +59,8 @@ test("a failing test shows the seed, how it ended, its explained end, and where 
   ]);
   const end = lines.indexOf("", from + 4);
   assert.deepEqual(lines.slice(end - shown.length, end), shown.map((line) => `  ${line}`));
-  assert.match(lines[end - shown.length - 1], /^ {2}173 0 19 wait +wait\(Int32, 1, 0\) waits at Int32\[1\], first in line$/);
+  const last = lines[end - shown.length - 1];
+  assert.match(last, /^ {2}173 0 19 wait +wait\(Int32, 1, 0\) waits at Int32\[1\], first in line$/);
   assert.equal(end - shown.length - (from + 4), 16);
   assert.deepEqual(lines.slice(end, end + 4), [
     "", `kept in ${place}: ${names.join(", ")}`, "", `    at file://${join(folder, "lock.test.mjs")}:2:1`,
@@ -67,7 +68,7 @@ test("a failing test shows the seed, how it ended, its explained end, and where 
   assert.ok(!output.includes("generatedMessage"));
 });
 
-test("without sabsim it shows what the recorder knows, and a passing test says that nothing was checked", async (the) => {
+test("without sabsim it shows what is known, and a passing test says that nothing was checked", async (the) => {
   const { folder, output, status, temporary } = await suite(the, `
     testAgents("fails", { module: "./agents.mjs", seeds: "29", out: "found" });
     testAgents("passes", { module: "./agents.mjs", seeds: { first: 3, last: 12 }, jobs: 2 });

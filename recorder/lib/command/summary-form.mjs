@@ -9,7 +9,7 @@
 /** The number of this form: another one has another. */
 export const FORM = 1;
 
-/** @typedef {(value: unknown, place: string) => string | undefined} Check it answers where a value isn't as it must be */
+/** @typedef {(value: unknown, place: string) => string | undefined} Check it answers where a value isn't right */
 
 /** @type {(holds: (value: any) => boolean) => Check} */
 const that = (holds) => (value, place) => (holds(value) ? undefined : place);

@@ -114,11 +114,12 @@ function accessLine({ runs, calls, accesses }) {
  */
 function uncheckedLines({ places, runs: unchecked }, runs) {
   const isAll = unchecked === runs;
-  const none = isAll ? "nothing" : `of ${counted(unchecked, "run")} none`;
+  const [none, all] = isAll
+    ? ["nothing", "all of this"]
+    : [`of ${counted(unchecked, "run")} none`, "what is told of them"];
   return [
     `${none} was checked by sabsim, which isn't built: there is none at ${places.join(" or ")}`,
-    `so ${isAll ? "all of this" : "what is told of them"} is the recorder's word alone, and the recorder isn't proved; ` +
-      HOW_TO_BUILD,
+    `so ${all} is the recorder's word alone, and the recorder isn't proved; ${HOW_TO_BUILD}`,
   ];
 }
 

@@ -67,7 +67,7 @@ import { Tally } from "./tally.mjs";
  * runs
  */
 
-/** @typedef {Partial<Pick<Told, "stopped" | "missing" | "kept" | "notKept" | "problems">>} Ending how all ended, and what is left */
+/** @typedef {Partial<Pick<Told, "stopped" | "missing" | "kept" | "notKept" | "problems">>} Ending how all ended */
 
 // In the order in which they are told.
 const FAILING = ["deadlock", "failed", "check", "race", "bound"];

@@ -68,8 +68,7 @@ export class Delivery {
 
   /**
    * The outcome of the next seed.
-   * @returns {Promise<{ outcome: Outcome, isChecked: boolean } | undefined>} undefined where all were taken; fails where
-   * no more will come
+   * @returns {Promise<Arrived | undefined>} undefined where all were taken; fails where no more will come
    */
   async take() {
     for (;;) {

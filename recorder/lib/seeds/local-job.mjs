@@ -1,4 +1,4 @@
-// A job in this process, as the library makes its runs: what it calls with the buffers can be functions of the caller's,
+// A job in this process, as the library makes its runs: what it calls with the buffers can be the caller's functions,
 // and no process has to be started. It is used as one in a process of its own is.
 
 import { Job } from "./job.mjs";
