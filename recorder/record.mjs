@@ -4,19 +4,13 @@
 import { statSync } from "node:fs";
 import { fileURLToPath } from "node:url";
 import { endBy, Interrupted } from "./lib/command/interruption.mjs";
-import { NotKept } from "./lib/command/keep.mjs";
 import { USAGE, optionsOf } from "./lib/command/options.mjs";
-import { NotPrinted, print } from "./lib/command/print.mjs";
+import { print } from "./lib/command/print.mjs";
+import { toldOf } from "./lib/command/problems.mjs";
 import { Session } from "./lib/command/session.mjs";
+import { STATUS } from "./lib/command/status.mjs";
+import { moduleUrl } from "./lib/module-url.mjs";
 import { Refused } from "./lib/run/plan.mjs";
-import { moduleUrl } from "./lib/recorder.mjs";
-import { Difference, NoSabsim } from "./lib/check/sabsim.mjs";
-import { LostJob } from "./lib/seeds/seeds.mjs";
-
-const STATUS = Object.freeze({ NONE_FAILED: 0, SOME_FAILED: 1, REFUSED: 2, NOT_DONE: 3 });
-
-/** What can go wrong without a defect of the recorder: a sentence says all of it. */
-const EXPECTED = [Refused, Difference, NoSabsim, LostJob, NotKept, NotPrinted];
 
 /** @param {string} module @returns {string} its URL */
 function existing(module) {
@@ -27,12 +21,6 @@ function existing(module) {
     // It is told of below.
   }
   throw new Refused(`there is no file ${module}`);
-}
-
-/** @param {unknown} problem @returns {unknown} a sentence; of a defect all that is known */
-function toldOf(problem) {
-  if (!(problem instanceof Error)) return problem;
-  return EXPECTED.some((kind) => problem instanceof kind) ? problem.message : problem.stack ?? problem;
 }
 
 /** @param {unknown} problem */
@@ -47,7 +35,7 @@ function complain(problem) {
 async function run(words) {
   try {
     const options = optionsOf(words);
-    if (!options.help) return await new Session({ ...options, module: existing(options.module) }).run();
+    if (!options.help) return await new Session(options, existing(options.module)).run();
     await print(USAGE);
     return { failed: false, problems: [] };
   } catch (problem) {

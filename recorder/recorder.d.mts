@@ -3,6 +3,9 @@
 /** A URL, where the types of the user's project know one: node's, or those of browsers. */
 type ModuleUrl = typeof globalThis extends { URL: new (...given: never[]) => infer Url } ? Url : never;
 
+/** An AbortSignal, where the types of the user's project know one. */
+type StopSignal = typeof globalThis extends { AbortSignal: { prototype: infer Signal } } ? Signal : never;
+
 /**
  * Runs the agents of a module once, under the schedule of one seed. Where sabsim is there it checks the run, unless
  * `sabsim` says otherwise. Fails with `Refused` for options or a module that can't be, with a `Difference` where sabsim
@@ -10,11 +13,24 @@ type ModuleUrl = typeof globalThis extends { URL: new (...given: never[]) => inf
  */
 export function record(options: RecordOptions): Promise<Outcome>;
 
+/**
+ * Runs the agents of a module under the schedules of many seeds, by workers that are kept from seed to seed. The
+ * outcomes come in the order of the seeds. Runs that fail, and one in `checkEvery` of the others, are told whole, and
+ * checked by sabsim where it is there. Runs are made only so far ahead of who takes their outcomes; and when no more is
+ * asked for, as after a `break`, all workers and processes are ended. Throws `Refused` for options that can't be, and
+ * `NoSabsim`; fails with `Refused` for a module that can't be, with a `Difference`, with `LostJob`, and with its
+ * signal's reason.
+ */
+export function explore(options: ExploreOptions): AsyncGenerator<Outcome, void, void>;
+
 /** What was asked for can't be: the message says why. */
 export class Refused extends Error {}
 
 /** The program isn't there, or can't be run. */
 export class NoSabsim extends Error {}
+
+/** The process of a job has ended by itself, or by others. */
+export class LostJob extends Error {}
 
 /** What the code saw isn't what sabsim says: a defect of one of them. The message has both sides. */
 export class Difference extends Error {
@@ -67,6 +83,25 @@ export interface RecordOptions {
   sabsim?: string | boolean;
   /** Whether the outcome has its trace. */
   trace?: boolean;
+}
+
+/** The options of many runs: those of one, but for its seed, and these. */
+export interface ExploreOptions extends Omit<RecordOptions, "seed"> {
+  /** As "1..1000", which begins at 1 and ends at 1000; a number: so many of them, from 1 on; else "1..100". */
+  seeds?: string | number | { first: number; last: number };
+  /**
+   * How many groups of workers run side by side, 1 to 64: one in this process, several in a process for each; else 1.
+   * With several, `init` and `check` can't be given: they are functions of this process.
+   */
+  jobs?: number;
+  /** Of the runs that don't fail one in so many is checked by sabsim; 0: none is, nor those that fail; else 10. */
+  checkEvery?: number;
+  /** Whether the agents' workers are started anew for each seed; else what the module keeps in variables stays. */
+  fresh?: boolean;
+  /** Whether the first failing run is the last. */
+  failFast?: boolean;
+  /** Ends all runs when it is aborted. */
+  signal?: StopSignal;
 }
 
 export type Ending = "finished" | "deadlock" | "failed" | "check" | "race" | "bound";

@@ -1,6 +1,6 @@
 // The options of the library: each is looked at before anything is started, and one that isn't known is refused.
 
-import { DEFAULT_SECONDS, SCRIPT_LIMITS } from "../script/limits.mjs";
+import { DEFAULT_CHECK_EVERY, DEFAULT_SECONDS, MOST_JOBS, SCRIPT_LIMITS } from "../script/limits.mjs";
 import { moduleUrlOf } from "./module-url.mjs";
 import { meant } from "./nearest.mjs";
 import { CHOICES, DEFAULTS, Refused } from "./run/plan.mjs";
@@ -38,6 +38,23 @@ import { checkedAgents, checkedBuffers, checkedChoice, checkedNoBlock } from "./
  * @property {boolean} [trace] whether the outcome has its trace
  */
 
+/**
+ * @typedef {object} ManyOptions
+ * @property {string | number | { first: number, last: number }} [seeds] as "1..1000"; a number: so many of them, from 1
+ * on; else 1..100
+ * @property {number} [jobs] how many groups of workers run side by side, 1 to 64: one in this process, several in one
+ * for each; else 1
+ * @property {number} [checkEvery] where sabsim is asked, every failing run is checked by it, and one in so many of the
+ * others; 0: it isn't asked; else 10
+ * @property {boolean} [fresh] whether the agents' workers are started anew for each seed; else they are kept, with what
+ * the module keeps in its variables
+ * @property {boolean} [failFast] whether the first failing run is the last
+ * @property {AbortSignal} [signal] ends all runs when it is aborted
+ */
+
+/** @typedef {Omit<RecordOptions, "seed"> & ManyOptions} ExploreOptions */
+/** @typedef {Omit<ExploreOptions, "failFast"> & { out?: string }} TrialOptions */
+
 const MOST_SECONDS = 3_600;
 
 /**
@@ -62,6 +79,8 @@ const isPath = (value) => isName(value) || value instanceof URL;
 /** @param {any} value @param {number} least @param {number} most */
 const isWhole = (value, least, most) => Number.isInteger(value) && value >= least && value <= most;
 /** @param {unknown} value */
+const isSeed = (value) => isWhole(value, 0, Number.MAX_SAFE_INTEGER);
+/** @param {unknown} value */
 const areStrings = (value) => Array.isArray(value) && Array.from(value).every((each) => typeof each === "string");
 
 const part = that(isPart, "a number from 0 to 1");
@@ -75,7 +94,7 @@ const CHECKS = {
   agents: checkedAgents,
   buffers: checkedBuffers,
   noBlock: checkedNoBlock,
-  seed: that((value) => isWhole(value, 0, Number.MAX_SAFE_INTEGER), "a whole number from 0 to 2^53 - 1"),
+  seed: that(isSeed, "a whole number from 0 to 2^53 - 1"),
   args: (value, name) => [...that(areStrings, "an array of strings")(value, name)],
   switch: part,
   timeouts: part,
@@ -91,26 +110,107 @@ const CHECKS = {
   trace: flag,
 };
 
-const OWN_DEFAULTS = {
-  ...DEFAULTS, seed: 1, args: /** @type {string[]} */ ([]), maxMoves: SCRIPT_LIMITS.moves, seconds: DEFAULT_SECONDS,
+/** What many runs have in place of `seed`. */
+const { seed: _seed, ...OF_RUNS } = CHECKS;
+const MANY_CHECKS = {
+  ...OF_RUNS,
+  seeds: rangeOf,
+  jobs: that((value) => isWhole(value, 1, MOST_JOBS), `a whole number from 1 to ${MOST_JOBS}`),
+  checkEvery: that(isSeed, "a whole number from 0 to 2^53 - 1"),
+  fresh: flag,
+  failFast: flag,
+  signal: that((value) => value instanceof AbortSignal, "an AbortSignal"),
+};
+
+const OF_ALL = {
+  ...DEFAULTS, args: /** @type {string[]} */ ([]), maxMoves: SCRIPT_LIMITS.moves, seconds: DEFAULT_SECONDS,
+};
+const OWN_DEFAULTS = { ...OF_ALL, seed: 1 };
+const MANY_DEFAULTS = {
+  ...OF_ALL, seeds: { first: 1, last: 100 }, jobs: 1, checkEvery: DEFAULT_CHECK_EVERY, fresh: false, failFast: false,
 };
 
 /**
- * @param {unknown} options
- * @param {() => string | undefined} callersFolder from which a relative path is taken, where that is known
- * @returns {Omit<import("./run/group.mjs").GroupOptions, "fresh"> & { seed: number, sabsim?: string | boolean }}
+ * The seeds that an option names.
+ * @param {unknown} value
+ * @returns {import("./seeds/ranges.mjs").Range}
  */
-export function checkedOptions(options, callersFolder) {
+function rangeOf(value) {
+  const { first, last } = /** @type {any} */ (givenRange(value) ?? {});
+  if (isSeed(first) && isSeed(last) && first <= last) return { first, last };
+  throw new Refused('`seeds` must be as "1..1000", a number (so many, from 1 on), or an object { first, last }');
+}
+
+/** @param {unknown} value */
+function givenRange(value) {
+  if (typeof value === "number") return { first: 1, last: value };
+  if (typeof value !== "string") return value;
+  const found = /^([0-9]+)(?:\.\.([0-9]+))?$/.exec(value);
+  return found === null ? undefined : { first: Number(found[1]), last: Number(found[2] ?? found[1]) };
+}
+
+/**
+ * @param {unknown} options
+ * @param {Record<string, (value: unknown, name: string) => any>} checks by the names of the options
+ * @param {object} defaults
+ * @param {() => string | undefined} callersFolder from which a relative path is taken, where that is known
+ * @returns {any} of each check what it answers
+ */
+function checkedBy(options, checks, defaults, callersFolder) {
   if (typeof options !== "object" || options === null) throw new Refused("the options must be an object");
-  /** @type {typeof OWN_DEFAULTS & Partial<RecordOptions>} */
-  const checked = { ...OWN_DEFAULTS };
+  /** @type {Record<string, any>} */
+  const checked = { ...defaults };
   for (const [name, value] of Object.entries(options)) {
-    if (!Object.hasOwn(CHECKS, name)) {
-      throw new Refused(`there is no option \`${name}\`: ${meant(name, Object.keys(CHECKS))}`);
+    if (!Object.hasOwn(checks, name)) {
+      throw new Refused(`there is no option \`${name}\`: ${meant(name, Object.keys(checks))}`);
     }
-    if (value !== undefined) Object.assign(checked, { [name]: CHECKS[name](value, name) });
+    if (value !== undefined) Object.assign(checked, { [name]: checks[name](value, name) });
   }
   if (checked.module === undefined) throw new Refused("`module` is missing: it must be a path or a URL");
   const { module, switch: switching, ...rest } = checked;
   return { ...rest, module: moduleUrlOf(module, callersFolder), switching };
+}
+
+/** @typedef {import("./run/group.mjs").GroupOptions & { sabsim?: string | boolean }} OfAll what all runs have */
+
+/**
+ * @typedef {object} OfMany what many runs have besides
+ * @property {import("./seeds/ranges.mjs").Range} seeds
+ * @property {number} jobs
+ * @property {number} checkEvery
+ * @property {boolean} failFast
+ * @property {AbortSignal} [signal]
+ */
+
+/**
+ * The options of one run.
+ * @param {unknown} options
+ * @param {() => string | undefined} callersFolder
+ * @returns {Omit<OfAll, "fresh"> & { seed: number }}
+ */
+export const checkedOptions = (options, callersFolder) => checkedBy(options, CHECKS, OWN_DEFAULTS, callersFolder);
+
+/**
+ * The options of many runs.
+ * @param {unknown} options
+ * @param {() => string | undefined} callersFolder
+ * @returns {OfAll & OfMany}
+ */
+export function exploreOptions(options, callersFolder) {
+  const checked = checkedBy(options, MANY_CHECKS, MANY_DEFAULTS, callersFolder);
+  for (const name of /** @type {const} */ (["init", "check"])) {
+    if (checked[name] === undefined || checked.jobs === 1) continue;
+    const why = `it is a function of this process, and ${checked.jobs} jobs have processes of their own`;
+    throw new Refused(`\`${name}\` can't be given: ${why}; leave \`jobs\` out, or export it from the agents' module`);
+  }
+  return checked;
+}
+
+/**
+ * The options of a trial, whose `out` alone was looked at.
+ * @param {TrialOptions} options
+ */
+export function checkedOut(options) {
+  if (options?.out !== undefined && !isName(options.out)) throw new Refused("`out` must be the path of a folder");
+  return options ?? {};
 }

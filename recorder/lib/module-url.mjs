@@ -7,7 +7,8 @@ import { framesHere } from "./agent/sources.mjs";
 import { Refused } from "./run/plan.mjs";
 
 // The library itself: what calls its functions is looked for.
-const OWN = [new URL("./", import.meta.url).href, new URL("../recorder.mjs", import.meta.url).href, "node:"];
+const FILES = ["./", "../recorder.mjs", "../testing.mjs"];
+const OWN = [...FILES.map((place) => new URL(place, import.meta.url).href), "node:"];
 
 // Code that is typed in has no file: it is taken to be in the working directory, as node itself takes it.
 const TYPED_IN = /^(\[eval|\[stdin|REPL\d)/;
@@ -17,9 +18,30 @@ const TYPED_IN = /^(\[eval|\[stdin|REPL\d)/;
  * @param {Function} called
  * @returns {string | undefined} undefined where the innermost code that isn't node's or the library's is of no file
  */
-export function folderOfCaller(called) {
-  const files = framesHere(called).map((frame) => frame.getFileName());
-  const file = files.find((each) => typeof each === "string" && !OWN.some((own) => each.startsWith(own)));
+export const folderOfCaller = (called) => folderOf(frameOfCaller(called));
+
+/**
+ * Where the code stands that has called a function.
+ * @param {Function} called
+ * @returns {{ folder: () => string | undefined, place: string | undefined }} its folder; its file, line and column
+ */
+export function callerOf(called) {
+  const frame = frameOfCaller(called);
+  const place = frame && `${frame.getFileName()}:${frame.getLineNumber()}:${frame.getColumnNumber()}`;
+  return { folder: () => folderOf(frame), place };
+}
+
+/** @param {Function} called @returns {NodeJS.CallSite | undefined} */
+function frameOfCaller(called) {
+  return framesHere(called).find((frame) => {
+    const file = frame.getFileName();
+    return typeof file === "string" && !OWN.some((own) => file.startsWith(own));
+  });
+}
+
+/** @param {NodeJS.CallSite | undefined} frame @returns {string | undefined} */
+function folderOf(frame) {
+  const file = frame?.getFileName();
   if (typeof file !== "string") return undefined;
   if (file.startsWith("file:")) return dirname(fileURLToPath(file));
   if (isAbsolute(file)) return dirname(file);

@@ -1,13 +1,16 @@
 // The recorder as a library.
 
-import { HOW_TO_BUILD, check as checkWithSabsim, checkable, sabsimFor, sabsimPlaces } from "./check/sabsim.mjs";
+import { check as checkWithSabsim, checkable, sabsimFor } from "./check/sabsim.mjs";
 import { checkedOptions } from "./library-options.mjs";
 import { folderOfCaller } from "./module-url.mjs";
 import { Group } from "./run/group.mjs";
+import { whyUnchecked } from "./unchecked.mjs";
 
-export { Refused } from "./run/plan.mjs";
 export { Difference, NoSabsim } from "./check/sabsim.mjs";
+export { explore } from "./explore.mjs";
 export { moduleUrl } from "./module-url.mjs";
+export { Refused } from "./run/plan.mjs";
+export { LostJob } from "./seeds/seeds.mjs";
 
 /** @typedef {import("./run/group.mjs").Outcome & Check} Outcome */
 /** @typedef {import("./library-options.mjs").RecordOptions} RecordOptions */
@@ -36,26 +39,11 @@ export async function record(options) {
     const runs = [];
     await group.run([{ seed, whole: true }], (...only) => void runs.push(only));
     const [[outcome, judgement]] = runs;
-    const unchecked = whyUnchecked(isLeftOut, sabsim, outcome);
+    const unchecked = whyUnchecked({ isLeftOut, sabsim }, outcome);
     if (unchecked !== undefined || sabsim === undefined) return { ...outcome, checked: false, unchecked };
     checkWithSabsim(sabsim, checkable(outcome, judgement));
     return { ...outcome, checked: true };
   } finally {
     await group.close();
   }
-}
-
-/**
- * Why a run isn't checked by sabsim.
- * @param {boolean} isLeftOut whether the options say that it isn't to be
- * @param {string | undefined} sabsim
- * @param {import("./run/group.mjs").Outcome} outcome
- * @returns {string | undefined} undefined where nothing stands against it
- */
-function whyUnchecked(isLeftOut, sabsim, { noScript }) {
-  if (isLeftOut) return "the options say that sabsim isn't asked";
-  if (sabsim === undefined) {
-    return `sabsim isn't built: there is none at ${sabsimPlaces().join(" or ")}; ${HOW_TO_BUILD}`;
-  }
-  return noScript === undefined ? undefined : `the run has no script: ${noScript}`;
 }

@@ -1,8 +1,12 @@
 // What is told of many runs, by runs that were made up.
 
 import assert from "node:assert/strict";
+import { createHash } from "node:crypto";
 import { test } from "node:test";
+import { summaryText } from "../lib/command/summary-text.mjs";
 import { Summary } from "../lib/command/summary.mjs";
+import { whyNoSummary } from "../lib/command/summary-form.mjs";
+import { MOST_KEYS, Tally } from "../lib/command/tally.mjs";
 import { counted, digits } from "../lib/command/words.mjs";
 
 const SEEN = { ordinary: "watch", races: "fail", checks: true };
@@ -207,4 +211,131 @@ test("what is kept of a run doesn't grow with its bytes and its texts", () => {
   const room = JSON.stringify(summary, (_, value) => (value instanceof Map ? [...value] : value)).length;
   assert.ok(room < 2_000_000, `${room} characters are kept`);
   assert.equal(summary.failing.seed, 7);
+});
+
+test("the object of a summary has all that its text has, and what the text leaves out", () => {
+  const summary = new Summary(SEEN);
+  const races = [race("ring.mjs:12:7", "ring.mjs:20:11")];
+  const failing = { ending: "race", detail: "one\ntwo", shown: ["0900", ""], races, noScript: "it is too long" };
+  for (const each of [outcome(4, failing), ...seeds(1, 3, { calls: 5, ordinary: 7 })]) summary.add(each);
+  summary.addCheck();
+  summary.versions.add("sabsim 0.1.0");
+  const kept = { folder: "found", path: "/tmp/found", files: ["seed-4.report"] };
+  const stopped = { why: "stopped", wanted: 9 };
+  const told = summary.told({ stopped, kept, notKept: ["not kept: this"], problems: ["a job ended"] });
+  assert.deepEqual(told, {
+    stopped,
+    missing: [],
+    runs: 4,
+    failed: 1,
+    endings: {
+      failing: [{ ending: "race", runs: 1, first: 4 }], passing: [{ ending: "finished", runs: 3, first: 1 }],
+    },
+    firstFailing: { seed: 4, ending: "race", detail: ["one", "two"], noScript: "it is too long" },
+    races: {
+      allowed: false, runs: 1,
+      pairs: { listed: [{ lines: ["ring.mjs:12:7", "ring.mjs:20:11"], runs: 1, first: 4 }], others: 0 },
+    },
+    states: {
+      failing: { listed: [{ ending: "race", hash: "race 0900 ", shown: ["0900", ""], runs: 1, first: 4 }], others: 0 },
+      passing: { listed: [{ ending: "finished", hash: "finished 01", shown: ["01"], runs: 3, first: 1 }], others: 0 },
+    },
+    sabsim: { asked: true, versions: ["sabsim 0.1.0"], checked: 1, judges: true, missing: null },
+    scripts: { parts: 0, none: { listed: [{ why: "it is too long", runs: 1, first: 4 }], others: 0 } },
+    calls: 17,
+    accesses: 21,
+    unseen: [],
+    kept,
+    notKept: ["not kept: this"],
+    problems: ["a job ended"],
+  });
+  assert.deepEqual(JSON.parse(JSON.stringify(told)), told);
+  const lines = summaryText(told).split("\n");
+  assert.equal(lines[0], "stopped after 4 of 9 runs");
+  assert.deepEqual(lines.slice(-3), ["kept in found: seed-4.report", "not kept: this", ""]);
+  const options = { ...SEEN, args: [], preloads: false };
+  const asked = { module: "m.mjs", digest: "", seeds: [], shard: null, options };
+  assert.equal(whyNoSummary({ summary: 1, asked, seeds: [], ...told }), undefined);
+});
+
+/** Made-up outcomes of all kinds: which one a seed has is drawn from it. */
+function mixed(seed) {
+  const draw = (seed * 7_919) % 101;
+  if (draw < 3) return outcome(seed, { ending: "deadlock", detail: `seed ${seed}`, shown: [`d${draw}`] });
+  if (draw < 9) return outcome(seed, { ending: "bound", fails: false, noScript: `why ${draw % 2}` });
+  const races = draw < 40 ? [race(`a.mjs:${draw % 5}:1`, "b.mjs:1:1"), race("c.mjs:1:1", "d.mjs:1:1")] : [];
+  const shown = [`f${draw % 17}`];
+  return outcome(seed, { ending: draw < 40 ? "race" : "finished", shown, races, calls: draw, scriptHolds: "touched" });
+}
+
+test("summaries that are joined are the summary of all runs, in whatever order", () => {
+  const parts = Array.from({ length: 5 }, () => new Summary(SEEN));
+  const whole = new Summary(SEEN);
+  for (let seed = 1; seed <= 2_000; seed += 1) {
+    const one = mixed(seed);
+    for (const summary of [whole, parts[(seed * 31) % 5]]) {
+      summary.add(one);
+      if (seed % 9 === 0) summary.addCheck();
+    }
+  }
+  for (const order of [[0, 1, 2, 3, 4], [3, 0, 4, 2, 1]]) {
+    const joined = new Summary(SEEN);
+    for (const at of order) joined.join(JSON.parse(JSON.stringify(parts[at].told())));
+    assert.deepEqual(joined.told(), whole.told());
+    assert.equal(joined.text(), whole.text());
+  }
+});
+
+test("where sabsim was missing for some of the runs, it is told for how many", () => {
+  const [with_, without] = [new Summary(SEEN), new Summary({ ...SEEN, checks: false, missing: ["/nowhere"] })];
+  for (const each of seeds(1, 3)) with_.add(each);
+  with_.addCheck();
+  for (const each of seeds(4, 8)) without.add(each);
+  const joined = new Summary(SEEN);
+  for (const { told } of [with_, without].map((summary) => ({ told: summary.told() }))) joined.join(told);
+  const lines = joined.text().split("\n");
+  const at = lines.indexOf("1 run checked: sabsim says the same");
+  assert.deepEqual(lines.slice(at + 2, at + 4), [
+    "of 5 runs none was checked by sabsim, which isn't built: there is none at /nowhere",
+    "so what is told of them is the recorder's word alone, and the recorder isn't proved; `./build`, in the root of " +
+      "the repository, builds sabsim",
+  ]);
+});
+
+/** A tally of keys, with three seeds for each. @param {number[]} keys @param {number} most */
+function tallied(keys, most) {
+  const tally = new Tally(most);
+  for (const key of keys) for (const seed of [0, 1, 2]) tally.add(`key ${key % 1_000}`, key * 10 + seed);
+  return tally;
+}
+
+test("a tally keeps a certain number of keys, the same ones in whatever order and parts they come", () => {
+  const keys = Array.from({ length: 3_000 }, (_, at) => (at * 1_237) % 3_000);
+  const whole = tallied(keys, 100);
+  // Of 1,000 keys each has the runs of three numbers; those are kept that are first by their spelling.
+  const spelled = Array.from({ length: 1_000 }, (_, key) => `key ${key}`).sort().slice(0, 100);
+  assert.deepEqual(whole.sorted().map(({ key }) => key).sort(), spelled);
+  for (const { key, runs, first } of whole.sorted()) assert.deepEqual([runs, first], [9, Number(key.slice(4)) * 10]);
+  assert.deepEqual([whole.size, whole.others, whole.counted], [100, 9_000 - 900, 9_000]);
+  assert.deepEqual(tallied(keys.toReversed(), 100).sorted(), whole.sorted());
+  const joined = new Tally(100);
+  for (const from of [2_000, 0, 1_000]) {
+    const part = tallied(keys.slice(from, from + 1_000), 100);
+    joined.join(part.sorted(), part.others);
+  }
+  assert.deepEqual([joined.sorted(), joined.others], [whole.sorted(), whole.others]);
+});
+
+test("the states of any number of seeds take a bounded room, and what is left out is told", () => {
+  const summary = new Summary(SEEN);
+  const count = 3 * MOST_KEYS;
+  for (let seed = 1; seed <= count; seed += 1) {
+    summary.add(outcome(seed, { shown: [createHash("sha256").update(String(seed)).digest("hex")] }));
+    assert.ok(summary.states.passing.entries.size <= 2 * MOST_KEYS);
+  }
+  const { listed, others } = summary.told().states.passing;
+  assert.deepEqual([listed.length, others], [MOST_KEYS, count - MOST_KEYS]);
+  const lines = summary.text().split("\n");
+  assert.equal(lines[1], "over 4,096 final states: how it ended, and the bytes");
+  assert.deepEqual(lines.slice(10, 12), ["  and 4,088 more", "  and those of 8,192 runs besides"]);
 });

@@ -99,12 +99,14 @@ declare class TextDecoder {
   decode(bytes?: ArrayBufferView): string;
 }
 
-declare class AbortSignal {
+interface AbortSignal {
   readonly aborted: boolean;
   readonly reason: any;
   addEventListener(event: "abort", listener: () => void): void;
   removeEventListener(event: "abort", listener: () => void): void;
 }
+
+declare var AbortSignal: { readonly prototype: AbortSignal; new (): AbortSignal };
 
 declare class AbortController {
   readonly signal: AbortSignal;
@@ -124,6 +126,9 @@ declare module "node:assert" {
   interface Assert {
     AssertionError: Function;
     strict: Assert;
+  }
+  export class AssertionError extends Error {
+    constructor(options: { message: string });
   }
   const assert: Assert;
   export default assert;
@@ -179,7 +184,7 @@ declare module "node:child_process" {
 
 declare module "node:crypto" {
   interface Hash {
-    update(text: string): this;
+    update(data: string | Uint8Array): this;
     digest(encoding: "base64" | "hex"): string;
   }
   interface WebCrypto {
@@ -210,9 +215,10 @@ declare module "node:fs" {
   export function accessSync(path: string, mode: number): void;
   export function closeSync(file: number): void;
   export function existsSync(path: string): boolean;
+  export function mkdtempSync(prefix: string): string;
   export function mkdirSync(path: string, options: { recursive: true }): void;
   export function openSync(path: string, flags: string): number;
-  export function readFileSync(path: string | URL, encoding: "latin1" | "utf8"): string;
+  export function readFileSync(file: string | URL | number, encoding: "latin1" | "utf8"): string;
   export function readFileSync(path: string | URL): Buffer;
   export function readlinkSync(path: string): string;
   export function realpathSync(path: string): string;
@@ -230,6 +236,7 @@ declare module "node:module" {
 }
 
 declare module "node:os" {
+  export function tmpdir(): string;
   export const constants: { readonly signals: Record<NodeJS.Signals, number> };
 }
 
@@ -262,6 +269,14 @@ declare module "node:stream" {
 declare module "node:string_decoder" {
   const all: { StringDecoder: { prototype: object } };
   export default all;
+}
+
+declare module "node:test" {
+  interface TestContext {
+    readonly signal: AbortSignal;
+    diagnostic(message: string): void;
+  }
+  export function test(name: string, options: object, call: (context: TestContext) => Promise<void>): Promise<void>;
 }
 
 declare module "node:timers/promises" {

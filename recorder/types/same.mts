@@ -2,7 +2,9 @@
 
 import * as declared from "../recorder.mjs";
 import * as written from "../lib/recorder.mjs";
-import type { WithBuffers } from "../lib/library-options.mjs";
+import * as declaredTesting from "../testing.mjs";
+import * as writtenTesting from "../lib/suite/tests.mjs";
+import type { ExploreOptions, TrialOptions, WithBuffers } from "../lib/library-options.mjs";
 import type { Ending } from "../lib/run/group.mjs";
 import type { Side, Told } from "../lib/run/findings.mjs";
 
@@ -10,12 +12,15 @@ type Same<One, Other> =
   (<T>() => T extends One ? 1 : 2) extends (<T>() => T extends Other ? 1 : 2) ? true : false;
 
 /** Makes one object of an intersection, and of all that is in it. */
-type Flat<T> = T extends Function | URL ? T : T extends object ? { [Name in keyof T]: Flat<T[Name]> } : T;
+type Flat<T> = T extends Function | URL | AbortSignal ? T : T extends object ? { [Name in keyof T]: Flat<T[Name]> } : T;
 
 type Holds<T extends true> = T;
 
 export type Held = [
   Holds<Same<Flat<declared.RecordOptions>, Flat<written.RecordOptions>>>,
+  Holds<Same<Flat<declared.ExploreOptions>, Flat<ExploreOptions>>>,
+  Holds<Same<Flat<declaredTesting.TrialOptions>, Flat<TrialOptions>>>,
+  Holds<Same<keyof typeof declaredTesting, keyof typeof writtenTesting>>,
   Holds<Same<Flat<declared.Outcome>, Flat<written.Outcome>>>,
   Holds<Same<declared.Ending, Ending>>,
   Holds<Same<Flat<declared.Race>, Flat<Told>>>,
@@ -26,9 +31,16 @@ export type Held = [
   Holds<Same<ConstructorParameters<typeof declared.Refused>, ConstructorParameters<typeof written.Refused>>>,
   Holds<Same<keyof declared.Difference, keyof written.Difference>>,
   Holds<Same<keyof declared.NoSabsim, keyof written.NoSabsim>>,
+  Holds<Same<ConstructorParameters<typeof declared.LostJob>, ConstructorParameters<typeof written.LostJob>>>,
   // What the library has besides is for the command line.
   Holds<Same<keyof typeof declared, Exclude<keyof typeof written, "moduleUrl">>>,
 ];
 
 export const record: typeof declared.record = written.record;
+export const explore: typeof declared.explore = written.explore;
+export const sameExplore: typeof written.explore = declared.explore;
+export const testAgents: typeof declaredTesting.testAgents = writtenTesting.testAgents;
+export const sameTestAgents: typeof writtenTesting.testAgents = declaredTesting.testAgents;
+export const assertAgents: typeof declaredTesting.assertAgents = writtenTesting.assertAgents;
+export const sameAssertAgents: typeof writtenTesting.assertAgents = declaredTesting.assertAgents;
 export const sameRecord: typeof written.record = declared.record;

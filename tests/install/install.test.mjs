@@ -111,31 +111,36 @@ test("a program's version is the package's", () => {
 
 test("a project's own tests import it", () => {
   const output = succeeds(project, "node", ["--test", "--test-reporter=tap"]);
-  assert.match(output, /^# pass 3$/m);
+  assert.match(output, /^# pass 4$/m);
+  assert.match(output, /^# 10 runs passed, none checked: sabsim isn't built: /m);
   assert.match(output, /^# fail 0$/m);
 });
 
 test("the test that the README shows finds the lost wake-up", () => {
   const readme = readFileSync(join(TOP, "README.md"), "utf8").split("\n");
-  const from = readme.indexOf('    import assert from "node:assert/strict";');
-  const lines = readme.slice(from, readme.indexOf("    });", from) + 1).map((line) => line.slice(4));
+  const from = readme.indexOf('    import { testAgents } from "sabsim/test";');
+  const to = readme.findIndex((line) => line.startsWith("    testAgents("));
+  const lines = readme.slice(from, to + 1).map((line) => line.slice(4));
   const folder = join(project, "shown");
   mkdirSync(folder);
   for (const name of ["lock.mjs", "mutex.mjs"]) copyFileSync(join(PROJECT, name), join(folder, name));
   writeFileSync(join(folder, "readme.mjs"), lines.join("\n"));
   const { status, output } = run(folder, "node", ["--test", "--test-reporter=tap", "readme.mjs"]);
   assert.equal(status, 1);
-  assert.match(output, /seed [0-9]+: .*waits at byte 4 of block 0/);
+  assert.match(output, /seed [0-9]+: deadlock.*\n.*waits at byte 4 of block 0/);
 });
 
 test("each exported name has a type, and is used below", async () => {
-  const types = readFileSync(join(project, "node_modules/sabsim/recorder/recorder.d.mts"), "utf8");
-  const found = [...types.matchAll(/^export (function|class|interface|type) (\w+)/gm)];
-  const names = (...kinds) => found.filter(([, kind]) => kinds.includes(kind)).map(([, , name]) => name).sort();
-  const words = `import("sabsim").then((all) => console.log(Object.keys(all).sort().join()))`;
-  assert.equal(succeeds(project, "node", ["-e", words]), `${names("function", "class").join()}\n`);
-  const used = [...readFileSync(join(project, "uses.mts"), "utf8").matchAll(/^import .*\{ (.*) \} from "sabsim";$/gm)];
-  assert.deepEqual(used.flatMap(([, list]) => list.split(", ")).sort(), found.map(([, , name]) => name).sort());
+  for (const [from, file, user] of [["sabsim", "recorder", "uses"], ["sabsim/test", "testing", "uses-test"]]) {
+    const types = readFileSync(join(project, `node_modules/sabsim/recorder/${file}.d.mts`), "utf8");
+    const found = [...types.matchAll(/^export (function|class|interface|type) (\w+)/gm)];
+    const names = (...kinds) => found.filter(([, kind]) => kinds.includes(kind)).map(([, , name]) => name).sort();
+    const words = `import("${from}").then((all) => console.log(Object.keys(all).sort().join()))`;
+    assert.equal(succeeds(project, "node", ["-e", words]), `${names("function", "class").join()}\n`);
+    const imports = new RegExp(`^import .*\\{\\s(.*)\\s\\} from "${from}";$`, "gm");
+    const used = [...readFileSync(join(project, `${user}.mts`), "utf8").matchAll(imports)];
+    assert.deepEqual(used.flatMap(([, list]) => list.split(", ")).sort(), found.map(([, , name]) => name).sort());
+  }
 });
 
 for (const words of [
@@ -145,7 +150,9 @@ for (const words of [
 ]) {
   test(`TypeScript takes its types: ${words.join(" ")}`, withCompiler, () => {
     const strictly = ["--noEmit", "--strict", "--allowJs", "--checkJs", "--target", "es2022"];
-    succeeds(project, "tsc", [...strictly, ...words, "uses.mts", "lock.mjs"]);
+    // `exports` of a package, and so `sabsim/test`, is what the older resolution doesn't know.
+    const others = words.includes("node") ? [] : ["uses-test.mts"];
+    succeeds(project, "tsc", [...strictly, ...words, "uses.mts", ...others, "lock.mjs"]);
   });
 }
 
@@ -168,6 +175,14 @@ test("sabsim-record finds the failing seed, and its script is what the engine sa
   const { status, output } = npx(project, ["sabsim-engine", `found/seed-${seed}.json`]);
   assert.equal(status, 0);
   assert.equal(output, kept("report"));
+});
+
+test("sabsim-merge joins the summaries of shards", () => {
+  const words = ["sabsim-record", "lock.mjs", "--seeds", "1..20"];
+  const shards = ["1/2", "2/2"].map((shard) => npx(project, [...words, "--shard", shard, "--format", "json"]).output);
+  const joined = npx(project, ["sabsim-merge", "-"], shards.join(""));
+  const one = npx(project, words);
+  assert.deepEqual([joined.status, joined.output], [one.status, one.output]);
 });
 
 test("the package's own examples are recorded", () => {

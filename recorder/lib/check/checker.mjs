@@ -3,6 +3,7 @@
 
 import { fork } from "node:child_process";
 import { fileURLToPath } from "node:url";
+import { endGroup } from "../seeds/group-end.mjs";
 import { NoSabsim, differenceError } from "./sabsim.mjs";
 
 /** @typedef {import("./sabsim.mjs").Checkable} Checkable */
@@ -21,21 +22,32 @@ const MOST_PROCESSES = 2;
 
 /** A process that checks one run at a time. */
 class CheckProcess {
-  /** @param {string} path of sabsim */
-  constructor(path) {
+  /**
+   * @param {string} path of sabsim
+   * @param {boolean} leads whether it leads a group of processes of its own, and so can be ended by itself
+   */
+  constructor(path, leads) {
     const stdio = ["ignore", "inherit", "inherit", "ipc"];
     // What node's own words load is for agents alone.
     const env = { ...process.env, NODE_OPTIONS: "" };
     const options = { execArgv: [], env, serialization: /** @type {const} */ ("advanced"), windowsHide: true };
-    // It is of the same group of processes, and so ends with a job that is ended.
-    this.child = fork(PROGRAM, [path], { ...options, stdio, detached: false });
+    // One that doesn't is of the same group of processes as this one, and so ends with a job that is ended.
+    this.child = fork(PROGRAM, [path], { ...options, stdio, detached: leads });
     /** @type {string | undefined} */
     this.ended = undefined;
     /** @type {(answer: Answer) => void} what is done with the answer to what is asked */
     this.tell = () => {};
     this.child.on("message", (answer) => this.tell(answer));
-    this.child.on("exit", (code, signal) => this.#end(signal ?? `status ${code}`));
-    this.child.on("error", (error) => this.#end(error.message));
+    /** @type {Promise<void>} */
+    this.gone = new Promise((done) => {
+      /** @param {string} why */
+      const end = (why) => {
+        this.#end(why);
+        done();
+      };
+      this.child.on("exit", (code, signal) => end(signal ?? `status ${code}`));
+      this.child.on("error", (error) => end(error.message));
+    });
   }
 
   /** @param {Checkable} run @returns {Promise<Answer>} */
@@ -48,6 +60,12 @@ class CheckProcess {
     });
   }
 
+  /** Ends one that leads a group of its own, and the program that it may have started. */
+  async close() {
+    if (this.ended === undefined) endGroup(this.child.pid);
+    await this.gone;
+  }
+
   /** @param {string} why */
   #end(why) {
     this.ended = why;
@@ -56,11 +74,15 @@ class CheckProcess {
 }
 
 export class Checker {
-  /** @param {string} path of sabsim */
-  constructor(path) {
+  /**
+   * @param {string} path of sabsim
+   * @param {boolean} [ends] whether its processes are ended by `close`; else they end with this process
+   */
+  constructor(path, ends = false) {
     this.path = path;
-    /** How many processes there are. */
-    this.processes = 0;
+    this.ends = ends;
+    /** @type {Set<CheckProcess>} */
+    this.processes = new Set();
     /** @type {CheckProcess[]} */
     this.idle = [];
     /** @type {((process: CheckProcess) => void)[]} */
@@ -80,7 +102,7 @@ export class Checker {
     const checking = await this.#taken();
     const { difference, missing, ended } = await checking.ask(run);
     if (ended !== undefined) {
-      this.#replace();
+      this.#replace(checking);
       throw new Error(`a check's process ended: ${ended}`);
     }
     this.#giveBack(checking);
@@ -88,11 +110,17 @@ export class Checker {
     if (difference !== undefined) throw differenceError(run, difference);
   }
 
+  /** Ends its processes. Checks that are waited for, or under way, come to nothing. */
+  async close() {
+    this.queue = [];
+    await Promise.all([...this.processes].map((process) => process.close()));
+  }
+
   /** @returns {Promise<CheckProcess>} */
   #taken() {
     const idle = this.idle.pop();
     if (idle !== undefined) return Promise.resolve(idle);
-    if (this.processes < MOST_PROCESSES) return Promise.resolve(this.#started());
+    if (this.processes.size < MOST_PROCESSES) return Promise.resolve(this.#started());
     return new Promise((take) => {
       this.queue.push(take);
     });
@@ -100,13 +128,17 @@ export class Checker {
 
   /** @returns {CheckProcess} */
   #started() {
-    this.processes += 1;
-    return new CheckProcess(this.path);
+    const process = new CheckProcess(this.path, this.ends);
+    this.processes.add(process);
+    return process;
   }
 
-  /** Starts another process for one that has ended, where a check waits for it. */
-  #replace() {
-    this.processes -= 1;
+  /**
+   * Starts another process for one that has ended, where a check waits for it.
+   * @param {CheckProcess} ended
+   */
+  #replace(ended) {
+    this.processes.delete(ended);
     if (this.queue.length > 0) this.#giveBack(this.#started());
   }
 

@@ -128,6 +128,20 @@ export function sabsim(path, words, input, timeout = MOST_MILLISECONDS) {
 }
 
 /**
+ * @param {string} path
+ * @returns {string} what the program says of its version; its path, where it says nothing
+ */
+export function versionOf(path) {
+  try {
+    const { status, output } = sabsim(path, ["--version"], "");
+    return status === 0 && output !== "" ? output.split("\n", 1)[0] : path;
+  } catch {
+    // That it can't be run is told where it is to check something.
+    return path;
+  }
+}
+
+/**
  * What a check needs of an outcome.
  * @param {Outcome} outcome that has a script
  * @param {Judgement} [judgement]

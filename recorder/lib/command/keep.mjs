@@ -15,8 +15,9 @@ export class Keeper {
   /**
    * Makes the folder where it isn't there, and tries whether a file can be written.
    * @param {string} folder
+   * @param {string} option that names it
    */
-  constructor(folder) {
+  constructor(folder, option = "--out") {
     this.folder = folder;
     /** @type {string[]} the files that lie there by this keeper */
     this.names = [];
@@ -26,7 +27,7 @@ export class Keeper {
       mkdirSync(folder, { recursive: true });
       rmSync(this.#writeAside("sabsim"));
     } catch (error) {
-      throw new Refused(`--out ${folder} can't be used: ${messageOf(error)}`);
+      throw new Refused(`${option} ${folder} can't be used: ${messageOf(error)}`);
     }
   }
 

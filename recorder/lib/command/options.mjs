@@ -1,9 +1,12 @@
 // The command line.
 
 import { parseArgs } from "node:util";
-import { DEFAULT_CHECK_EVERY, DEFAULT_SECONDS, SCRIPT_LIMITS } from "../../script/limits.mjs";
+import { DEFAULT_CHECK_EVERY, DEFAULT_SECONDS, MOST_JOBS, SCRIPT_LIMITS } from "../../script/limits.mjs";
 import { nearest } from "../nearest.mjs";
 import { checkedAgents, checkedBuffers, checkedChoice, DEFAULT_TIMEOUTS, Refused } from "../run/plan.mjs";
+import { countOf, shardOf } from "../seeds/ranges.mjs";
+import { checkedFormat } from "./formats.mjs";
+import { counted } from "./words.mjs";
 
 export const USAGE = `usage: node recorder/record.mjs MODULE [options] [-- arguments for the agents]
 
@@ -14,6 +17,7 @@ Runs the agents of a module under seeded schedules, and keeps the first run that
   --no-block A    agent A can't block: its Atomics.wait throws TypeError; may be given more than once; else the module's
                   \`setup\` says it
   --seeds A..B    the seeds, or one seed (1..100)
+  --shard K/N     of these seeds the K-th of N parts alone, as for one of N machines: merge.mjs joins their summaries
   --switch P      how likely it is, from 0 to 1, that another agent moves next; else all moves are alike
   --timeouts P    in how many of the draws, from 0 to 1, the end of a timed wait is offered while something else can
                   move (${DEFAULT_TIMEOUTS})
@@ -23,6 +27,7 @@ Runs the agents of a module under seeded schedules, and keeps the first run that
   --bounds HOW    fail: a run that meets a bound, as a spin does, fails; allow: it is told only (fail)
   --clock WHICH   the time that clocks tell agents: run (the run's own, which comes from the seed) or real (run)
   --fail-fast     ends at the first failing run
+  --format FORM   how the summary is told: plain, or json, which is one line (plain)
   --out DIR       where the first failing run's script and report are kept; nothing is written without it
   --jobs N        how many groups of workers run side by side (1)
   --fresh         starts the agents' workers anew for each seed
@@ -44,6 +49,7 @@ const SHAPE = {
   buffers: { type: "string" },
   "no-block": { type: "string", multiple: true },
   seeds: { type: "string" },
+  shard: { type: "string" },
   switch: { type: "string" },
   timeouts: { type: "string" },
   ordinary: { type: "string" },
@@ -51,6 +57,7 @@ const SHAPE = {
   bounds: { type: "string" },
   clock: { type: "string" },
   "fail-fast": { type: "boolean" },
+  format: { type: "string" },
   out: { type: "string" },
   jobs: { type: "string" },
   fresh: { type: "boolean" },
@@ -61,7 +68,6 @@ const SHAPE = {
   help: { type: "boolean" },
 };
 
-const MOST_JOBS = 64;
 const LEAST_SECONDS = 0.001;
 const MOST_SECONDS = 3_600;
 
@@ -99,6 +105,25 @@ function seedsOf(text) {
   const [first, last] = [whole(from, "seeds", 0, most), whole(to, "seeds", 0, most)];
   if (last < first) throw new Refused(`--seeds ${text}: the last seed is before the first`);
   return { first, last };
+}
+
+/**
+ * The seeds of a shard.
+ * @param {import("../seeds/ranges.mjs").Range} asked the seeds of all shards
+ * @param {string | undefined} text as 2/4
+ */
+function shardFrom(asked, text) {
+  if (text === undefined) return { ...asked, asked, shard: undefined };
+  const [, number, of] = (/^([0-9]+)\/([0-9]+)$/.exec(text) ?? []).map(Number);
+  if (!(number >= 1 && number <= of && Number.isSafeInteger(of))) {
+    throw new Refused(`--shard must be K/N, as 2/4, with K from 1 to N, but is "${text}"`);
+  }
+  const count = countOf(asked);
+  if (of > count) {
+    throw new Refused(`--shard ${text}: ${counted(count, "seed")} can't be shared out among ${counted(of, "shard")}`);
+  }
+  const shard = { number, of };
+  return { ...shardOf(asked, shard), asked, shard };
 }
 
 /**
@@ -140,7 +165,7 @@ export function optionsOf(words) {
     args: end < 0 ? [] : words.slice(end + 1),
     ...groupOf(values),
     ...rulesOf(values),
-    ...seedsOf(values.seeds ?? "1..100"),
+    ...shardFrom(seedsOf(values.seeds ?? "1..100"), values.shard),
     ...workOf(values),
   };
 }
@@ -183,9 +208,10 @@ function rulesOf({ switch: switching, timeouts, ordinary, races, bounds, clock, 
  * How the runs are made, checked and kept.
  * @param {Record<string, any>} values by option
  */
-function workOf({ out, jobs, fresh = false, "fail-fast": failFast = false, sabsim, check: every }) {
+function workOf({ format, out, jobs, fresh = false, "fail-fast": failFast = false, sabsim, check: every }) {
   if (out === "") throw new Refused("--out must name a folder");
   return {
+    format: checkedFormat(format),
     out,
     jobs: jobs === undefined ? 1 : whole(jobs, "jobs", 1, MOST_JOBS),
     fresh,

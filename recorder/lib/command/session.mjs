@@ -1,31 +1,41 @@
 // What the command line does: many runs, a summary of them, and the first failing one kept.
 
-import { Difference, sabsim, sabsimFor, sabsimPlaces } from "../check/sabsim.mjs";
+import { resolve } from "node:path";
+import { Difference, sabsimFor, sabsimPlaces, versionOf } from "../check/sabsim.mjs";
 import { preloads } from "../seeds/node-words.mjs";
 import { recordSeeds } from "../seeds/seeds.mjs";
+import { askedOf } from "./asked.mjs";
+import { formatted } from "./formats.mjs";
 import { Interrupted, Interruption } from "./interruption.mjs";
 import { Keeper } from "./keep.mjs";
+import { keepPictures } from "./pictures.mjs";
 import { print } from "./print.mjs";
+import { toldOf } from "./problems.mjs";
 import { Progress } from "./progress.mjs";
+import { FORM } from "./summary-form.mjs";
 import { Summary } from "./summary.mjs";
 
 /** @typedef {import("../run/group.mjs").Outcome} Outcome */
 
-const PICTURES = ["explained", "svg"];
-
 export class Session {
-  /** @param {import("./options.mjs").Options} options with the URL of the module */
-  constructor(options) {
+  /**
+   * @param {import("./options.mjs").Options} options
+   * @param {string} module its URL
+   */
+  constructor(options, module) {
     const { checkEvery, sabsim: path, isSabsimAsked: isAsked } = options;
+    const isPreloaded = preloads([...process.execArgv, process.env.NODE_OPTIONS ?? ""]);
+    this.asked = askedOf(options, module, isPreloaded);
     /** Where sabsim is; undefined: it isn't asked. */
     this.sabsim = checkEvery === 0 ? undefined : sabsimFor({ path, isAsked });
-    this.options = { ...options, checkEvery: this.sabsim === undefined ? 0 : checkEvery, sabsim: this.sabsim };
+    const every = this.sabsim === undefined ? 0 : checkEvery;
+    this.options = { ...options, module, checkEvery: every, sabsim: this.sabsim, origin: options.asked.first };
     this.wanted = options.last - options.first + 1;
     this.keeper = options.out === undefined ? undefined : new Keeper(options.out);
     this.summary = new Summary({
       ordinary: options.ordinary, races: options.races, checks: this.sabsim !== undefined,
       missing: checkEvery > 0 && this.sabsim === undefined ? sabsimPlaces() : undefined,
-      preloads: preloads([...process.execArgv, process.env.NODE_OPTIONS ?? ""]),
+      preloads: isPreloaded,
     });
     /** @type {string[]} what isn't kept though there is a script to make it from, and why */
     this.leftOut = [];
@@ -52,7 +62,7 @@ export class Session {
     const [stopped] = problems;
     this.progress.clear();
     await attempt(() => this.#keepMore(stopped));
-    await attempt(() => this.#tell(stopped));
+    await attempt(() => this.#tell(stopped, problems));
     await attempt(() => this.interruption.end());
     return { failed: this.summary.failed > 0, problems };
   }
@@ -78,40 +88,39 @@ export class Session {
       const { outcome: { seed, script, report, trace }, replayed, judged } = stopped;
       const theirs = { "sabsim-report": replayed, "sabsim-verdict": judged };
       this.keeper.keepAll(seed, { json: script, report, "trace.jsonl": trace, ...theirs });
-    } else if (this.keeper.seed !== undefined) {
-      this.#keepPictures(this.keeper, this.summary.failing);
+    } else if (this.keeper.seed !== undefined && this.keeper.seed === this.summary.failing?.seed) {
+      this.leftOut.push(...keepPictures(this.keeper, this.summary.failing, this.sabsim));
     }
   }
 
   /**
-   * @param {Keeper} keeper
-   * @param {Outcome | undefined} outcome of the first failing run
+   * @param {unknown} stopped why not all runs were made, if so
+   * @param {unknown[]} problems all that went wrong
    */
-  #keepPictures(keeper, outcome) {
-    if (outcome?.script === undefined || keeper.seed !== outcome.seed) return;
-    const { seed, script } = outcome;
-    if (this.sabsim === undefined) {
-      const names = PICTURES.map((format) => `seed-${seed}.${format}`);
-      this.leftOut.push(`not kept, since only sabsim makes them: ${names.join(", ")}`);
-      return;
-    }
-    for (const format of PICTURES) {
-      const { status, output, errors } = sabsim(this.sabsim, ["replay", "--format", format], script);
-      if (status === 0) keeper.keepAll(seed, { [format]: output });
-      else this.leftOut.push(`not kept: seed-${seed}.${format}: sabsim ended with status ${status}: ${errors.trim()}`);
-    }
-  }
-
-  /** @param {unknown} stopped why not all runs were made, if so */
-  async #tell(stopped) {
+  async #tell(stopped, problems) {
     const interrupted = stopped instanceof Interrupted;
     if (stopped !== undefined && !interrupted && this.summary.runs === 0) return;
     const why = interrupted ? stopped.message : "stopped";
-    const stop = stopped === undefined ? undefined : { why, wanted: this.wanted };
-    const { keeper } = this;
+    const stop = stopped === undefined ? null : { why, wanted: this.wanted };
+    await print(formatted(this.#told(stop, problems), this.options.format));
+  }
+
+  /**
+   * @param {import("./summary.mjs").Stop | null} stopped
+   * @param {unknown[]} problems
+   * @returns {import("./summary-form.mjs").WholeSummary}
+   */
+  #told(stopped, problems) {
+    const { keeper, options: { first, last, format } } = this;
     const isKept = keeper !== undefined && keeper.names.length > 0;
-    const kept = isKept ? [`kept in ${keeper.folder}: ${keeper.names.join(", ")}`] : [];
-    const more = [...kept, ...this.leftOut].map((line) => `${line}\n`);
-    await print(this.summary.text(stop) + more.join(""));
+    // It takes a program to tell it.
+    if (format === "json" && this.sabsim !== undefined) this.summary.versions.add(versionOf(this.sabsim));
+    const told = this.summary.told({
+      stopped,
+      kept: isKept ? { folder: keeper.folder, path: resolve(keeper.folder), files: keeper.names } : null,
+      notKept: this.leftOut,
+      problems: problems.filter((problem) => !(problem instanceof Interrupted)).map(toldOf),
+    });
+    return { summary: FORM, asked: this.asked, seeds: [{ first, last }], ...told };
   }
 }

@@ -1,11 +1,12 @@
-// What is told of many runs. It doesn't depend on the order in which their outcomes come. Of the runs little is kept,
-// so that there can be any number of them; the first failing one alone is kept whole.
+// What is told of many runs. It doesn't depend on the order in which their outcomes come, nor on how they were shared
+// out. Of the runs little is kept, so that there can be any number of them; the first failing one alone is kept whole.
 
-import { HOW_TO_BUILD } from "../check/sabsim.mjs";
+import { summaryText } from "./summary-text.mjs";
 import { Tally } from "./tally.mjs";
-import { counted, digits, listed } from "./words.mjs";
 
 /** @typedef {import("../run/group.mjs").Outcome} Outcome */
+
+/** @typedef {Pick<Outcome, "seed" | "ending" | "detail" | "noScript"> & Partial<Outcome>} Failing */
 
 /**
  * @typedef {object} SummaryOptions
@@ -22,10 +23,55 @@ import { counted, digits, listed } from "./words.mjs";
  * @property {number} wanted how many runs there were to be
  */
 
+/**
+ * @template T
+ * @typedef {object} Listed what runs have in common
+ * @property {(T & { runs: number, first: number })[]} listed with how many runs have it, and the least of their seeds
+ * @property {number} others how many runs are counted under what isn't listed
+ */
+
+/**
+ * @typedef {object} Kept
+ * @property {string} folder as it was given
+ * @property {string} path
+ * @property {string[]} files
+ */
+
+/**
+ * @typedef {object} Told what is told of many runs: an object of JSON, with members that docs/FORMATS.md explains
+ * @property {Stop | null} stopped
+ * @property {import("../seeds/ranges.mjs").Range[]} missing seeds that were asked for, and of which nothing is known
+ * @property {number} runs
+ * @property {number} failed
+ * @property {Record<"failing" | "passing", { ending: string, runs: number, first: number }[]>} endings
+ * @property {{ seed: number, ending: string, detail: string[], noScript: string | null } | null} firstFailing
+ * @property {{ allowed: boolean, runs: number, pairs: Listed<{ lines: string[] }> }} races
+ * @property {Record<"failing" | "passing", Listed<{ ending: string, hash: string, shown: string[] }>>} states
+ * @property {CheckedBy} sabsim
+ * @property {{ parts: number, none: Listed<{ why: string }> }} scripts
+ * @property {number} calls
+ * @property {number | null} accesses null: they weren't seen
+ * @property {string[]} unseen
+ * @property {Kept | null} kept
+ * @property {string[]} notKept
+ * @property {string[]} problems
+ */
+
+/**
+ * @typedef {object} CheckedBy
+ * @property {boolean} asked whether runs were to be checked by it
+ * @property {string[]} versions of the programs that were asked
+ * @property {number} checked how many runs it says the same of
+ * @property {boolean} judges whether it has judged the data races of these too
+ * @property {{ places: string[], runs: number } | null} missing where it was looked for and isn't, and for how many
+ * runs
+ */
+
+/** @typedef {Partial<Pick<Told, "stopped" | "missing" | "kept" | "notKept" | "problems">>} Ending how all ended */
+
 // In the order in which they are told.
 const FAILING = ["deadlock", "failed", "check", "race", "bound"];
 const PASSING = ["finished", ...FAILING];
-const MOST_LISTED = 8;
 
 const CHANGES_ALONE =
   "ordinary reads were not seen, and of ordinary writes only what they changed between two calls, so data races " +
@@ -38,6 +84,9 @@ const UNSEEN = { watch: [], store: [CHANGES_ALONE], refuse: [CHANGES_ALONE] };
 const UNSEEN_BEFORE =
   "what is done by typed arrays and Atomics that code of node's own words, as --require, has put aside was not seen";
 
+/** @type {("failing" | "passing")[]} */
+const BOTH = ["failing", "passing"];
+
 export class Summary {
   /** @param {SummaryOptions} options */
   constructor({ ordinary, races, checks, missing, preloads = false }) {
@@ -45,7 +94,12 @@ export class Summary {
     this.preloads = preloads;
     this.races = races;
     this.checks = checks;
-    this.missing = missing;
+    /** @type {Set<string>} where sabsim was looked for and isn't */
+    this.missing = new Set(missing);
+    /** How many runs weren't checked for that. */
+    this.unchecked = 0;
+    /** @type {Set<string>} the versions of sabsim that checked */
+    this.versions = new Set();
     this.runs = 0;
     this.failed = 0;
     this.checked = 0;
@@ -56,11 +110,12 @@ export class Summary {
     /** How many scripts hold some of the ordinary writes only. */
     this.parts = 0;
     this.endings = { failing: new Tally(), passing: new Tally() };
-    /** @type {Record<"failing" | "passing", Tally<{ ending: string, shown: string[] }>>} */
+    /** @type {Record<"failing" | "passing", Tally<{ ending: string, shown: string[] }>>} by their hashes */
     this.states = { failing: new Tally(), passing: new Tally() };
+    /** @type {Tally<{ lines: string[] }>} */
     this.pairs = new Tally();
     this.scriptless = new Tally();
-    /** @type {Outcome | undefined} the failing run of the least seed */
+    /** @type {Failing | undefined} the failing run of the least seed */
     this.failing = undefined;
   }
 
@@ -71,13 +126,14 @@ export class Summary {
     this.runs += 1;
     this.calls += calls;
     this.accesses += ordinary;
+    if (this.missing.size > 0) this.unchecked += 1;
     this.endings[which].add(ending, seed);
-    this.states[which].add(`${ending} ${state.hash}`, seed, { ending, shown: state.shown });
+    this.states[which].add(state.hash, seed, { ending, shown: state.shown });
     this.#addRaces(outcome);
     this.#addScript(outcome);
     if (!fails) return;
     this.failed += 1;
-    if (this.failing === undefined || this.failing.seed >= seed) this.failing = outcome;
+    this.#addFailing(outcome);
   }
 
   /** Takes note that one more run was checked, and that sabsim says the same. */
@@ -86,25 +142,75 @@ export class Summary {
   }
 
   /**
-   * @param {Stop} [stop] where not all runs were made
+   * Adds all that is told of other runs.
+   * @param {Told} told
+   */
+  join(told) {
+    const { runs, failed, calls, accesses, firstFailing } = told;
+    this.runs += runs;
+    this.failed += failed;
+    this.calls += calls;
+    this.accesses += accesses ?? 0;
+    this.#joinChecks(told.sabsim);
+    for (const which of BOTH) {
+      this.endings[which].join(told.endings[which].map(({ ending, ...entry }) => ({ ...entry, ...of(ending) })));
+      const { listed, others } = told.states[which];
+      const entries = listed.map(({ hash, ending, shown, ...entry }) => ({ ...entry, ...of(hash, { ending, shown }) }));
+      this.states[which].join(entries, others);
+    }
+    this.raced += told.races.runs;
+    const { listed, others } = told.races.pairs;
+    this.pairs.join(listed.map(({ lines, ...entry }) => ({ ...entry, ...of(pairKey(lines), { lines }) })), others);
+    const { parts, none } = told.scripts;
+    this.parts += parts;
+    this.scriptless.join(none.listed.map(({ why, ...entry }) => ({ ...entry, ...of(why) })), none.others);
+    if (firstFailing !== null) this.#addFailing(failingOf(firstFailing));
+  }
+
+  /**
+   * @param {Ending} [ending]
+   * @returns {Told} all that is told, as an object of JSON: the plain text is made from it
+   */
+  told(ending = {}) {
+    const { stopped = null, missing = [], kept = null, notKept = [], problems = [] } = ending;
+    return {
+      stopped,
+      missing,
+      runs: this.runs,
+      failed: this.failed,
+      endings: {
+        failing: endingsTold(FAILING, this.endings.failing), passing: endingsTold(PASSING, this.endings.passing),
+      },
+      firstFailing: this.failing === undefined ? null : failingTold(this.failing),
+      races: {
+        allowed: this.races === "allow", runs: this.raced, pairs: listedOf(this.pairs, (_, { lines }) => ({ lines })),
+      },
+      states: { failing: statesTold(this.states.failing), passing: statesTold(this.states.passing) },
+      sabsim: this.#checksTold(),
+      scripts: { parts: this.parts, none: listedOf(this.scriptless, (why) => ({ why })) },
+      calls: this.calls,
+      accesses: this.ordinary === "watch" ? this.accesses : null,
+      unseen: this.preloads ? [...UNSEEN[this.ordinary], UNSEEN_BEFORE] : UNSEEN[this.ordinary],
+      kept,
+      notKept,
+      problems,
+    };
+  }
+
+  /**
+   * @param {Stop} [stopped] where not all runs were made
    * @returns {string} lines, each with its end
    */
-  text(stop) {
-    const lines = [];
-    if (stop !== undefined) lines.push(`${stop.why} after ${digits(this.runs)} of ${counted(stop.wanted, "run")}`);
-    if (this.runs > 0) {
-      lines.push(this.#endingLine(), ...this.#failingLines(), ...this.#raceLines(), ...this.#stateLines());
-      lines.push(...this.#checkLines(), ...this.#scriptLines(), this.#accessLine(), ...this.#unseenLines());
-    }
-    return lines.map((line) => `${line}\n`).join("");
+  text(stopped) {
+    return summaryText(this.told({ stopped }));
   }
 
   /** @param {Outcome} outcome */
   #addRaces({ seed, races }) {
     if (races.length === 0) return;
     this.raced += 1;
-    const pairs = new Set(races.map(({ lines }) => lines.join(" and ")));
-    for (const pair of pairs) this.pairs.add(pair, seed);
+    const pairs = new Map(races.map(({ lines }) => [pairKey(lines), lines]));
+    for (const [key, lines] of pairs) this.pairs.add(key, seed, { lines });
   }
 
   /** @param {Outcome} outcome */
@@ -113,104 +219,76 @@ export class Summary {
     if (scriptHolds === "touched") this.parts += 1;
   }
 
-  #endingLine() {
-    const failing = this.#endings(FAILING, this.endings.failing, (ending) => ending);
-    const passing = this.#endings(PASSING, this.endings.passing, passingText);
-    if (this.failed === 0) return `${counted(this.runs, "run")}: ${passing}`;
-    const first = `${digits(this.failed)} of ${counted(this.runs, "run")} failed: ${failing}`;
-    return this.failed === this.runs ? first : `${first}; ${passing}`;
+  /** @param {Failing} failing */
+  #addFailing(failing) {
+    if (this.failing === undefined || this.failing.seed >= failing.seed) this.failing = failing;
   }
 
-  /**
-   * @param {string[]} order
-   * @param {Tally<unknown>} tally
-   * @param {(ending: string) => string} textOf
-   */
-  #endings(order, tally, textOf) {
-    const there = order.filter((ending) => tally.entries.has(ending));
-    return there.map((ending) => `${digits(tally.entries.get(ending)?.runs ?? 0)} ${textOf(ending)}`).join(", ");
+  /** @param {CheckedBy} sabsim */
+  #joinChecks({ asked, versions, checked, missing }) {
+    this.checks ||= asked;
+    this.checked += checked;
+    for (const version of versions) this.versions.add(version);
+    for (const place of missing?.places ?? []) this.missing.add(place);
+    this.unchecked += missing?.runs ?? 0;
   }
 
-  #failingLines() {
-    if (this.failing === undefined) return [];
-    const { seed, ending, detail, noScript } = this.failing;
-    const lines = detail === "" ? [] : detail.split("\n");
-    if (noScript !== undefined) lines.push(`it has no script: ${noScript}`);
-    return [`first failing seed: ${seed}, ${ending}`, ...lines.map(indented)];
-  }
-
-  #raceLines() {
-    if (this.raced === 0) return [];
-    const title = this.races === "allow" ? "data races, allowed" : "data races";
-    const lines = listed(this.pairs.sorted(), MOST_LISTED, ({ key, runs, first }) => {
-      return `seed ${first} the first, ${counted(runs, "run")}: ${key}`;
-    });
-    return [
-      `${title}: ${counted(this.raced, "run")}, ${counted(this.pairs.size, "pair")} of lines`,
-      ...lines.map(indented),
-    ];
-  }
-
-  #stateLines() {
-    const { failing, passing } = this.states;
-    const passed = passing.sorted().map((entry) => ({ ...entry, text: passingText(entry.about.ending) }));
-    const states = [...failing.sorted().map((entry) => ({ ...entry, text: entry.about.ending })), ...passed];
-    const lines = listed(states, MOST_LISTED, ({ runs, first, text, about }) => {
-      const bytes = about.shown.map((hex) => (hex === "" ? "-" : hex)).join(" | ");
-      return `${counted(runs, "run")} ${text}, seed ${first} the first: ${bytes}`;
-    });
-    return [`${counted(states.length, "final state")}: how it ended, and the bytes`, ...lines.map(indented)];
-  }
-
-  #checkLines() {
-    if (this.missing !== undefined) return uncheckedLines(this.missing);
-    if (this.checked === 0) return ["no run was checked"];
-    const same = `${counted(this.checked, "run")} checked: sabsim says the same`;
-    if (this.ordinary !== "watch") return [same];
-    const which = this.checked === 1 ? "it" : "them";
-    return [same, `of data races in ${which} sabsim's judge, which is proved, says the same`];
-  }
-
-  #scriptLines() {
-    const lines = listed(this.scriptless.sorted(), MOST_LISTED, ({ key, runs }) => {
-      const [have, were] = runs === 1 ? ["1 run has", "wasn't"] : [`${digits(runs)} runs have`, "weren't"];
-      return `${have} no script${this.checks ? `, and ${were} checked` : ""}: ${key}`;
-    });
-    if (this.parts === 0) return lines;
-    const isOne = this.parts === 1;
-    const [hold, their] = isOne ? ["1 script holds", "its"] : [`${digits(this.parts)} scripts hold`, "their"];
-    const touched = `${hold} only the ordinary writes of bytes that calls touch, since all don't fit`;
-    return [`${touched}; ${their} other bytes weren't compared`, ...lines];
-  }
-
-  #unseenLines() {
-    return this.preloads ? [...UNSEEN[this.ordinary], UNSEEN_BEFORE] : UNSEEN[this.ordinary];
-  }
-
-  #accessLine() {
-    const calls = this.calls === 0 ? "no call" : counted(this.calls, "call");
-    const made = `${counted(this.runs, "run")} made ${calls} of Atomics`;
-    if (this.ordinary !== "watch") return made;
-    if (this.accesses === 0) return `${made}, and no ordinary read or write`;
-    if (this.accesses === 1) return `${made}, and 1 ordinary read or write`;
-    return `${made}, and ${digits(this.accesses)} ordinary reads and writes`;
+  /** @returns {CheckedBy} */
+  #checksTold() {
+    const { checks: asked, checked, missing, unchecked } = this;
+    return {
+      asked,
+      versions: [...this.versions].sort(),
+      checked,
+      judges: this.ordinary === "watch",
+      missing: missing.size === 0 ? null : { places: [...missing].sort(), runs: unchecked },
+    };
   }
 }
 
-/**
- * What is said where sabsim isn't there.
- * @param {string[]} places where it was looked for
- */
-const uncheckedLines = (places) => [
-  `nothing was checked by sabsim, which isn't built: there is none at ${places.join(" or ")}`,
-  `so all of this is the recorder's word alone, and the recorder isn't proved; ${HOW_TO_BUILD}`,
-];
-
-/** @param {string} line */
-const indented = (line) => `  ${line}`;
+/** @param {string[]} lines of code that race */
+const pairKey = (lines) => lines.join(" and ");
 
 /**
- * An ending of a run that doesn't fail.
- * @param {string} ending
+ * Parts of a tally's entry.
+ * @template T
+ * @param {string} key
+ * @param {T} [about]
  */
-const passingText = (ending) => (ending === "finished" ? ending : `${ending} (allowed)`);
+const of = (key, about) => ({ key, about: /** @type {T} */ (about) });
+
+/**
+ * What a tally has, as it is told.
+ * @template T
+ * @template {object} Part
+ * @param {Tally<T>} tally
+ * @param {(key: string, about: T) => Part} parts
+ * @returns {Listed<Part>}
+ */
+const listedOf = (tally, parts) => ({
+  listed: tally.sorted().map(({ key, runs, first, about }) => ({ ...parts(key, about), runs, first })),
+  others: tally.others,
+});
+
+/** @param {Tally<{ ending: string, shown: string[] }>} tally */
+const statesTold = (tally) => listedOf(tally, (hash, { ending, shown }) => ({ ending, hash, shown }));
+
+/**
+ * @param {string[]} order
+ * @param {Tally<unknown>} tally
+ */
+function endingsTold(order, tally) {
+  const entries = listedOf(tally, (ending) => ({ ending })).listed;
+  return entries.sort((one, other) => order.indexOf(one.ending) - order.indexOf(other.ending));
+}
+
+/** @param {Failing} failing @returns {NonNullable<Told["firstFailing"]>} */
+function failingTold({ seed, ending, detail, noScript }) {
+  return { seed, ending, detail: detail === "" ? [] : detail.split("\n"), noScript: noScript ?? null };
+}
+
+/** @param {NonNullable<Told["firstFailing"]>} told @returns {Failing} */
+function failingOf({ seed, ending, detail, noScript }) {
+  const known = /** @type {import("../run/group.mjs").Ending} */ (ending);
+  return { seed, ending: known, detail: detail.join("\n"), noScript: noScript ?? undefined };
+}

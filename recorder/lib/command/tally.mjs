@@ -1,4 +1,6 @@
-// Runs that have something in common, counted: how often it was so, and in which run first.
+// Runs that have something in common, counted: how often it was so, and in which run first. However many keys there
+// are, a certain number of them is kept: those that come first by their spelling. So which ones are kept doesn't depend
+// on the order in which runs come, nor on how they are shared out, and each that is kept has all its runs counted.
 
 /**
  * @template T
@@ -9,11 +11,20 @@
  * @property {T} about what else is told of them
  */
 
+/** How many keys are kept, if nothing else is said. */
+export const MOST_KEYS = 4_096;
+
 /** @template T */
 export class Tally {
-  constructor() {
+  /** @param {number} [most] how many keys are kept */
+  constructor(most = MOST_KEYS) {
+    this.most = most;
     /** @type {Map<string, Entry<T>>} */
     this.entries = new Map();
+    /** How many runs were counted, under all keys. */
+    this.counted = 0;
+    /** @type {string | undefined} the last key that is kept, once some weren't */
+    this.limit = undefined;
   }
 
   /**
@@ -22,25 +33,61 @@ export class Tally {
    * @param {T} [about] kept from one of the runs; it is the same in all that have the key
    */
   add(key, seed, about) {
-    const entry = this.entries.get(key);
-    if (entry === undefined) {
-      // Where nothing is told of the runs, T is undefined.
-      this.entries.set(key, { key, runs: 1, first: seed, about: /** @type {T} */ (about) });
-      return;
-    }
-    entry.runs += 1;
-    entry.first = Math.min(entry.first, seed);
+    // Where nothing is told of the runs, T is undefined.
+    this.#put({ key, runs: 1, first: seed, about: /** @type {T} */ (about) });
   }
 
-  /** @returns {number} how many keys there are */
+  /**
+   * Adds what another tally, as large as this one, has counted.
+   * @param {Entry<T>[]} entries those that it has kept
+   * @param {number} [others] how many runs are counted under keys that it hasn't kept
+   */
+  join(entries, others = 0) {
+    for (const entry of entries) this.#put({ ...entry });
+    // One that left keys out has kept as many as are kept here: none that stays here has runs among those.
+    this.counted += others;
+  }
+
+  /** @returns {number} under how many keys that are kept runs are counted */
   get size() {
+    this.#cut();
     return this.entries.size;
+  }
+
+  /** @returns {number} how many runs are counted under keys that aren't kept */
+  get others() {
+    this.#cut();
+    return [...this.entries.values()].reduce((left, { runs }) => left - runs, this.counted);
   }
 
   /** @returns {Entry<T>[]} those of most runs first */
   sorted() {
+    this.#cut();
     return [...this.entries.values()].sort((one, other) => {
       return other.runs - one.runs || one.first - other.first || (one.key < other.key ? -1 : 1);
     });
+  }
+
+  /** @param {Entry<T>} entry */
+  #put(entry) {
+    this.counted += entry.runs;
+    if (this.limit !== undefined && entry.key > this.limit) return;
+    const known = this.entries.get(entry.key);
+    if (known !== undefined) {
+      known.runs += entry.runs;
+      known.first = Math.min(known.first, entry.first);
+      return;
+    }
+    this.entries.set(entry.key, entry);
+    // Seldom, since it takes them all.
+    if (this.entries.size >= 2 * this.most) this.#cut();
+  }
+
+  /** Leaves as many keys as are kept. */
+  #cut() {
+    if (this.entries.size <= this.most) return;
+    const keys = [...this.entries.keys()].sort((one, other) => (one < other ? -1 : 1));
+    this.limit = keys[this.most - 1];
+    for (const key of keys.slice(this.most)) this.entries.delete(key);
   }
 }

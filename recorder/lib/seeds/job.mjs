@@ -20,10 +20,11 @@ export class Job {
   /**
    * @param {import("../run/group.mjs").GroupOptions & CheckOptions} options
    * @param {(seed: number) => void} onCheck is told of each run that sabsim says the same of
+   * @param {boolean} [ends] whether `close` ends it, and its process goes on then
    * @returns {Promise<Job>}
    */
-  static async open(options, onCheck) {
-    const checker = options.checks ? new Checker(foundSabsim(options.sabsim)) : undefined;
+  static async open(options, onCheck, ends) {
+    const checker = options.checks ? new Checker(foundSabsim(options.sabsim), ends) : undefined;
     return new Job(await Group.open(options), checker, onCheck);
   }
 
@@ -66,6 +67,11 @@ export class Job {
   async finish() {
     await Promise.all(this.checks);
     if (this.failure !== undefined) throw this.failure;
+  }
+
+  /** Ends its workers, and the processes of its checks. */
+  async close() {
+    await Promise.all([this.group.close(), this.checker?.close()]);
   }
 
   /**

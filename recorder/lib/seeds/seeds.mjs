@@ -2,6 +2,7 @@
 
 import { foundSabsim } from "../check/sabsim.mjs";
 import { InOrder } from "./in-order.mjs";
+import { LocalJob } from "./local-job.mjs";
 import { LostJob, RemoteJob } from "./remote-job.mjs";
 
 export { LostJob } from "./remote-job.mjs";
@@ -15,17 +16,30 @@ export { LostJob } from "./remote-job.mjs";
  * @property {number} jobs how many groups work side by side, each in a process of its own
  * @property {number} checkEvery every run that fails is checked, and one in so many of the others; 0: none at all
  * @property {string} [sabsim] the program's path; it isn't needed where nothing is checked
+ * @property {number} [origin] the seed from which one in so many is counted; the first if it isn't given
  * @property {boolean} [failFast] whether the first failing run is the last
+ * @property {boolean} [here] whether the jobs' workers are of this process, and not of one for each job
+ */
+
+/**
+ * @typedef {object} Pace how far the jobs may go ahead of who takes what they find
+ * @property {(seed: number) => boolean} isAhead whether a seed is too far to be begun yet
+ * @property {() => Promise<void>} next is settled when that may have changed
+ * @property {(failure: unknown) => void} onFailure is told of what ends a job, while others may still be at work
  */
 
 /**
  * @typedef {object} Listening
  * @property {(seed: number) => void} [onCheck] is told of each run that sabsim says the same of
  * @property {AbortSignal} [signal] that it is to stop
+ * @property {Pace} [pace] as fast as they can, if it isn't given
  */
 
-// How many seeds a job is given at a time.
-const BATCH = 16;
+/** How many seeds a job is given at a time. */
+export const BATCH = 16;
+
+/** @type {Pace} */
+const UNHINDERED = { isAhead: () => false, next: () => Promise.resolve(), onFailure() {} };
 
 /** Seeds in their order, some at a time. */
 class Row {
@@ -33,10 +47,11 @@ class Row {
    * @param {number} first
    * @param {number} last
    * @param {number} every one in how many outcomes is wanted whole; 0: none
+   * @param {number} origin the seed from which they are counted
    * @param {number} batch
    */
-  constructor(first, last, every, batch) {
-    this.first = first;
+  constructor(first, last, every, origin, batch) {
+    this.origin = origin;
     this.next = first;
     this.last = last;
     this.every = every;
@@ -47,11 +62,16 @@ class Row {
   take() {
     const seeds = [];
     while (this.next <= this.last && seeds.length < this.batch) {
-      const whole = this.every > 0 && (this.next - this.first) % this.every === 0;
+      const whole = this.every > 0 && (this.next - this.origin) % this.every === 0;
       seeds.push({ seed: this.next, whole });
       this.next += 1;
     }
     return seeds;
+  }
+
+  /** @returns {boolean} whether all were taken */
+  get isEmpty() {
+    return this.next > this.last;
   }
 
   /** Leaves nothing to take. */
@@ -69,21 +89,22 @@ class Row {
  * @returns {Promise<{ checked: number }>} how many runs were checked; fails at the first difference, where a job's
  * process was lost, and where it is to stop, with the reason for that
  */
-export async function recordSeeds(options, onOutcome, { onCheck = () => {}, signal } = {}) {
-  const { first, last, checkEvery, sabsim, failFast = false } = options;
+export async function recordSeeds(options, onOutcome, { onCheck = () => {}, signal, pace = UNHINDERED } = {}) {
+  const { first, last, checkEvery, sabsim, origin = first, failFast = false } = options;
   if (checkEvery > 0) foundSabsim(sabsim);
   let checked = 0;
   const count = last - first + 1;
   const batch = failFast ? 1 : Math.max(1, Math.min(BATCH, Math.ceil(count / options.jobs)));
-  const row = new Row(first, last, checkEvery, batch);
+  const row = new Row(first, last, checkEvery, origin, batch);
   const told = listener(first, failFast, row, onOutcome, (seed) => {
     checked += 1;
     onCheck(seed);
   });
   const needed = Math.min(options.jobs, Math.ceil(count / batch));
-  const jobs = Array.from({ length: needed }, () => new RemoteJob(told.addCheck));
+  const OneJob = options.here ? LocalJob : RemoteJob;
+  const jobs = Array.from({ length: needed }, () => new OneJob(told.addCheck));
   try {
-    await unlessStopped(signal, recordAll(jobs, { ...options, checks: checkEvery > 0 }, row, told.add));
+    await unlessStopped(signal, recordAll(jobs, { ...options, checks: checkEvery > 0 }, row, told.add, pace));
   } finally {
     await Promise.all(jobs.map((job) => job.close()));
     told.finish();
@@ -129,16 +150,19 @@ function unlessStopped(signal, promise) {
   });
 }
 
+/** @typedef {RemoteJob | LocalJob} AnyJob */
+
 /**
  * Has the jobs make all runs.
- * @param {RemoteJob[]} jobs
+ * @param {AnyJob[]} jobs
  * @param {Parameters<RemoteJob["open"]>[0]} options
  * @param {Row} row
  * @param {(outcome: Outcome) => void} onOutcome
+ * @param {Pace} pace
  */
-async function recordAll(jobs, options, row, onOutcome) {
+async function recordAll(jobs, options, row, onOutcome, pace) {
   await settled(jobs.map((job) => job.open(options)));
-  await settled(jobs.map((job) => work(job, row, onOutcome)));
+  await settled(jobs.map((job) => work(job, row, onOutcome, pace)));
 }
 
 /**
@@ -159,23 +183,43 @@ async function settled(promises) {
 
 /**
  * Keeps one job at work until there are no seeds, or something failed. Where the job is lost the others go on.
- * @param {RemoteJob} job
+ * @param {AnyJob} job
  * @param {Row} row
  * @param {(outcome: Outcome) => void} onOutcome
+ * @param {Pace} pace
  * @returns {Promise<void>}
  */
-async function work(job, row, onOutcome) {
+async function work(job, row, onOutcome, pace) {
   try {
-    for (let seeds = row.take(); seeds.length > 0; seeds = row.take()) await runBatch(job, seeds, onOutcome);
+    for (let seeds = await taken(job, row, pace); seeds.length > 0; seeds = await taken(job, row, pace)) {
+      await runBatch(job, seeds, onOutcome);
+    }
     await job.finish();
   } catch (failure) {
+    pace.onFailure(failure);
     if (!(failure instanceof LostJob)) row.stop();
     throw failure;
   }
 }
 
 /**
- * @param {RemoteJob} job
+ * The seeds that a job is to run next, when it may begin them.
+ * @param {AnyJob} job
+ * @param {Row} row
+ * @param {Pace} pace
+ */
+async function taken(job, row, pace) {
+  const isAhead = () => !row.isEmpty && pace.isAhead(row.next);
+  while (isAhead()) {
+    // Who takes the outcomes may wait for a check of this job.
+    await job.finish();
+    if (isAhead()) await pace.next();
+  }
+  return row.take();
+}
+
+/**
+ * @param {AnyJob} job
  * @param {import("../run/group.mjs").Wanted[]} seeds in their order
  * @param {(outcome: Outcome) => void} onOutcome
  */

@@ -1,24 +1,26 @@
 import assert from "node:assert/strict";
 import { test } from "node:test";
-import { record, Refused } from "sabsim";
+import { explore, record, Refused } from "sabsim";
+import { assertAgents, testAgents } from "sabsim/test";
 
-/** The first seed under which a run fails, with its outcome. */
-async function firstFailing(args, seeds) {
-  for (let seed = 1; seed <= seeds; seed += 1) {
-    const outcome = await record({ module: "./lock.mjs", args, seed, sabsim: false });
-    if (outcome.fails) return outcome;
-  }
-  return undefined;
-}
+testAgents("none is lost where each ring counts", { module: "./lock.mjs", args: ["counting"], seeds: 10 });
 
 test("a wake-up is lost by the bell", async () => {
-  const outcome = await firstFailing([], 50);
-  assert.equal(outcome.ending, "deadlock");
-  assert.match(outcome.detail, /waits at byte 4 of block 0/);
+  const options = { module: "./lock.mjs", sabsim: false };
+  for await (const { fails, seed, ending, detail } of explore({ ...options, seeds: "1..50" })) {
+    if (!fails) continue;
+    assert.equal(ending, "deadlock");
+    assert.match(detail, /waits at byte 4 of block 0/);
+    const alone = await record({ ...options, seed });
+    assert.equal(alone.detail, detail);
+    return;
+  }
+  assert.fail("no run has failed");
 });
 
-test("none is lost where each ring counts", async () => {
-  assert.equal(await firstFailing(["counting"], 10), undefined);
+test("what fails is an assertion", async () => {
+  const trial = assertAgents({ module: "./lock.mjs", seeds: "1..50", out: "found" });
+  await assert.rejects(trial, /^AssertionError.*: seed \d+: deadlock/);
 });
 
 test("an option that isn't known is refused", async () => {

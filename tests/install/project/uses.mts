@@ -1,7 +1,8 @@
 // Uses every name that the package exports, as TypeScript of a project of one's own.
 
-import { record, Difference, NoSabsim, Refused } from "sabsim";
-import type { Agent, AgentRun, Ending, Outcome, Race, RaceSide, RecordOptions, Setup, WithBuffers } from "sabsim";
+import { explore, record, Difference, LostJob, NoSabsim, Refused } from "sabsim";
+import type { Agent, AgentRun, Ending, ExploreOptions, Outcome, Race, RaceSide } from "sabsim";
+import type { RecordOptions, Setup, WithBuffers } from "sabsim";
 
 export const setup: Setup = { agents: 2, buffers: [8, 16], noBlock: [1] };
 
@@ -20,6 +21,13 @@ const options: RecordOptions = {
   init: filled, check: ([buffer]) => buffer!.byteLength === 8, sabsim: false, trace: true,
 };
 
+const { seed, ...rest } = options;
+export const seeds = { ...rest, seeds: "1..20", jobs: 1, checkEvery: 5, fresh: false, failFast: true };
+const range = { first: 1, last: seed ?? 2 };
+export const many: ExploreOptions[] = [seeds, { ...rest, seeds: 20 }, { ...rest, seeds: range }];
+
+// @ts-expect-error: what has many seeds has no one
+export const both: ExploreOptions = { module: "./lock.mjs", seed: 7 };
 // @ts-expect-error: the module must be given
 const without: RecordOptions = { seed: 7 };
 // @ts-expect-error: there is no such word
@@ -50,6 +58,15 @@ export async function told(): Promise<string> {
     if (problem instanceof Refused || problem instanceof NoSabsim) return problem.message;
     throw problem;
   }
+}
+
+export async function lowest(): Promise<number | undefined> {
+  try {
+    for await (const { seed, fails } of explore(seeds)) if (fails) return seed;
+  } catch (problem) {
+    if (!(problem instanceof LostJob)) throw problem;
+  }
+  return undefined;
 }
 
 export const refused: RecordOptions[] = [without, wrong];

@@ -1,0 +1,77 @@
+// What a command line has asked for, as a summary tells it: so that summaries can be joined where it is the same.
+
+import { createHash } from "node:crypto";
+import { readFileSync } from "node:fs";
+import { fileURLToPath } from "node:url";
+import { Refused } from "../run/plan.mjs";
+
+/** @typedef {import("../seeds/ranges.mjs").Range} Range */
+
+/**
+ * @typedef {object} Asked
+ * @property {string} module as the command line names it
+ * @property {string} digest of its file: SHA-256, in hexadecimal digits
+ * @property {Range[]} seeds of all shards
+ * @property {import("../seeds/ranges.mjs").Shard | null} shard
+ * @property {Record<string, unknown>} options what the runs and their checks depend on; null: the module's `setup` or
+ * the recorder says it
+ */
+
+/**
+ * @param {import("./options.mjs").Options} options
+ * @param {string} url of the module
+ * @param {boolean} preloads whether node's own words load code before the recorder
+ * @returns {Asked}
+ */
+export function askedOf(options, url, preloads) {
+  const { module, asked, shard = null, args, agents, buffers, noBlock, switching, timeouts, maxMoves } = options;
+  const { ordinary, races, bounds, clock, seconds, fresh, failFast, checkEvery } = options;
+  const given = {
+    args, agents, buffers, noBlock, switch: switching, timeouts, ordinary, races, bounds, clock, maxMoves, seconds,
+    fresh, failFast, check: checkEvery, preloads,
+  };
+  const written = Object.entries(given).map(([name, value]) => [name, value ?? null]);
+  return { module, digest: digestOf(module, url), seeds: [asked], shard, options: Object.fromEntries(written) };
+}
+
+/**
+ * @param {string} module as the command line names it
+ * @param {string} url
+ */
+function digestOf(module, url) {
+  try {
+    return createHash("sha256").update(readFileSync(fileURLToPath(url))).digest("hex");
+  } catch (error) {
+    throw new Refused(`${module} can't be read: ${/** @type {Error} */ (error).message}`);
+  }
+}
+
+// What isn't an option's name with lines between its words.
+const NAMES = new Map([
+  ["args", "what stands behind --"], ["preloads", "whether node's own words load code before the recorder"],
+]);
+
+/** @param {string} name of an option in a summary @returns {string} as it is written on the command line */
+const wordOf = (name) => NAMES.get(name) ?? `--${name.replaceAll(/[A-Z]/g, (letter) => `-${letter.toLowerCase()}`)}`;
+
+/** @param {unknown} value of an option */
+const valueText = (value) => (value === null ? "not given" : JSON.stringify(value));
+
+/**
+ * Whether what two command lines have asked for differs in more than the seeds.
+ * @param {Asked} one
+ * @param {Asked} other
+ * @returns {string | undefined} in what, in words
+ */
+export function differenceOf(one, other) {
+  if (one.digest !== other.digest) {
+    return one.module === other.module
+      ? `the text of ${one.module} isn't the same in both`
+      : `they are of different modules, ${one.module} and ${other.module}`;
+  }
+  for (const name of new Set([...Object.keys(one.options), ...Object.keys(other.options)])) {
+    const [value, theirs] = [one, other].map(({ options }) => valueText(options[name] ?? null));
+    if (value !== theirs) return `${wordOf(name)} is ${value} in the one and ${theirs} in the other`;
+  }
+  return undefined;
+}

@@ -1,0 +1,132 @@
+// Summaries of several command lines, joined as if one had made all runs.
+
+import { readFileSync } from "node:fs";
+import { Refused } from "../run/plan.mjs";
+import { united, without } from "../seeds/ranges.mjs";
+import { differenceOf } from "./asked.mjs";
+import { FORM, whyNoSummary } from "./summary-form.mjs";
+import { Summary } from "./summary.mjs";
+
+/** @typedef {import("./summary-form.mjs").WholeSummary} WholeSummary */
+
+/**
+ * @typedef {object} Part
+ * @property {string} name of its file, and of its line where that isn't the only one
+ * @property {WholeSummary} summary
+ */
+
+const STANDARD_INPUT = "-";
+const STANDARD_INPUT_FILE = 0;
+
+/**
+ * The summaries of a file: one of JSON, or one on each line.
+ * @param {string} file its path; `-`: standard input
+ * @returns {Part[]}
+ * @throws {Refused}
+ */
+export function partsOf(file) {
+  const name = file === STANDARD_INPUT ? "standard input" : file;
+  const text = textOf(file, name);
+  const all = parsed(text);
+  if (all !== undefined) return [part(name, all)];
+  const lines = text.split("\n").map((line, at) => ({ line, at: at + 1 })).filter(({ line }) => line.trim() !== "");
+  if (lines.length === 0) throw new Refused(`${name} has no summary: it is empty`);
+  return lines.map(({ line, at }) => part(`line ${at} of ${name}`, parsed(line)));
+}
+
+/** @param {string} file @param {string} name */
+function textOf(file, name) {
+  try {
+    return readFileSync(file === STANDARD_INPUT ? STANDARD_INPUT_FILE : file, "utf8");
+  } catch (error) {
+    throw new Refused(`${name} can't be read: ${/** @type {Error} */ (error).message}`);
+  }
+}
+
+/** @param {string} text @returns {unknown} undefined where it is no JSON */
+function parsed(text) {
+  try {
+    return JSON.parse(text);
+  } catch {
+    return undefined;
+  }
+}
+
+/** @param {string} name @param {unknown} value @returns {Part} */
+function part(name, value) {
+  const why = value === undefined ? "it is no JSON" : whyNoSummary(value);
+  if (why !== undefined) throw new Refused(`${name} is no summary of the recorder: ${why}`);
+  return { name, summary: /** @type {WholeSummary} */ (value) };
+}
+
+/**
+ * Joins summaries. That of all shards is that of one run.
+ * @param {Part[]} parts one at least
+ * @returns {WholeSummary}
+ * @throws {Refused} where they don't fit together
+ */
+export function merged(parts) {
+  needsFitting(parts);
+  const summaries = parts.map(({ summary }) => summary).sort((one, other) => firstSeed(one) - firstSeed(other));
+  const [{ asked, sabsim }] = summaries;
+  const { ordinary, races, preloads } = /** @type {any} */ (asked.options);
+  const joined = new Summary({ ordinary, races, preloads, checks: sabsim.asked });
+  for (const summary of summaries) joined.join(summary);
+  const askedSeeds = united(summaries.flatMap((summary) => summary.asked.seeds));
+  const seeds = united(summaries.flatMap((summary) => summary.seeds));
+  const missing = without(askedSeeds, seeds);
+  const problems = summaries.flatMap((summary) => summary.problems);
+  const told = joined.told({ stopped: stoppedOf(summaries), missing, problems });
+  const shard = null;
+  return { summary: FORM, asked: { ...asked, seeds: askedSeeds, shard }, seeds, ...told, ...leftBy(summaries, told) };
+}
+
+/** @param {WholeSummary} summary */
+const firstSeed = ({ seeds: [first] }) => first?.first ?? 0;
+
+/**
+ * @param {Part[]} parts
+ * @throws {Refused} where one was asked for something else, or two have the same seed
+ */
+function needsFitting(parts) {
+  const [first, ...others] = parts;
+  for (const { name, summary } of others) {
+    const difference = differenceOf(first.summary.asked, summary.asked);
+    if (difference !== undefined) throw new Refused(`${first.name} and ${name} don't fit together: ${difference}`);
+  }
+  const ranges = parts.flatMap(({ name, summary }) => summary.seeds.map((range) => ({ name, ...range })));
+  ranges.sort((one, other) => one.first - other.first);
+  ranges.forEach((range, at) => {
+    // Those before it end one behind the other, so the one just before it is the last that may have its seeds.
+    const before = ranges[at - 1];
+    if (before === undefined || before.last < range.first) return;
+    throw new Refused(`${before.name} and ${range.name} don't fit together: both have seed ${range.first}`);
+  });
+}
+
+/**
+ * @param {WholeSummary[]} summaries
+ * @returns {import("./summary.mjs").Stop | null} that not all of their runs were made
+ */
+function stoppedOf(summaries) {
+  const whys = summaries.flatMap(({ stopped }) => (stopped === null ? [] : [stopped.why]));
+  if (whys.length === 0) return null;
+  const wanted = summaries.reduce((sum, { stopped, runs }) => sum + (stopped?.wanted ?? runs), 0);
+  return { why: [...new Set(whys)].join(", "), wanted };
+}
+
+/**
+ * What the run of the first failing seed has left: its files, and what belongs to it alone.
+ * @param {WholeSummary[]} summaries
+ * @param {import("./summary.mjs").Told} told of all
+ * @returns {Pick<WholeSummary, "kept" | "notKept">}
+ */
+function leftBy(summaries, { firstFailing }) {
+  const owner = firstFailing === null
+    ? summaries.find(({ kept }) => kept !== null)
+    : summaries.find((summary) => summary.firstFailing?.seed === firstFailing.seed);
+  if (owner === undefined) return { kept: null, notKept: [] };
+  const { kept, notKept } = owner;
+  // It was given from the folder in which that command line ran.
+  return { kept: kept === null ? null : { ...kept, folder: kept.path }, notKept };
+}

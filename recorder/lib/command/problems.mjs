@@ -1,0 +1,16 @@
+// What went wrong, as it is told.
+
+import { Difference, NoSabsim } from "../check/sabsim.mjs";
+import { Refused } from "../run/plan.mjs";
+import { LostJob } from "../seeds/seeds.mjs";
+import { NotKept } from "./keep.mjs";
+import { NotPrinted } from "./print.mjs";
+
+/** What can go wrong without a defect of the recorder: a sentence says all of it. */
+const EXPECTED = [Refused, Difference, NoSabsim, LostJob, NotKept, NotPrinted];
+
+/** @param {unknown} problem @returns {string} a sentence; of a defect all that is known */
+export function toldOf(problem) {
+  if (!(problem instanceof Error)) return String(problem);
+  return EXPECTED.some((kind) => problem instanceof kind) ? problem.message : problem.stack ?? String(problem);
+}

@@ -1,0 +1,95 @@
+// The form of a summary as JSON (docs/FORMATS.md): whether what a file has is one.
+
+/**
+ * @typedef {import("./summary.mjs").Told & {
+ *   summary: number, asked: import("./asked.mjs").Asked, seeds: import("../seeds/ranges.mjs").Range[],
+ * }} WholeSummary what is told of many runs, and what was asked for
+ */
+
+/** The number of this form: another one has another. */
+export const FORM = 1;
+
+/** @typedef {(value: unknown, place: string) => string | undefined} Check it answers where a value isn't right */
+
+/** @type {(holds: (value: any) => boolean) => Check} */
+const that = (holds) => (value, place) => (holds(value) ? undefined : place);
+
+/** @type {(check: Check) => Check} */
+const orNull = (check) => (value, place) => (value === null ? undefined : check(value, place));
+
+/** @type {(check: Check) => Check} */
+const list = (check) => (value, place) => {
+  if (!Array.isArray(value)) return place;
+  return value.map((each, at) => check(each, `${place}[${at}]`)).find((wrong) => wrong !== undefined);
+};
+
+/** @type {(members: Record<string, Check>) => Check} */
+const object = (members) => (value, place) => {
+  if (typeof value !== "object" || value === null || Array.isArray(value)) return place;
+  const given = /** @type {Record<string, unknown>} */ (value);
+  const checks = Object.entries(members);
+  const found = checks.map(([name, check]) => check(given[name], place === "" ? name : `${place}.${name}`));
+  return found.find((wrong) => wrong !== undefined);
+};
+
+const whole = that((value) => Number.isSafeInteger(value) && value >= 0);
+const text = that((value) => typeof value === "string");
+const flag = that((value) => typeof value === "boolean");
+const anything = that(() => true);
+const texts = list(text);
+
+/** @type {Check} */
+const range = (value, place) => object({ first: whole, last: whole })(value, place) ??
+  that(({ first, last }) => first <= last)(value, place);
+
+const COUNTS = { runs: whole, first: whole };
+
+/** @type {(members: Record<string, Check>) => Check} */
+const listed = (members) => object({ listed: list(object({ ...members, ...COUNTS })), others: whole });
+
+const endings = list(object({ ending: text, ...COUNTS }));
+const states = listed({ ending: text, hash: text, shown: texts });
+
+const MEMBERS = object({
+  summary: whole,
+  asked: object({
+    module: text, digest: text, seeds: list(range), shard: orNull(object({ number: whole, of: whole })),
+    options: object({
+      ordinary: that((value) => ["watch", "store", "refuse"].includes(value)),
+      races: that((value) => ["fail", "allow"].includes(value)), preloads: flag, args: anything,
+    }),
+  }),
+  seeds: list(range),
+  stopped: orNull(object({ why: text, wanted: whole })),
+  missing: list(range),
+  runs: whole,
+  failed: whole,
+  endings: object({ failing: endings, passing: endings }),
+  firstFailing: orNull(object({ seed: whole, ending: text, detail: texts, noScript: orNull(text) })),
+  races: object({ allowed: flag, runs: whole, pairs: listed({ lines: texts }) }),
+  states: object({ failing: states, passing: states }),
+  sabsim: object({
+    asked: flag, versions: texts, checked: whole, judges: flag,
+    missing: orNull(object({ places: texts, runs: whole })),
+  }),
+  scripts: object({ parts: whole, none: listed({ why: text }) }),
+  calls: whole,
+  accesses: orNull(whole),
+  unseen: texts,
+  kept: orNull(object({ folder: text, path: text, files: texts })),
+  notKept: texts,
+  problems: texts,
+});
+
+/**
+ * Why a value is no summary.
+ * @param {unknown} value of JSON
+ * @returns {string | undefined} undefined where it is one
+ */
+export function whyNoSummary(value) {
+  const { summary: form } = /** @type {{ summary?: unknown }} */ (value ?? {});
+  if (form === undefined) return "it isn't what `record.mjs --format json` writes";
+  if (form !== FORM) return `it is of form ${JSON.stringify(form)}, and this recorder writes and reads form ${FORM}`;
+  const wrong = MEMBERS(value, "");
+  return wrong === undefined ? undefined : `its member ${wrong} is missing, or isn't what it must be`;
+}

@@ -1,0 +1,146 @@
+// The plain text of a summary. It is made from the object that `--format json` tells, and from nothing else.
+
+import { HOW_TO_BUILD } from "../check/sabsim.mjs";
+import { rangeText } from "../seeds/ranges.mjs";
+import { counted, digits, listed } from "./words.mjs";
+
+/** @typedef {import("./summary.mjs").Told} Told */
+
+/**
+ * @template T
+ * @typedef {import("./summary.mjs").Listed<T>} Listed
+ */
+
+const MOST_LISTED = 8;
+
+/**
+ * @param {Told} summary
+ * @returns {string} lines, each with its end
+ */
+export function summaryText(summary) {
+  const { stopped, missing, runs, unseen, kept, notKept } = summary;
+  const lines = missing.map(missingText);
+  if (stopped !== null) lines.push(`${stopped.why} after ${digits(runs)} of ${counted(stopped.wanted, "run")}`);
+  if (runs > 0) {
+    lines.push(endingLine(summary), ...failingLines(summary), ...raceLines(summary), ...stateLines(summary));
+    lines.push(...checkLines(summary), ...scriptLines(summary), accessLine(summary), ...unseen);
+  }
+  if (kept !== null) lines.push(`kept in ${kept.folder}: ${kept.files.join(", ")}`);
+  return [...lines, ...notKept].map((line) => `${line}\n`).join("");
+}
+
+/**
+ * @param {import("../seeds/ranges.mjs").Range} range of seeds of which nothing is known
+ * @returns {string}
+ */
+export const missingText = (range) => `no summary has the ${rangeText(range)}`;
+
+/** @param {Told} summary */
+function endingLine({ runs, failed, endings }) {
+  const failing = endings.failing.map((each) => `${digits(each.runs)} ${each.ending}`).join(", ");
+  const passing = endings.passing.map((each) => `${digits(each.runs)} ${passingText(each.ending)}`).join(", ");
+  if (failed === 0) return `${counted(runs, "run")}: ${passing}`;
+  const first = `${digits(failed)} of ${counted(runs, "run")} failed: ${failing}`;
+  return failed === runs ? first : `${first}; ${passing}`;
+}
+
+/** @param {Told} summary */
+function failingLines({ firstFailing }) {
+  if (firstFailing === null) return [];
+  const { seed, ending, detail, noScript } = firstFailing;
+  const lines = noScript === null ? detail : [...detail, `it has no script: ${noScript}`];
+  return [`first failing seed: ${seed}, ${ending}`, ...lines.map(indented)];
+}
+
+/** @param {Told} summary */
+function raceLines({ races: { allowed, runs, pairs } }) {
+  if (runs === 0) return [];
+  const title = allowed ? "data races, allowed" : "data races";
+  const lines = listed(pairs.listed, MOST_LISTED, ({ lines: both, runs: raced, first }) => {
+    return `seed ${first} the first, ${counted(raced, "run")}: ${both.join(" and ")}`;
+  });
+  const many = countedOf(pairs.listed.length, "pair", pairs.others);
+  return [`${title}: ${counted(runs, "run")}, ${many} of lines`, ...lines.map(indented), ...othersLines(pairs.others)];
+}
+
+/** @param {Told} summary */
+function stateLines({ states: { failing, passing } }) {
+  const passed = passing.listed.map((state) => ({ ...state, ending: passingText(state.ending) }));
+  const lines = listed([...failing.listed, ...passed], MOST_LISTED, ({ runs, first, ending, shown }) => {
+    const bytes = shown.map((hex) => (hex === "" ? "-" : hex)).join(" | ");
+    return `${counted(runs, "run")} ${ending}, seed ${first} the first: ${bytes}`;
+  });
+  const others = failing.others + passing.others;
+  const many = countedOf(failing.listed.length + passed.length, "final state", others);
+  return [`${many}: how it ended, and the bytes`, ...lines.map(indented), ...othersLines(others)];
+}
+
+/** @param {Told} summary */
+function checkLines({ runs, sabsim: { checked, judges, missing } }) {
+  const lines = missing === null ? [] : uncheckedLines(missing, runs);
+  if (checked === 0) return lines.length === 0 ? ["no run was checked"] : lines;
+  const same = `${counted(checked, "run")} checked: sabsim says the same`;
+  const which = checked === 1 ? "it" : "them";
+  const judged = judges ? [`of data races in ${which} sabsim's judge, which is proved, says the same`] : [];
+  return [same, ...judged, ...lines];
+}
+
+/** @param {Told} summary */
+function scriptLines({ sabsim: { asked }, scripts: { parts, none } }) {
+  const lines = listed(none.listed, MOST_LISTED, ({ why, runs }) => {
+    const [have, were] = runs === 1 ? ["1 run has", "wasn't"] : [`${digits(runs)} runs have`, "weren't"];
+    return `${have} no script${asked ? `, and ${were} checked` : ""}: ${why}`;
+  });
+  const all = [...lines, ...othersLines(none.others)];
+  if (parts === 0) return all;
+  const [hold, their] = parts === 1 ? ["1 script holds", "its"] : [`${digits(parts)} scripts hold`, "their"];
+  const touched = `${hold} only the ordinary writes of bytes that calls touch, since all don't fit`;
+  return [`${touched}; ${their} other bytes weren't compared`, ...all];
+}
+
+/** @param {Told} summary */
+function accessLine({ runs, calls, accesses }) {
+  const made = `${counted(runs, "run")} made ${calls === 0 ? "no call" : counted(calls, "call")} of Atomics`;
+  if (accesses === null) return made;
+  if (accesses === 0) return `${made}, and no ordinary read or write`;
+  if (accesses === 1) return `${made}, and 1 ordinary read or write`;
+  return `${made}, and ${digits(accesses)} ordinary reads and writes`;
+}
+
+/**
+ * What is said where sabsim isn't there.
+ * @param {{ places: string[], runs: number }} missing where it was looked for, and how many runs weren't checked so
+ * @param {number} runs how many there are in all
+ */
+function uncheckedLines({ places, runs: unchecked }, runs) {
+  const isAll = unchecked === runs;
+  const [none, all] = isAll
+    ? ["nothing", "all of this"]
+    : [`of ${counted(unchecked, "run")} none`, "what is told of them"];
+  return [
+    `${none} was checked by sabsim, which isn't built: there is none at ${places.join(" or ")}`,
+    `so ${all} is the recorder's word alone, and the recorder isn't proved; ${HOW_TO_BUILD}`,
+  ];
+}
+
+/**
+ * @param {number} count of what is listed
+ * @param {string} what
+ * @param {number} others how many runs are counted under what isn't
+ */
+const countedOf = (count, what, others) => (others === 0 ? counted(count, what) : `over ${counted(count, what)}`);
+
+/**
+ * What is said of runs whose states, pairs or reasons there was no room for.
+ * @param {number} others how many runs they are counted in
+ */
+const othersLines = (others) => (others === 0 ? [] : [indented(`and those of ${counted(others, "run")} besides`)]);
+
+/** @param {string} line */
+const indented = (line) => `  ${line}`;
+
+/**
+ * An ending of a run that doesn't fail.
+ * @param {string} ending
+ */
+const passingText = (ending) => (ending === "finished" ? ending : `${ending} (allowed)`);

@@ -1,0 +1,70 @@
+// Ranges of seeds: what a command line asks for, the shard of one machine, and what several of them come to.
+
+/**
+ * @typedef {object} Range the seeds from the first to the last, both among them
+ * @property {number} first
+ * @property {number} last
+ */
+
+/**
+ * @typedef {object} Shard one of several parts that seeds are shared out among
+ * @property {number} number which of them, from 1
+ * @property {number} of how many there are
+ */
+
+/** @param {Range} range @returns {number} how many seeds it has */
+export const countOf = ({ first, last }) => last - first + 1;
+
+/** @param {Range} range @returns {string} as `seeds 501 to 750` */
+export const rangeText = ({ first, last }) => (first === last ? `seed ${first}` : `seeds ${first} to ${last}`);
+
+/**
+ * The seeds of a shard: those of all shards lie behind each other, and of two shards one has one seed more at most.
+ * @param {Range} range with at least as many seeds as there are shards
+ * @param {Shard} shard
+ * @returns {Range}
+ */
+export function shardOf(range, { number, of }) {
+  const left = countOf(range) % of;
+  const each = (countOf(range) - left) / of;
+  const before = number - 1;
+  const first = range.first + before * each + Math.min(before, left);
+  return { first, last: first + each - (number <= left ? 0 : 1) };
+}
+
+/** @param {Range[]} ranges @returns {Range[]} by their first seeds */
+const sorted = (ranges) => [...ranges].sort((one, other) => one.first - other.first);
+
+/**
+ * The seeds of some ranges, each once.
+ * @param {Range[]} ranges
+ * @returns {Range[]} in ascending order, and none ends where another one goes on
+ */
+export function united(ranges) {
+  /** @type {Range[]} */
+  const all = [];
+  for (const { first, last } of sorted(ranges)) {
+    const before = all.at(-1);
+    if (before !== undefined && first <= before.last + 1) before.last = Math.max(before.last, last);
+    else all.push({ first, last });
+  }
+  return all;
+}
+
+/**
+ * The seeds of some ranges that aren't among those of others.
+ * @param {Range[]} ranges
+ * @param {Range[]} others
+ * @returns {Range[]} in ascending order
+ */
+export function without(ranges, others) {
+  let left = united(ranges);
+  for (const { first, last } of others) {
+    left = left.flatMap((range) => {
+      if (last < range.first || range.last < first) return [range];
+      const [before, behind] = [{ ...range, last: first - 1 }, { ...range, first: last + 1 }];
+      return [before, behind].filter((part) => countOf(part) > 0);
+    });
+  }
+  return left;
+}

@@ -1,0 +1,74 @@
+// A trial of a module of agents in somebody's test suite: it fails as an assertion does where a run fails.
+
+import { AssertionError } from "node:assert";
+import { mkdtempSync } from "node:fs";
+import { tmpdir } from "node:os";
+import { join, resolve } from "node:path";
+import { Keeper } from "../command/keep.mjs";
+import { keepPictures } from "../command/pictures.mjs";
+import { counted, digits } from "../command/words.mjs";
+import { explored, sabsimOf } from "../explore.mjs";
+import { checkedOut, exploreOptions } from "../library-options.mjs";
+import { failureText } from "./failure.mjs";
+import { shortestOf } from "./shortest.mjs";
+
+/** @typedef {import("../recorder.mjs").Outcome} Outcome */
+/** @typedef {import("../library-options.mjs").TrialOptions} TrialOptions */
+
+/**
+ * @typedef {object} Caller whose code asks for the trial
+ * @property {() => string | undefined} folder from which a relative path of the module is taken
+ * @property {string | undefined} place file, line and column
+ */
+
+/** A run of agents has failed: the message says all of it. */
+class AgentsFailed extends AssertionError {
+  /**
+   * @param {string} message
+   * @param {string | undefined} place where the trial is asked for
+   */
+  constructor(message, place) {
+    super({ message });
+    // There are no two values that differ, and where the recorder has thrown this is nobody's affair.
+    for (const name of Object.keys(this)) Object.defineProperty(this, name, { enumerable: false });
+    const at = place === undefined ? "" : `\n\n    at ${place}`;
+    this.stack = `AssertionError [ERR_ASSERTION]: ${message}${at}`;
+  }
+}
+
+/**
+ * Makes runs until one fails.
+ * @param {TrialOptions} given
+ * @param {Caller} caller
+ * @returns {Promise<string>} what is to be said where none failed; fails with an AssertionError where one did
+ */
+export async function tried(given, { folder, place }) {
+  const { out, ...options } = checkedOut(given);
+  let [runs, checked, unchecked] = [0, 0, ""];
+  for await (const outcome of explored({ ...options, failFast: true }, folder)) {
+    if (outcome.fails) throw new AgentsFailed(await failureOf(outcome, runs, { out, options, folder }), place);
+    runs += 1;
+    if (outcome.checked) checked += 1;
+    else unchecked = outcome.unchecked ?? "";
+  }
+  const checks = checked > 0 ? `${digits(checked)} checked by sabsim` : `none checked: ${unchecked}`;
+  return `${counted(runs, "run")} passed, ${checks}`;
+}
+
+/**
+ * Keeps the shortest run that fails as one does.
+ * @param {Outcome} failing
+ * @param {number} passed how many runs of lower seeds passed
+ * @param {{ out?: string, options: Omit<TrialOptions, "out">, folder: Caller["folder"] }} about
+ * @returns {Promise<string>} what is told of it
+ */
+async function failureOf(failing, passed, { out, options, folder }) {
+  const checked = exploreOptions(options, folder);
+  const outcome = await shortestOf(failing, checked);
+  const sabsim = sabsimOf(checked);
+  const keeper = new Keeper(resolve(out ?? mkdtempSync(join(tmpdir(), "sabsim-"))), "out");
+  keeper.keepLowest(outcome);
+  const notKept = keepPictures(keeper, outcome, sabsim);
+  const kept = keeper.names.length === 0 ? [] : [`kept in ${keeper.folder}: ${keeper.names.join(", ")}`];
+  return failureText({ outcome, passed, sabsim, kept: [...kept, ...notKept] });
+}

@@ -1,0 +1,74 @@
+#!/usr/bin/env node
+// Joins summaries that the recorder has made by `--format json`, as those of several machines. `--help` shows more.
+
+import { parseArgs } from "node:util";
+import { checkedFormat, formatted } from "./lib/command/formats.mjs";
+import { merged, partsOf } from "./lib/command/merging.mjs";
+import { print } from "./lib/command/print.mjs";
+import { toldOf } from "./lib/command/problems.mjs";
+import { STATUS } from "./lib/command/status.mjs";
+import { missingText } from "./lib/command/summary-text.mjs";
+import { Refused } from "./lib/run/plan.mjs";
+
+const USAGE = `usage: node recorder/merge.mjs FILE.. [options]
+
+Joins summaries of the recorder that were told by --format json, as those of shards: what all runs came to is told as if
+one command line had made them. A file may have several, each on a line of its own; - is standard input.
+
+  --format FORM   how the summary of all is told: plain, or json, which is one line (plain)
+  --help          this text
+
+Status: 0 no run failed, 1 some did, 2 a file is no summary, or they don't fit together: they are of another module, of
+other options, or have the same seed; 3 not all runs were made: one was stopped, or the seeds of a shard are missing.
+`;
+
+/** @type {Record<string, { type: "string" | "boolean" }>} */
+const SHAPE = { format: { type: "string" }, help: { type: "boolean" } };
+
+/** @param {string[]} words of the command line */
+function wordsOf(words) {
+  try {
+    return parseArgs({ args: words, options: SHAPE, allowPositionals: true, strict: true });
+  } catch (error) {
+    throw new Refused(/** @type {Error} */ (error).message.split("\n")[0]);
+  }
+}
+
+/** @param {unknown} problem */
+function complain(problem) {
+  process.stderr.write(`merge: ${toldOf(problem)}\n`);
+}
+
+/**
+ * @param {string[]} words of the command line
+ * @returns {Promise<number>} the status
+ */
+async function run(words) {
+  const { values, positionals: files } = wordsOf(words);
+  if (values.help) {
+    await print(USAGE);
+    return STATUS.NONE_FAILED;
+  }
+  if (files.length === 0) throw new Refused("the summaries' files are missing; --help shows more");
+  const format = checkedFormat(values.format);
+  const summary = merged(files.flatMap(partsOf));
+  await print(formatted(summary, format));
+  const problems = [...summary.missing.map(missingText), ...summary.problems];
+  problems.forEach(complain);
+  if (summary.stopped !== null || problems.length > 0) return STATUS.NOT_DONE;
+  return summary.failed > 0 ? STATUS.SOME_FAILED : STATUS.NONE_FAILED;
+}
+
+/** @returns {Promise<number>} the status */
+async function main() {
+  try {
+    return await run(process.argv.slice(2));
+  } catch (problem) {
+    complain(problem);
+    return problem instanceof Refused ? STATUS.REFUSED : STATUS.NOT_DONE;
+  }
+}
+
+// Where nobody reads what went wrong, the status tells it.
+process.stderr.on("error", () => {});
+process.exitCode = await main();

@@ -1,0 +1,3 @@
+// For test suites: `import { assertAgents, testAgents } from "sabsim/test"`.
+
+export { assertAgents, testAgents } from "./lib/suite/tests.mjs";

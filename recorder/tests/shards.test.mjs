@@ -1,0 +1,240 @@
+// Seeds that are shared out among command lines, and their summaries, which are joined again.
+
+import assert from "node:assert/strict";
+import { execFile, spawnSync } from "node:child_process";
+import { readFileSync, readdirSync, writeFileSync } from "node:fs";
+import { join } from "node:path";
+import { test } from "node:test";
+import { fileURLToPath } from "node:url";
+import { merged, partsOf } from "../lib/command/merging.mjs";
+import { optionsOf } from "../lib/command/options.mjs";
+import { Refused } from "../lib/run/plan.mjs";
+import { shardOf, united, without } from "../lib/seeds/ranges.mjs";
+import { RECORD, SABSIM, agentsOf, agentsPath, temporaryFolder, withSabsim } from "./common.mjs";
+
+const MERGE = fileURLToPath(new URL("../merge.mjs", import.meta.url));
+const known = (name) => fileURLToPath(new URL(`./known/${name}.mjs`, import.meta.url));
+
+/** Runs a program of node's to its end. @param {string[]} words @param {object} [options] */
+function ran(words, options = {}) {
+  return new Promise((done) => {
+    const child = execFile(process.execPath, words, { maxBuffer: 2 ** 26, ...options }, (error, stdout, stderr) => {
+      done({ status: error?.code ?? 0, stdout, stderr });
+    });
+    child.stdin.end(options.input ?? "");
+  });
+}
+
+/** The summary of a command line as JSON. @param {string[]} words */
+async function summaryOf(words) {
+  const { stdout, stderr } = await ran([RECORD, ...words, "--format", "json"]);
+  assert.equal(stderr, "");
+  assert.match(stdout, /^[^\n]+\n$/);
+  return JSON.parse(stdout);
+}
+
+test("the shards of some seeds have each of them once, and as many as the others but for one", () => {
+  const shards = (first, last, of) => {
+    return Array.from({ length: of }, (_, at) => shardOf({ first, last }, { number: at + 1, of }));
+  };
+  assert.deepEqual(shards(1, 10, 4), [
+    { first: 1, last: 3 }, { first: 4, last: 6 }, { first: 7, last: 8 }, { first: 9, last: 10 },
+  ]);
+  assert.deepEqual(shards(5, 7, 3), [{ first: 5, last: 5 }, { first: 6, last: 6 }, { first: 7, last: 7 }]);
+  assert.deepEqual(shards(0, Number.MAX_SAFE_INTEGER, 2), [
+    { first: 0, last: 2 ** 52 - 1 }, { first: 2 ** 52, last: 2 ** 53 - 1 },
+  ]);
+  assert.deepEqual(united(shards(3, 99, 13)), [{ first: 3, last: 99 }]);
+});
+
+test("ranges are united and taken away", () => {
+  const [a, b, c] = [{ first: 1, last: 4 }, { first: 5, last: 6 }, { first: 9, last: 9 }];
+  assert.deepEqual(united([c, a, b]), [{ first: 1, last: 6 }, c]);
+  assert.deepEqual(without([{ first: 1, last: 10 }], [b, c]), [a, { first: 7, last: 8 }, { first: 10, last: 10 }]);
+  assert.deepEqual(without([a, c], [{ first: 0, last: 20 }]), []);
+});
+
+test("a shard is what its words say, and others are refused", () => {
+  const { first, last, asked, shard } = optionsOf(["m.mjs", "--seeds", "1..1000", "--shard", "2/4"]);
+  assert.deepEqual([first, last, asked, shard], [251, 500, { first: 1, last: 1_000 }, { number: 2, of: 4 }]);
+  assert.equal(optionsOf(["m.mjs"]).shard, undefined);
+  const refused = (words, why) => assert.throws(() => optionsOf(["m.mjs", ...words]), (error) => {
+    assert.ok(error instanceof Refused, words.join(" "));
+    assert.match(error.message, why);
+    return !error.message.includes("\n");
+  });
+  for (const text of ["", "0/4", "5/4", "1/0", "1.5/4", "2", "1/2/3", "a/b", "1/99999999999999999999"]) {
+    refused(["--shard", text], /^--shard must be K\/N, as 2\/4, with K from 1 to N, but is "/);
+  }
+  refused(["--seeds", "1..3", "--shard", "4/4"], /^--shard 4\/4: 3 seeds can't be shared out among 4 shards$/);
+  refused(["--format", "yaml"], /^--format must be plain or json, but is "yaml"$/);
+});
+
+/** The summary of four shards, joined, and that of one run. @param {string[]} words */
+async function bothWays(words) {
+  const shards = ["1/4", "2/4", "3/4", "4/4"].map((shard) => summaryOf([...words, "--shard", shard]));
+  const [one, ...parts] = await Promise.all([summaryOf(words), ...shards]);
+  return { one, joined: merged(parts.reverse().map((summary, at) => ({ name: `part ${at}`, summary }))), parts };
+}
+
+const MODULES = [
+  ["some deadlock", agentsPath("naive-mutex"), ["--seeds", "3..82", "--check", "7"], ["deadlock", "finished"]],
+  ["some race, and some fail", known("ring-frees-first"), ["--seeds", "1..40"], ["failed", "race", "finished"]],
+  ["races are allowed", known("ring-frees-first"), ["--seeds", "1..21", "--races", "allow"], ["failed", "finished"]],
+  ["none fails", agentsPath("three-state-mutex"), ["--seeds", "1..20", "--ordinary", "store"], ["finished"]],
+];
+
+for (const [what, module, words, endings] of MODULES) {
+  test(`the summary of four shards is that of one run: ${what}`, withSabsim, async () => {
+    const { one, joined } = await bothWays([module, ...words, "--sabsim", SABSIM]);
+    assert.deepEqual(joined, one);
+    const found = [...one.endings.failing, ...one.endings.passing].map(({ ending }) => ending);
+    assert.deepEqual(found, endings);
+    assert.ok(one.sabsim.checked > 0);
+  });
+}
+
+/** Files with the summaries of two shards of a module, the first of which has no failing run. */
+async function shardFiles(context, words = []) {
+  const folder = temporaryFolder(context);
+  const module = agentsOf(folder, `
+    const words = new Int32Array(buffers[0]);
+    Atomics.add(words, 0, 1);
+    if (Math.random() < 0.2) Atomics.wait(words, 1, 0);
+  `);
+  const all = [module, "--agents", "1", "--buffers", "8", "--seeds", "1..30", "--check", "0", ...words];
+  const files = await Promise.all([1, 2, 3].map(async (number) => {
+    const shard = [...all, "--shard", `${number}/3`, "--out", join(folder, `found-${number}`)];
+    const file = join(folder, `${number}.json`);
+    writeFileSync(file, JSON.stringify(await summaryOf(shard)));
+    return file;
+  }));
+  return { folder, files, all };
+}
+
+test("merge.mjs tells what all shards came to, and where the files of the first failing run lie", async (context) => {
+  const { folder, files, all } = await shardFiles(context);
+  const [plain, json, one] = await Promise.all([
+    ran([MERGE, ...files]), ran([MERGE, "--format", "json", ...files]),
+    ran([RECORD, ...all, "--out", join(folder, "found")]),
+  ]);
+  assert.deepEqual([plain.status, plain.stderr, json.status, one.status], [1, "", 1, 1]);
+  const [, seed] = /^first failing seed: (\d+), deadlock$/m.exec(one.stdout);
+  const holder = Math.ceil(Number(seed) / 10);
+  assert.equal(plain.stdout, one.stdout.replace(join(folder, "found"), join(folder, `found-${holder}`)));
+  const { asked, seeds, kept } = JSON.parse(json.stdout);
+  assert.deepEqual([asked.seeds, asked.shard, seeds], [[{ first: 1, last: 30 }], null, [{ first: 1, last: 30 }]]);
+  assert.equal(kept.path, join(folder, `found-${holder}`));
+  assert.deepEqual(readdirSync(kept.path).sort(), [...kept.files].sort());
+});
+
+test("summaries may stand in one file, each on its line, and a joined one can be joined again", async (context) => {
+  const { files: [first, ...others] } = await shardFiles(context);
+  const lines = others.map((file) => `${readFileSync(file, "utf8")}\n`).join("\n");
+  const [all, two] = await Promise.all([
+    ran([MERGE, first, "-"], { input: lines }), ran([MERGE, "-", "--format", "json"], { input: lines }),
+  ]);
+  assert.equal(two.status, 3);
+  assert.equal(all.status, 1);
+  const again = await ran([MERGE, "-"], { input: `${readFileSync(first, "utf8")}\n${two.stdout}` });
+  assert.deepEqual(again, all);
+});
+
+test("where a shard is missing, or was stopped, that is told with status 3", async (context) => {
+  const { folder, files: [first, second, third] } = await shardFiles(context);
+  const missing = await ran([MERGE, third, first]);
+  assert.deepEqual([missing.status, missing.stderr], [3, "merge: no summary has the seeds 11 to 20\n"]);
+  assert.match(missing.stdout, /^no summary has the seeds 11 to 20\n.*20 runs/);
+  const stopped = { why: "interrupted by SIGINT", wanted: 25 };
+  const file = join(folder, "stopped.json");
+  writeFileSync(file, JSON.stringify({ ...JSON.parse(readFileSync(second, "utf8")), stopped }));
+  const { status, stdout } = await ran([MERGE, first, file, third]);
+  assert.equal(status, 3);
+  assert.match(stdout, /^interrupted by SIGINT after 30 of 45 runs\n/);
+});
+
+test("files that are no summaries, or don't fit together, are refused with status 2 and one line", async (context) => {
+  const { folder, files: [first, second] } = await shardFiles(context);
+  const summary = JSON.parse(readFileSync(second, "utf8"));
+  const { asked } = summary;
+  const write = (name, text) => {
+    writeFileSync(join(folder, name), text);
+    return join(folder, name);
+  };
+  const changed = (name, parts) => write(name, JSON.stringify({ ...summary, ...parts }));
+  const other = { ...asked, module: "other.mjs", digest: "00" };
+  const faults = [
+    [[], /^merge: the summaries' files are missing; --help shows more\n$/],
+    [[join(folder, "none.json")], /none\.json can't be read: ENOENT/],
+    [[folder], /can't be read: EISDIR/],
+    [[write("empty", "\n")], /empty has no summary: it is empty\n/],
+    [[write("text", "15 of 200 runs failed\n")], /^merge: line 1 of .*text is no summary .*: it is no JSON\n/],
+    [[write("number", "5")], /it isn't what `record\.mjs --format json` writes\n/],
+    [[write("null", "null")], /it isn't what `record\.mjs --format json` writes\n/],
+    [[changed("form", { summary: 99 })], /it is of form 99, and this recorder writes and reads form 1\n/],
+    [[changed("runs", { runs: "5" })], /its member runs is missing, or isn't what it must be\n/],
+    [[changed("endings", { endings: { failing: [{ ending: "race", runs: 1 }], passing: [] } })],
+      /its member endings\.failing\[0\]\.first is missing/],
+    [[first, second, first], /1\.json and .*1\.json don't fit together: both have seed 1\n/],
+    [[first, changed("overlap", { seeds: [{ first: 10, last: 12 }] })], /don't fit together: both have seed 10\n/],
+    [[first, changed("module", { asked: other })], /they are of different modules, .*agents\.mjs and other\.mjs\n/],
+    [[first, changed("edited", { asked: { ...asked, digest: "00" } })], /the text of .*agents\.mjs isn't the same in /],
+    [[first, changed("option", { asked: { ...asked, options: { ...asked.options, noBlock: [1] } } })],
+      /don't fit together: --no-block is not given in the one and \[1\] in the other\n/],
+    [[first, "--wrong"], /^merge: Unknown option '--wrong'/],
+    [[first, "--format", "xml"], /--format must be plain or json/],
+  ];
+  const told = await Promise.all(faults.map(([words]) => ran([MERGE, ...words])));
+  told.forEach(({ status, stdout, stderr }, at) => {
+    const [words, why] = faults[at];
+    assert.deepEqual([status, stdout], [2, ""], words.join(" "));
+    assert.match(stderr, why);
+    assert.match(stderr, /^merge: [^\n]+\n$/);
+  });
+});
+
+test("where no run of any shard failed the status is 0", async (context) => {
+  const folder = temporaryFolder(context);
+  const module = agentsOf(folder, "Atomics.add(new Int32Array(buffers[0]), 0, 1);");
+  const words = [module, "--agents", "2", "--buffers", "4", "--seeds", "1..4", "--check", "0"];
+  const lines = await Promise.all(["1/2", "2/2"].map((shard) => summaryOf([...words, "--shard", shard])));
+  const { status, stdout } = await ran([MERGE, "-"], { input: lines.map((line) => JSON.stringify(line)).join("\n") });
+  assert.equal(status, 0);
+  assert.match(stdout, /^4 runs: 4 finished\n/);
+});
+
+test("what went wrong is a member of the summary too", async (context) => {
+  const module = agentsOf(temporaryFolder(context), `
+    globalThis.seeds = (globalThis.seeds ?? 0) + 1;
+    Atomics.add(new Int32Array(buffers[0]), 0, 1);
+    if (globalThis.seeds === 9) process.kill(process.pid, "SIGKILL");
+  `);
+  const words = [module, "--agents", "1", "--buffers", "4", "--seeds", "1..9", "--check", "0", "--format", "json"];
+  const { status, stdout, stderr } = await ran([RECORD, ...words]);
+  const { problems: [problem], stopped, runs } = JSON.parse(stdout);
+  assert.match(problem, /^a job's process ended by itself \(SIGKILL\), and nothing is told of the? seeds? \d/);
+  assert.deepEqual([status, stderr], [3, `record: ${problem}\n`]);
+  assert.deepEqual(stopped, { why: "stopped", wanted: 9 });
+  assert.ok(runs < 9, stdout);
+});
+
+const hasParallel = spawnSync("parallel", ["--version"]).status === 0;
+const withParallel = { skip: withSabsim.skip || (hasParallel ? false : "there is no GNU parallel on this machine") };
+
+test("GNU parallel runs the shards, as recorder/README.md shows it", withParallel, (context) => {
+  const folder = temporaryFolder(context);
+  const readme = readFileSync(fileURLToPath(new URL("../README.md", import.meta.url)), "utf8");
+  const [command] = /^ {4}seq 4 \| parallel [^]*?(?=\n\n)/m.exec(readme);
+  const cwd = fileURLToPath(new URL("../../", import.meta.url));
+  const env = { ...process.env, SABSIM, PARALLEL_HOME: folder };
+  const { status, stdout, stderr } = spawnSync("sh", ["-c", command], { cwd, env, encoding: "utf8" });
+  assert.equal(status, 1, stderr);
+  const words = [RECORD, agentsPath("naive-mutex"), "--seeds", "1..200", "--sabsim", SABSIM];
+  assert.equal(stdout, spawnSync(process.execPath, words, { encoding: "utf8" }).stdout);
+});
+
+test("each part of a file is named by its line", (context) => {
+  const folder = temporaryFolder(context);
+  writeFileSync(join(folder, "two"), '{"summary":1}\n{"summary":2}\n');
+  assert.throws(() => partsOf(join(folder, "two")), /^Error: line 1 of .*two is no summary .*: its member asked is /);
+});

@@ -1,0 +1,118 @@
+// `sabsim/test` in a test suite: what node's runner says of a module of agents that fails, and of one that doesn't.
+
+import assert from "node:assert/strict";
+import { spawn } from "node:child_process";
+import { existsSync, mkdirSync, readFileSync, readdirSync, writeFileSync } from "node:fs";
+import { join } from "node:path";
+import { test } from "node:test";
+import { assertAgents } from "../testing.mjs";
+import { SABSIM, WITHOUT_SABSIM, agentsPath, temporaryFolder, withSabsim } from "./common.mjs";
+
+const HELPER = new URL("../testing.mjs", import.meta.url).href;
+
+/**
+ * Runs a file of tests by node's own runner.
+ * @param {import("node:test").TestContext} context
+ * @param {string} code of the tests
+ * @param {object} [env]
+ * @param {string} [reporter]
+ */
+async function suite(context, code, env = {}, reporter = "spec") {
+  const folder = temporaryFolder(context);
+  const temporary = join(folder, "temporary");
+  mkdirSync(temporary);
+  writeFileSync(join(folder, "agents.mjs"), readFileSync(agentsPath("naive-mutex"), "utf8"));
+  writeFileSync(join(folder, "lock.test.mjs"), `import { assertAgents, testAgents } from "${HELPER}";\n${code}\n`);
+  const inherited = Object.entries({ ...process.env, SABSIM, ...env, TMPDIR: temporary });
+  const own = Object.fromEntries(inherited.filter(([name]) => name !== "NODE_TEST_CONTEXT" && name !== "FORCE_COLOR"));
+  const words = ["--test", `--test-reporter=${reporter}`, "lock.test.mjs"];
+  const child = spawn(process.execPath, words, { cwd: folder, env: own, stdio: ["ignore", "pipe", "inherit"] });
+  let output = "";
+  child.stdout.setEncoding("utf8").on("data", (text) => {
+    output += text;
+  });
+  const status = await new Promise((done) => {
+    child.on("close", done);
+  });
+  return { folder, temporary, output, status };
+}
+
+const AGENTS = 'testAgents("no wake-up is lost", { module: "./agents.mjs", seeds: "1..200" });';
+
+test("a failing test shows seed, ending, its explained end, and where its files lie", withSabsim, async (the) => {
+  const { folder, temporary, output, status } = await suite(the, AGENTS);
+  assert.equal(status, 1);
+  const [made] = readdirSync(temporary);
+  assert.match(made, /^sabsim-/);
+  const place = join(temporary, made);
+  const names = ["json", "report", "trace.jsonl", "explained", "svg"].map((ending) => `seed-29.${ending}`);
+  assert.deepEqual(readdirSync(place).sort(), [...names].sort());
+  const explained = readFileSync(join(place, "seed-29.explained"), "utf8").split("\n");
+  const shown = explained.slice(explained.findIndex((line) => line.startsWith("block ")), -1);
+  // The failure as the reporter shows it, without the indentation that it gives.
+  const lines = output.split("\n").map((line) => line.replace(/^ {2}/, ""));
+  const from = lines.indexOf("AssertionError [ERR_ASSERTION]: seed 29: deadlock; the 28 runs before it passed");
+  assert.notEqual(from, -1, output);
+  assert.deepEqual(lines.slice(from + 1, from + 4), [
+    '  agent 0 waits at byte 4 of block 0: its call 19, ["wait", "Int32", 1, 0]', "",
+    "Its last acts, as sabsim explains them (the move, the agent, how many of its calls had returned):",
+  ]);
+  const end = lines.indexOf("", from + 4);
+  assert.deepEqual(lines.slice(end - shown.length, end), shown.map((line) => `  ${line}`));
+  const last = lines[end - shown.length - 1];
+  assert.match(last, /^ {2}173 0 19 wait +wait\(Int32, 1, 0\) waits at Int32\[1\], first in line$/);
+  assert.equal(end - shown.length - (from + 4), 16);
+  assert.deepEqual(lines.slice(end, end + 4), [
+    "", `kept in ${place}: ${names.join(", ")}`, "", `    at file://${join(folder, "lock.test.mjs")}:2:1`,
+  ]);
+  assert.ok(!output.includes("generatedMessage"));
+});
+
+test("without sabsim it shows what is known, and a passing test says that nothing was checked", async (the) => {
+  const { folder, output, status, temporary } = await suite(the, `
+    testAgents("fails", { module: "./agents.mjs", seeds: "29", out: "found" });
+    testAgents("passes", { module: "./agents.mjs", seeds: { first: 3, last: 12 }, jobs: 2 });
+  `, WITHOUT_SABSIM, "tap");
+  assert.equal(status, 1);
+  assert.match(output, /^not ok 1 - fails$/m);
+  assert.match(output, /^ +seed 29: deadlock\n +agent 0 waits at byte 4 of block 0: its call 19, /m);
+  const kept = ["json", "report", "trace.jsonl"].map((ending) => `seed-29.${ending}`);
+  assert.ok(output.includes(`kept in ${join(folder, "found")}: ${kept.join(", ")}`), output);
+  assert.match(output, /not kept, since only sabsim makes them: seed-29\.explained, seed-29\.svg$/m);
+  assert.deepEqual(readdirSync(join(folder, "found")).sort(), kept);
+  assert.match(output, /^ok 2 - passes$/m);
+  assert.match(output, /^# 10 runs passed, none checked: sabsim isn't built: there is none at \/nowhere\/sabsim; /m);
+  assert.deepEqual(readdirSync(temporary), []);
+});
+
+test("options that can't be fail their test, and others go on", withSabsim, async (the) => {
+  const { output, temporary } = await suite(the, `
+    testAgents("wrong", { module: "./agents.mjs", seed: 1 });
+    testAgents("none", { module: "./none.mjs" });
+    testAgents("out", { module: "./agents.mjs", out: 5 });
+    testAgents("right", { module: "./agents.mjs", seeds: 20 });
+  `, {}, "tap");
+  for (const why of ["there is no option `seed`: is seeds meant?", "`out` must be the path of a folder"]) {
+    assert.ok(output.includes(why), output);
+  }
+  assert.match(output, /error: .*there is no file .*none\.mjs/);
+  assert.match(output, /^ok 4 - right$/m);
+  assert.match(output, /^# 20 runs passed, 2 checked by sabsim$/m);
+  assert.match(output, /^# fail 3$/m);
+  assert.deepEqual(readdirSync(temporary), []);
+});
+
+test("assertAgents fails as an assertion does, in any test", async (the) => {
+  const out = join(temporaryFolder(the), "out");
+  const options = { module: "./agents/cases.mjs", agents: 2, buffers: [12], sabsim: false, out };
+  await assertAgents({ ...options, args: ["addition"], seeds: 5 });
+  assert.ok(!existsSync(out));
+  await assert.rejects(assertAgents({ ...options, args: ["waitsForEver"], seeds: "4..9" }), (error) => {
+    assert.ok(error instanceof assert.AssertionError);
+    assert.equal(error.code, "ERR_ASSERTION");
+    assert.match(error.message, /^seed 4: deadlock\n {2}agent \d waits at /);
+    assert.match(error.stack, /\n {4}at file:\/\/.*testing\.test\.mjs:\d+:\d+$/);
+    return true;
+  });
+  assert.ok(existsSync(join(out, "seed-4.json")));
+});
