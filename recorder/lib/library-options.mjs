@@ -4,7 +4,7 @@ import { DEFAULT_SECONDS, SCRIPT_LIMITS } from "../script/limits.mjs";
 import { moduleUrlOf } from "./module-url.mjs";
 import { meant } from "./nearest.mjs";
 import { CHOICES, DEFAULTS, Refused } from "./run/plan.mjs";
-import { checkedAgents, checkedBuffers, checkedChoice, checkedNoBlock } from "./run/plan.mjs";
+import { checkedAgents, checkedBuffers, checkedChoice, checkedNoBlock, checkedStrategy } from "./run/plan.mjs";
 
 /**
  * @callback WithBuffers what is called with the buffers, when no agent runs
@@ -21,7 +21,9 @@ import { checkedAgents, checkedBuffers, checkedChoice, checkedNoBlock } from "./
  * @property {number[]} [noBlock] the agents that can't block; else what the module's `setup` says, and else none
  * @property {number} [seed] a whole number from 0 to 2^53 - 1; else 1
  * @property {string[]} [args] for the agents
- * @property {number} [switch] from 0 to 1: how likely it is that another agent moves next; else all moves are alike
+ * @property {"mixed" | "uniform" | "partial-order" | `switch:${number}`} [strategy] who moves next; else "mixed"
+ * @property {number} [switch] from 0 to 1: how likely it is that another agent moves next, which is a strategy too
+ * @property {boolean} [everywhere] whether agents are switched before each call, also where none can meet another
  * @property {number} [timeouts] from 0 to 1: in how many of the draws the end of a timed wait is offered while
  * something else can move; else 0.05
  * @property {number} [maxMoves] at most 100,000
@@ -64,6 +66,8 @@ const isWhole = (value, least, most) => Number.isInteger(value) && value >= leas
 /** @param {unknown} value */
 const areStrings = (value) => Array.isArray(value) && Array.from(value).every((each) => typeof each === "string");
 
+const STRATEGY_NAMES = { strategy: "`strategy`", switching: "`switch`" };
+
 const part = that(isPart, "a number from 0 to 1");
 const flag = that((value) => typeof value === "boolean", "true or false");
 /** @type {(value: unknown, name: string) => string} */
@@ -77,7 +81,9 @@ const CHECKS = {
   noBlock: checkedNoBlock,
   seed: that((value) => isWhole(value, 0, Number.MAX_SAFE_INTEGER), "a whole number from 0 to 2^53 - 1"),
   args: (value, name) => [...that(areStrings, "an array of strings")(value, name)],
+  strategy: (value) => checkedStrategy(value, undefined, STRATEGY_NAMES),
   switch: part,
+  everywhere: flag,
   timeouts: part,
   maxMoves: that((value) => isWhole(value, 1, SCRIPT_LIMITS.moves), `a whole number from 1 to ${SCRIPT_LIMITS.moves}`),
   seconds: that(
@@ -93,6 +99,8 @@ const CHECKS = {
 
 const OWN_DEFAULTS = {
   ...DEFAULTS, seed: 1, args: /** @type {string[]} */ ([]), maxMoves: SCRIPT_LIMITS.moves, seconds: DEFAULT_SECONDS,
+  // It is said by `switch` too.
+  strategy: /** @type {string | undefined} */ (undefined),
 };
 
 /**
@@ -111,6 +119,7 @@ export function checkedOptions(options, callersFolder) {
     if (value !== undefined) Object.assign(checked, { [name]: CHECKS[name](value, name) });
   }
   if (checked.module === undefined) throw new Refused("`module` is missing: it must be a path or a URL");
-  const { module, switch: switching, ...rest } = checked;
-  return { ...rest, module: moduleUrlOf(module, callersFolder), switching };
+  const { module, strategy: word, switch: switching, ...rest } = checked;
+  const strategy = checkedStrategy(word, switching, STRATEGY_NAMES);
+  return { ...rest, module: moduleUrlOf(module, callersFolder), strategy };
 }

@@ -3,7 +3,8 @@
 import { parseArgs } from "node:util";
 import { DEFAULT_CHECK_EVERY, DEFAULT_SECONDS, SCRIPT_LIMITS } from "../../script/limits.mjs";
 import { nearest } from "../nearest.mjs";
-import { checkedAgents, checkedBuffers, checkedChoice, DEFAULT_TIMEOUTS, Refused } from "../run/plan.mjs";
+import { DEFAULT_TIMEOUTS, Refused } from "../run/plan.mjs";
+import { checkedAgents, checkedBuffers, checkedChoice, checkedStrategy } from "../run/plan.mjs";
 
 export const USAGE = `usage: node recorder/record.mjs MODULE [options] [-- arguments for the agents]
 
@@ -14,7 +15,10 @@ Runs the agents of a module under seeded schedules, and keeps the first run that
   --no-block A    agent A can't block: its Atomics.wait throws TypeError; may be given more than once; else the module's
                   \`setup\` says it
   --seeds A..B    the seeds, or one seed (1..100)
-  --switch P      how likely it is, from 0 to 1, that another agent moves next; else all moves are alike
+  --strategy HOW  who moves next: uniform (all that can are alike), switch:P (how likely it is, from 0 to 1, that another
+                  agent moves next), partial-order (by random priorities) or mixed (by its seed one of these) (mixed)
+  --switch P      the same as --strategy switch:P
+  --everywhere    agents are switched before each call, also where pilot runs have shown that no other agent goes
   --timeouts P    in how many of the draws, from 0 to 1, the end of a timed wait is offered while something else can
                   move (${DEFAULT_TIMEOUTS})
   --ordinary HOW  reads and writes without Atomics: watch (each is seen, and data races are looked for), store (only
@@ -44,7 +48,9 @@ const SHAPE = {
   buffers: { type: "string" },
   "no-block": { type: "string", multiple: true },
   seeds: { type: "string" },
+  strategy: { type: "string" },
   switch: { type: "string" },
+  everywhere: { type: "boolean" },
   timeouts: { type: "string" },
   ordinary: { type: "string" },
   races: { type: "string" },
@@ -61,6 +67,7 @@ const SHAPE = {
   help: { type: "boolean" },
 };
 
+const STRATEGY_NAMES = { strategy: "--strategy", switching: "--switch" };
 const MOST_JOBS = 64;
 const LEAST_SECONDS = 0.001;
 const MOST_SECONDS = 3_600;
@@ -165,10 +172,15 @@ function groupOf({ agents, buffers, "no-block": noBlock }) {
  * What holds in a run.
  * @param {Record<string, any>} values by option
  */
-function rulesOf({ switch: switching, timeouts, ordinary, races, bounds, clock, "max-moves": maxMoves, seconds }) {
+function rulesOf(values) {
+  const { strategy, switch: switching, everywhere = false, timeouts, "max-moves": maxMoves, seconds } = values;
+  const { ordinary, races, bounds, clock } = values;
   const most = SCRIPT_LIMITS.moves;
   return {
-    switching: switching === undefined ? undefined : decimal(switching, "switch", 0, 1),
+    strategy: checkedStrategy(
+      strategy, switching === undefined ? undefined : decimal(switching, "switch", 0, 1), STRATEGY_NAMES,
+    ),
+    everywhere,
     timeouts: timeouts === undefined ? DEFAULT_TIMEOUTS : decimal(timeouts, "timeouts", 0, 1),
     ordinary: checkedChoice("ordinary", ordinary, "--ordinary"),
     races: checkedChoice("races", races, "--races"),

@@ -13,6 +13,7 @@ import { fitted } from "./fitting.mjs";
 import { initialStores } from "./initial.mjs";
 import { Log } from "./log.mjs";
 import { Memory } from "./memory.mjs";
+import { PILOTS, PILOT_SECONDS, Pilots } from "./pilots.mjs";
 import { sourceName, withSourceNames } from "./places.mjs";
 import { isRacy } from "./races.mjs";
 import { Records } from "./records.mjs";
@@ -111,6 +112,14 @@ function sentHome() {
   return agents.filter((agent) => !board.turn.isBack(agent, GRACE_MILLISECONDS));
 }
 
+/** Leaves nothing of an earlier run. */
+function cleared() {
+  memory.reset();
+  log.begin();
+  stores.begin();
+  board.journal.begin();
+}
+
 /**
  * One run, by a seed.
  * @param {number} seed
@@ -118,10 +127,7 @@ function sentHome() {
  * @returns {Promise<Made>}
  */
 async function made(seed, tellsSources) {
-  memory.reset();
-  log.begin();
-  stores.begin();
-  board.journal.begin();
+  cleared();
   const problem = options.init === undefined ? "" : await asked("init");
   const initial = options.init === undefined ? [] : initialStores(memory, plan.agents);
   if (problem !== "") {
@@ -145,6 +151,9 @@ const whoWaits = () => board.line.waiting().map((agent) => ({ agent, ...board.li
 
 /** How many calls of Atomics were begun. */
 const callCount = () => agents.reduce((sum, agent) => sum + board.journal.progress(agent).calls, 0);
+
+/** How many ordinary reads and writes were seen. */
+const accessCount = () => agents.reduce((sum, agent) => sum + board.journal.ordinary(agent), 0);
 
 /**
  * How a run ends, with what is known when its agents are home.
@@ -201,7 +210,7 @@ function briefly(seed, found) {
     detail: found.detail,
     moves: board.journal.moves(),
     calls: callCount(),
-    ordinary: agents.reduce((sum, agent) => sum + board.journal.ordinary(agent), 0),
+    ordinary: accessCount(),
     progress: agents.map((agent) => board.journal.progress(agent)),
     state: stateOf(found),
     races: [],
@@ -333,8 +342,42 @@ async function outcomeOf({ seed, whole }) {
   return { outcome, judgement };
 }
 
-/** @param {{ seeds: import("./group.mjs").Wanted[] }} work */
-async function record({ seeds }) {
+/**
+ * Makes a pilot: a run of which nothing is told.
+ * @param {number} seed
+ * @returns {Promise<boolean>} whether all is seen that the agents did
+ */
+async function flown(seed) {
+  cleared();
+  board.words[WORD.IS_PILOT] = 1;
+  if (options.init !== undefined && (await asked("init")) !== "") return false;
+  board.words[WORD.TELLS_SOURCES] = 0;
+  board.begin(seed, true);
+  const isSilent = board.turn.awaitEnd(Math.min(options.seconds, PILOT_SECONDS));
+  await replaced(sentHome());
+  // Where ordinary reads aren't seen, it isn't known what an agent does between its calls.
+  const isHidden = options.ordinary !== "watch" && board.words[WORD.STORES] > 0;
+  return !isSilent && !isHidden;
+}
+
+/** Learns by pilots where agents meet. The agents' workers are others afterwards: no module keeps anything of pilots. */
+async function learn() {
+  const pilots = new Pilots(plan.agents);
+  let isSeen = true;
+  let isLong = false;
+  for (let seed = 0; seed < PILOTS && isSeen && !isLong; seed += 1) {
+    isSeen = await flown(seed);
+    pilots.add(log);
+    isLong = Pilots.isLong(log, accessCount());
+  }
+  board.words[WORD.IS_PILOT] = 0;
+  if (isSeen) pilots.tell(board.places);
+  await replaced(agents);
+}
+
+/** @param {{ seeds?: import("./group.mjs").Wanted[], learns?: boolean }} work */
+async function record({ seeds = [], learns = false }) {
+  if (learns) await learn();
   for (const wanted of seeds) port.postMessage(await outcomeOf(wanted));
   port.once("message", record);
   port.postMessage({ finished: true });
