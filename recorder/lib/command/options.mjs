@@ -27,6 +27,7 @@ Runs the agents of a module under seeded schedules, and keeps the first run that
   --bounds HOW    fail: a run that meets a bound, as a spin does, fails; allow: it is told only (fail)
   --clock WHICH   the time that clocks tell agents: run (the run's own, which comes from the seed) or real (run)
   --fail-fast     ends at the first failing run
+  --until-covered ends when 500 seeds in a row have shown no new pair of lines that came one after the other at a place
   --out DIR       where the first failing run's script and report are kept; nothing is written without it
   --jobs N        how many groups of workers run side by side (1)
   --fresh         starts the agents' workers anew for each seed
@@ -57,6 +58,7 @@ const SHAPE = {
   bounds: { type: "string" },
   clock: { type: "string" },
   "fail-fast": { type: "boolean" },
+  "until-covered": { type: "boolean" },
   out: { type: "string" },
   jobs: { type: "string" },
   fresh: { type: "boolean" },
@@ -67,6 +69,7 @@ const SHAPE = {
   help: { type: "boolean" },
 };
 
+const SEEDS_UNTIL_COVERED = "1..1000000";
 const STRATEGY_NAMES = { strategy: "--strategy", switching: "--switch" };
 const MOST_JOBS = 64;
 const LEAST_SECONDS = 0.001;
@@ -147,7 +150,7 @@ export function optionsOf(words) {
     args: end < 0 ? [] : words.slice(end + 1),
     ...groupOf(values),
     ...rulesOf(values),
-    ...seedsOf(values.seeds ?? "1..100"),
+    ...seedsOf(values.seeds ?? (values["until-covered"] ? SEEDS_UNTIL_COVERED : "1..100")),
     ...workOf(values),
   };
 }
@@ -195,13 +198,16 @@ function rulesOf(values) {
  * How the runs are made, checked and kept.
  * @param {Record<string, any>} values by option
  */
-function workOf({ out, jobs, fresh = false, "fail-fast": failFast = false, sabsim, check: every }) {
+function workOf(values) {
+  const { out, jobs, fresh = false, sabsim, check: every } = values;
+  const { "fail-fast": failFast = false, "until-covered": untilCovered = false } = values;
   if (out === "") throw new Refused("--out must name a folder");
   return {
     out,
     jobs: jobs === undefined ? 1 : whole(jobs, "jobs", 1, MOST_JOBS),
     fresh,
     failFast,
+    untilCovered,
     sabsim,
     checkEvery: every === undefined ? DEFAULT_CHECK_EVERY : whole(every, "check", 0, Number.MAX_SAFE_INTEGER),
     isSabsimAsked: every !== undefined,

@@ -1,6 +1,7 @@
 // What the command line does: many runs, a summary of them, and the first failing one kept.
 
 import { Difference, sabsim, sabsimFor, sabsimPlaces } from "../check/sabsim.mjs";
+import { Coverage } from "../seeds/coverage.mjs";
 import { preloads } from "../seeds/node-words.mjs";
 import { recordSeeds } from "../seeds/seeds.mjs";
 import { Interrupted, Interruption } from "./interruption.mjs";
@@ -21,11 +22,13 @@ export class Session {
     this.sabsim = checkEvery === 0 ? undefined : sabsimFor({ path, isAsked });
     this.options = { ...options, checkEvery: this.sabsim === undefined ? 0 : checkEvery, sabsim: this.sabsim };
     this.wanted = options.last - options.first + 1;
+    this.coverage = options.untilCovered ? new Coverage() : undefined;
     this.keeper = options.out === undefined ? undefined : new Keeper(options.out);
     this.summary = new Summary({
       ordinary: options.ordinary, races: options.races, checks: this.sabsim !== undefined,
       missing: checkEvery > 0 && this.sabsim === undefined ? sabsimPlaces() : undefined,
       preloads: preloads([...process.execArgv, process.env.NODE_OPTIONS ?? ""]),
+      coverage: this.coverage,
     });
     /** @type {string[]} what isn't kept though there is a script to make it from, and why */
     this.leftOut = [];
@@ -65,7 +68,8 @@ export class Session {
       if (outcome.fails) this.keeper?.keepLowest(outcome);
     };
     const onCheck = () => this.summary.addCheck();
-    await recordSeeds(this.options, onOutcome, { onCheck, signal: this.interruption.signal });
+    const { coverage, interruption: { signal } } = this;
+    await recordSeeds(this.options, onOutcome, { onCheck, signal, coverage });
   }
 
   /**

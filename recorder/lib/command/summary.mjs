@@ -14,6 +14,8 @@ import { counted, digits, listed } from "./words.mjs";
  * @property {boolean} checks whether runs are checked
  * @property {string[]} [missing] where sabsim was looked for, where it isn't there and so nothing is checked
  * @property {boolean} [preloads] whether node's own words load code before the recorder
+ * @property {import("../seeds/coverage.mjs").Coverage} [coverage] which pairs of lines the runs have shown, where that is
+ * looked for
  */
 
 /**
@@ -40,8 +42,9 @@ const UNSEEN_BEFORE =
 
 export class Summary {
   /** @param {SummaryOptions} options */
-  constructor({ ordinary, races, checks, missing, preloads = false }) {
+  constructor({ ordinary, races, checks, missing, preloads = false, coverage }) {
     this.ordinary = ordinary;
+    this.coverage = coverage;
     this.preloads = preloads;
     this.races = races;
     this.checks = checks;
@@ -94,7 +97,8 @@ export class Summary {
     if (stop !== undefined) lines.push(`${stop.why} after ${digits(this.runs)} of ${counted(stop.wanted, "run")}`);
     if (this.runs > 0) {
       lines.push(this.#endingLine(), ...this.#failingLines(), ...this.#raceLines(), ...this.#stateLines());
-      lines.push(...this.#checkLines(), ...this.#scriptLines(), this.#accessLine(), ...this.#unseenLines());
+      lines.push(...this.#coverageLines(), ...this.#checkLines(), ...this.#scriptLines(), this.#accessLine());
+      lines.push(...this.#unseenLines());
     }
     return lines.map((line) => `${line}\n`).join("");
   }
@@ -160,6 +164,14 @@ export class Summary {
       return `${counted(runs, "run")} ${text}, seed ${first} the first: ${bytes}`;
     });
     return [`${counted(states.length, "final state")}: how it ended, and the bytes`, ...lines.map(indented)];
+  }
+
+  #coverageLines() {
+    if (this.coverage === undefined) return [];
+    const { pairs, last, row, isCovered } = this.coverage;
+    const seen = `${counted(pairs.size, "pair")} of lines came one after the other at a place, by different agents`;
+    const newest = last === undefined ? "" : `the last new one in seed ${last}, `;
+    return [seen, indented(`${newest}none in ${counted(row, "seed")} since: ${isCovered ? "" : "not "}covered`)];
   }
 
   #checkLines() {

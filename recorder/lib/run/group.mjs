@@ -35,6 +35,8 @@ import { Thread } from "./thread.mjs";
  * @property {string} [noScript] why there is no script
  * @property {string} [report] what sabsim must answer
  * @property {string} [trace] each event as an object of JSON, a line each
+ * @property {string[]} [meetings] pairs of lines that came one after the other at a place, by different agents; those
+ * that this group's runs before haven't shown; told where it is asked for
  */
 
 /**
@@ -70,6 +72,7 @@ import { Thread } from "./thread.mjs";
  * @property {"fail" | "allow"} [bounds] whether a run that meets a bound fails
  * @property {"run" | "real"} [clock] which time agents are told
  * @property {boolean} [trace] whether each run's trace is told
+ * @property {boolean} [tellsMeetings] whether the lines are told that came one after the other at a place
  * @property {OfBuffers} [init] fills the buffers before each run, in place of the module's
  * @property {OfBuffers} [check] throws where the buffers aren't right after a run that finished, in place of the
  * module's
@@ -223,14 +226,14 @@ export class Group {
    * @param {{ hasInit: boolean, hasCheck: boolean }} module
    */
   #refereeOptions({ hasInit, hasCheck }) {
-    const { module, seconds, fresh, init, check, trace, ordinary, races, bounds } = this.options;
+    const { module, seconds, fresh, init, check, trace, tellsMeetings, ordinary, races, bounds } = this.options;
     /** @type {(own: OfBuffers | undefined, isTheirs: boolean) => "library" | "module" | undefined} */
     const whose = (own, isTheirs) => {
       if (own !== undefined) return "library";
       return isTheirs ? "module" : undefined;
     };
     const asked = { init: whose(init, hasInit), check: whose(check, hasCheck) };
-    return { module, seconds, fresh, trace, ordinary, races, bounds, ...asked };
+    return { module, seconds, fresh, trace, tellsMeetings, ordinary, races, bounds, ...asked };
   }
 
   /**

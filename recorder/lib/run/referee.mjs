@@ -12,6 +12,7 @@ import { racesTold } from "./findings.mjs";
 import { fitted } from "./fitting.mjs";
 import { initialStores } from "./initial.mjs";
 import { Log } from "./log.mjs";
+import { Meetings } from "./meetings.mjs";
 import { Memory } from "./memory.mjs";
 import { PILOTS, PILOT_SECONDS, Pilots } from "./pilots.mjs";
 import { sourceName, withSourceNames } from "./places.mjs";
@@ -41,6 +42,7 @@ import { ownCalls, transcriptOf, waitingText } from "./transcript.mjs";
  * @property {number} seconds for how long an agent may make no call
  * @property {boolean} fresh
  * @property {boolean} trace
+ * @property {boolean} [tellsMeetings]
  * @property {"watch" | "store" | "refuse"} ordinary
  * @property {"fail" | "allow"} races
  * @property {"fail" | "allow"} bounds
@@ -72,8 +74,11 @@ const sources = shared.sources.map((each) => new Sources(each));
 const agents = plan.canBlock.map((_, agent) => agent);
 const run = { log, records, lengths: plan.buffers, canBlock: plan.canBlock };
 
+const meetings = options.tellsMeetings ? new Meetings(options.module) : undefined;
+const tellsAlways = options.trace || meetings !== undefined;
+
 /** Whether the next run tells its lines of code at once: where the one before raced, it may well. */
-let tellsNext = options.trace;
+let tellsNext = tellsAlways;
 /** Whether the trace of a failing run was made already, or tried: a later seed's isn't kept. */
 let isTraced = false;
 
@@ -323,6 +328,7 @@ function judgementOf({ script }, { racy }) {
 async function outcomeOf({ seed, whole }) {
   let hasSources = tellsNext;
   let found = await made(seed, hasSources);
+  const pairs = meetings?.add(log, sources);
   const isCut = hasSources && !log.hasRoom();
   if (isCut) {
     // Not all accesses have told their lines: this is judged by a run that keeps each of them once.
@@ -337,8 +343,9 @@ async function outcomeOf({ seed, whole }) {
   const judgement = judgementOf(outcome, found);
   await replaced(options.fresh ? agents : found.gone);
   await addSources(outcome, found, hasSources);
+  if (pairs !== undefined) outcome.meetings = pairs;
   if (outcome.ending === "race") outcome.detail = outcome.races.map(({ text }) => text).join("\n");
-  tellsNext = options.trace || (found.racy && !isCut);
+  tellsNext = tellsAlways || (found.racy && !isCut);
   return { outcome, judgement };
 }
 

@@ -22,6 +22,15 @@ export { LostJob } from "./remote-job.mjs";
  * @typedef {object} Listening
  * @property {(seed: number) => void} [onCheck] is told of each run that sabsim says the same of
  * @property {AbortSignal} [signal] that it is to stop
+ * @property {import("./coverage.mjs").Coverage} [coverage] of which the outcomes are told; the runs end where it is enough
+ */
+
+/**
+ * @typedef {object} Told what is done with what comes of runs
+ * @property {(outcome: Outcome) => void} add
+ * @property {(seed: number) => void} addCheck
+ * @property {(seed: number) => void} lose an outcome that will never come
+ * @property {() => void} finish
  */
 
 // How many seeds a job is given at a time.
@@ -61,29 +70,30 @@ class Row {
 }
 
 /**
- * Makes a run for each seed. The outcomes come in any order; with `failFast` in the order of the seeds, and the first
- * one that fails is the last.
+ * Makes a run for each seed. The outcomes come in any order; with `failFast` or a coverage in the order of the seeds, up
+ * to the first one that fails, or with which it is enough.
  * @param {import("../run/group.mjs").GroupOptions & SeedsOptions} options
  * @param {(outcome: Outcome) => void} onOutcome
  * @param {Listening} listening
  * @returns {Promise<{ checked: number }>} how many runs were checked; fails at the first difference, where a job's
  * process was lost, and where it is to stop, with the reason for that
  */
-export async function recordSeeds(options, onOutcome, { onCheck = () => {}, signal } = {}) {
+export async function recordSeeds(options, onOutcome, { onCheck = () => {}, signal, coverage } = {}) {
   const { first, last, checkEvery, sabsim, failFast = false } = options;
   if (checkEvery > 0) foundSabsim(sabsim);
   let checked = 0;
   const count = last - first + 1;
   const batch = failFast ? 1 : Math.max(1, Math.min(BATCH, Math.ceil(count / options.jobs)));
   const row = new Row(first, last, checkEvery, batch);
-  const told = listener(first, failFast, row, onOutcome, (seed) => {
+  const told = listener({ first, failFast, coverage }, row, onOutcome, (seed) => {
     checked += 1;
     onCheck(seed);
   });
   const needed = Math.min(options.jobs, Math.ceil(count / batch));
   const jobs = Array.from({ length: needed }, () => new RemoteJob(told.addCheck));
   try {
-    await unlessStopped(signal, recordAll(jobs, { ...options, checks: checkEvery > 0 }, row, told.add));
+    const opening = { ...options, checks: checkEvery > 0, tellsMeetings: coverage !== undefined };
+    await unlessStopped(signal, recordAll(jobs, opening, row, told));
   } finally {
     await Promise.all(jobs.map((job) => job.close()));
     told.finish();
@@ -93,21 +103,27 @@ export async function recordSeeds(options, onOutcome, { onCheck = () => {}, sign
 
 /**
  * What is done with outcomes and checks as they come.
- * @param {number} first seed
- * @param {boolean} failFast
+ * @param {{ first: number, failFast: boolean, coverage?: import("./coverage.mjs").Coverage }} ends
  * @param {Row} row
  * @param {(outcome: Outcome) => void} onOutcome
  * @param {(seed: number) => void} onCheck
+ * @returns {Told}
  */
-function listener(first, failFast, row, onOutcome, onCheck) {
-  if (!failFast) return { add: onOutcome, addCheck: onCheck, finish() {} };
-  const inOrder = new InOrder(first, onOutcome, onCheck);
+function listener({ first, failFast, coverage }, row, onOutcome, onCheck) {
+  if (!failFast && coverage === undefined) return { add: onOutcome, addCheck: onCheck, lose() {}, finish() {} };
+  /** @param {Outcome} outcome */
+  const isLast = (outcome) => {
+    const isCovered = coverage !== undefined && coverage.add(outcome);
+    return isCovered || (failFast && outcome.fails);
+  };
+  const inOrder = new InOrder(first, isLast, onOutcome, onCheck);
   return {
-    add(/** @type {Outcome} */ outcome) {
-      if (outcome.fails) row.stop();
+    add(outcome) {
       inOrder.add(outcome);
+      if ((failFast && outcome.fails) || inOrder.last !== Infinity) row.stop();
     },
-    addCheck: (/** @type {number} */ seed) => inOrder.addCheck(seed),
+    addCheck: (seed) => inOrder.addCheck(seed),
+    lose: (seed) => inOrder.lose(seed),
     finish: () => inOrder.finish(),
   };
 }
@@ -134,11 +150,11 @@ function unlessStopped(signal, promise) {
  * @param {RemoteJob[]} jobs
  * @param {Parameters<RemoteJob["open"]>[0]} options
  * @param {Row} row
- * @param {(outcome: Outcome) => void} onOutcome
+ * @param {Told} told
  */
-async function recordAll(jobs, options, row, onOutcome) {
+async function recordAll(jobs, options, row, told) {
   await settled(jobs.map((job) => job.open(options)));
-  await settled(jobs.map((job) => work(job, row, onOutcome)));
+  await settled(jobs.map((job) => work(job, row, told)));
 }
 
 /**
@@ -161,12 +177,12 @@ async function settled(promises) {
  * Keeps one job at work until there are no seeds, or something failed. Where the job is lost the others go on.
  * @param {RemoteJob} job
  * @param {Row} row
- * @param {(outcome: Outcome) => void} onOutcome
+ * @param {Told} told
  * @returns {Promise<void>}
  */
-async function work(job, row, onOutcome) {
+async function work(job, row, told) {
   try {
-    for (let seeds = row.take(); seeds.length > 0; seeds = row.take()) await runBatch(job, seeds, onOutcome);
+    for (let seeds = row.take(); seeds.length > 0; seeds = row.take()) await runBatch(job, seeds, told);
     await job.finish();
   } catch (failure) {
     if (!(failure instanceof LostJob)) row.stop();
@@ -177,16 +193,17 @@ async function work(job, row, onOutcome) {
 /**
  * @param {RemoteJob} job
  * @param {import("../run/group.mjs").Wanted[]} seeds in their order
- * @param {(outcome: Outcome) => void} onOutcome
+ * @param {Told} told
  */
-async function runBatch(job, seeds, onOutcome) {
+async function runBatch(job, seeds, told) {
   let made = 0;
   try {
     await job.run(seeds, (outcome) => {
       made += 1;
-      onOutcome(outcome);
+      told.add(outcome);
     });
   } catch (failure) {
+    for (const { seed } of seeds.slice(made)) told.lose(seed);
     if (!(failure instanceof LostJob) || made === seeds.length) throw failure;
     const [from, to] = [seeds[made].seed, seeds[seeds.length - 1].seed];
     const missing = from === to ? `of seed ${from}` : `of the seeds ${from} to ${to}`;

@@ -10,10 +10,20 @@
 /** @type {(name: Way["name"], likelihood?: number, everywhere?: boolean) => Way} */
 const way = (name, likelihood = 0, everywhere = false) => Object.freeze({ name, likelihood, everywhere });
 
-/** What mixed runs take in turn: a run takes the one at its seed modulo how many there are. */
+const ORDER = way("partial-order");
+const LONG = way("switch", 0.1);
+const MEDIUM = way("switch", 0.3);
+const SHORT = way("switch", 0.85);
+const ALIKE = way("uniform");
+// One of them goes by nothing that pilots have shown: what they haven't seen is found by it, though later.
+const EVERYWHERE = way("switch", 0.3, true);
+
+/**
+ * What mixed runs take in turn: a run takes the one at its seed modulo how many there are. How often each stands here
+ * comes from `recorder/bench`: for each of its programs there are some that find much.
+ */
 const MIXED = Object.freeze([
-  way("partial-order"), way("switch", 0.3), way("partial-order"), way("switch", 0.1),
-  way("partial-order"), way("uniform"), way("partial-order"), way("uniform", 0, true),
+  ORDER, MEDIUM, ORDER, LONG, ORDER, SHORT, MEDIUM, ALIKE, ORDER, LONG, ORDER, MEDIUM, ORDER, SHORT, LONG, EVERYWHERE,
 ]);
 
 /** Those of pilots: whatever the runs are to do, pilots look at all that the agents may do. */
