@@ -120,12 +120,13 @@ export class Player {
    * Makes a call when it is the agent's turn.
    * @param {Call} call
    * @param {object} view its typed array
+   * @param {Function} called the function of Atomics that the agent's code has called
    * @returns {unknown} what it answers; what it throws, it throws
    */
-  make(call, view) {
+  make(call, view, called) {
     this.#enter();
     this.#stayWithin(call);
-    const source = this.#source();
+    const source = this.#source(called);
     this.#ask(call);
     this.#untilTurn();
     this.table.records.begin(this.made, call);
@@ -493,9 +494,9 @@ export class Player {
     throw new RunIsOver();
   }
 
-  /** @returns {number} where the agent's code is, where sources are told */
-  #source() {
-    return this.table.board.words[WORD.TELLS_SOURCES] === 1 ? this.table.sources.here() : 0;
+  /** @param {Function} called @returns {number} where the agent's code is, where sources are told */
+  #source(called) {
+    return this.table.board.words[WORD.TELLS_SOURCES] === 1 ? this.table.sources.above(called) : 0;
   }
 
   /**

@@ -175,7 +175,7 @@ const refuse = (what, why) =>
 const asking = {
   blockOf,
   isRecording,
-  make: (call, view) => playing().make(call, view),
+  make: (call, view, called) => playing().make(call, view, called),
   sleep: (milliseconds) => {
     if (clock !== "run") return false;
     playing().doze(milliseconds);
