@@ -16,8 +16,8 @@ const { isNaN } = Number;
  * @typedef {object} Asking how the calls of one agent are made
  * @property {(buffer: unknown) => number} blockOf the position of a buffer among those that are recorded, or -1
  * @property {() => boolean} isRecording whether the agent's part in a run goes on
- * @property {(call: Call, view: object, called: Function) => unknown} make blocks until it is the agent's turn; what was
- * called stands below the agent's own frame
+ * @property {(call: Call, view: object, called: Function) => unknown} make blocks until it is the agent's turn; above
+ * what was called stands the agent's own frame
  * @property {(milliseconds: number) => boolean} sleep lets time pass in a wait that nobody can end; whether it did
  * @property {(why: string) => never} refuse ends the run, for a call that no script can have
  */

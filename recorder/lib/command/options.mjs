@@ -15,8 +15,9 @@ Runs the agents of a module under seeded schedules, and keeps the first run that
   --no-block A    agent A can't block: its Atomics.wait throws TypeError; may be given more than once; else the module's
                   \`setup\` says it
   --seeds A..B    the seeds, or one seed (1..100)
-  --strategy HOW  who moves next: uniform (all that can are alike), switch:P (how likely it is, from 0 to 1, that another
-                  agent moves next), partial-order (by random priorities) or mixed (by its seed one of these) (mixed)
+  --strategy HOW  who moves next: uniform (all that can are alike), switch:P (how likely it is, from 0 to 1, that
+                  another agent moves next), partial-order (by random priorities) or mixed (by the seed one of such)
+                  (mixed)
   --switch P      the same as --strategy switch:P
   --everywhere    agents are switched before each call, also where pilot runs have shown that no other agent goes
   --timeouts P    in how many of the draws, from 0 to 1, the end of a timed wait is offered while something else can

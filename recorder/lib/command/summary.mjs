@@ -14,8 +14,8 @@ import { counted, digits, listed } from "./words.mjs";
  * @property {boolean} checks whether runs are checked
  * @property {string[]} [missing] where sabsim was looked for, where it isn't there and so nothing is checked
  * @property {boolean} [preloads] whether node's own words load code before the recorder
- * @property {import("../seeds/coverage.mjs").Coverage} [coverage] which pairs of lines the runs have shown, where that is
- * looked for
+ * @property {import("../seeds/coverage.mjs").Coverage} [coverage] which pairs of lines the runs have shown, where that
+ * is looked for
  */
 
 /**

@@ -1,6 +1,6 @@
-// What pilot runs show: which bytes several agents use and one of them writes, and which calls stand beside an ordinary
-// access to such a byte. There it matters who moves first. Pilots are runs of fixed seeds, so that each group learns the
-// same, whatever runs it makes afterwards.
+// What pilot runs show: which bytes several agents use and one of them writes, and which calls stand beside an
+// ordinary access to such a byte. There it matters who moves first. Pilots are runs of fixed seeds, so that each group
+// learns the same, whatever runs it makes afterwards.
 
 import { KnownPlaces, PLACES, placeNumber } from "../board/known-places.mjs";
 import { FLAG, READ } from "./log.mjs";
@@ -13,8 +13,8 @@ export const PILOTS = 8;
 /** For how many seconds an agent of a pilot may make no call: then the pilots end, and nothing is known. */
 export const PILOT_SECONDS = 2;
 
-// After one pilot that has so many events, or ordinary accesses, there are no others: it has shown much, and another one
-// would take as long.
+// After one pilot that has so many events, or ordinary accesses, there are no others: it has shown much, and another
+// one would take as long.
 const MANY_EVENTS = 50_000;
 const MANY_ACCESSES = 200_000;
 

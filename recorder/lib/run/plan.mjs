@@ -78,7 +78,7 @@ export function checkedChoice(option, value, name) {
 
 /**
  * @param {unknown} strategy a word; undefined: it wasn't given
- * @param {unknown} switching how likely it is that another agent moves next, which is a strategy too; undefined likewise
+ * @param {unknown} switching how likely it is that another agent moves next, which is a strategy too; or undefined
  * @param {{ strategy: string, switching: string }} names of the two, as who gives them writes them
  * @returns {string}
  */

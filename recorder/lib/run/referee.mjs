@@ -367,7 +367,7 @@ async function flown(seed) {
   return !isSilent && !isHidden;
 }
 
-/** Learns by pilots where agents meet. The agents' workers are others afterwards: no module keeps anything of pilots. */
+/** Learns by pilots where agents meet. The agents have other workers afterwards: no module keeps anything of pilots. */
 async function learn() {
   const pilots = new Pilots(plan.agents);
   let isSeen = true;

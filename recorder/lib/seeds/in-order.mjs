@@ -15,7 +15,7 @@ export class InOrder {
     this.isLast = isLast;
     this.onOutcome = onOutcome;
     this.onCheck = onCheck;
-    /** @type {Map<number, Outcome | undefined>} outcomes that came before those of lower seeds; undefined: it is lost */
+    /** @type {Map<number, Outcome | undefined>} outcomes that came too early; undefined: it is lost */
     this.early = new Map();
     /** @type {Set<number>} the seeds of such runs that were checked */
     this.checked = new Set();

@@ -22,7 +22,7 @@ export { LostJob } from "./remote-job.mjs";
  * @typedef {object} Listening
  * @property {(seed: number) => void} [onCheck] is told of each run that sabsim says the same of
  * @property {AbortSignal} [signal] that it is to stop
- * @property {import("./coverage.mjs").Coverage} [coverage] of which the outcomes are told; the runs end where it is enough
+ * @property {import("./coverage.mjs").Coverage} [coverage] is told of the outcomes; the runs end where it is enough
  */
 
 /**
@@ -70,8 +70,8 @@ class Row {
 }
 
 /**
- * Makes a run for each seed. The outcomes come in any order; with `failFast` or a coverage in the order of the seeds, up
- * to the first one that fails, or with which it is enough.
+ * Makes a run for each seed. The outcomes come in any order; with `failFast` or a coverage in the order of the seeds,
+ * up to the first one that fails, or with which it is enough.
  * @param {import("../run/group.mjs").GroupOptions & SeedsOptions} options
  * @param {(outcome: Outcome) => void} onOutcome
  * @param {Listening} listening

@@ -11,11 +11,11 @@
 const way = (name, likelihood = 0, everywhere = false) => Object.freeze({ name, likelihood, everywhere });
 
 const ORDER = way("partial-order");
-const LONG = way("switch", 0.1);
-const MEDIUM = way("switch", 0.3);
-const SHORT = way("switch", 0.85);
-const ALIKE = way("uniform");
-// One of them goes by nothing that pilots have shown: what they haven't seen is found by it, though later.
+const RARELY = way("switch", 0.1);
+const NOW_AND_THEN = way("switch", 0.2);
+const OFTEN = way("switch", 0.3);
+const MOSTLY = way("switch", 0.85);
+// It goes by nothing that pilots have shown: what they haven't seen is found by it, though later.
 const EVERYWHERE = way("switch", 0.3, true);
 
 /**
@@ -23,7 +23,10 @@ const EVERYWHERE = way("switch", 0.3, true);
  * comes from `recorder/bench`: for each of its programs there are some that find much.
  */
 const MIXED = Object.freeze([
-  ORDER, MEDIUM, ORDER, LONG, ORDER, SHORT, MEDIUM, ALIKE, ORDER, LONG, ORDER, MEDIUM, ORDER, SHORT, LONG, EVERYWHERE,
+  ORDER, OFTEN, ORDER, MOSTLY, ORDER, NOW_AND_THEN, ORDER, RARELY,
+  ORDER, OFTEN, ORDER, MOSTLY, ORDER, NOW_AND_THEN, ORDER, OFTEN,
+  ORDER, MOSTLY, ORDER, NOW_AND_THEN, ORDER, RARELY, ORDER, OFTEN,
+  NOW_AND_THEN, MOSTLY, OFTEN, NOW_AND_THEN, RARELY, MOSTLY, NOW_AND_THEN, EVERYWHERE,
 ]);
 
 /** Those of pilots: whatever the runs are to do, pilots look at all that the agents may do. */
