@@ -100,7 +100,7 @@ const CHECKS = {
 const OWN_DEFAULTS = {
   ...DEFAULTS, seed: 1, args: /** @type {string[]} */ ([]), maxMoves: SCRIPT_LIMITS.moves, seconds: DEFAULT_SECONDS,
   // It is said by `switch` too.
-  strategy: /** @type {string | undefined} */ (undefined),
+  strategy: /** @type {RecordOptions["strategy"]} */ (undefined),
 };
 
 /**

@@ -35,8 +35,12 @@ import { Thread } from "./thread.mjs";
  * @property {string} [noScript] why there is no script
  * @property {string} [report] what sabsim must answer
  * @property {string} [trace] each event as an object of JSON, a line each
+ */
+
+/**
+ * @typedef {object} Covering what an outcome tells besides, where coverage is looked for
  * @property {string[]} [meetings] pairs of lines that came one after the other at a place, by different agents; those
- * that this group's runs before haven't shown; told where it is asked for
+ * that this group's runs before haven't shown
  */
 
 /**

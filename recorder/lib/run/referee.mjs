@@ -343,7 +343,9 @@ async function outcomeOf({ seed, whole }) {
   const judgement = judgementOf(outcome, found);
   await replaced(options.fresh ? agents : found.gone);
   await addSources(outcome, found, hasSources);
-  if (pairs !== undefined) outcome.meetings = pairs;
+  /** @type {import("./group.mjs").Covering} */
+  const covering = pairs === undefined ? {} : { meetings: pairs };
+  Object.assign(outcome, covering);
   if (outcome.ending === "race") outcome.detail = outcome.races.map(({ text }) => text).join("\n");
   tellsNext = tellsAlways || (found.racy && !isCut);
   return { outcome, judgement };

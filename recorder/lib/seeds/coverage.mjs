@@ -16,7 +16,7 @@ export class Coverage {
     this.row = 0;
   }
 
-  /** @param {Outcome} outcome @returns {boolean} whether it is enough */
+  /** @param {Outcome & import("../run/group.mjs").Covering} outcome @returns {boolean} whether it is enough */
   add({ seed, meetings = [] }) {
     const { size } = this.pairs;
     for (const pair of meetings) this.pairs.add(pair);
