@@ -4,7 +4,7 @@ import { DEFAULT_CHECK_EVERY, DEFAULT_SECONDS, MOST_JOBS, SCRIPT_LIMITS } from "
 import { moduleUrlOf } from "./module-url.mjs";
 import { meant } from "./nearest.mjs";
 import { CHOICES, DEFAULTS, Refused } from "./run/plan.mjs";
-import { checkedAgents, checkedBuffers, checkedChoice, checkedNoBlock } from "./run/plan.mjs";
+import { checkedAgents, checkedBuffers, checkedChoice, checkedNoBlock, checkedStrategy } from "./run/plan.mjs";
 
 /**
  * @callback WithBuffers what is called with the buffers, when no agent runs
@@ -21,7 +21,9 @@ import { checkedAgents, checkedBuffers, checkedChoice, checkedNoBlock } from "./
  * @property {number[]} [noBlock] the agents that can't block; else what the module's `setup` says, and else none
  * @property {number} [seed] a whole number from 0 to 2^53 - 1; else 1
  * @property {string[]} [args] for the agents
- * @property {number} [switch] from 0 to 1: how likely it is that another agent moves next; else all moves are alike
+ * @property {"mixed" | "uniform" | "partial-order" | `switch:${number}`} [strategy] who moves next; else "mixed"
+ * @property {number} [switch] from 0 to 1: how likely it is that another agent moves next, which is a strategy too
+ * @property {boolean} [everywhere] whether agents are switched before each call, also where none can meet another
  * @property {number} [timeouts] from 0 to 1: in how many of the draws the end of a timed wait is offered while
  * something else can move; else 0.05
  * @property {number} [maxMoves] at most 100,000
@@ -83,6 +85,8 @@ const isSeed = (value) => isWhole(value, 0, Number.MAX_SAFE_INTEGER);
 /** @param {unknown} value */
 const areStrings = (value) => Array.isArray(value) && Array.from(value).every((each) => typeof each === "string");
 
+const STRATEGY_NAMES = { strategy: "`strategy`", switching: "`switch`" };
+
 const part = that(isPart, "a number from 0 to 1");
 const flag = that((value) => typeof value === "boolean", "true or false");
 /** @type {(value: unknown, name: string) => string} */
@@ -96,7 +100,9 @@ const CHECKS = {
   noBlock: checkedNoBlock,
   seed: that(isSeed, "a whole number from 0 to 2^53 - 1"),
   args: (value, name) => [...that(areStrings, "an array of strings")(value, name)],
+  strategy: (value) => checkedStrategy(value, undefined, STRATEGY_NAMES),
   switch: part,
+  everywhere: flag,
   timeouts: part,
   maxMoves: that((value) => isWhole(value, 1, SCRIPT_LIMITS.moves), `a whole number from 1 to ${SCRIPT_LIMITS.moves}`),
   seconds: that(
@@ -124,6 +130,8 @@ const MANY_CHECKS = {
 
 const OF_ALL = {
   ...DEFAULTS, args: /** @type {string[]} */ ([]), maxMoves: SCRIPT_LIMITS.moves, seconds: DEFAULT_SECONDS,
+  // It is said by `switch` too.
+  strategy: /** @type {RecordOptions["strategy"]} */ (undefined),
 };
 const OWN_DEFAULTS = { ...OF_ALL, seed: 1 };
 const MANY_DEFAULTS = {
@@ -167,8 +175,9 @@ function checkedBy(options, checks, defaults, callersFolder) {
     if (value !== undefined) Object.assign(checked, { [name]: checks[name](value, name) });
   }
   if (checked.module === undefined) throw new Refused("`module` is missing: it must be a path or a URL");
-  const { module, switch: switching, ...rest } = checked;
-  return { ...rest, module: moduleUrlOf(module, callersFolder), switching };
+  const { module, strategy: word, switch: switching, ...rest } = checked;
+  const strategy = checkedStrategy(word, switching, STRATEGY_NAMES);
+  return { ...rest, module: moduleUrlOf(module, callersFolder), strategy };
 }
 
 /** @typedef {import("./run/group.mjs").GroupOptions & { sabsim?: string | boolean }} OfAll what all runs have */

@@ -6,6 +6,9 @@ import { Board } from "../lib/board/board.mjs";
 import { STEP } from "../lib/board/clock.mjs";
 import { JOIN, LEAVE, MAKE, TIME_UP } from "../lib/board/journal.mjs";
 import { ORDER, PHASE } from "../lib/board/layout.mjs";
+import { waysOf } from "../lib/board/strategy/ways.mjs";
+
+const RULES = { ways: waysOf("uniform", true), maxMoves: 100_000, timeouts: 0.05 };
 
 /**
  * A board whose agents have all been started, and are at a phase.
@@ -13,7 +16,7 @@ import { ORDER, PHASE } from "../lib/board/layout.mjs";
  * @param {object} [rules]
  */
 function boardAt(phases, rules = {}) {
-  const board = new Board(Board.memory(), { agents: phases.length, maxMoves: 100_000, timeouts: 0.05, ...rules });
+  const board = new Board(Board.memory(), { ...RULES, agents: phases.length, ...rules });
   board.begin(rules.seed ?? 1);
   for (let agent = 0; agent < phases.length - 1; agent += 1) assert.equal(board.pass(agent), false);
   phases.forEach((phase, agent) => board.line.become(agent, phase));
@@ -75,12 +78,13 @@ test("a time's end is offered in so many of the draws, and always where nothing 
   assert.equal(timesUp([PHASE.WAITS, PHASE.WAITS_TIMED], 0), 4_000);
 });
 
-test("with --switch 0 an agent goes on as long as it can, and with 1 never if another can", () => {
+test("with switch:0 an agent goes on as long as it can, and with switch:1 never if another can", () => {
   const asking = [PHASE.ASKS, PHASE.ASKS, PHASE.ASKS];
-  assert.equal(new Set(drawn(boardAt(asking, { switching: 0 }), 2, 50)).size, 1);
-  const turns = drawn(boardAt(asking, { switching: 1 }), 2, 50);
+  const switching = (likelihood) => ({ ways: waysOf(`switch:${likelihood}`, true) });
+  assert.equal(new Set(drawn(boardAt(asking, switching(0)), 2, 50)).size, 1);
+  const turns = drawn(boardAt(asking, switching(1)), 2, 50);
   turns.forEach((turn, at) => assert.notEqual(turn, turns[at - 1]));
-  assert.equal(new Set(drawn(boardAt([PHASE.ASKS, PHASE.DONE], { switching: 1 }), 1, 5)).size, 1);
+  assert.equal(new Set(drawn(boardAt([PHASE.ASKS, PHASE.DONE], switching(1)), 1, 5)).size, 1);
 });
 
 test("a run in which nobody can move has finished, or is a deadlock where somebody waits", () => {

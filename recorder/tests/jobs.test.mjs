@@ -84,12 +84,14 @@ test("with --fail-fast the first failing run is the last, whatever the number of
   assert.match(one.stdout, new RegExp(`^${checked} runs checked: sabsim says the same$`, "m"));
 });
 
-/** What is told of outcomes that come in some order: seeds that fail are negative. */
+/** What is told of outcomes that come in some order: seeds that fail are negative, and those lost are texts. */
 function toldOf(arrivals, checks = {}) {
   const told = [];
-  const inOrder = new InOrder(1, ({ seed }) => told.push(seed), (seed) => told.push(`checked ${seed}`));
+  const onCheck = (seed) => told.push(`checked ${seed}`);
+  const inOrder = new InOrder(1, ({ fails }) => fails, ({ seed }) => told.push(seed), onCheck);
   arrivals.forEach((arrival, at) => {
-    inOrder.add({ seed: Math.abs(arrival), fails: arrival < 0 });
+    if (typeof arrival === "string") inOrder.lose(Number(arrival));
+    else inOrder.add({ seed: Math.abs(arrival), fails: arrival < 0 });
     (checks[at] ?? []).forEach((seed) => inOrder.addCheck(seed));
   });
   inOrder.finish();
@@ -101,7 +103,8 @@ test("outcomes that come in any order are told in the order of their seeds, up t
   assert.deepEqual(toldOf([3, 1, 2]), [1, 2, 3]);
   assert.deepEqual(toldOf([4, -3, 1, 2, 5]), [1, 2, 3]);
   assert.deepEqual(toldOf([-2, -1, 3]), [1]);
-  // Where seed 2 is never told of, the others are.
+  // Where seed 2 is lost, the others are told at once; where nothing comes of it, at the end.
+  assert.deepEqual(toldOf([1, 3, "2", 4], { 2: [3] }), [1, 3, "checked 3", 4]);
   assert.deepEqual(toldOf([5, 1, -4, 3]), [1, 3, 4]);
 });
 
@@ -118,7 +121,8 @@ test("a job's process that dies is told of, with status 3, and the summary of th
     Atomics.add(words, 0, 1);
     if (globalThis.seeds === 5 && agent === 1) process.kill(process.pid, "SIGKILL");
   `);
-  const { status, stdout, stderr } = run([...words, "--seeds", "1..10"]);
+  // Pilots would end it before.
+  const { status, stdout, stderr } = run([...words, "--seeds", "1..10", "--everywhere"]);
   assert.equal(status, 3);
   // Of the fifth run nothing is told.
   assert.match(stdout, /^stopped after 4 of 10 runs\n4 runs: 4 finished\n/);

@@ -18,7 +18,9 @@ test("each option that can't be is refused, with one line that names it", async 
     noBlock: [1, [-1], [16], ["1"], [true], [, 1], null],
     seed: [-1, 1.5, 2 ** 53, "1", 1n, NaN, null],
     args: ["abc", [1], ["a", , "b"], { 0: "a", length: 1 }, null],
+    strategy: ["random", "switch:2", "switch:", "switch:-0", 0.5, null],
     switch: ["0.5", -0.1, 1.1, NaN, true, null],
+    everywhere: ["yes", 1, null],
     timeouts: ["0.5", -0.1, 1.1, NaN, null],
     maxMoves: [0, 100_001, 1.5, "7", null],
     seconds: [0, -1, 3_601, "5", NaN, Infinity, null],
@@ -66,6 +68,15 @@ test("the module must be named, and options that there aren't are refused by the
     const told = new RegExp(`^there is no option \`${name}\`: there are module, agents, buffers, .*, trace$`);
     await assert.rejects(record({ module, [name]: 1 }), refused(told));
   }
+});
+
+test("a strategy may be given by `strategy` or by `switch`, but not by both", async () => {
+  const given = (options) => recordCase("racy", { agents: 3, seed: 11, trace: false, ...options });
+  assert.deepEqual(await given({ strategy: "switch:0.9" }), await given({ switch: 0.9 }));
+  assert.deepEqual(await given({ strategy: "mixed" }), await given({}));
+  await assert.rejects(given({ strategy: "uniform", switch: 0.5 }), (error) => {
+    return error instanceof Refused && error.message.startsWith("`strategy` and `switch` both say who moves next");
+  });
 });
 
 test("an option that is undefined is one that isn't given", async () => {
@@ -152,11 +163,23 @@ test("`init` fills the buffers before the run, and the script has what it wrote"
     seen.push([buffers.map((buffer) => buffer.byteLength), run]);
     new Int32Array(buffers[0]).set([40, 50, 60]);
   };
-  const { bytes, script } = await recordCase("addition", { sabsim: SABSIM, init });
+  const { bytes, script } = await recordCase("addition", { sabsim: SABSIM, init, everywhere: true });
   assert.deepEqual(seen, [[[12], { agents: 2, args: ["addition"] }]]);
   // Three is added to the first two words.
   assert.deepEqual(bytes, [Buffer.from(Int32Array.of(43, 53, 60).buffer).toString("hex")]);
   assert.equal(JSON.parse(script).agents.length, 3);
+});
+
+test("`init` fills the buffers before each pilot too, of which nothing else is told", async () => {
+  let calls = 0;
+  const init = (buffers) => {
+    calls += 1;
+    new Int32Array(buffers[0])[2] = 60;
+  };
+  const check = ([buffer]) => assert.equal(new Int32Array(buffer)[2], 60);
+  const { ending, calls: made } = await recordCase("addition", { init, check });
+  assert.deepEqual([ending, made], ["finished", 6]);
+  assert.ok(calls > 1 && calls < 20, `${calls} calls of init`);
 });
 
 test("what `init` throws fails the run", async () => {

@@ -63,7 +63,8 @@ test("where some fail, the status is 1, and the first is kept in --out", withSab
 
 test("the explained report that is kept ends with the agents that wait", withSabsim, (context) => {
   const out = temporaryFolder(context);
-  const { stdout } = run([agentsPath("naive-mutex"), "--seeds", "93", "--out", out, ...sabsim]);
+  const alike = ["--strategy", "uniform", "--everywhere"];
+  const { stdout } = run([agentsPath("naive-mutex"), "--seeds", "93", ...alike, "--out", out, ...sabsim]);
   const waiting = [...stdout.matchAll(/^  agent (\d) waits at byte 4 of block 0: its call (\d+), /gm)];
   assert.deepEqual(waiting.map(([, agent, call]) => [agent, call]), [["1", "3"], ["0", "8"]]);
   const lines = readFileSync(join(out, "seed-93.explained"), "utf8").split("\n");
@@ -108,6 +109,13 @@ test("each wrong option is refused, with one line that names it", () => {
     [["m.mjs", "--seeds", "9007199254740992"], /--seeds/],
     [["m.mjs", "--switch", "1.5"], /--switch/],
     [["m.mjs", "--switch", "often"], /--switch/],
+    [["m.mjs", "--strategy", "random"], /^--strategy must be mixed, uniform, .* or switch:P, .*, but is "random"$/],
+    [["m.mjs", "--strategy", "switch:1.1"], /^--strategy must be .*, but is "switch:1.1"$/],
+    [["m.mjs", "--strategy", "switch:"], /^--strategy/],
+    [["m.mjs", "--strategy", "Mixed"], /^--strategy/],
+    [["m.mjs", "--strategy=uniform", "--switch", "0.1"], /^--strategy and --switch both .*: give one of them$/],
+    [["m.mjs", "--everywhere=no"], /--everywhere/],
+    [["m.mjs", "--until-covered=5"], /--until-covered/],
     [["m.mjs", "--jobs", "0"], /--jobs/],
     [["m.mjs", "--jobs", "65"], /--jobs/],
     [["m.mjs", "--check", "-1"], /--check/],
@@ -139,14 +147,14 @@ test("each wrong option is refused, with one line that names it", () => {
 });
 
 test("what the command line leaves out has its default", () => {
-  const { first, last, jobs, maxMoves, seconds, fresh, args, noBlock, switching, out } = optionsOf(["m.mjs"]);
+  const { first, last, jobs, maxMoves, seconds, fresh, args, noBlock, strategy, out } = optionsOf(["m.mjs"]);
   assert.deepEqual([first, last, jobs, maxMoves, seconds], [1, 100, 1, 100_000, 10]);
-  assert.deepEqual([fresh, args, noBlock, switching, out], [false, [], undefined, undefined, undefined]);
+  assert.deepEqual([fresh, args, noBlock, strategy, out], [false, [], undefined, "mixed", undefined]);
   const { sabsim: path, checkEvery, isSabsimAsked } = optionsOf(["m.mjs"]);
   assert.deepEqual([path, checkEvery, isSabsimAsked], [undefined, 10, false]);
-  const { ordinary, races, bounds, clock, timeouts, failFast } = optionsOf(["m.mjs"]);
+  const { ordinary, races, bounds, clock, timeouts, failFast, everywhere, untilCovered } = optionsOf(["m.mjs"]);
   assert.deepEqual([ordinary, races, bounds, clock], ["watch", "fail", "fail", "run"]);
-  assert.deepEqual([timeouts, failFast], [0.05, false]);
+  assert.deepEqual([timeouts, failFast, everywhere, untilCovered], [0.05, false, false, false]);
   assert.equal(optionsOf(["m.mjs", "--seeds", "8"]).last, 8);
 });
 
@@ -155,6 +163,13 @@ test("what the command line says is taken", () => {
   const { ordinary, races, bounds, clock, timeouts, failFast } = optionsOf(["m.mjs", ...words, "--fail-fast"]);
   assert.deepEqual([ordinary, races, bounds, clock], ["store", "allow", "allow", "real"]);
   assert.deepEqual([timeouts, failFast], [0.25, true]);
+  const strategyOf = (...more) => optionsOf(["m.mjs", ...more]).strategy;
+  assert.equal(strategyOf("--strategy", "partial-order"), "partial-order");
+  assert.equal(strategyOf("--strategy", "switch:0.25"), "switch:0.25");
+  assert.equal(strategyOf("--switch", "0.25"), "switch:0.25");
+  const covered = optionsOf(["m.mjs", "--until-covered", "--everywhere"]);
+  assert.deepEqual([covered.untilCovered, covered.everywhere, covered.last], [true, true, 1_000_000]);
+  assert.equal(optionsOf(["m.mjs", "--until-covered", "--seeds", "5..9"]).last, 9);
 });
 
 test("help names each option that there is", () => {
@@ -162,7 +177,7 @@ test("help names each option that there is", () => {
   const refused = (word) => why(word).startsWith("there is no option");
   const named = [...USAGE.matchAll(/^ {2}(--[a-z-]+)/gm)].map(([, word]) => word);
   assert.deepEqual(named.filter(refused), []);
-  for (const option of ["ordinary", "races", "bounds", "clock", "timeouts", "fail-fast", "out", "jobs", "buffers",
+  for (const option of ["strategy", "switch", "everywhere", "until-covered", "ordinary", "races", "bounds", "clock", "timeouts", "fail-fast", "out", "jobs", "buffers",
     "check", "help"]) {
     assert.ok(named.includes(`--${option}`), option);
   }

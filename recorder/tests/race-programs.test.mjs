@@ -19,7 +19,7 @@ const WAYS = [
   { way: "words", options: {}, racy: [150, 400] },
   { way: "locked", options: {}, racy: [30, 200] },
   // An agent mostly goes on for long, so that they come by the places one after the other.
-  { way: "passing", options: { switching: 0.02 }, racy: [150, 400] },
+  { way: "passing", options: { strategy: "switch:0.02" }, racy: [150, 400] },
 ];
 
 /**

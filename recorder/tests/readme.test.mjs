@@ -28,7 +28,7 @@ const COMMANDS = new Map([
   ["sabsim race --share ring --format explained examples/futex-mutex.json", { status: 0, when: withSabsim }],
   ["sabsim check script.json", { status: 0, when: withSabsim }],
   ["sabsim judge script.json", { status: 0, when: withSabsim }],
-  ["sabsim judge --trace found/seed-29.trace.jsonl", {
+  ["sabsim judge --trace found/seed-13.trace.jsonl", {
     status: 0,
     when: withSabsim,
     behind: "node recorder/record.mjs recorder/examples/mutex-naive.agents.mjs --seeds 1..200 --out found",

@@ -83,8 +83,8 @@ test("a value that is read and written gets lost under some seeds, and under oth
   assert.deepEqual([...new Set(bytesOf(outcomes))].sort(), ["01000000", "02000000", "03000000"]);
 });
 
-test("with --switch 0 each agent comes to its end before the next one goes on", async () => {
-  const options = { args: ["racy"], agents: 3, buffers: [4], last: 30, switching: 0 };
+test("with switch:0 each agent comes to its end before the next one goes on", async () => {
+  const options = { args: ["racy"], agents: 3, buffers: [4], last: 30, strategy: "switch:0" };
   const { outcomes } = await outcomesOf("cases", options);
   assert.deepEqual([...new Set(bytesOf(outcomes))], ["03000000"]);
 });

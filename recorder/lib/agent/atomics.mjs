@@ -16,7 +16,8 @@ const { isNaN } = Number;
  * @typedef {object} Asking how the calls of one agent are made
  * @property {(buffer: unknown) => number} blockOf the position of a buffer among those that are recorded, or -1
  * @property {() => boolean} isRecording whether the agent's part in a run goes on
- * @property {(call: Call, view: object) => unknown} make blocks until it is the agent's turn
+ * @property {(call: Call, view: object, called: Function) => unknown} make blocks until it is the agent's turn; above
+ * what was called stands the agent's own frame
  * @property {(milliseconds: number) => boolean} sleep lets time pass in a wait that nobody can end; whether it did
  * @property {(why: string) => never} refuse ends the run, for a call that no script can have
  */
@@ -78,7 +79,7 @@ function privately(engine, asking, name, given) {
  */
 function recorded(engine, asking, call) {
   const { name } = CALLS[call];
-  return (...given) => {
+  const made = (/** @type {any[]} */ ...given) => {
     const view = unwrapped(given[0]);
     const block = kindOf(view) < 0 ? -1 : asking.blockOf(bufferOf(view));
     if (block < 0 || !asking.isRecording()) {
@@ -92,8 +93,9 @@ function recorded(engine, asking, call) {
       if (!(problem instanceof OutsideProfile)) throw problem;
       return asking.refuse(`Atomics.${name}: ${problem.message}: convert it before the call`);
     }
-    return asking.make(asked, view);
+    return asking.make(asked, view, made);
   };
+  return made;
 }
 
 /**

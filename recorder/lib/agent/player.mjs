@@ -2,6 +2,7 @@
 // turn is its own, and writes down what came of it. Between its calls its ordinary reads and writes are noted, as they
 // are seen, and what they have changed is taken before its next call.
 
+import { placeNumber } from "../board/known-places.mjs";
 import { JOIN, LEAVE, MAKE, TIME_UP } from "../board/journal.mjs";
 import { PHASE, WORD } from "../board/layout.mjs";
 import { CALL_NUMBERS, SIZES } from "../../script/kinds.mjs";
@@ -119,13 +120,14 @@ export class Player {
    * Makes a call when it is the agent's turn.
    * @param {Call} call
    * @param {object} view its typed array
+   * @param {Function} called the function of Atomics that the agent's code has called
    * @returns {unknown} what it answers; what it throws, it throws
    */
-  make(call, view) {
+  make(call, view, called) {
     this.#enter();
     this.#stayWithin(call);
-    const source = this.#source();
-    this.table.board.line.become(this.agent, PHASE.ASKS);
+    const source = this.#source(called);
+    this.#ask(call);
     this.#untilTurn();
     this.table.records.begin(this.made, call);
     this.last = call;
@@ -175,6 +177,11 @@ export class Player {
     const flags = (writes ? FLAG.WRITES : FLAG.READS) | (isNew ? 0 : FLAG.AGAIN);
     log.append(what, this.agent, NO_CALL, flags, this.made, place.block, from, to, place, source);
     this.repeats.keep(place, from, to, writes);
+  }
+
+  /** @returns {boolean} whether what is done now is done to learn from alone */
+  isPilot() {
+    return this.table.board.words[WORD.IS_PILOT] === 1;
   }
 
   /** @returns {number} what time it is in the run */
@@ -332,6 +339,14 @@ export class Player {
     if (goesOn !== undefined) this.#end("failed", `agent ${this.agent} ${laterText(goesOn, "an agent")}`);
   }
 
+  /** @param {Call} call that the agent asks for */
+  #ask(call) {
+    const { board } = this.table;
+    const from = isWithin(call) ? placeNumber(call.block, byteOf(call)) : 0;
+    board.strategy.asks(this.agent, from, isWithin(call) ? from + SIZES[call.kind] : 0, flagsAsked(call));
+    board.line.become(this.agent, PHASE.ASKS);
+  }
+
   /** Sleeps until the agent's move was picked. */
   #untilTurn() {
     const { board } = this.table;
@@ -479,9 +494,9 @@ export class Player {
     throw new RunIsOver();
   }
 
-  /** @returns {number} where the agent's code is, where sources are told */
-  #source() {
-    return this.table.board.words[WORD.TELLS_SOURCES] === 1 ? this.table.sources.here() : 0;
+  /** @param {Function} called @returns {number} where the agent's code is, where sources are told */
+  #source(called) {
+    return this.table.board.words[WORD.TELLS_SOURCES] === 1 ? this.table.sources.above(called) : 0;
   }
 
   /**
@@ -516,6 +531,17 @@ export class Player {
  * @param {Call} call
  */
 const isWithin = (call) => call.index >= 0 && call.index < call.length;
+
+/**
+ * What a call may do, as flags, before it is done.
+ * @param {Call} call
+ */
+function flagsAsked(call) {
+  if (call.call === LOAD) return FLAG.READS;
+  if (call.call === STORE) return FLAG.WRITES;
+  if (call.call === NOTIFY) return FLAG.WAITERS;
+  return call.call === WAIT ? FLAG.READS | FLAG.WAITERS : FLAG.READS | FLAG.WRITES;
+}
 
 /**
  * What an access does to its element: whether it reads and writes it.

@@ -140,10 +140,24 @@ export class Sources {
     }
   }
 
+  /**
+   * The same as `here`, where it is known what the agent's code has called: so a single frame is enough as a rule.
+   * @param {Function} called
+   * @returns {number}
+   */
+  above(called) {
+    const frame = framesHere(called, 1)[0];
+    return frame !== undefined && isAgents(frame.getFileName()) ? this.#numberOf(frame) : this.here();
+  }
+
   /** @returns {number} the number of where the agent's code is, or 0 where there is no room for it */
   here() {
     const frame = agentsFrame(here);
-    if (frame === undefined) return UNKNOWN;
+    return frame === undefined ? UNKNOWN : this.#numberOf(frame);
+  }
+
+  /** @param {NodeJS.CallSite} frame */
+  #numberOf(frame) {
     const numbers = this.#numbersOf(frame.getFileName());
     const position = (frame.getLineNumber() ?? 0) * COLUMNS + (frame.getColumnNumber() ?? 0);
     const known = mapGet(numbers, position);

@@ -6,6 +6,7 @@ import { Random } from "../run/random.mjs";
 import { Clock } from "./clock.mjs";
 import { End } from "./end.mjs";
 import { EVENTS, Journal } from "./journal.mjs";
+import { KnownPlaces } from "./known-places.mjs";
 import { ORDER, PHASE, WORD, wordsFor } from "./layout.mjs";
 import { Line } from "./line.mjs";
 import { NOBODY_MOVES, Strategy } from "./strategy.mjs";
@@ -24,6 +25,7 @@ const TEXT_BYTES = 16_384;
  * @property {SharedArrayBuffer} text
  * @property {SharedArrayBuffer} reasons
  * @property {SharedArrayBuffer} times
+ * @property {SharedArrayBuffer} places
  */
 
 export class Board {
@@ -36,6 +38,7 @@ export class Board {
       text: new SharedArrayBuffer(TEXT_BYTES),
       reasons: new SharedArrayBuffer(agents * REASON_BYTES),
       times: Clock.memory(agents),
+      places: KnownPlaces.memory(),
     };
   }
 
@@ -52,19 +55,22 @@ export class Board {
     this.line = new Line(this.words, agents);
     this.journal = new Journal(this.words, new Float64Array(memory.views), agents);
     this.clock = new Clock(memory.times);
-    this.strategy = new Strategy(this.words, rules, new Random(new Int32Array(memory.words, WORD.RANDOM * 4, 4)));
+    this.places = new KnownPlaces(memory.places);
+    const random = new Random(new Int32Array(memory.words, WORD.RANDOM * 4, 4));
+    this.strategy = new Strategy(this.words, rules, random, this.places);
   }
 
   /**
    * Begins a run. No agent may be busy.
    * @param {number} seed
+   * @param {boolean} [isPilot] whether it is made to learn from alone
    */
-  begin(seed) {
+  begin(seed, isPilot = false) {
     this.#prepare(ORDER.PLAY);
     this.line.begin();
     this.journal.begin();
     this.clock.begin(seed);
-    this.strategy.begin(seed);
+    this.strategy.begin(seed, isPilot);
     this.turn.start(this.strategy.nextToStart());
   }
 

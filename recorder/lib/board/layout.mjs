@@ -24,6 +24,8 @@ export const WORD = Object.freeze({
   RANDOM: 16,
   STORES: 20,
   IS_THINNED: 21,
+  STRATEGY: 24,
+  IS_PILOT: 25,
 });
 
 /** Words of each agent; each agent has a line of the processor's cache for itself. */
@@ -38,6 +40,11 @@ export const AGENT_WORD = Object.freeze({
   RETURNED: 7,
   START: 8,
   ORDINARY: 9,
+  ASKS_FROM: 10,
+  ASKS_TO: 11,
+  ASKS_HOW: 12,
+  PRIVATE_CALLS: 13,
+  PRIORITY: 14,
 });
 
 const AGENTS = 32;

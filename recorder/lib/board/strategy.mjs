@@ -1,41 +1,74 @@
 // Who moves next, drawn from the seed's row among the agents that can: those that ask for a call or were woken, and now
 // and then one whose wait has a timeout, which ends it. Where nothing else can move, the end of a time is what is left.
+// How it is drawn is a strategy's affair. A call that is nobody else's affair is made without a draw.
 
 import { AGENT_WORD, PHASE, WORD, wordOf } from "./layout.mjs";
 import { MOST_MOVES } from "./journal.mjs";
-
-const { Int32Array } = globalThis;
+import { Able } from "./strategy/able.mjs";
+import { Asked } from "./strategy/asked.mjs";
+import { PartialOrder } from "./strategy/partial-order.mjs";
+import { Switching } from "./strategy/switching.mjs";
+import { Uniform } from "./strategy/uniform.mjs";
+import { PILOT_WAYS } from "./strategy/ways.mjs";
 
 /**
  * @typedef {object} Rules what stays the same in all runs of a group
  * @property {number} agents how many
- * @property {number} [switching] how likely it is that another agent moves next
+ * @property {readonly Way[]} ways how runs are drawn: a run by the one at its seed modulo how many there are
  * @property {number} timeouts in how many draws the end of a timed wait is offered while something else can move
  * @property {number} maxMoves
  */
 
+/** @typedef {import("./strategy/ways.mjs").Way} Way */
+/** @typedef {Uniform | Switching | PartialOrder} Drawing */
+
 /** What `next` answers where nobody moves any more. */
 export const NOBODY_MOVES = -1;
+
+// A pilot that is long shows little more.
+const MOST_PILOT_MOVES = 10_000;
 
 export class Strategy {
   /**
    * @param {Int32Array} words of the board
    * @param {Rules} rules
    * @param {import("../run/random.mjs").Random} random
+   * @param {import("./known-places.mjs").KnownPlaces} places
    */
-  constructor(words, rules, random) {
+  constructor(words, rules, random, places) {
     this.words = words;
     this.rules = rules;
     this.random = random;
-    this.able = new Int32Array(rules.agents);
-    this.count = 0;
+    this.able = new Able(rules.agents);
+    this.asked = new Asked(words, places);
+    this.ways = this.#made(rules.ways);
+    this.pilotWays = this.#made(PILOT_WAYS);
   }
 
-  /** @param {number} seed */
-  begin(seed) {
-    this.words[WORD.LAST] = NOBODY_MOVES;
-    this.words[WORD.STARTED] = 0;
+  /**
+   * @param {number} seed
+   * @param {boolean} [isPilot]
+   */
+  begin(seed, isPilot = false) {
+    const { words } = this;
+    words[WORD.LAST] = NOBODY_MOVES;
+    words[WORD.STARTED] = 0;
+    words[WORD.IS_PILOT] = isPilot ? 1 : 0;
+    words[WORD.STRATEGY] = seed % (isPilot ? this.pilotWays : this.ways).length;
     this.random.seed(seed);
+    this.#way().drawing.begin();
+    for (let agent = 0; agent < this.rules.agents; agent += 1) this.asked.begin(agent);
+  }
+
+  /**
+   * An agent asks for a call: it is known what it will touch before it is drawn.
+   * @param {number} agent
+   * @param {number} from the first place
+   * @param {number} to the place behind the last one; where the call touches nothing, both are 0
+   * @param {number} how the call's flags, as in the log
+   */
+  asks(agent, from, to, how) {
+    this.asked.note(agent, from, to, how, this.#way().everywhere);
   }
 
   /** @returns {number} the next agent that hasn't been started, or `NOBODY_MOVES` */
@@ -48,15 +81,21 @@ export class Strategy {
 
   /** @returns {number} who moves next, or `NOBODY_MOVES` where nobody can */
   next() {
-    this.#gather();
-    if (this.count === 0) return NOBODY_MOVES;
-    this.words[WORD.LAST] = this.#chosen();
-    return this.words[WORD.LAST];
+    const { words, able } = this;
+    const last = words[WORD.LAST];
+    if (last >= 0 && this.#goesOn(last)) return last;
+    const sure = this.#gather();
+    if (able.count === 0) return NOBODY_MOVES;
+    words[WORD.LAST] = sure >= 0 ? sure : this.#way().drawing.drawn(able, last);
+    return words[WORD.LAST];
   }
 
   /** @returns {boolean} whether there are moves left for whatever is done next */
   hasMoves() {
-    return this.words[WORD.MOVES] + MOST_MOVES <= this.rules.maxMoves;
+    const { words } = this;
+    const { maxMoves } = this.rules;
+    const most = words[WORD.IS_PILOT] === 1 && maxMoves > MOST_PILOT_MOVES ? MOST_PILOT_MOVES : maxMoves;
+    return words[WORD.MOVES] + MOST_MOVES <= most;
   }
 
   /** @returns {number} the agent that moved last, or -1 */
@@ -64,43 +103,54 @@ export class Strategy {
     return this.words[WORD.LAST];
   }
 
-  /** Gathers the agents that can move. */
-  #gather() {
-    this.count = 0;
-    let timed = 0;
-    for (let agent = 0; agent < this.rules.agents; agent += 1) {
-      const phase = this.words[wordOf(agent, AGENT_WORD.AT)];
-      if (phase === PHASE.ASKS || phase === PHASE.WOKEN) this.#add(agent);
-      else if (phase === PHASE.WAITS_TIMED) timed += 1;
+  #way() {
+    const ways = this.words[WORD.IS_PILOT] === 1 ? this.pilotWays : this.ways;
+    return ways[this.words[WORD.STRATEGY]];
+  }
+
+  /**
+   * @param {readonly Way[]} ways
+   * @returns {{ drawing: Drawing, everywhere: boolean }[]}
+   */
+  #made(ways) {
+    const made = [];
+    for (let at = 0; at < ways.length; at += 1) {
+      made[at] = { drawing: this.#drawing(ways[at]), everywhere: ways[at].everywhere };
     }
-    if (timed === 0 || (this.count > 0 && this.random.fraction() >= this.rules.timeouts)) return;
-    for (let agent = 0; agent < this.rules.agents; agent += 1) {
-      if (this.words[wordOf(agent, AGENT_WORD.AT)] === PHASE.WAITS_TIMED) this.#add(agent);
-    }
+    return made;
+  }
+
+  /** @param {Way} way @returns {Drawing} */
+  #drawing({ name, likelihood }) {
+    if (name === "uniform") return new Uniform(this.random);
+    if (name === "switch") return new Switching(this.random, likelihood);
+    return new PartialOrder(this.words, this.random, this.asked, this.rules.agents);
   }
 
   /** @param {number} agent */
-  #add(agent) {
-    this.able[this.count] = agent;
-    this.count += 1;
+  #goesOn(agent) {
+    return this.words[wordOf(agent, AGENT_WORD.AT)] === PHASE.ASKS && this.asked.goesOn(agent);
   }
 
-  /** One of those that can move, of which there is one at least. */
-  #chosen() {
-    const { able, count, random } = this;
-    const { switching } = this.rules;
-    const last = this.#place(this.lastMoved());
-    if (switching === undefined || last < 0) return able[random.below(count)];
-    if (count === 1 || random.fraction() >= switching) return able[last];
-    const other = random.below(count - 1);
-    return able[other < last ? other : other + 1];
-  }
-
-  /** @param {number} agent @returns {number} where it stands among those that can move, or -1 */
-  #place(agent) {
-    for (let at = 0; at < this.count; at += 1) {
-      if (this.able[at] === agent) return at;
+  /**
+   * Gathers the agents that can move.
+   * @returns {number} one of them whose call is nobody else's affair, or -1
+   */
+  #gather() {
+    const { able } = this;
+    able.clear();
+    let timed = 0;
+    for (let agent = 0; agent < this.rules.agents; agent += 1) {
+      const phase = this.words[wordOf(agent, AGENT_WORD.AT)];
+      if (phase === PHASE.WAITS_TIMED) timed += 1;
+      if (phase !== PHASE.ASKS && phase !== PHASE.WOKEN) continue;
+      able.add(agent);
+      if (this.#goesOn(agent)) return agent;
     }
-    return -1;
+    if (timed === 0 || (able.count > 0 && this.random.fraction() >= this.rules.timeouts)) return NOBODY_MOVES;
+    for (let agent = 0; agent < this.rules.agents; agent += 1) {
+      if (this.words[wordOf(agent, AGENT_WORD.AT)] === PHASE.WAITS_TIMED) able.add(agent);
+    }
+    return NOBODY_MOVES;
   }
 }

@@ -138,9 +138,11 @@ export class Turn {
   /**
    * Waits for the end of the run. An agent that makes no call for too long ends it too.
    * @param {number} seconds
+   * @returns {boolean} whether it came to that
    */
   awaitEnd(seconds) {
     const { words } = this;
+    let isSilent = false;
     let ticks = load(words, WORD.TICKS);
     let since = performance.now();
     while (!this.end.hasEnded()) {
@@ -150,9 +152,11 @@ export class Turn {
         ticks = load(words, WORD.TICKS);
         since = now;
       } else if (now - since >= seconds * 1_000) {
+        isSilent = true;
         this.#endSilent(seconds);
       }
     }
+    return isSilent;
   }
 
   // The main thread's part: workers come and go.

@@ -24,11 +24,11 @@ import { Refused } from "../run/plan.mjs";
  * @returns {Asked}
  */
 export function askedOf(options, url, preloads) {
-  const { module, asked, shard = null, args, agents, buffers, noBlock, switching, timeouts, maxMoves } = options;
-  const { ordinary, races, bounds, clock, seconds, fresh, failFast, checkEvery } = options;
+  const { module, asked, shard = null, args, agents, buffers, noBlock, strategy, everywhere, maxMoves } = options;
+  const { timeouts, ordinary, races, bounds, clock, seconds, fresh, failFast, untilCovered, checkEvery } = options;
   const given = {
-    args, agents, buffers, noBlock, switch: switching, timeouts, ordinary, races, bounds, clock, maxMoves, seconds,
-    fresh, failFast, check: checkEvery, preloads,
+    args, agents, buffers, noBlock, strategy, everywhere, timeouts, ordinary, races, bounds, clock, maxMoves, seconds,
+    fresh, failFast, untilCovered, check: checkEvery, preloads,
   };
   const written = Object.entries(given).map(([name, value]) => [name, value ?? null]);
   return { module, digest: digestOf(module, url), seeds: [asked], shard, options: Object.fromEntries(written) };

@@ -3,7 +3,8 @@
 import { parseArgs } from "node:util";
 import { DEFAULT_CHECK_EVERY, DEFAULT_SECONDS, MOST_JOBS, SCRIPT_LIMITS } from "../../script/limits.mjs";
 import { nearest } from "../nearest.mjs";
-import { checkedAgents, checkedBuffers, checkedChoice, DEFAULT_TIMEOUTS, Refused } from "../run/plan.mjs";
+import { DEFAULT_TIMEOUTS, Refused } from "../run/plan.mjs";
+import { checkedAgents, checkedBuffers, checkedChoice, checkedStrategy } from "../run/plan.mjs";
 import { countOf, shardOf } from "../seeds/ranges.mjs";
 import { checkedFormat } from "./formats.mjs";
 import { counted } from "./words.mjs";
@@ -18,7 +19,11 @@ Runs the agents of a module under seeded schedules, and keeps the first run that
                   \`setup\` says it
   --seeds A..B    the seeds, or one seed (1..100)
   --shard K/N     of these seeds the K-th of N parts alone, as for one of N machines: merge.mjs joins their summaries
-  --switch P      how likely it is, from 0 to 1, that another agent moves next; else all moves are alike
+  --strategy HOW  who moves next: uniform (all that can are alike), switch:P (how likely it is, from 0 to 1, that
+                  another agent moves next), partial-order (by random priorities) or mixed (by the seed one of such)
+                  (mixed)
+  --switch P      the same as --strategy switch:P
+  --everywhere    agents are switched before each call, also where pilot runs have shown that no other agent goes
   --timeouts P    in how many of the draws, from 0 to 1, the end of a timed wait is offered while something else can
                   move (${DEFAULT_TIMEOUTS})
   --ordinary HOW  reads and writes without Atomics: watch (each is seen, and data races are looked for), store (only
@@ -27,6 +32,7 @@ Runs the agents of a module under seeded schedules, and keeps the first run that
   --bounds HOW    fail: a run that meets a bound, as a spin does, fails; allow: it is told only (fail)
   --clock WHICH   the time that clocks tell agents: run (the run's own, which comes from the seed) or real (run)
   --fail-fast     ends at the first failing run
+  --until-covered ends when 500 seeds in a row have shown no new pair of lines that came one after the other at a place
   --format FORM   how the summary is told: plain, or json, which is one line (plain)
   --out DIR       where the first failing run's script and report are kept; nothing is written without it
   --jobs N        how many groups of workers run side by side (1)
@@ -50,7 +56,9 @@ const SHAPE = {
   "no-block": { type: "string", multiple: true },
   seeds: { type: "string" },
   shard: { type: "string" },
+  strategy: { type: "string" },
   switch: { type: "string" },
+  everywhere: { type: "boolean" },
   timeouts: { type: "string" },
   ordinary: { type: "string" },
   races: { type: "string" },
@@ -58,6 +66,7 @@ const SHAPE = {
   clock: { type: "string" },
   "fail-fast": { type: "boolean" },
   format: { type: "string" },
+  "until-covered": { type: "boolean" },
   out: { type: "string" },
   jobs: { type: "string" },
   fresh: { type: "boolean" },
@@ -68,6 +77,8 @@ const SHAPE = {
   help: { type: "boolean" },
 };
 
+const SEEDS_UNTIL_COVERED = "1..1000000";
+const STRATEGY_NAMES = { strategy: "--strategy", switching: "--switch" };
 const LEAST_SECONDS = 0.001;
 const MOST_SECONDS = 3_600;
 
@@ -165,7 +176,7 @@ export function optionsOf(words) {
     args: end < 0 ? [] : words.slice(end + 1),
     ...groupOf(values),
     ...rulesOf(values),
-    ...shardFrom(seedsOf(values.seeds ?? "1..100"), values.shard),
+    ...shardFrom(seedsOf(values.seeds ?? (values["until-covered"] ? SEEDS_UNTIL_COVERED : "1..100")), values.shard),
     ...workOf(values),
   };
 }
@@ -190,10 +201,15 @@ function groupOf({ agents, buffers, "no-block": noBlock }) {
  * What holds in a run.
  * @param {Record<string, any>} values by option
  */
-function rulesOf({ switch: switching, timeouts, ordinary, races, bounds, clock, "max-moves": maxMoves, seconds }) {
+function rulesOf(values) {
+  const { strategy, switch: switching, everywhere = false, timeouts, "max-moves": maxMoves, seconds } = values;
+  const { ordinary, races, bounds, clock } = values;
   const most = SCRIPT_LIMITS.moves;
   return {
-    switching: switching === undefined ? undefined : decimal(switching, "switch", 0, 1),
+    strategy: checkedStrategy(
+      strategy, switching === undefined ? undefined : decimal(switching, "switch", 0, 1), STRATEGY_NAMES,
+    ),
+    everywhere,
     timeouts: timeouts === undefined ? DEFAULT_TIMEOUTS : decimal(timeouts, "timeouts", 0, 1),
     ordinary: checkedChoice("ordinary", ordinary, "--ordinary"),
     races: checkedChoice("races", races, "--races"),
@@ -208,7 +224,9 @@ function rulesOf({ switch: switching, timeouts, ordinary, races, bounds, clock, 
  * How the runs are made, checked and kept.
  * @param {Record<string, any>} values by option
  */
-function workOf({ format, out, jobs, fresh = false, "fail-fast": failFast = false, sabsim, check: every }) {
+function workOf(values) {
+  const { format, out, jobs, fresh = false, sabsim, check: every } = values;
+  const { "fail-fast": failFast = false, "until-covered": untilCovered = false } = values;
   if (out === "") throw new Refused("--out must name a folder");
   return {
     format: checkedFormat(format),
@@ -216,6 +234,7 @@ function workOf({ format, out, jobs, fresh = false, "fail-fast": failFast = fals
     jobs: jobs === undefined ? 1 : whole(jobs, "jobs", 1, MOST_JOBS),
     fresh,
     failFast,
+    untilCovered,
     sabsim,
     checkEvery: every === undefined ? DEFAULT_CHECK_EVERY : whole(every, "check", 0, Number.MAX_SAFE_INTEGER),
     isSabsimAsked: every !== undefined,

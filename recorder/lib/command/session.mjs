@@ -2,6 +2,7 @@
 
 import { resolve } from "node:path";
 import { Difference, sabsimFor, sabsimPlaces, versionOf } from "../check/sabsim.mjs";
+import { Coverage } from "../seeds/coverage.mjs";
 import { preloads } from "../seeds/node-words.mjs";
 import { recordSeeds } from "../seeds/seeds.mjs";
 import { askedOf } from "./asked.mjs";
@@ -31,11 +32,13 @@ export class Session {
     const every = this.sabsim === undefined ? 0 : checkEvery;
     this.options = { ...options, module, checkEvery: every, sabsim: this.sabsim, origin: options.asked.first };
     this.wanted = options.last - options.first + 1;
+    this.coverage = options.untilCovered ? new Coverage() : undefined;
     this.keeper = options.out === undefined ? undefined : new Keeper(options.out);
     this.summary = new Summary({
       ordinary: options.ordinary, races: options.races, checks: this.sabsim !== undefined,
       missing: checkEvery > 0 && this.sabsim === undefined ? sabsimPlaces() : undefined,
       preloads: isPreloaded,
+      coverage: this.coverage,
     });
     /** @type {string[]} what isn't kept though there is a script to make it from, and why */
     this.leftOut = [];
@@ -75,7 +78,8 @@ export class Session {
       if (outcome.fails) this.keeper?.keepLowest(outcome);
     };
     const onCheck = () => this.summary.addCheck();
-    await recordSeeds(this.options, onOutcome, { onCheck, signal: this.interruption.signal });
+    const { coverage, interruption: { signal } } = this;
+    await recordSeeds(this.options, onOutcome, { onCheck, signal, coverage });
   }
 
   /**

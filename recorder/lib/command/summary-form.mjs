@@ -73,6 +73,7 @@ const MEMBERS = object({
     missing: orNull(object({ places: texts, runs: whole })),
   }),
   scripts: object({ parts: whole, none: listed({ why: text }) }),
+  coverage: orNull(object({ pairs: texts, last: orNull(whole), row: orNull(whole), covered: flag })),
   calls: whole,
   accesses: orNull(whole),
   unseen: texts,

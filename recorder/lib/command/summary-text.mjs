@@ -23,7 +23,8 @@ export function summaryText(summary) {
   if (stopped !== null) lines.push(`${stopped.why} after ${digits(runs)} of ${counted(stopped.wanted, "run")}`);
   if (runs > 0) {
     lines.push(endingLine(summary), ...failingLines(summary), ...raceLines(summary), ...stateLines(summary));
-    lines.push(...checkLines(summary), ...scriptLines(summary), accessLine(summary), ...unseen);
+    lines.push(...coverageLines(summary), ...checkLines(summary), ...scriptLines(summary), accessLine(summary));
+    lines.push(...unseen);
   }
   if (kept !== null) lines.push(`kept in ${kept.folder}: ${kept.files.join(", ")}`);
   return [...lines, ...notKept].map((line) => `${line}\n`).join("");
@@ -73,6 +74,16 @@ function stateLines({ states: { failing, passing } }) {
   const others = failing.others + passing.others;
   const many = countedOf(failing.listed.length + passed.length, "final state", others);
   return [`${many}: how it ended, and the bytes`, ...lines.map(indented), ...othersLines(others)];
+}
+
+/** @param {Told} summary */
+function coverageLines({ coverage }) {
+  if (coverage === null) return [];
+  const { pairs, last, row, covered } = coverage;
+  const seen = `${counted(pairs.length, "pair")} of lines came one after the other at a place, by different agents`;
+  const newest = last === null ? "" : `the last new one in seed ${last}, `;
+  const since = row === null ? "" : `none in ${counted(row, "seed")} since: `;
+  return [seen, indented(`${newest}${since}${covered ? "" : "not "}covered`)];
 }
 
 /** @param {Told} summary */

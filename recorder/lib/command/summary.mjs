@@ -1,6 +1,7 @@
 // What is told of many runs. It doesn't depend on the order in which their outcomes come, nor on how they were shared
 // out. Of the runs little is kept, so that there can be any number of them; the first failing one alone is kept whole.
 
+import { Coverage } from "../seeds/coverage.mjs";
 import { summaryText } from "./summary-text.mjs";
 import { Tally } from "./tally.mjs";
 
@@ -15,6 +16,8 @@ import { Tally } from "./tally.mjs";
  * @property {boolean} checks whether runs are checked
  * @property {string[]} [missing] where sabsim was looked for, where it isn't there and so nothing is checked
  * @property {boolean} [preloads] whether node's own words load code before the recorder
+ * @property {import("../seeds/coverage.mjs").Coverage} [coverage] which pairs of lines the runs have shown, where that
+ * is looked for
  */
 
 /**
@@ -49,6 +52,7 @@ import { Tally } from "./tally.mjs";
  * @property {Record<"failing" | "passing", Listed<{ ending: string, hash: string, shown: string[] }>>} states
  * @property {CheckedBy} sabsim
  * @property {{ parts: number, none: Listed<{ why: string }> }} scripts
+ * @property {import("../seeds/coverage.mjs").Covered | null} coverage null: it wasn't looked for
  * @property {number} calls
  * @property {number | null} accesses null: they weren't seen
  * @property {string[]} unseen
@@ -89,8 +93,9 @@ const BOTH = ["failing", "passing"];
 
 export class Summary {
   /** @param {SummaryOptions} options */
-  constructor({ ordinary, races, checks, missing, preloads = false }) {
+  constructor({ ordinary, races, checks, missing, preloads = false, coverage }) {
     this.ordinary = ordinary;
+    this.coverage = coverage;
     this.preloads = preloads;
     this.races = races;
     this.checks = checks;
@@ -164,6 +169,7 @@ export class Summary {
     const { parts, none } = told.scripts;
     this.parts += parts;
     this.scriptless.join(none.listed.map(({ why, ...entry }) => ({ ...entry, ...of(why) })), none.others);
+    if (told.coverage !== null) this.coverage = Coverage.joined(this.coverage, told.coverage);
     if (firstFailing !== null) this.#addFailing(failingOf(firstFailing));
   }
 
@@ -188,6 +194,7 @@ export class Summary {
       states: { failing: statesTold(this.states.failing), passing: statesTold(this.states.passing) },
       sabsim: this.#checksTold(),
       scripts: { parts: this.parts, none: listedOf(this.scriptless, (why) => ({ why })) },
+      coverage: this.coverage?.told() ?? null,
       calls: this.calls,
       accesses: this.ordinary === "watch" ? this.accesses : null,
       unseen: this.preloads ? [...UNSEEN[this.ordinary], UNSEEN_BEFORE] : UNSEEN[this.ordinary],

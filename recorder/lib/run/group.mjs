@@ -3,6 +3,7 @@
 import { foundBy, leftOpen } from "../agent/answer.mjs";
 import { Sources } from "../agent/sources.mjs";
 import { Board } from "../board/board.mjs";
+import { waysOf } from "../board/strategy/ways.mjs";
 import { SCRIPT_LIMITS } from "../../script/limits.mjs";
 import { Log } from "./log.mjs";
 import { DEFAULTS, needsRightNames, planOf, Refused } from "./plan.mjs";
@@ -37,6 +38,12 @@ import { Thread } from "./thread.mjs";
  */
 
 /**
+ * @typedef {object} Covering what an outcome tells besides, where coverage is looked for
+ * @property {string[]} [meetings] pairs of lines that came one after the other at a place, by different agents; those
+ * that this group's runs before haven't shown
+ */
+
+/**
  * @typedef {object} Wanted
  * @property {number} seed
  * @property {boolean} whole whether answers, script and report are told even of a run that finishes
@@ -58,7 +65,8 @@ import { Thread } from "./thread.mjs";
  * @property {number} [agents] how many
  * @property {number[]} [buffers] their bytes
  * @property {number[]} [noBlock] agents that can't block
- * @property {number} [switching]
+ * @property {string} [strategy] how it is drawn who moves next: a word that `checkedStrategy` answers
+ * @property {boolean} [everywhere] whether agents are switched before each call, also where none can meet another
  * @property {number} [timeouts] in how many draws the end of a timed wait is offered while something else can move
  * @property {number} maxMoves
  * @property {number} seconds for how long an agent may make no call
@@ -68,6 +76,7 @@ import { Thread } from "./thread.mjs";
  * @property {"fail" | "allow"} [bounds] whether a run that meets a bound fails
  * @property {"run" | "real"} [clock] which time agents are told
  * @property {boolean} [trace] whether each run's trace is told
+ * @property {boolean} [tellsMeetings] whether the lines are told that came one after the other at a place
  * @property {OfBuffers} [init] fills the buffers before each run, in place of the module's
  * @property {OfBuffers} [check] throws where the buffers aren't right after a run that finished, in place of the
  * module's
@@ -165,9 +174,23 @@ export class Group {
    * @param {Wanted[]} seeds
    * @param {(outcome: Outcome, judgement?: Judgement) => void} onOutcome
    */
-  async run(seeds, onOutcome) {
+  run(seeds, onOutcome) {
+    return this.#work({ seeds }, onOutcome);
+  }
+
+  /** Ends all workers. */
+  async close() {
+    await Promise.all([this.referee, ...this.agents].map((thread) => thread?.stop()));
+  }
+
+  /**
+   * Has the referee do something, and does what it asks for meanwhile.
+   * @param {{ seeds: Wanted[] } | { learns: true }} work
+   * @param {(outcome: Outcome, judgement?: Judgement) => void} onOutcome
+   */
+  async #work(work, onOutcome) {
     const referee = started(this.referee);
-    referee.post({ seeds });
+    referee.post(work);
     for (;;) {
       const { message, ended } = await referee.next();
       if (ended !== undefined) throw new Error(`the referee's worker failed: ${ended}`);
@@ -181,17 +204,12 @@ export class Group {
     }
   }
 
-  /** Ends all workers. */
-  async close() {
-    await Promise.all([this.referee, ...this.agents].map((thread) => thread?.stop()));
-  }
-
   async #start() {
     const told = await this.#load(0);
     needsRightNames(told.names);
     this.plan = planOf(this.options, told.setup);
-    const { switching, timeouts, maxMoves } = this.options;
-    this.rules = { agents: this.plan.agents, switching, timeouts, maxMoves };
+    const { strategy, everywhere, timeouts, maxMoves } = this.options;
+    this.rules = { agents: this.plan.agents, ways: waysOf(strategy, everywhere), timeouts, maxMoves };
     const options = this.#refereeOptions(told);
     if (options.init !== undefined && this.plan.agents === SCRIPT_LIMITS.agents) {
       throw new Refused(`with ${SCRIPT_LIMITS.agents} agents none is left for the stores of \`init\`: give one less`);
@@ -203,6 +221,8 @@ export class Group {
     const others = Array.from({ length: this.plan.agents - 1 }, (_, other) => other + 1);
     await Promise.all(others.map((agent) => this.#load(agent)));
     await Promise.all(this.agents.map((_, agent) => this.#hand(agent)));
+    // A single agent meets nobody.
+    if (!everywhere && this.plan.agents > 1) await this.#work({ learns: true }, () => {});
   }
 
   /**
@@ -210,14 +230,14 @@ export class Group {
    * @param {{ hasInit: boolean, hasCheck: boolean }} module
    */
   #refereeOptions({ hasInit, hasCheck }) {
-    const { module, seconds, fresh, init, check, trace, ordinary, races, bounds } = this.options;
+    const { module, seconds, fresh, init, check, trace, tellsMeetings, ordinary, races, bounds } = this.options;
     /** @type {(own: OfBuffers | undefined, isTheirs: boolean) => "library" | "module" | undefined} */
     const whose = (own, isTheirs) => {
       if (own !== undefined) return "library";
       return isTheirs ? "module" : undefined;
     };
     const asked = { init: whose(init, hasInit), check: whose(check, hasCheck) };
-    return { module, seconds, fresh, trace, ordinary, races, bounds, ...asked };
+    return { module, seconds, fresh, trace, tellsMeetings, ordinary, races, bounds, ...asked };
   }
 
   /**

@@ -2,6 +2,7 @@
 // leave something open from the export `setup` of the agents' module. And what can be chosen for it by a word.
 
 import { SCRIPT_LIMITS } from "../../script/limits.mjs";
+import { PLAIN, SWITCH } from "../board/strategy/ways.mjs";
 import { meant, slipOf } from "../nearest.mjs";
 
 /** What was asked for can't be: a sentence says why. The command line answers it with status 2. */
@@ -41,6 +42,8 @@ export const DEFAULTS = Object.freeze({
   bounds: CHOICES.bounds[0],
   clock: CHOICES.clock[0],
   timeouts: DEFAULT_TIMEOUTS,
+  strategy: "mixed",
+  everywhere: false,
   trace: false,
 });
 
@@ -71,6 +74,24 @@ export function checkedChoice(option, value, name) {
   const others = words.slice(0, -1).join(", ");
   const given = typeof value === "string" ? `, but is "${value}"` : "";
   throw new Refused(`${name} must be ${others} or ${words.at(-1)}${given}`);
+}
+
+/**
+ * @param {unknown} strategy a word; undefined: it wasn't given
+ * @param {unknown} switching how likely it is that another agent moves next, which is a strategy too; or undefined
+ * @param {{ strategy: string, switching: string }} names of the two, as who gives them writes them
+ * @returns {string}
+ */
+export function checkedStrategy(strategy, switching, names) {
+  if (strategy === undefined) return switching === undefined ? DEFAULTS.strategy : `${SWITCH}${switching}`;
+  if (switching !== undefined) {
+    throw new Refused(`${names.strategy} and ${names.switching} both say who moves next: give one of them`);
+  }
+  const text = typeof strategy === "string" ? strategy : "";
+  const likelihood = Number(/^switch:([0-9]+(?:\.[0-9]+)?)$/.exec(text)?.[1] ?? NaN);
+  if (PLAIN.includes(text) || (likelihood >= 0 && likelihood <= 1)) return text;
+  const given = typeof strategy === "string" ? `, but is "${text}"` : "";
+  throw new Refused(`${names.strategy} must be ${PLAIN.join(", ")} or switch:P, with P from 0 to 1${given}`);
 }
 
 /**

@@ -12,7 +12,9 @@ import { racesTold } from "./findings.mjs";
 import { fitted } from "./fitting.mjs";
 import { initialStores } from "./initial.mjs";
 import { Log } from "./log.mjs";
+import { Meetings } from "./meetings.mjs";
 import { Memory } from "./memory.mjs";
+import { PILOTS, PILOT_SECONDS, Pilots } from "./pilots.mjs";
 import { sourceName, withSourceNames } from "./places.mjs";
 import { isRacy } from "./races.mjs";
 import { Records } from "./records.mjs";
@@ -40,6 +42,7 @@ import { ownCalls, transcriptOf, waitingText } from "./transcript.mjs";
  * @property {number} seconds for how long an agent may make no call
  * @property {boolean} fresh
  * @property {boolean} trace
+ * @property {boolean} [tellsMeetings]
  * @property {"watch" | "store" | "refuse"} ordinary
  * @property {"fail" | "allow"} races
  * @property {"fail" | "allow"} bounds
@@ -71,8 +74,11 @@ const sources = shared.sources.map((each) => new Sources(each));
 const agents = plan.canBlock.map((_, agent) => agent);
 const run = { log, records, lengths: plan.buffers, canBlock: plan.canBlock };
 
+const meetings = options.tellsMeetings ? new Meetings(options.module) : undefined;
+const tellsAlways = options.trace || meetings !== undefined;
+
 /** Whether the next run tells its lines of code at once: where the one before raced, it may well. */
-let tellsNext = options.trace;
+let tellsNext = tellsAlways;
 /** Whether the trace of a failing run was made already, or tried: a later seed's isn't kept. */
 let isTraced = false;
 
@@ -111,6 +117,14 @@ function sentHome() {
   return agents.filter((agent) => !board.turn.isBack(agent, GRACE_MILLISECONDS));
 }
 
+/** Leaves nothing of an earlier run. */
+function cleared() {
+  memory.reset();
+  log.begin();
+  stores.begin();
+  board.journal.begin();
+}
+
 /**
  * One run, by a seed.
  * @param {number} seed
@@ -118,10 +132,7 @@ function sentHome() {
  * @returns {Promise<Made>}
  */
 async function made(seed, tellsSources) {
-  memory.reset();
-  log.begin();
-  stores.begin();
-  board.journal.begin();
+  cleared();
   const problem = options.init === undefined ? "" : await asked("init");
   const initial = options.init === undefined ? [] : initialStores(memory, plan.agents);
   if (problem !== "") {
@@ -145,6 +156,9 @@ const whoWaits = () => board.line.waiting().map((agent) => ({ agent, ...board.li
 
 /** How many calls of Atomics were begun. */
 const callCount = () => agents.reduce((sum, agent) => sum + board.journal.progress(agent).calls, 0);
+
+/** How many ordinary reads and writes were seen. */
+const accessCount = () => agents.reduce((sum, agent) => sum + board.journal.ordinary(agent), 0);
 
 /**
  * How a run ends, with what is known when its agents are home.
@@ -201,7 +215,7 @@ function briefly(seed, found) {
     detail: found.detail,
     moves: board.journal.moves(),
     calls: callCount(),
-    ordinary: agents.reduce((sum, agent) => sum + board.journal.ordinary(agent), 0),
+    ordinary: accessCount(),
     progress: agents.map((agent) => board.journal.progress(agent)),
     state: stateOf(found),
     races: [],
@@ -314,6 +328,7 @@ function judgementOf({ script }, { racy }) {
 async function outcomeOf({ seed, whole }) {
   let hasSources = tellsNext;
   let found = await made(seed, hasSources);
+  const pairs = meetings?.add(log, sources);
   const isCut = hasSources && !log.hasRoom();
   if (isCut) {
     // Not all accesses have told their lines: this is judged by a run that keeps each of them once.
@@ -328,13 +343,50 @@ async function outcomeOf({ seed, whole }) {
   const judgement = judgementOf(outcome, found);
   await replaced(options.fresh ? agents : found.gone);
   await addSources(outcome, found, hasSources);
+  /** @type {import("./group.mjs").Covering} */
+  const covering = pairs === undefined ? {} : { meetings: pairs };
+  Object.assign(outcome, covering);
   if (outcome.ending === "race") outcome.detail = outcome.races.map(({ text }) => text).join("\n");
-  tellsNext = options.trace || (found.racy && !isCut);
+  tellsNext = tellsAlways || (found.racy && !isCut);
   return { outcome, judgement };
 }
 
-/** @param {{ seeds: import("./group.mjs").Wanted[] }} work */
-async function record({ seeds }) {
+/**
+ * Makes a pilot: a run of which nothing is told.
+ * @param {number} seed
+ * @returns {Promise<boolean>} whether all is seen that the agents did
+ */
+async function flown(seed) {
+  cleared();
+  board.words[WORD.IS_PILOT] = 1;
+  if (options.init !== undefined && (await asked("init")) !== "") return false;
+  board.words[WORD.TELLS_SOURCES] = 0;
+  board.begin(seed, true);
+  const isSilent = board.turn.awaitEnd(Math.min(options.seconds, PILOT_SECONDS));
+  await replaced(sentHome());
+  // Where ordinary reads aren't seen, it isn't known what an agent does between its calls.
+  const isHidden = options.ordinary !== "watch" && board.words[WORD.STORES] > 0;
+  return !isSilent && !isHidden;
+}
+
+/** Learns by pilots where agents meet. The agents have other workers afterwards: no module keeps anything of pilots. */
+async function learn() {
+  const pilots = new Pilots(plan.agents);
+  let isSeen = true;
+  let isLong = false;
+  for (let seed = 0; seed < PILOTS && isSeen && !isLong; seed += 1) {
+    isSeen = await flown(seed);
+    pilots.add(log);
+    isLong = Pilots.isLong(log, accessCount());
+  }
+  board.words[WORD.IS_PILOT] = 0;
+  if (isSeen) pilots.tell(board.places);
+  await replaced(agents);
+}
+
+/** @param {{ seeds?: import("./group.mjs").Wanted[], learns?: boolean }} work */
+async function record({ seeds = [], learns = false }) {
+  if (learns) await learn();
   for (const wanted of seeds) port.postMessage(await outcomeOf(wanted));
   port.once("message", record);
   port.postMessage({ finished: true });

@@ -1,4 +1,4 @@
-// Outcomes in the order of their seeds, up to the first one that fails: they are the same whatever the number of jobs,
+// Outcomes in the order of their seeds, up to the one that is the last: they are the same whatever the number of jobs,
 // though jobs are at work on later seeds by then.
 
 /** @typedef {import("../run/group.mjs").Outcome} Outcome */
@@ -6,25 +6,35 @@
 export class InOrder {
   /**
    * @param {number} first seed
+   * @param {(outcome: Outcome) => boolean} isLast is asked of each outcome in the order of the seeds
    * @param {(outcome: Outcome) => void} onOutcome
    * @param {(seed: number) => void} onCheck
    */
-  constructor(first, onOutcome, onCheck) {
+  constructor(first, isLast, onOutcome, onCheck) {
     this.next = first;
+    this.isLast = isLast;
     this.onOutcome = onOutcome;
     this.onCheck = onCheck;
-    /** @type {Map<number, Outcome>} outcomes that came before those of lower seeds */
+    /** @type {Map<number, Outcome | undefined>} outcomes that came too early; undefined: it is lost */
     this.early = new Map();
     /** @type {Set<number>} the seeds of such runs that were checked */
     this.checked = new Set();
     /** The seed of the last outcome that is told. */
     this.last = Infinity;
+    /** The least seed of the failing runs that came. */
+    this.failing = Infinity;
   }
 
   /** @param {Outcome} outcome */
   add(outcome) {
-    this.early.set(outcome.seed, outcome);
-    while (this.early.has(this.next)) this.#tell(this.next);
+    this.early.set(outcome.seed, outcome.fails ? this.#lightened(outcome) : outcome);
+    this.#go();
+  }
+
+  /** @param {number} seed whose outcome will never come */
+  lose(seed) {
+    this.early.set(seed, undefined);
+    this.#go();
   }
 
   /** @param {number} seed of a run that was checked */
@@ -38,14 +48,32 @@ export class InOrder {
     for (const seed of [...this.early.keys()].sort((one, other) => one - other)) this.#tell(seed);
   }
 
+  /**
+   * A failing run is kept only where it is that of the least seed. So of others the long texts aren't held while lower
+   * seeds are awaited.
+   * @param {Outcome} outcome
+   * @returns {Outcome}
+   */
+  #lightened(outcome) {
+    if (outcome.seed < this.failing) {
+      this.failing = outcome.seed;
+      return outcome;
+    }
+    const { script, report, trace, bytes, answers, ...rest } = outcome;
+    return rest;
+  }
+
+  #go() {
+    while (this.early.has(this.next)) this.#tell(this.next);
+  }
+
   /** @param {number} seed */
   #tell(seed) {
     const outcome = this.early.get(seed);
-    if (outcome === undefined) return;
     this.early.delete(seed);
     this.next = seed + 1;
-    if (seed > this.last) return;
-    if (outcome.fails) this.last = seed;
+    if (outcome === undefined || seed > this.last) return;
+    if (this.isLast(outcome)) this.last = seed;
     this.onOutcome(outcome);
     if (this.checked.delete(seed)) this.onCheck(seed);
   }

@@ -33,6 +33,15 @@ export { LostJob } from "./remote-job.mjs";
  * @property {(seed: number) => void} [onCheck] is told of each run that sabsim says the same of
  * @property {AbortSignal} [signal] that it is to stop
  * @property {Pace} [pace] as fast as they can, if it isn't given
+ * @property {import("./coverage.mjs").Coverage} [coverage] is told of the outcomes; the runs end where it is enough
+ */
+
+/**
+ * @typedef {object} Told what is done with what comes of runs
+ * @property {(outcome: Outcome) => void} add
+ * @property {(seed: number) => void} addCheck
+ * @property {(seed: number) => void} lose an outcome that will never come
+ * @property {() => void} finish
  */
 
 /** How many seeds a job is given at a time. */
@@ -81,22 +90,23 @@ class Row {
 }
 
 /**
- * Makes a run for each seed. The outcomes come in any order; with `failFast` in the order of the seeds, and the first
- * one that fails is the last.
+ * Makes a run for each seed. The outcomes come in any order; with `failFast` or a coverage in the order of the seeds,
+ * up to the first one that fails, or with which it is enough.
  * @param {import("../run/group.mjs").GroupOptions & SeedsOptions} options
  * @param {(outcome: Outcome) => void} onOutcome
  * @param {Listening} listening
  * @returns {Promise<{ checked: number }>} how many runs were checked; fails at the first difference, where a job's
  * process was lost, and where it is to stop, with the reason for that
  */
-export async function recordSeeds(options, onOutcome, { onCheck = () => {}, signal, pace = UNHINDERED } = {}) {
+export async function recordSeeds(options, onOutcome, listening = {}) {
+  const { onCheck = () => {}, signal, pace = UNHINDERED, coverage } = listening;
   const { first, last, checkEvery, sabsim, origin = first, failFast = false } = options;
   if (checkEvery > 0) foundSabsim(sabsim);
   let checked = 0;
   const count = last - first + 1;
   const batch = failFast ? 1 : Math.max(1, Math.min(BATCH, Math.ceil(count / options.jobs)));
   const row = new Row(first, last, checkEvery, origin, batch);
-  const told = listener(first, failFast, row, onOutcome, (seed) => {
+  const told = listener({ first, failFast, coverage }, row, onOutcome, (seed) => {
     checked += 1;
     onCheck(seed);
   });
@@ -104,7 +114,8 @@ export async function recordSeeds(options, onOutcome, { onCheck = () => {}, sign
   const OneJob = options.here ? LocalJob : RemoteJob;
   const jobs = Array.from({ length: needed }, () => new OneJob(told.addCheck));
   try {
-    await unlessStopped(signal, recordAll(jobs, { ...options, checks: checkEvery > 0 }, row, told.add, pace));
+    const opening = { ...options, checks: checkEvery > 0, tellsMeetings: coverage !== undefined };
+    await unlessStopped(signal, recordAll(jobs, opening, row, told, pace));
   } finally {
     await Promise.all(jobs.map((job) => job.close()));
     told.finish();
@@ -114,21 +125,27 @@ export async function recordSeeds(options, onOutcome, { onCheck = () => {}, sign
 
 /**
  * What is done with outcomes and checks as they come.
- * @param {number} first seed
- * @param {boolean} failFast
+ * @param {{ first: number, failFast: boolean, coverage?: import("./coverage.mjs").Coverage }} ends
  * @param {Row} row
  * @param {(outcome: Outcome) => void} onOutcome
  * @param {(seed: number) => void} onCheck
+ * @returns {Told}
  */
-function listener(first, failFast, row, onOutcome, onCheck) {
-  if (!failFast) return { add: onOutcome, addCheck: onCheck, finish() {} };
-  const inOrder = new InOrder(first, onOutcome, onCheck);
+function listener({ first, failFast, coverage }, row, onOutcome, onCheck) {
+  if (!failFast && coverage === undefined) return { add: onOutcome, addCheck: onCheck, lose() {}, finish() {} };
+  /** @param {Outcome} outcome */
+  const isLast = (outcome) => {
+    const isCovered = coverage !== undefined && coverage.add(outcome);
+    return isCovered || (failFast && outcome.fails);
+  };
+  const inOrder = new InOrder(first, isLast, onOutcome, onCheck);
   return {
-    add(/** @type {Outcome} */ outcome) {
-      if (outcome.fails) row.stop();
+    add(outcome) {
       inOrder.add(outcome);
+      if ((failFast && outcome.fails) || inOrder.last !== Infinity) row.stop();
     },
-    addCheck: (/** @type {number} */ seed) => inOrder.addCheck(seed),
+    addCheck: (seed) => inOrder.addCheck(seed),
+    lose: (seed) => inOrder.lose(seed),
     finish: () => inOrder.finish(),
   };
 }
@@ -157,12 +174,12 @@ function unlessStopped(signal, promise) {
  * @param {AnyJob[]} jobs
  * @param {Parameters<RemoteJob["open"]>[0]} options
  * @param {Row} row
- * @param {(outcome: Outcome) => void} onOutcome
+ * @param {Told} told
  * @param {Pace} pace
  */
-async function recordAll(jobs, options, row, onOutcome, pace) {
+async function recordAll(jobs, options, row, told, pace) {
   await settled(jobs.map((job) => job.open(options)));
-  await settled(jobs.map((job) => work(job, row, onOutcome, pace)));
+  await settled(jobs.map((job) => work(job, row, told, pace)));
 }
 
 /**
@@ -185,14 +202,14 @@ async function settled(promises) {
  * Keeps one job at work until there are no seeds, or something failed. Where the job is lost the others go on.
  * @param {AnyJob} job
  * @param {Row} row
- * @param {(outcome: Outcome) => void} onOutcome
+ * @param {Told} told
  * @param {Pace} pace
  * @returns {Promise<void>}
  */
-async function work(job, row, onOutcome, pace) {
+async function work(job, row, told, pace) {
   try {
     for (let seeds = await taken(job, row, pace); seeds.length > 0; seeds = await taken(job, row, pace)) {
-      await runBatch(job, seeds, onOutcome);
+      await runBatch(job, seeds, told);
     }
     await job.finish();
   } catch (failure) {
@@ -221,16 +238,17 @@ async function taken(job, row, pace) {
 /**
  * @param {AnyJob} job
  * @param {import("../run/group.mjs").Wanted[]} seeds in their order
- * @param {(outcome: Outcome) => void} onOutcome
+ * @param {Told} told
  */
-async function runBatch(job, seeds, onOutcome) {
+async function runBatch(job, seeds, told) {
   let made = 0;
   try {
     await job.run(seeds, (outcome) => {
       made += 1;
-      onOutcome(outcome);
+      told.add(outcome);
     });
   } catch (failure) {
+    for (const { seed } of seeds.slice(made)) told.lose(seed);
     if (!(failure instanceof LostJob) || made === seeds.length) throw failure;
     const [from, to] = [seeds[made].seed, seeds[seeds.length - 1].seed];
     const missing = from === to ? `of seed ${from}` : `of the seeds ${from} to ${to}`;

@@ -1,0 +1,68 @@
+// What pilot runs have shown of each byte: whose it is, or that several agents use it. Only where agents can meet does
+// it matter who moves first. A byte of which nothing is known counts as one where they can.
+
+import { SCRIPT_LIMITS } from "../../script/limits.mjs";
+
+const { Uint8Array, SharedArrayBuffer } = globalThis;
+
+// What is known of a byte; a smaller number is that of the one agent that uses it, and one more.
+const NOTHING = 0;
+const READ_ALONE = 254;
+const SHARED = 255;
+
+/**
+ * @param {number} block
+ * @param {number} byte
+ * @returns {number} the number of a place: no other byte of any block has it
+ */
+export const placeNumber = (block, byte) => block * SCRIPT_LIMITS.bytes + byte;
+
+/** How many bytes all blocks can have. */
+export const PLACES = SCRIPT_LIMITS.blocks * SCRIPT_LIMITS.bytes;
+
+export class KnownPlaces {
+  /** @returns {SharedArrayBuffer} */
+  static memory() {
+    return new SharedArrayBuffer(PLACES);
+  }
+
+  /** @param {SharedArrayBuffer} memory */
+  constructor(memory) {
+    this.known = new Uint8Array(memory);
+  }
+
+  /** Nothing is known any more. */
+  forget() {
+    this.known.fill(NOTHING);
+  }
+
+  /** @param {number} place that one agent uses alone @param {number} agent */
+  giveTo(place, agent) {
+    this.known[place] = agent + 1;
+  }
+
+  /** @param {number} place that several agents read, and nobody writes */
+  setReadAlone(place) {
+    this.known[place] = READ_ALONE;
+  }
+
+  /** @param {number} place where several agents meet */
+  share(place) {
+    this.known[place] = SHARED;
+  }
+
+  /**
+   * Whether what an agent does to some bytes is nobody else's affair.
+   * @param {number} agent
+   * @param {number} from a place
+   * @param {number} to the place behind the last one
+   * @param {boolean} writes
+   */
+  isPrivate(agent, from, to, writes) {
+    const { known } = this;
+    for (let place = from; place < to; place += 1) {
+      if (known[place] !== agent + 1 && (writes || known[place] !== READ_ALONE)) return false;
+    }
+    return from < to;
+  }
+}

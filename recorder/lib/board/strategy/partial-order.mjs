@@ -1,0 +1,65 @@
+// Partial-order sampling: each move that can be made has a random priority, and the one with the greatest is made. Then
+// the moves that conflict with it get new priorities. So orders of moves that conflict are about alike, however many
+// other moves there are.
+
+import { AGENT_WORD, wordOf } from "../layout.mjs";
+
+// No priority was drawn yet.
+const NONE = 0;
+
+// In one of so many draws all get new priorities: else an agent that waits in a loop for one with a low priority might
+// go on for ever.
+const RENEWAL = 64;
+
+export class PartialOrder {
+  /**
+   * @param {Int32Array} words of the board
+   * @param {import("../../run/random.mjs").Random} random
+   * @param {import("./asked.mjs").Asked} asked
+   * @param {number} agents how many
+   */
+  constructor(words, random, asked, agents) {
+    this.words = words;
+    this.random = random;
+    this.asked = asked;
+    this.agents = agents;
+  }
+
+  /** Nobody has a priority. */
+  begin() {
+    for (let agent = 0; agent < this.agents; agent += 1) this.words[wordOf(agent, AGENT_WORD.PRIORITY)] = NONE;
+  }
+
+  /**
+   * @param {import("./able.mjs").Able} able those that can move, of which there is one at least
+   * @returns {number} who moves next
+   */
+  drawn(able) {
+    if (this.random.below(RENEWAL) === 0) this.begin();
+    let next = able.agents[0];
+    let greatest = NONE;
+    for (let at = 0; at < able.count; at += 1) {
+      const priority = this.#priority(able.agents[at]);
+      if (priority <= greatest) continue;
+      greatest = priority;
+      next = able.agents[at];
+    }
+    this.#renew(next);
+    return next;
+  }
+
+  /** @param {number} agent @returns {number} the priority of its next move */
+  #priority(agent) {
+    const word = wordOf(agent, AGENT_WORD.PRIORITY);
+    if (this.words[word] === NONE) this.words[word] = (this.random.next() >>> 2) + 1;
+    return this.words[word];
+  }
+
+  /** @param {number} next who moves now: the move after it, and those that conflict with it, get other priorities */
+  #renew(next) {
+    const { words, agents } = this;
+    for (let agent = 0; agent < agents; agent += 1) {
+      if (agent === next || this.asked.conflict(next, agent)) words[wordOf(agent, AGENT_WORD.PRIORITY)] = NONE;
+    }
+  }
+}

@@ -1,0 +1,116 @@
+// What pilot runs show: which bytes several agents use and one of them writes, and which calls stand beside an
+// ordinary access to such a byte. There it matters who moves first. Pilots are runs of fixed seeds, so that each group
+// learns the same, whatever runs it makes afterwards.
+
+import { KnownPlaces, PLACES, placeNumber } from "../board/known-places.mjs";
+import { FLAG, READ } from "./log.mjs";
+
+/** @typedef {import("./log.mjs").Log} Log */
+
+/** How many pilots there are. */
+export const PILOTS = 8;
+
+/** For how many seconds an agent of a pilot may make no call: then the pilots end, and nothing is known. */
+export const PILOT_SECONDS = 2;
+
+// After one pilot that has so many events, or ordinary accesses, there are no others: it has shown much, and another
+// one would take as long.
+const MANY_EVENTS = 50_000;
+const MANY_ACCESSES = 200_000;
+
+/** An agent's last call, and whether it has touched a shared byte by ordinary accesses since. */
+class Beside {
+  constructor() {
+    this.from = 0;
+    this.to = 0;
+    this.isShared = false;
+  }
+}
+
+export class Pilots {
+  /** @param {number} agents how many */
+  constructor(agents) {
+    this.agents = agents;
+    /** For each place, which agents use it and which of them write, as bits. */
+    this.users = new Uint16Array(PLACES);
+    this.writers = new Uint16Array(PLACES);
+    /** The places where agents meet, though by these bits they don't. */
+    this.marked = new Uint8Array(PLACES);
+  }
+
+  /**
+   * Takes note of what a pilot did.
+   * @param {Log} log
+   */
+  add(log) {
+    for (let event = 0; event < log.length; event += 1) this.#count(log, event);
+    const beside = Array.from({ length: this.agents }, () => new Beside());
+    for (let event = 0; event < log.length; event += 1) this.#mark(log, event, beside[log.agentAt(event)]);
+  }
+
+  /**
+   * Whether a pilot was so long that it is to be the last.
+   * @param {Log} log
+   * @param {number} accesses how many ordinary ones it made
+   */
+  static isLong(log, accesses) {
+    return log.length > MANY_EVENTS || accesses > MANY_ACCESSES;
+  }
+
+  /** @param {KnownPlaces} known to which all is told */
+  tell(known) {
+    for (let place = 0; place < PLACES; place += 1) {
+      const users = this.users[place];
+      if (users === 0) continue;
+      if (this.#isShared(place) || this.marked[place] === 1) known.share(place);
+      else if ((users & (users - 1)) === 0) known.giveTo(place, 31 - Math.clz32(users));
+      else known.setReadAlone(place);
+    }
+  }
+
+  /** @param {Log} log @param {number} event */
+  #count(log, event) {
+    const flags = log.flagsAt(event);
+    // A call that threw has touched nothing, and its index may be anything.
+    if (flags === 0) return;
+    const agent = 1 << log.agentAt(event);
+    const block = log.blockAt(event);
+    const to = log.toAt(event);
+    for (let byte = log.fromAt(event); byte < to; byte += 1) {
+      const place = placeNumber(block, byte);
+      this.users[place] |= agent;
+      if ((flags & FLAG.WRITES) !== 0) this.writers[place] |= agent;
+      if ((flags & FLAG.WAITERS) !== 0) this.marked[place] = 1;
+    }
+  }
+
+  /** @param {Log} log @param {number} event @param {Beside} beside of its agent */
+  #mark(log, event, beside) {
+    const hasThrown = log.flagsAt(event) === 0;
+    const from = hasThrown ? 0 : placeNumber(log.blockAt(event), log.fromAt(event));
+    const to = hasThrown ? 0 : from + log.toAt(event) - log.fromAt(event);
+    if (log.whatAt(event) < READ) {
+      if (beside.isShared) this.marked.fill(1, from, to);
+      beside.from = from;
+      beside.to = to;
+      beside.isShared = false;
+    } else if (!beside.isShared && this.#isAnyShared(from, to)) {
+      this.marked.fill(1, beside.from, beside.to);
+      beside.isShared = true;
+    }
+  }
+
+  /** @param {number} from @param {number} to */
+  #isAnyShared(from, to) {
+    for (let place = from; place < to; place += 1) {
+      if (this.#isShared(place)) return true;
+    }
+    return false;
+  }
+
+  /** @param {number} place @returns {boolean} whether several agents use it, and one writes */
+  #isShared(place) {
+    const users = this.users[place];
+    return (users & (users - 1)) !== 0 && this.writers[place] !== 0;
+  }
+}

@@ -1,0 +1,62 @@
+// How many pairs of lines the runs of some seeds have shown, and whether that is all: so many seeds in a row have shown
+// nothing new. Outcomes come in the order of their seeds.
+
+/** @typedef {import("../run/group.mjs").Outcome} Outcome */
+
+/** So many seeds in a row without a new pair, and the runs cover what they will. */
+const ENOUGH = 500;
+
+/**
+ * @typedef {object} Covered what is told of it, as JSON
+ * @property {string[]} pairs of lines, in order
+ * @property {number | null} last the last seed that has shown a new pair; null: none has, or nobody knows
+ * @property {number | null} row how many seeds in a row have shown none since; null: nobody knows
+ * @property {boolean} covered whether that is enough
+ */
+
+export class Coverage {
+  /**
+   * What several machines have covered. Each has looked at seeds of its own, so nobody knows which pair came when.
+   * @param {Coverage | undefined} before
+   * @param {Covered} told
+   * @returns {Coverage}
+   */
+  static joined(before, { pairs, covered }) {
+    const all = new Coverage();
+    for (const pair of [...(before?.pairs ?? []), ...pairs]) all.pairs.add(pair);
+    all.each = { covered: covered && (before?.each?.covered ?? true) };
+    return all;
+  }
+
+  constructor() {
+    /** @type {Set<string>} */
+    this.pairs = new Set();
+    /** @type {number | undefined} the last seed that has shown a new pair */
+    this.last = undefined;
+    /** How many seeds in a row have shown none since. */
+    this.row = 0;
+    /** @type {{ covered: boolean } | undefined} of one that was joined, whether each part has enough */
+    this.each = undefined;
+  }
+
+  /** @returns {Covered} */
+  told() {
+    const { each, last = null, row, isCovered } = this;
+    const pairs = [...this.pairs].sort();
+    return each === undefined ? { pairs, last, row, covered: isCovered } : { pairs, last: null, row: null, ...each };
+  }
+
+  /** @param {Outcome & import("../run/group.mjs").Covering} outcome @returns {boolean} whether it is enough */
+  add({ seed, meetings = [] }) {
+    const { size } = this.pairs;
+    for (const pair of meetings) this.pairs.add(pair);
+    this.row = this.pairs.size > size ? 0 : this.row + 1;
+    if (this.row === 0) this.last = seed;
+    return this.isCovered;
+  }
+
+  /** @returns {boolean} */
+  get isCovered() {
+    return this.row >= ENOUGH;
+  }
+}
