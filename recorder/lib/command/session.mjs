@@ -5,13 +5,24 @@ import { preloads } from "../seeds/node-words.mjs";
 import { recordSeeds } from "../seeds/seeds.mjs";
 import { Interrupted, Interruption } from "./interruption.mjs";
 import { Keeper } from "./keep.mjs";
+import { pageText } from "./page.mjs";
 import { print } from "./print.mjs";
 import { Progress } from "./progress.mjs";
 import { Summary } from "./summary.mjs";
 
 /** @typedef {import("../run/group.mjs").Outcome} Outcome */
 
-const PICTURES = ["explained", "svg"];
+/** What is made of a kept script by sabsim: by which of its formats, and what becomes of it. */
+const PICTURES = [
+  { ending: "explained", format: "explained", made: asItIs },
+  { ending: "svg", format: "svg", made: asItIs },
+  { ending: "html", format: "json", made: pageText },
+];
+
+/** @param {Outcome} _outcome @param {string} output */
+function asItIs(_outcome, output) {
+  return output;
+}
 
 export class Session {
   /** @param {import("./options.mjs").Options} options with the URL of the module */
@@ -91,14 +102,14 @@ export class Session {
     if (outcome?.script === undefined || keeper.seed !== outcome.seed) return;
     const { seed, script } = outcome;
     if (this.sabsim === undefined) {
-      const names = PICTURES.map((format) => `seed-${seed}.${format}`);
+      const names = PICTURES.map(({ ending }) => `seed-${seed}.${ending}`);
       this.leftOut.push(`not kept, since only sabsim makes them: ${names.join(", ")}`);
       return;
     }
-    for (const format of PICTURES) {
+    for (const { ending, format, made } of PICTURES) {
       const { status, output, errors } = sabsim(this.sabsim, ["replay", "--format", format], script);
-      if (status === 0) keeper.keepAll(seed, { [format]: output });
-      else this.leftOut.push(`not kept: seed-${seed}.${format}: sabsim ended with status ${status}: ${errors.trim()}`);
+      if (status === 0) keeper.keepAll(seed, { [ending]: made(outcome, output, this.options.module) });
+      else this.leftOut.push(`not kept: seed-${seed}.${ending}: sabsim ended with status ${status}: ${errors.trim()}`);
     }
   }
 

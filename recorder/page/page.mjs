@@ -1,0 +1,432 @@
+// What is shown of a run in a browser, and what keys and pointers do. The run's data stands in the page itself.
+
+import { Run, placeKey, valueAt } from "./model.mjs";
+import { valueText } from "./words.mjs";
+
+/** @typedef {import("./model.mjs").State} State */
+/** @typedef {import("./model.mjs").Step} Step */
+
+const PAGE_OF_STEPS = 10;
+const SHORT_DETAIL_LINES = 2;
+
+/** @param {string} id @returns {HTMLElement} */
+const by = (id) => /** @type {HTMLElement} */ (document.getElementById(id));
+
+/**
+ * An element with a class, and a text or children.
+ * @param {string} name
+ * @param {string} className
+ * @param {...(string | Node)} children
+ */
+function made(name, className, ...children) {
+  const element = document.createElement(name);
+  if (className !== "") element.className = className;
+  element.append(...children);
+  return element;
+}
+
+/** An agent's number in its colour. @param {number} agent @param {string} [more] classes */
+const badge = (agent, more = "") => made("span", `badge a${agent % 8} ${more}`, `${agent}`);
+
+/** What only a reader of screens is told. @param {string} text */
+const spoken = (text) => made("span", "spoken", text);
+
+/**
+ * Scrolls a pane, and nothing around it, so that a part of it is seen.
+ * @param {HTMLElement} pane
+ * @param {HTMLElement} part
+ */
+function reveal(pane, part) {
+  const [around, inner] = [pane.getBoundingClientRect(), part.getBoundingClientRect()];
+  const room = Math.min(pane.clientHeight / 3, 3 * inner.height);
+  const above = inner.top - room - around.top;
+  const below = inner.bottom + room - around.bottom;
+  if (above < 0) pane.scrollTop += above;
+  else if (below > 0) pane.scrollTop += below;
+}
+
+/** File, line and column of a place. @param {string} place */
+function placeParts(place) {
+  const [, file = place, line = "0", column = "0"] = /^(.*):(\d+):(\d+)$/.exec(place) ?? [];
+  return { file, line: Number(line), column: Number(column) };
+}
+
+/** The rows of all steps, with a lane for each agent. */
+class Timeline {
+  /** @param {Run} run @param {(index: number) => void} onChosen */
+  constructor(run, onChosen) {
+    this.run = run;
+    this.pane = by("timeline");
+    this.pane.style.setProperty("--agents", `${run.data.agents}`);
+    by("lane-names").style.setProperty("--agents", `${run.data.agents}`);
+    by("lane-names").append(made("span", "number", ""), this.#laneNames(), made("span", "", ""));
+    this.rows = this.#rows();
+    this.pane.append(...this.rows);
+    this.pane.addEventListener("click", (event) => {
+      const row = event.target instanceof Element ? event.target.closest("[role=option]") : null;
+      if (row !== null) onChosen(this.rows.indexOf(/** @type {HTMLElement} */ (row)));
+    });
+  }
+
+  /** @param {number} index */
+  choose(index) {
+    const before = this.pane.querySelector("[aria-selected=true]");
+    before?.setAttribute("aria-selected", "false");
+    const row = this.rows[index];
+    row.setAttribute("aria-selected", "true");
+    this.pane.setAttribute("aria-activedescendant", row.id);
+    reveal(this.pane, row);
+  }
+
+  #laneNames() {
+    const lanes = made("span", "lanes");
+    for (let agent = 0; agent < this.run.data.agents; agent += 1) lanes.append(made("span", "lane", `${agent}`));
+    return lanes;
+  }
+
+  /** @returns {HTMLElement[]} */
+  #rows() {
+    /** @type {Set<number>} the agents that wait */
+    const waiting = new Set();
+    return this.run.steps.map((step, index) => {
+      if (step.what === "leave") waiting.delete(/** @type {number} */ (step.agent));
+      const row = this.#row(step, index, waiting);
+      if (step.what === "wait") waiting.add(/** @type {number} */ (step.agent));
+      return row;
+    });
+  }
+
+  /** @param {Step} step @param {number} index @param {Set<number>} waiting */
+  #row(step, index, waiting) {
+    const { agent, entry, text, answer, changes, what, isSwitch } = step;
+    const row = made("div", `row ${what}${isSwitch ? " switch" : ""}`);
+    row.id = `step-${index}`;
+    row.setAttribute("role", "option");
+    row.setAttribute("aria-selected", "false");
+    const number = made("span", "number", entry === undefined ? "" : `${entry}`);
+    const does = made("span", "does", made("span", "text", text));
+    if (agent !== undefined) does.prepend(spoken(`agent ${agent}: `));
+    if (answer !== "") does.append(made("span", "answer", ` ${answer}`));
+    for (const tag of this.#tags(index)) does.append(made("span", "tag", tag));
+    row.append(number, this.#lanes(step, index, waiting), does, changesOf(changes));
+    return row;
+  }
+
+  /** @param {number} index */
+  #tags(index) {
+    const { failing, racing, data, steps } = this.run;
+    if (racing.some((pair) => pair.includes(index))) return ["races"];
+    if (!failing.includes(index) || index === steps.length - 1) return [];
+    return [data.ending === "deadlock" ? "waits for ever" : data.ending];
+  }
+
+  /** @param {Step} step @param {number} index @param {Set<number>} waiting */
+  #lanes({ agent, fact, what }, index, waiting) {
+    const lanes = made("span", "lanes");
+    lanes.setAttribute("aria-hidden", "true");
+    const woken = /** @type {number[]} */ (fact?.found?.woken ?? []);
+    const ends = agent === undefined ? [] : [agent, ...woken];
+    for (let each = 0; each < this.run.data.agents; each += 1) {
+      const isThere = each === agent || (index > 0 && index <= this.run.last[each]) || waiting.has(each);
+      const lane = made("span", `lane a${each % 8}`);
+      if (isThere && what !== "end") lane.classList.add(waiting.has(each) ? "waits" : "runs");
+      if (woken.length > 0 && each >= Math.min(...ends) && each <= Math.max(...ends)) lane.classList.add("across");
+      if (woken.includes(each)) lane.append(badge(each, "woken"));
+      if (each === agent) lane.append(badge(each, what === "ordinary" || what === "store" ? "plain" : ""));
+      lanes.append(lane);
+    }
+    return lanes;
+  }
+}
+
+/** @param {import("./model.mjs").Change[]} changes */
+function changesOf(changes) {
+  const [first, ...rest] = changes;
+  const text = made("span", "changes");
+  if (first === undefined) return text;
+  text.append(made("span", "name", first.name), ` ${valueText(first.before)} → `, made("b", "", valueText(first.after)));
+  if (rest.length > 0) text.append(`, ${rest.length} more`);
+  return text;
+}
+
+/** The agents, and the code of the file in which one of them is. */
+class Code {
+  /** @param {Run} run */
+  constructor(run) {
+    this.run = run;
+    this.pane = by("code");
+    this.texts = new Map(run.data.files.map(({ file, text }) => [file, text]));
+    this.places = run.data.places.map(placeParts);
+    /** @type {string | undefined} the file that is shown */
+    this.file = undefined;
+    /** @type {HTMLElement[]} its lines */
+    this.lines = [];
+    this.cards = Array.from({ length: run.data.agents }, (_, agent) => this.#card(agent));
+    by("agents").append(...this.cards.map(({ item }) => item));
+    for (const { file } of run.data.files.length > 1 ? run.data.files : []) by("files").append(this.#fileButton(file));
+  }
+
+  /** @param {State} state @param {number | undefined} chosen the agent whose code is shown */
+  show(state, chosen) {
+    this.state = state;
+    this.chosen = chosen ?? this.chosen ?? state.agents.findIndex(({ place }) => place >= 0);
+    state.agents.forEach((agent, number) => this.#fillCard(number, agent));
+    const place = this.places[state.agents[this.chosen]?.place ?? -1];
+    if (place !== undefined) this.#open(place.file);
+    else if (this.file === undefined) this.#open(this.run.data.files[0]?.file);
+    this.#mark();
+  }
+
+  /** @param {number} agent */
+  #card(agent) {
+    const button = /** @type {HTMLButtonElement} */ (made("button", "agent"));
+    button.type = "button";
+    const parts = { does: made("span", "does"), where: made("span", "where"), line: made("code", "line") };
+    button.append(spoken("agent "), badge(agent), parts.does, parts.where, parts.line);
+    button.addEventListener("click", () => {
+      if (this.state !== undefined) this.show(this.state, agent);
+    });
+    return { item: made("li", "", button), button, ...parts };
+  }
+
+  /** @param {number} number @param {import("./model.mjs").AgentState} agent */
+  #fillCard(number, { place, does, is }) {
+    const { button, does: doesPart, where, line } = this.cards[number];
+    const at = this.places[place];
+    button.className = `agent ${is}`;
+    button.setAttribute("aria-pressed", `${number === this.chosen}`);
+    doesPart.textContent = does;
+    where.textContent = at === undefined ? "" : `${at.file}:${at.line}`;
+    line.textContent = at === undefined ? "" : this.texts.get(at.file)?.split("\n")[at.line - 1]?.trim() ?? "";
+  }
+
+  /** @param {string} file */
+  #fileButton(file) {
+    const button = /** @type {HTMLButtonElement} */ (made("button", "file", file));
+    button.type = "button";
+    button.addEventListener("click", () => {
+      this.#open(file);
+      this.#mark();
+    });
+    return button;
+  }
+
+  /** @param {string | undefined} file to be shown */
+  #open(file) {
+    if (file === this.file && file !== undefined) return;
+    this.file = file;
+    this.pane.setAttribute("aria-label", `Code of ${file ?? "the agents"}`);
+    const text = file === undefined ? null : this.texts.get(file);
+    this.lines = (text ?? "").replace(/\n$/, "").split("\n").map((line, at) => codeLine(line, at + 1));
+    if (typeof text === "string") this.pane.replaceChildren(made("h3", "", `${file}`), ...this.lines);
+    else this.pane.replaceChildren(made("p", "missing", this.#whyMissing(file)));
+    this.pane.scrollTop = 0;
+  }
+
+  /** @param {string | undefined} file */
+  #whyMissing(file) {
+    return file === undefined
+      ? "It isn't known where in the code the agents are: a second run by the same seed did something else, or none was made."
+      : `The code of ${file} couldn't be read when this run was kept.`;
+  }
+
+  /** Marks the lines at which the agents are. */
+  #mark() {
+    for (const line of this.pane.querySelectorAll(".here")) unmark(/** @type {HTMLElement} */ (line));
+    for (const button of by("files").children) {
+      button.setAttribute("aria-pressed", `${button.textContent === this.file}`);
+    }
+    this.state?.agents.forEach(({ place }, agent) => {
+      const at = this.places[place];
+      const line = at?.file === this.file ? this.lines[at.line - 1] : undefined;
+      if (at === undefined || line === undefined) return;
+      const isChosen = agent === this.chosen;
+      line.classList.add("here", ...(isChosen ? ["chosen"] : []));
+      line.firstElementChild?.append(badge(agent), spoken(` agent ${agent} is here: `));
+      if (!isChosen) return;
+      line.setAttribute("aria-current", "step");
+      markToken(/** @type {HTMLElement} */ (line.lastElementChild), at.column);
+      reveal(this.pane, line);
+    });
+  }
+}
+
+/** @param {string} text @param {number} number */
+function codeLine(text, number) {
+  return made("div", "code-line", made("span", "who"), made("span", "number", `${number}`), made("code", "", text));
+}
+
+/** @param {HTMLElement} line */
+function unmark(line) {
+  line.classList.remove("here", "chosen");
+  line.removeAttribute("aria-current");
+  line.firstElementChild?.replaceChildren();
+  const code = /** @type {HTMLElement} */ (line.lastElementChild);
+  code.replaceChildren(code.textContent ?? "");
+}
+
+/**
+ * Marks the word that begins at a column.
+ * @param {HTMLElement} code
+ * @param {number} column from 1
+ */
+function markToken(code, column) {
+  const text = code.textContent ?? "";
+  const from = Math.min(column - 1, text.length);
+  const word = /^[\w$]+|^./.exec(text.slice(from))?.[0] ?? "";
+  code.replaceChildren(text.slice(0, from), made("mark", "", word), text.slice(from + word.length));
+}
+
+/** What is in memory, and who waits there. */
+class Memory {
+  /** @param {Run} run */
+  constructor(run) {
+    this.run = run;
+    this.body = /** @type {HTMLElement} */ (by("memory").querySelector("tbody"));
+    const notes = run.data.holds === "touched" ? ["Of ordinary writes only those are known whose bytes some call touches."] : [];
+    if (run.rows.length === 0) notes.push("Nothing was accessed.");
+    by("memory-note").textContent = notes.join(" ");
+  }
+
+  /** @param {State} state @param {number} index of the step */
+  show(state, index) {
+    const { steps, rows } = this.run;
+    this.state = state;
+    this.accesses = steps[index].accesses;
+    this.changes = steps[state.changedBy].changes;
+    this.isNow = state.changedBy === index;
+    this.body.replaceChildren(...rows.map((row) => this.#row(row)));
+  }
+
+  /** @param {import("./model.mjs").Row} row */
+  #row({ name, isWord, cells, more }) {
+    const values = made("td", "values", ...cells.map((cell) => this.#cell(cell, isWord)));
+    if (more > 0) values.append(made("span", "more", `and ${more} more`));
+    const head = made("th", "", name);
+    head.setAttribute("scope", "row");
+    return made("tr", "", head, values, made("td", "waiters", ...cells.flatMap((cell) => this.#waiters(cell, isWord))));
+  }
+
+  /** @param {import("./model.mjs").Cell} cell @param {boolean} isWord */
+  #cell(cell, isWord) {
+    const state = /** @type {State} */ (this.state);
+    const size = Number(/\d+$/.exec(cell.view.kind)?.[0] ?? 8) / 8;
+    /** @param {{ block: number, byte: number }} other @param {number} length */
+    const meets = (other, length) =>
+      other.block === cell.block && other.byte < cell.byte + size && cell.byte < other.byte + length;
+    const access = this.accesses?.find((each) => meets(each, each.size));
+    const change = this.changes?.find((each) => each.block === cell.block && each.byte === cell.byte);
+    const span = made("span", "cell");
+    if (!isWord) span.append(made("span", "index", cell.label.slice(cell.label.indexOf("["))));
+    if (change !== undefined && this.isNow) span.append(made("s", "", valueText(change.before)), spoken(" became "));
+    span.append(made("span", "value", valueAt(state.blocks[cell.block], cell)));
+    if (access !== undefined) span.classList.add(access.writes ? "written" : "read");
+    if (change !== undefined) span.classList.add(this.isNow ? "now" : "before");
+    if (change !== undefined) span.append(spoken(this.isNow ? " (changed now)" : " (changed last)"));
+    return span;
+  }
+
+  /** @param {import("./model.mjs").Cell} cell @param {boolean} isWord */
+  #waiters({ block, byte, label }, isWord) {
+    const line = this.state?.lines.get(placeKey(block, byte)) ?? [];
+    if (line.length === 0) return [];
+    const where = isWord ? [] : [made("span", "index", label.slice(label.indexOf("[")))];
+    const agents = line.map((agent) => badge(agent));
+    return [made("span", "line-of-waiters", ...where, spoken("agents "), ...agents)];
+  }
+}
+
+/** The page of a run. */
+class Page {
+  /** @param {Run} run */
+  constructor(run) {
+    this.run = run;
+    this.index = -1;
+    this.timeline = new Timeline(run, (index) => this.choose(index));
+    this.code = new Code(run);
+    this.memory = new Memory(run);
+    this.#head();
+    this.#listen();
+    this.choose(run.failing[run.failing.length - 1]);
+    this.timeline.pane.focus({ preventScroll: true });
+  }
+
+  /** @param {number} wanted */
+  choose(wanted) {
+    const { steps } = this.run;
+    const index = Math.max(0, Math.min(wanted, steps.length - 1));
+    if (index === this.index) return;
+    this.index = index;
+    const state = this.run.stateAt(index);
+    this.timeline.choose(index);
+    this.code.show(state, steps[index].agent);
+    this.memory.show(state, index);
+    this.#tell(steps[index]);
+  }
+
+  /** @param {Step} step */
+  #tell({ agent, entry, sentence, place }) {
+    const who = agent === undefined ? [] : [badge(agent), spoken(` agent ${agent} `), " "];
+    const number = entry === undefined ? [] : [made("span", "number", `${entry}`), " "];
+    const where = place < 0 ? [] : [" ", made("span", "where", this.run.data.places[place])];
+    by("sentence").replaceChildren(...number, ...who, made("span", "fact", sentence), ...where);
+    by("position").textContent = `step ${this.index} of ${this.run.steps.length - 1}`;
+    const isAt = { first: this.index === 0, last: this.index === this.run.steps.length - 1 };
+    for (const id of ["first", "back", "switch-back"]) by(id).setAttribute("aria-disabled", `${isAt.first}`);
+    for (const id of ["last", "forward", "switch-forward"]) by(id).setAttribute("aria-disabled", `${isAt.last}`);
+  }
+
+  #head() {
+    const { seed, module, ending, detail } = this.run.data;
+    by("ending").textContent = ending;
+    by("ending").className = `ending ${ending}`;
+    by("what").textContent = `seed ${seed} of ${module}`;
+    const lines = detail === "" ? [] : detail.split("\n");
+    by("detail").append(...lines.slice(0, SHORT_DETAIL_LINES).map((line) => made("p", "", line)));
+    if (lines.length <= SHORT_DETAIL_LINES) return;
+    const rest = lines.slice(SHORT_DETAIL_LINES).join("\n");
+    by("detail").append(made("details", "", made("summary", "", "more"), made("pre", "", rest)));
+  }
+
+  /** What each way to go leads to. @param {string} way */
+  #go(way) {
+    const { index, run } = this;
+    const last = run.steps.length - 1;
+    switch (way) {
+      case "first": return this.choose(0);
+      case "last": return this.choose(last);
+      case "back": return this.choose(index - 1);
+      case "forward": return this.choose(index + 1);
+      case "ten-back": return this.choose(index - PAGE_OF_STEPS);
+      case "ten-forward": return this.choose(index + PAGE_OF_STEPS);
+      case "switch-back": return this.choose(run.changeFrom(index, -1));
+      case "switch-forward": return this.choose(run.changeFrom(index, 1));
+      default: return this.choose(run.failingFrom(index));
+    }
+  }
+
+  #listen() {
+    for (const button of by("buttons").querySelectorAll("button")) {
+      button.addEventListener("click", () => this.#go(button.id));
+    }
+    // What scrolls by keys itself keeps them.
+    const own = [by("code"), by("memory-pane")];
+    document.addEventListener("keydown", (event) => {
+      const { target, key, ctrlKey, altKey, metaKey } = event;
+      if (ctrlKey || altKey || metaKey || !(target instanceof Element)) return;
+      const isInTimeline = target === this.timeline.pane || target === document.body;
+      const way = MOVES.get(key) ?? (isInTimeline || by("buttons").contains(target) ? LETTERS.get(key) : undefined);
+      if (way === undefined || own.some((pane) => pane.contains(target))) return;
+      event.preventDefault();
+      this.#go(way);
+    });
+  }
+}
+
+const MOVES = new Map([
+  ["ArrowUp", "back"], ["ArrowLeft", "back"], ["ArrowDown", "forward"], ["ArrowRight", "forward"], ["Home", "first"],
+  ["End", "last"], ["PageUp", "ten-back"], ["PageDown", "ten-forward"],
+]);
+const LETTERS = new Map([["p", "switch-back"], ["n", "switch-forward"], ["f", "failing"]]);
+
+new Page(new Run(JSON.parse(by("run").textContent ?? "")));
