@@ -95,16 +95,25 @@ const BY_ITSELF = new RegExp(`^(?:${Object.keys(SIZES).join("|")})(?:_b\\d+)?(?:
 // Nobody looks at more elements of one view.
 const MOST_CELLS = 128;
 
-/** A view's name without what says that it is one of stores. @param {View} view */
+/**
+ * A view's name without what says that it is one of stores.
+ * @param {View} view
+ */
 const plainName = ({ name }) => name.replace(OF_STORES, "");
 
-/** Whether a view is one word that has a name. @param {View} view */
+/**
+ * Whether a view is one word that has a name.
+ * @param {View} view
+ */
 const isWord = (view) => view.length === 1 && !BY_ITSELF.test(plainName(view));
 
 /** @param {number} block @param {number} byte */
 export const placeKey = (block, byte) => `${block} ${byte}`;
 
-/** How many bytes a view's elements have. @param {View} view */
+/**
+ * How many bytes a view's elements have.
+ * @param {View} view
+ */
 const sizeOf = ({ kind }) => SIZES[kind];
 
 /** @param {View} view @param {number} byte */
@@ -187,8 +196,13 @@ class Views {
     return rest.reduce((best, view) => (worth(view) > worth(best) ? view : best), first);
   }
 
-  /** A view that the script hasn't, for bytes that none of its own has. */
-  /** @param {number} block @param {number} byte @param {number} size @returns {View} */
+  /**
+   * A view that the script hasn't, for bytes that none of its own has.
+   * @param {number} block
+   * @param {number} byte
+   * @param {number} size
+   * @returns {View}
+   */
   #plain(block, byte, size) {
     const kind = byte % size === 0 ? UNSIGNED[size] ?? "Uint8" : "Uint8";
     const name = `${kind}${this.blocks.length > 1 ? `_b${block}` : ""}`;
@@ -253,7 +267,7 @@ class Stepper {
   #end() {
     const { ending, standings } = this.data;
     const stands = standings.map(({ agent, standing }) => `Agent ${agent} ${standingText(standing)}.`);
-    this.#add({ what: "end", text: "the end", answer: ending, sentence: [`The run ends: ${ending}.`, ...stands].join(" ") });
+    this.#add({ what: "end", text: `the end: ${ending}`, sentence: [`The run ends: ${ending}.`, ...stands].join(" ") });
   }
 
   /** @param {Event} event @param {number} position */
@@ -356,7 +370,10 @@ class Stepper {
   }
 }
 
-/** Whether an entry stands for an ordinary write. @param {Entry | undefined} entry */
+/**
+ * Whether an entry stands for an ordinary write.
+ * @param {Entry | undefined} entry
+ */
 const isStore = (entry) => entry !== undefined && OF_STORES.test(`${entry.does[1]}`);
 
 /** @param {Event} event */
@@ -455,7 +472,7 @@ export class Run {
     }
     const isOver = at === this.last[agent] && index >= at;
     if (!isOver) return { place, is: "runs", does: "runs" };
-    return { place, is: "done", does: "does nothing more" };
+    return { place, is: "done", does: "does no more" };
   }
 
   /** @param {number} agent */
@@ -508,7 +525,8 @@ export class Run {
     }
     return [...rows].map(([name, cells]) => {
       const all = [...cells.values()].sort((one, other) => one.byte - other.byte);
-      return { name, isWord: isWord(all[0].view), cells: all.slice(0, MOST_CELLS), more: Math.max(0, all.length - MOST_CELLS) };
+      const more = Math.max(0, all.length - MOST_CELLS);
+      return { name, isWord: isWord(all[0].view), cells: all.slice(0, MOST_CELLS), more };
     });
   }
 }

@@ -25,10 +25,17 @@ function made(name, className, ...children) {
   return element;
 }
 
-/** An agent's number in its colour. @param {number} agent @param {string} [more] classes */
+/**
+ * An agent's number in its colour.
+ * @param {number} agent
+ * @param {string} [more] classes
+ */
 const badge = (agent, more = "") => made("span", `badge a${agent % 8} ${more}`, `${agent}`);
 
-/** What only a reader of screens is told. @param {string} text */
+/**
+ * What only a reader of screens is told.
+ * @param {string} text
+ */
 const spoken = (text) => made("span", "spoken", text);
 
 /**
@@ -45,7 +52,10 @@ function reveal(pane, part) {
   else if (below > 0) pane.scrollTop += below;
 }
 
-/** File, line and column of a place. @param {string} place */
+/**
+ * File, line and column of a place.
+ * @param {string} place
+ */
 function placeParts(place) {
   const [, file = place, line = "0", column = "0"] = /^(.*):(\d+):(\d+)$/.exec(place) ?? [];
   return { file, line: Number(line), column: Number(column) };
@@ -91,6 +101,7 @@ class Timeline {
     return this.run.steps.map((step, index) => {
       if (step.what === "leave") waiting.delete(/** @type {number} */ (step.agent));
       const row = this.#row(step, index, waiting);
+      for (const woken of step.fact?.found?.woken ?? []) waiting.delete(woken);
       if (step.what === "wait") waiting.add(/** @type {number} */ (step.agent));
       return row;
     });
@@ -129,8 +140,9 @@ class Timeline {
     for (let each = 0; each < this.run.data.agents; each += 1) {
       const isThere = each === agent || (index > 0 && index <= this.run.last[each]) || waiting.has(each);
       const lane = made("span", `lane a${each % 8}`);
-      if (isThere && what !== "end") lane.classList.add(waiting.has(each) ? "waits" : "runs");
-      if (woken.length > 0 && each >= Math.min(...ends) && each <= Math.max(...ends)) lane.classList.add("across");
+      if (waiting.has(each)) lane.classList.add("waits");
+      else if (isThere && what !== "end") lane.classList.add("runs");
+      if (woken.length > 0) lane.classList.add(...acrossAt(each, Math.min(...ends), Math.max(...ends)));
       if (woken.includes(each)) lane.append(badge(each, "woken"));
       if (each === agent) lane.append(badge(each, what === "ordinary" || what === "store" ? "plain" : ""));
       lanes.append(lane);
@@ -139,12 +151,25 @@ class Timeline {
   }
 }
 
+/**
+ * Which part of a line between two lanes goes through a lane.
+ * @param {number} lane
+ * @param {number} least
+ * @param {number} most
+ */
+function acrossAt(lane, least, most) {
+  if (lane < least || lane > most || least === most) return [];
+  if (lane === least) return ["across", "to-the-right"];
+  return lane === most ? ["across", "to-the-left"] : ["across"];
+}
+
 /** @param {import("./model.mjs").Change[]} changes */
 function changesOf(changes) {
   const [first, ...rest] = changes;
   const text = made("span", "changes");
   if (first === undefined) return text;
-  text.append(made("span", "name", first.name), ` ${valueText(first.before)} → `, made("b", "", valueText(first.after)));
+  const name = made("span", "name", first.name);
+  text.append(name, ` ${valueText(first.before)} → `, made("b", "", valueText(first.after)));
   if (rest.length > 0) text.append(`, ${rest.length} more`);
   return text;
 }
@@ -182,7 +207,7 @@ class Code {
     const button = /** @type {HTMLButtonElement} */ (made("button", "agent"));
     button.type = "button";
     const parts = { does: made("span", "does"), where: made("span", "where"), line: made("code", "line") };
-    button.append(spoken("agent "), badge(agent), parts.does, parts.where, parts.line);
+    button.append(spoken("agent "), badge(agent), parts.does, parts.where, " ", parts.line);
     button.addEventListener("click", () => {
       if (this.state !== undefined) this.show(this.state, agent);
     });
@@ -196,7 +221,8 @@ class Code {
     button.className = `agent ${is}`;
     button.setAttribute("aria-pressed", `${number === this.chosen}`);
     doesPart.textContent = does;
-    where.textContent = at === undefined ? "" : `${at.file}:${at.line}`;
+    const isOneFile = this.run.data.files.length === 1;
+    where.textContent = at === undefined ? "" : `${isOneFile ? "line " : `${at.file}:`}${at.line}`;
     line.textContent = at === undefined ? "" : this.texts.get(at.file)?.split("\n")[at.line - 1]?.trim() ?? "";
   }
 
@@ -226,7 +252,7 @@ class Code {
   /** @param {string | undefined} file */
   #whyMissing(file) {
     return file === undefined
-      ? "It isn't known where in the code the agents are: a second run by the same seed did something else, or none was made."
+      ? "Where in the code the agents are isn't known: no second run by this seed has done the same."
       : `The code of ${file} couldn't be read when this run was kept.`;
   }
 
@@ -283,9 +309,8 @@ class Memory {
   constructor(run) {
     this.run = run;
     this.body = /** @type {HTMLElement} */ (by("memory").querySelector("tbody"));
-    const notes = run.data.holds === "touched" ? ["Of ordinary writes only those are known whose bytes some call touches."] : [];
-    if (run.rows.length === 0) notes.push("Nothing was accessed.");
-    by("memory-note").textContent = notes.join(" ");
+    const isPart = run.data.holds === "touched";
+    by("memory-note").textContent = isPart ? "Ordinary writes are known only of bytes that some call touches." : "";
   }
 
   /** @param {State} state @param {number} index of the step */
@@ -388,7 +413,10 @@ class Page {
     by("detail").append(made("details", "", made("summary", "", "more"), made("pre", "", rest)));
   }
 
-  /** What each way to go leads to. @param {string} way */
+  /**
+   * What each way to go leads to.
+   * @param {string} way
+   */
   #go(way) {
     const { index, run } = this;
     const last = run.steps.length - 1;

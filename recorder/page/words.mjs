@@ -23,13 +23,22 @@
  * @property {(number | undefined)[]} waits for each agent, the entry of its last wait
  */
 
-/** What a call takes, answers or finds: a string of digits is a BigInt. @param {unknown} value */
+/**
+ * What a call takes, answers or finds: a string of digits is a BigInt.
+ * @param {unknown} value
+ */
 export const valueText = (value) => (typeof value === "string" && /^-?\d+$/.test(value) ? `${value}n` : `${value}`);
 
-/** A call as JavaScript writes it. @param {(string | number)[]} does */
+/**
+ * A call as JavaScript writes it.
+ * @param {(string | number)[]} does
+ */
 export const callText = ([name, view, ...others]) => `${name}(${[view, ...others.map(valueText)].join(", ")})`;
 
-/** The element that a call names. @param {(string | number)[]} does */
+/**
+ * The element that a call names.
+ * @param {(string | number)[]} does
+ */
 export const elementText = ([, view, index]) => `${view}[${index}]`;
 
 /** @param {number} count @param {string} one @param {string} several */
@@ -45,7 +54,7 @@ function failureText({ agent, does, found = {}, answer }, { views }) {
   const { kind = "", length = 0 } = views.get(`${view}`) ?? {};
   const waits = name === "wait" || name === "notify";
   switch (found.failed) {
-    case "kind": return waits ? `${view} is ${kind}, not Int32 or BigInt64` : `${view} is ${kind}, which Atomics doesn't take`;
+    case "kind": return `${view} is ${kind}, ${waits ? "not Int32 or BigInt64" : "which Atomics doesn't take"}`;
     case "index": return `${view} has ${counted(length, "element", "elements")}`;
     case "operand": return `${view} takes ${kind.startsWith("Big") ? "BigInts" : "Numbers"}`;
     case "can-block": return `agent ${agent} can't block`;

@@ -99,7 +99,10 @@ export function pageData(outcome, facts, module) {
   };
 }
 
-/** The digest by which a browser is told which code and which looks are the page's own. @param {string} text */
+/**
+ * The digest by which a browser is told which code and which looks are the page's own.
+ * @param {string} text
+ */
 const digestOf = (text) => `'sha256-${createHash("sha256").update(text).digest("base64")}'`;
 
 /**

@@ -29,8 +29,10 @@ const RIGHT = new RegExp(`^[A-Za-z0-9_]{1,${MOST_CHARACTERS}}$`);
 /** What scripts name views by themselves. */
 const TAKEN = new RegExp(`^(?:ordinary_|init_)|^(?:${KINDS.join("|")})(?:_b\\d+)?(?:_at\\d+)?(?:_x\\d+)?$`);
 
+/** In place of an index, where a name is that of a whole array. */
+const WHOLE = "whole";
+
 const EXAMPLE = '{ LOCK: 0, slots: ["Uint8", 1], first: ["Uint8", 1, 0] }';
-const INT32 = KINDS.indexOf("Int32");
 
 /** @param {unknown} value @param {number} most @returns {value is number} */
 const isUpTo = (value, most) => typeof value === "number" && Number.isInteger(value) && value >= 0 && value <= most;
@@ -43,9 +45,10 @@ const isUpTo = (value, most) => typeof value === "number" && Number.isInteger(va
  */
 function partsOf(name, value) {
   if (typeof value === "number") return ["Int32", 0, value];
-  if (Array.isArray(value) && (value.length === 2 || value.length === 3)) return value;
-  throw new Refused(`\`names\` says of ${name} no place: give [kind, buffer] for a whole array, [kind, buffer, index] ` +
-    `for one element, or the index alone where it is one of an Int32Array on buffer 0, as in ${EXAMPLE}`);
+  if (Array.isArray(value) && value.length === 2) return [...value, WHOLE];
+  if (Array.isArray(value) && value.length === 3) return value;
+  throw new Refused(`\`names\` says of ${name} no place: give [kind, buffer, index] for an element, [kind, buffer] for ` +
+    `a whole array, or an index alone, which is that of an Int32Array on buffer 0, as in ${EXAMPLE}`);
 }
 
 /**
@@ -58,16 +61,18 @@ function checkedName(name, value, lengths) {
   const [kindName, block, index] = partsOf(name, value);
   const kind = KINDS.indexOf(/** @type {string} */ (kindName));
   if (kind < 0) {
-    throw new Refused(`\`names\` says of ${name} that its kind is ${kindName}: ${meant(`${kindName}`, [...KINDS])}`);
+    const kinds = meant(`${kindName}`, [...KINDS]);
+    throw new Refused(`\`names\` says of ${name} that its kind is ${kindName}: ${kinds}`);
   }
   if (!isUpTo(block, lengths.length - 1)) {
-    throw new Refused(`\`names\` puts ${name} on buffer ${block}: there is no such buffer, but 0 to ${lengths.length - 1}`);
+    const last = lengths.length - 1;
+    throw new Refused(`\`names\` puts ${name} on buffer ${block}: there is no such buffer, but 0 to ${last}`);
   }
   const elements = Math.floor(lengths[block] / SIZES[kind]);
-  if (index === undefined) return { name, isWord: false, kind, block, offset: 0, length: elements };
+  if (index === WHOLE) return { name, isWord: false, kind, block, offset: 0, length: elements };
   if (!isUpTo(index, elements - 1)) {
-    throw new Refused(`\`names\` puts ${name} at index ${index}: of a ${kindName}Array, buffer ${block} has room for ` +
-      `${elements} elements, counted from 0`);
+    throw new Refused(`\`names\` puts ${name} at index ${index}: buffer ${block} has ${elements} elements of kind ` +
+      `${kindName}, counted from 0`);
   }
   return { name, isWord: true, kind, block, offset: index * SIZES[kind], length: 1 };
 }

@@ -27,7 +27,8 @@ const MENTION = /\/[/*][#@]\s*sourceMappingURL=([^\s*]+)/g;
 function textOfData(url) {
   const comma = url.indexOf(",");
   const rest = url.slice(comma + 1);
-  return /;base64$/i.test(url.slice(0, comma)) ? Buffer.from(rest, "base64").toString("utf8") : decodeURIComponent(rest);
+  const isBase64 = /;base64$/i.test(url.slice(0, comma));
+  return isBase64 ? Buffer.from(rest, "base64").toString("utf8") : decodeURIComponent(rest);
 }
 
 /**
