@@ -497,7 +497,8 @@ export class Run {
       const waiting = standings.filter(({ standing }) => standing.at === "waits").map(({ agent }) => agent);
       return [Math.max(...waiting.map((agent) => this.#lastOf(agent)), -1)].map((at) => (at < 0 ? end : at));
     }
-    const agent = /^agent (\d+) /.exec(detail)?.[1];
+    const isByAgent = ending === "failed" || ending === "bound";
+    const agent = isByAgent ? /^agent (\d+) /.exec(detail)?.[1] : undefined;
     const last = agent === undefined ? -1 : this.#lastOf(Number(agent));
     return [last < 0 ? end : last];
   }

@@ -7,7 +7,14 @@ import { valueText } from "./words.mjs";
 /** @typedef {import("./model.mjs").Step} Step */
 
 const PAGE_OF_STEPS = 10;
+
+// A row's height in pixels, as page.css has it; and how many rows there are at least, and are made, beyond those seen.
+const ROW_HEIGHT = 24;
+const ROWS_NEAR = 20;
+const ROWS_AROUND = 120;
+
 const SHORT_DETAIL_LINES = 2;
+const MOST_BADGES = 2;
 
 /** @param {string} id @returns {HTMLElement} */
 const by = (id) => /** @type {HTMLElement} */ (document.getElementById(id));
@@ -61,17 +68,29 @@ function placeParts(place) {
   return { file, line: Number(line), column: Number(column) };
 }
 
-/** The rows of all steps, with a lane for each agent. */
+/** The rows of steps, with a lane for each agent. Of many steps only those near the ones that are seen are there. */
 class Timeline {
-  /** @param {Run} run @param {(index: number) => void} onChosen */
+  /**
+   * @param {Run} run
+   * @param {(index: number) => void} onChosen
+   */
   constructor(run, onChosen) {
     this.run = run;
     this.pane = by("timeline");
-    this.pane.style.setProperty("--agents", `${run.data.agents}`);
-    by("lane-names").style.setProperty("--agents", `${run.data.agents}`);
+    this.sheet = made("div", "sheet");
+    this.sheet.setAttribute("role", "presentation");
+    this.sheet.style.height = `${run.steps.length * ROW_HEIGHT}px`;
+    this.pane.append(this.sheet);
+    for (const part of [this.pane, by("lane-names")]) part.style.setProperty("--agents", `${run.data.agents}`);
     by("lane-names").append(made("span", "number", ""), this.#laneNames(), made("span", "", ""));
-    this.rows = this.#rows();
-    this.pane.append(...this.rows);
+    this.waiting = waitingAt(run.steps);
+    /** @type {HTMLElement[]} the rows that are there, by their steps */
+    this.rows = [];
+    this.from = 0;
+    this.to = 0;
+    this.chosen = 0;
+    this.pane.addEventListener("scroll", () => this.#draw());
+    addEventListener("resize", () => this.#draw());
     this.pane.addEventListener("click", (event) => {
       const row = event.target instanceof Element ? event.target.closest("[role=option]") : null;
       if (row !== null) onChosen(this.rows.indexOf(/** @type {HTMLElement} */ (row)));
@@ -80,12 +99,31 @@ class Timeline {
 
   /** @param {number} index */
   choose(index) {
-    const before = this.pane.querySelector("[aria-selected=true]");
-    before?.setAttribute("aria-selected", "false");
-    const row = this.rows[index];
-    row.setAttribute("aria-selected", "true");
-    this.pane.setAttribute("aria-activedescendant", row.id);
-    reveal(this.pane, row);
+    this.rows[this.chosen]?.setAttribute("aria-selected", "false");
+    this.chosen = index;
+    const { pane } = this;
+    const top = index * ROW_HEIGHT;
+    const room = Math.min(pane.clientHeight / 3, 3 * ROW_HEIGHT);
+    const least = top + ROW_HEIGHT + room - pane.clientHeight;
+    pane.scrollTop = Math.min(Math.max(pane.scrollTop, least), Math.max(0, top - room));
+    this.#draw();
+    this.rows[index].setAttribute("aria-selected", "true");
+    pane.setAttribute("aria-activedescendant", this.rows[index].id);
+  }
+
+  /** Sees to it that the rows are there that are seen, and some around them. */
+  #draw() {
+    const { steps } = this.run;
+    const seen = Math.floor(this.pane.scrollTop / ROW_HEIGHT);
+    const end = Math.ceil((this.pane.scrollTop + this.pane.clientHeight) / ROW_HEIGHT);
+    const isThere = this.from <= Math.max(0, seen - ROWS_NEAR) && this.to >= Math.min(steps.length, end + ROWS_NEAR);
+    if (isThere) return;
+    this.from = Math.max(0, seen - ROWS_AROUND);
+    this.to = Math.min(steps.length, end + ROWS_AROUND);
+    const before = this.rows;
+    this.rows = [];
+    for (let at = this.from; at < this.to; at += 1) this.rows[at] = before[at] ?? this.#row(steps[at], at);
+    this.sheet.replaceChildren(...this.rows.slice(this.from));
   }
 
   #laneNames() {
@@ -94,32 +132,25 @@ class Timeline {
     return lanes;
   }
 
-  /** @returns {HTMLElement[]} */
-  #rows() {
-    /** @type {Set<number>} the agents that wait */
-    const waiting = new Set();
-    return this.run.steps.map((step, index) => {
-      if (step.what === "leave") waiting.delete(/** @type {number} */ (step.agent));
-      const row = this.#row(step, index, waiting);
-      for (const woken of step.fact?.found?.woken ?? []) waiting.delete(woken);
-      if (step.what === "wait") waiting.add(/** @type {number} */ (step.agent));
-      return row;
-    });
-  }
-
-  /** @param {Step} step @param {number} index @param {Set<number>} waiting */
-  #row(step, index, waiting) {
+  /**
+   * @param {Step} step
+   * @param {number} index
+   */
+  #row(step, index) {
     const { agent, entry, text, answer, changes, what, isSwitch } = step;
     const row = made("div", `row ${what}${isSwitch ? " switch" : ""}`);
     row.id = `step-${index}`;
     row.setAttribute("role", "option");
-    row.setAttribute("aria-selected", "false");
+    row.setAttribute("aria-selected", `${index === this.chosen}`);
+    row.setAttribute("aria-setsize", `${this.run.steps.length}`);
+    row.setAttribute("aria-posinset", `${index + 1}`);
+    row.style.top = `${index * ROW_HEIGHT}px`;
     const number = made("span", "number", entry === undefined ? "" : `${entry}`);
     const does = made("span", "does", made("span", "text", text));
     if (agent !== undefined) does.prepend(spoken(`agent ${agent}: `));
     if (answer !== "") does.append(made("span", "answer", ` ${answer}`));
     for (const tag of this.#tags(index)) does.append(made("span", "tag", tag));
-    row.append(number, this.#lanes(step, index, waiting), does, changesOf(changes));
+    row.append(number, this.#lanes(step, index), does, changesOf(changes));
     return row;
   }
 
@@ -131,10 +162,11 @@ class Timeline {
     return [data.ending === "deadlock" ? "waits for ever" : data.ending];
   }
 
-  /** @param {Step} step @param {number} index @param {Set<number>} waiting */
-  #lanes({ agent, fact, what }, index, waiting) {
+  /** @param {Step} step @param {number} index */
+  #lanes({ agent, fact, what }, index) {
     const lanes = made("span", "lanes");
     lanes.setAttribute("aria-hidden", "true");
+    const waiting = this.waiting[index];
     const woken = /** @type {number[]} */ (fact?.found?.woken ?? []);
     const ends = agent === undefined ? [] : [agent, ...woken];
     for (let each = 0; each < this.run.data.agents; each += 1) {
@@ -149,6 +181,24 @@ class Timeline {
     }
     return lanes;
   }
+}
+
+/**
+ * The agents that wait while each step is made.
+ * @param {Step[]} steps
+ * @returns {Set<number>[]}
+ */
+function waitingAt(steps) {
+  /** @type {Set<number>} */
+  let waiting = new Set();
+  return steps.map(({ what, agent, fact }) => {
+    if (what === "leave" && agent !== undefined) waiting = new Set([...waiting].filter((each) => each !== agent));
+    const now = waiting;
+    const woken = /** @type {number[]} */ (fact?.found?.woken ?? []);
+    if (woken.length > 0) waiting = new Set([...waiting].filter((each) => !woken.includes(each)));
+    if (what === "wait" && agent !== undefined) waiting = new Set([...waiting, agent]);
+    return now;
+  });
 }
 
 /**
@@ -194,12 +244,13 @@ class Code {
   /** @param {State} state @param {number | undefined} chosen the agent whose code is shown */
   show(state, chosen) {
     this.state = state;
-    this.chosen = chosen ?? this.chosen ?? state.agents.findIndex(({ place }) => place >= 0);
+    this.chosen = chosen ?? this.chosen ?? Math.max(0, state.agents.findIndex(({ place }) => place >= 0));
     state.agents.forEach((agent, number) => this.#fillCard(number, agent));
     const place = this.places[state.agents[this.chosen]?.place ?? -1];
     if (place !== undefined) this.#open(place.file);
     else if (this.file === undefined) this.#open(this.run.data.files[0]?.file);
     this.#mark();
+    reveal(by("agents"), this.cards[this.chosen].item);
   }
 
   /** @param {number} agent */
@@ -262,24 +313,48 @@ class Code {
     for (const button of by("files").children) {
       button.setAttribute("aria-pressed", `${button.textContent === this.file}`);
     }
+    /** @type {Map<HTMLElement, number[]>} */
+    const here = new Map();
     this.state?.agents.forEach(({ place }, agent) => {
       const at = this.places[place];
       const line = at?.file === this.file ? this.lines[at.line - 1] : undefined;
-      if (at === undefined || line === undefined) return;
-      const isChosen = agent === this.chosen;
-      line.classList.add("here", ...(isChosen ? ["chosen"] : []));
-      line.firstElementChild?.append(badge(agent), spoken(` agent ${agent} is here: `));
-      if (!isChosen) return;
-      line.setAttribute("aria-current", "step");
-      markToken(/** @type {HTMLElement} */ (line.lastElementChild), at.column);
-      reveal(this.pane, line);
+      if (line === undefined) return;
+      here.set(line, agent === this.chosen ? [agent, ...here.get(line) ?? []] : [...here.get(line) ?? [], agent]);
+      if (agent === this.chosen) this.#markChosen(line, at.column);
     });
+    for (const [line, agents] of here) markAgents(line, agents);
+  }
+
+  /**
+   * Marks the line at which the agent is whose code is shown.
+   * @param {HTMLElement} line
+   * @param {number} column
+   */
+  #markChosen(line, column) {
+    line.classList.add("chosen");
+    line.setAttribute("aria-current", "step");
+    markToken(/** @type {HTMLElement} */ (line.lastElementChild), column);
+    reveal(this.pane, line);
   }
 }
 
 /** @param {string} text @param {number} number */
 function codeLine(text, number) {
   return made("div", "code-line", made("span", "who"), made("span", "number", `${number}`), made("code", "", text));
+}
+
+/**
+ * Marks a line at which agents are.
+ * @param {HTMLElement} line
+ * @param {number[]} agents
+ */
+function markAgents(line, agents) {
+  const shown = agents.slice(0, agents.length > MOST_BADGES ? 1 : MOST_BADGES);
+  const more = agents.length - shown.length;
+  line.classList.add("here");
+  const who = /** @type {HTMLElement} */ (line.firstElementChild);
+  who.append(...shown.map((agent) => badge(agent)), more > 0 ? `+${more}` : "");
+  who.append(spoken(` agents ${agents.join(", ")} are here: `));
 }
 
 /** @param {HTMLElement} line */

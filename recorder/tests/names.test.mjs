@@ -70,7 +70,7 @@ for (const [names, why] of [
   [{ LOCK: ["Int32", 0, undefined] }, /puts LOCK at index undefined/],
   [{ LOCK: 0, lock: ["Int32", 0, 0] }, /^`names` has two names for one place, LOCK and lock: give one$/],
   [{ a: ["Uint8", 1], b: ["Uint8", 1] }, /two names for one place, a and b/],
-  [Object.fromEntries(Array.from({ length: 65 }, (_, at) => [`w${at}`, at])), /^`names` has 65 names: a script has 64 /],
+  [Object.fromEntries(Array.from({ length: 65 }, (_, at) => [`w${at}`, at])), /^`names` has 65 names: a script has /],
 ]) {
   test(`names that can't be: ${JSON.stringify(names).slice(0, 60)}`, () => {
     assert.throws(() => checkedNames(names, [8, 16]), (error) => {

@@ -24,7 +24,11 @@ const joinedCode = () => CODE.map((name) => {
 /** @param {string} text */
 const escaped = (text) => text.replace(/[&<>"']/g, (sign) => `&#${sign.charCodeAt(0)};`);
 
-/** @param {string} text a line of JSON each */
+/**
+ * @param {string} text lines of JSON
+ * @returns {any[]}
+ * @throws {SyntaxError}
+ */
 const objectsOf = (text) => text.split("\n").filter((line) => line !== "").map((line) => JSON.parse(line));
 
 /**
@@ -129,5 +133,6 @@ export function pageOf(data) {
  * @param {Outcome} outcome that has a script
  * @param {string} facts what `sabsim replay --format json` tells of it
  * @param {string} module the URL of the agents' module
+ * @throws {SyntaxError} where the facts are no JSON
  */
 export const pageText = (outcome, facts, module) => pageOf(pageData(outcome, facts, module));

@@ -1,28 +1,16 @@
 // What the command line does: many runs, a summary of them, and the first failing one kept.
 
-import { Difference, sabsim, sabsimFor, sabsimPlaces } from "../check/sabsim.mjs";
+import { Difference, sabsimFor, sabsimPlaces } from "../check/sabsim.mjs";
 import { preloads } from "../seeds/node-words.mjs";
 import { recordSeeds } from "../seeds/seeds.mjs";
 import { Interrupted, Interruption } from "./interruption.mjs";
 import { Keeper } from "./keep.mjs";
-import { pageText } from "./page.mjs";
+import { NotMade, PICTURES, pictureOf } from "./pictures.mjs";
 import { print } from "./print.mjs";
 import { Progress } from "./progress.mjs";
 import { Summary } from "./summary.mjs";
 
 /** @typedef {import("../run/group.mjs").Outcome} Outcome */
-
-/** What is made of a kept script by sabsim: by which of its formats, and what becomes of it. */
-const PICTURES = [
-  { ending: "explained", format: "explained", made: asItIs },
-  { ending: "svg", format: "svg", made: asItIs },
-  { ending: "html", format: "json", made: pageText },
-];
-
-/** @param {Outcome} _outcome @param {string} output */
-function asItIs(_outcome, output) {
-  return output;
-}
 
 export class Session {
   /** @param {import("./options.mjs").Options} options with the URL of the module */
@@ -100,16 +88,20 @@ export class Session {
    */
   #keepPictures(keeper, outcome) {
     if (outcome?.script === undefined || keeper.seed !== outcome.seed) return;
-    const { seed, script } = outcome;
+    const { seed } = outcome;
     if (this.sabsim === undefined) {
       const names = PICTURES.map(({ ending }) => `seed-${seed}.${ending}`);
       this.leftOut.push(`not kept, since only sabsim makes them: ${names.join(", ")}`);
       return;
     }
-    for (const { ending, format, made } of PICTURES) {
-      const { status, output, errors } = sabsim(this.sabsim, ["replay", "--format", format], script);
-      if (status === 0) keeper.keepAll(seed, { [ending]: made(outcome, output, this.options.module) });
-      else this.leftOut.push(`not kept: seed-${seed}.${ending}: sabsim ended with status ${status}: ${errors.trim()}`);
+    for (const picture of PICTURES) {
+      const { ending } = picture;
+      try {
+        keeper.keepAll(seed, { [ending]: pictureOf(this.sabsim, picture, outcome, this.options.module) });
+      } catch (problem) {
+        if (!(problem instanceof NotMade)) throw problem;
+        this.leftOut.push(`not kept: seed-${seed}.${ending}: ${problem.message}`);
+      }
     }
   }
 

@@ -47,8 +47,8 @@ function partsOf(name, value) {
   if (typeof value === "number") return ["Int32", 0, value];
   if (Array.isArray(value) && value.length === 2) return [...value, WHOLE];
   if (Array.isArray(value) && value.length === 3) return value;
-  throw new Refused(`\`names\` says of ${name} no place: give [kind, buffer, index] for an element, [kind, buffer] for ` +
-    `a whole array, or an index alone, which is that of an Int32Array on buffer 0, as in ${EXAMPLE}`);
+  throw new Refused(`\`names\` says of ${name} no place: give [kind, buffer, index] for an element, [kind, buffer] ` +
+    `for a whole array, or an index alone, which is that of an Int32Array on buffer 0, as in ${EXAMPLE}`);
 }
 
 /**

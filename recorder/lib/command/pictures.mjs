@@ -1,0 +1,52 @@
+// What sabsim makes of a kept script for people to look at: the explained report, the picture, and the page of the run.
+
+import { sabsim } from "../check/sabsim.mjs";
+import { pageText } from "./page.mjs";
+
+/** @typedef {import("../run/group.mjs").Outcome} Outcome */
+
+/**
+ * @typedef {object} Picture
+ * @property {string} ending of its file's name
+ * @property {string} format of `sabsim replay`, which it is made from
+ * @property {(output: string, outcome: Outcome, module: string) => string} made
+ */
+
+/** Why something isn't made of a script, in its message. */
+export class NotMade extends Error {}
+
+/** @type {readonly Picture[]} */
+export const PICTURES = Object.freeze([
+  { ending: "explained", format: "explained", made: (output) => output },
+  { ending: "svg", format: "svg", made: (output) => output },
+  { ending: "html", format: "json", made: pageMade },
+]);
+
+/**
+ * @param {string} facts
+ * @param {Outcome} outcome
+ * @param {string} module
+ */
+function pageMade(facts, outcome, module) {
+  try {
+    return pageText(outcome, facts, module);
+  } catch (problem) {
+    if (problem instanceof SyntaxError) throw new NotMade("what sabsim says of the run is no JSON");
+    throw problem;
+  }
+}
+
+/**
+ * Makes something of the script of a run.
+ * @param {string} path of sabsim
+ * @param {Picture} picture what
+ * @param {Outcome} outcome that has a script
+ * @param {string} module the URL of the agents' module
+ * @returns {string}
+ * @throws {NotMade}
+ */
+export function pictureOf(path, { format, made }, outcome, module) {
+  const { status, output, errors } = sabsim(path, ["replay", "--format", format], outcome.script ?? "");
+  if (status !== 0) throw new NotMade(`sabsim ended with status ${status}: ${errors.trim()}`);
+  return made(output, outcome, module);
+}
