@@ -458,10 +458,11 @@ class Page {
     if (index === this.index) return;
     this.index = index;
     const state = this.run.stateAt(index);
+    // A long sentence takes room from the panes below it, so it stands there first.
+    this.#tell(steps[index]);
     this.timeline.choose(index);
     this.code.show(state, steps[index].agent);
     this.memory.show(state, index);
-    this.#tell(steps[index]);
   }
 
   /** @param {Step} step */

@@ -195,6 +195,19 @@ test("a page is one file, whose code and looks are just those that it says", () 
   assert.doesNotMatch(code, /^(?:import|export)\b/m);
 });
 
+test("README's pictures of a page are small, and say in words what they show", () => {
+  const folder = new URL("../", import.meta.url);
+  const readme = readFileSync(new URL("README.md", folder), "utf8");
+  const pictures = [...readme.matchAll(/!\[([^]*?)\]\((pictures\/[^)]*)\)/g)];
+  assert.equal(pictures.length, 2);
+  for (const [, words, file] of pictures) {
+    assert.ok(words.length > 100, file);
+    const picture = readFileSync(new URL(file, folder));
+    assert.equal(picture.toString("latin1", 1, 4), "PNG");
+    assert.ok(picture.length < 120_000, `${file}: ${picture.length} bytes`);
+  }
+});
+
 test("no text of a run breaks its page", () => {
   const evil = "</script><script>alert(1)</script><!-- <style> {{code}} $& \u2028 \" & '";
   const parts = { detail: evil, sources: [{ file: evil, text: evil }], trace: lines(EVENTS).replaceAll("a.mjs", "x") };
