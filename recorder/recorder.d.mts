@@ -143,6 +143,8 @@ export interface Outcome {
   report?: string;
   /** Each event as an object of JSON, a line each. */
   trace?: string;
+  /** The code of each file that the trace names; null where it can't be read, or is longer than 2^20 characters. */
+  sources?: { file: string; text: string | null }[];
   /** Whether sabsim has replayed the run and judged its data races, and said the same. */
   checked: boolean;
   /** Why it hasn't. */
@@ -168,7 +170,7 @@ export interface RaceSide {
   byte: number;
   /** How many bytes. */
   size: number;
-  /** The view's name and the index of the element on which the two meet. */
+  /** The element on which the two meet: its name, or its view's and its index. */
   element: string;
   /** Which of the agent's calls it is; of an ordinary access, how many began before. */
   call: number;
@@ -199,7 +201,19 @@ export interface Setup {
   buffers?: number[];
   /** The agents that can't block: `Atomics.wait` throws TypeError there. Else all can. */
   noBlock?: number[];
+  /** What words and whole arrays are called, in scripts, reports and pictures. */
+  names?: Record<string, NamedPlace>;
 }
+
+/** The kind of a typed array: its constructor's name without `Array`. */
+export type Kind = "Int8" | "Uint8" | "Uint8Clamped" | "Int16" | "Uint16" | "Int32" | "Uint32" | "Float32" | "Float64"
+  | "BigInt64" | "BigUint64";
+
+/**
+ * What a name stands for: `[kind, buffer, index]` one element of an array of that kind over that whole buffer,
+ * `[kind, buffer]` all of that array, and a number alone the element of that index of an Int32Array on buffer 0.
+ */
+export type NamedPlace = number | [kind: Kind, buffer: number] | [kind: Kind, buffer: number, index: number];
 
 /** What a module of agents may export as `init` and as `check`: it is called when no agent runs. */
 export type WithBuffers = (buffers: SharedArrayBuffer[], run: { agents: number; args: string[] }) => unknown;

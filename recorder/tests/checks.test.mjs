@@ -37,7 +37,7 @@ describe("init and check", { concurrency: 2, ...withSabsim }, () => {
     const [, seed] = /^first failing seed: (\d+), check\n {2}check threw Error: counted to 1$/m.exec(stdout);
     const kept = (ending) => readFileSync(join(out, `seed-${seed}.${ending}`), "utf8");
     assert.deepEqual(readdirSync(out).sort(), [
-      "explained", "json", "report", "svg", "trace.jsonl",
+      "explained", "html", "json", "report", "svg", "trace.jsonl",
     ].map((ending) => `seed-${seed}.${ending}`));
     assert.equal(sabsim(SABSIM, ["replay"], kept("json")).output, kept("report"));
   });
@@ -162,7 +162,7 @@ describe("init and check", { concurrency: 2, ...withSabsim }, () => {
     assert.equal(outcome.ending, "check");
     assert.match(outcome.detail, /^check threw Error: 5\n/);
     const wrong = { block: /`setup` can't have a member block: is noBlock meant\?$/,
-      count: /`setup` can't have a member count: there are agents, buffers, noBlock$/ };
+      count: /`setup` can't have a member count: there are agents, buffers, noBlock, names$/ };
     for (const [name, refused] of Object.entries(wrong)) {
       write(`{ agents: 2, buffers: [4], ${name}: [0] }`);
       await assert.rejects(record({ module: path, sabsim: SABSIM }), refused);

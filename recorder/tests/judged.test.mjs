@@ -83,7 +83,7 @@ describe("the judge of checked runs", withSabsim, () => {
   });
 
   it("says that there is none, and the recorder has found a race: both sides are told", async (context) => {
-    const found = /^ {2}the recorder: agent 1 reads Uint8_b1\[0\] at ring-frees-first\.mjs:32:17, .*; agent 0 writes /;
+    const found = /^ {2}the recorder: agent 1 reads slots\[0\] at ring-frees-first\.mjs:32:17, .*; agent 0 writes /;
     const sabsim = judging(temporaryFolder(context), FINDS_NONE);
     for (const races of ["fail", "allow"]) {
       await assert.rejects(record({ module: RING, seed: RACING_SEED, sabsim, races }), (error) => {

@@ -147,7 +147,7 @@ for (const signal of ["SIGINT", "SIGTERM"]) {
     assert.match(second, /^[\d,]+ of [\d,]+ runs failed: /);
     const [, seed] = /^first failing seed: (\d+), /m.exec(stdout);
     const files = readdirSync(out).sort();
-    for (const ending of ["explained", "json", "report", "svg"]) assert.ok(files.includes(`seed-${seed}.${ending}`));
+    for (const ending of ["explained", "html", "json", "report", "svg"]) assert.ok(files.includes(`seed-${seed}.${ending}`));
     assert.ok(files.every((name) => name.startsWith(`seed-${seed}.`)), files.join());
     const [, names] = /^kept in .*: (.*)$/m.exec(stdout);
     assert.deepEqual(names.split(", ").sort(), files);

@@ -49,7 +49,7 @@ test("where some fail, the status is 1, and the first is kept in --out", withSab
   assert.deepEqual([status, stderr], [1, ""]);
   const [, seed] = /^first failing seed: (\d+), deadlock\n  agent \d waits at byte 4 /m.exec(stdout);
   assert.match(stdout, /^\d+ of 100 runs failed: \d+ deadlock; \d+ finished\n/);
-  const kept = ["json", "report", "trace.jsonl", "explained", "svg"].map((ending) => `seed-${seed}.${ending}`);
+  const kept = ["json", "report", "trace.jsonl", "explained", "svg", "html"].map((ending) => `seed-${seed}.${ending}`);
   assert.ok(stdout.endsWith(`\nkept in ${out}: ${kept.join(", ")}\n`), stdout);
   const script = readFileSync(join(out, `seed-${seed}.json`));
   const replayed = spawnSync(SABSIM, ["replay"], { input: script, encoding: "utf8" });
@@ -321,7 +321,7 @@ test("without sabsim what it makes isn't kept, and that is said", (context) => {
   assert.ok(!stdout.includes("sabsim says"));
   assert.deepEqual(lines.slice(-2), [
     `kept in ${out}: seed-3.json, seed-3.report, seed-3.trace.jsonl`,
-    "not kept, since only sabsim makes them: seed-3.explained, seed-3.svg",
+    "not kept, since only sabsim makes them: seed-3.explained, seed-3.svg, seed-3.html",
   ]);
 });
 
@@ -338,7 +338,9 @@ test("a picture that sabsim doesn't make is told of", (context) => {
   const { status, stdout } = run(cases("waitsForEver", ...unchecked, "--sabsim", half));
   assert.equal(status, 1, stdout);
   assert.match(stdout, /^1 run checked: sabsim says the same$/m);
-  assert.ok(stdout.endsWith("\nnot kept: seed-1.svg: sabsim ended with status 4: no pictures\n"), stdout);
+  const left = "\nnot kept: seed-1.svg: sabsim ended with status 4: no pictures\n" +
+    "not kept: seed-1.html: what sabsim says of the run is no JSON\n";
+  assert.ok(stdout.endsWith(left), stdout);
 });
 
 test("a difference stops everything with status 3, and is kept", (context) => {

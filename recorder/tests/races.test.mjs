@@ -6,6 +6,7 @@ import { test } from "node:test";
 import { racesTold } from "../lib/run/findings.mjs";
 import { FLAG, Log, NO_CALL, READ, WRITE } from "../lib/run/log.mjs";
 import { isRacy, racesOf } from "../lib/run/races.mjs";
+import { SourceNames } from "../lib/run/source-names.mjs";
 import { randomEvents } from "./events.mjs";
 import { slowRaces } from "./second-detector.mjs";
 
@@ -270,7 +271,8 @@ test("of the races of a run a thousand pairs of lines are told, and how many the
   const log = Log.of([0, 1].flatMap((agent) => numbers.map((source) => access(agent, source))));
   const sources = [0, 1].map((agent) => ["", ...numbers.map((line) => `file:///a/agents.mjs:${line}:${agent + 1}`)]);
   const run = { log, records: [{}, {}], lengths: [4], canBlock: [true, true] };
-  const told = racesTold({ run, transcript: { calls: [[], []] }, sources, module: "file:///a/agents.mjs" });
+  const sourceNames = new SourceNames("file:///a/agents.mjs");
+  const told = racesTold({ run, transcript: { calls: [[], []] }, sources, sourceNames });
   assert.equal(told.length, 1_000);
   assert.equal(new Set(told.map(({ lines }) => lines.join(" "))).size, 1_000);
   assert.ok(told.at(-1).text.endsWith("\nand 600 more"), told.at(-1).text);

@@ -232,6 +232,15 @@ declare module "node:fs" {
 }
 
 declare module "node:module" {
+  interface SourceEntry {
+    originalSource?: string;
+    originalLine?: number;
+    originalColumn?: number;
+  }
+  export class SourceMap {
+    constructor(payload: object);
+    findEntry(line: number, column: number): SourceEntry;
+  }
   export function syncBuiltinESMExports(): void;
 }
 

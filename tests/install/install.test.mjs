@@ -282,6 +282,7 @@ test("with a program it replays what was recorded, and checks", withProgram, asy
     const explained = npx(folder, ["sabsim", "replay", "--format", "explained", kept("json")]).output;
     assert.equal(explained, readFileSync(kept("explained"), "utf8"));
     assert.ok(existsSync(kept("svg")));
+    assert.match(readFileSync(kept("html"), "utf8"), /^<!doctype html>\n[^]*<\/html>\n$/);
   });
 
   await the.test("what it refuses is refused", () => {

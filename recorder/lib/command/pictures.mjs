@@ -1,26 +1,79 @@
-// What sabsim makes of a kept run's script, to be read and looked at.
+// What sabsim makes of a kept script for people to look at: the explained report, the picture, and the page of the run.
 
 import { sabsim } from "../check/sabsim.mjs";
+import { pageText } from "./page.mjs";
 
-const PICTURES = ["explained", "svg"];
+/** @typedef {import("../run/group.mjs").Outcome} Outcome */
 
 /**
- * Keeps them beside the script.
+ * @typedef {object} Picture
+ * @property {string} ending of its file's name
+ * @property {string} format of `sabsim replay`, which it is made from
+ * @property {(output: string, outcome: Outcome, module: string) => string} made
+ */
+
+/** Why something isn't made of a script, in its message. */
+export class NotMade extends Error {}
+
+/** @type {readonly Picture[]} */
+export const PICTURES = Object.freeze([
+  { ending: "explained", format: "explained", made: (output) => output },
+  { ending: "svg", format: "svg", made: (output) => output },
+  { ending: "html", format: "json", made: pageMade },
+]);
+
+/**
+ * @param {string} facts
+ * @param {Outcome} outcome
+ * @param {string} module
+ */
+function pageMade(facts, outcome, module) {
+  try {
+    return pageText(outcome, facts, module);
+  } catch (problem) {
+    if (problem instanceof SyntaxError) throw new NotMade("what sabsim says of the run is no JSON");
+    throw problem;
+  }
+}
+
+/**
+ * Makes something of the script of a run.
+ * @param {string} path of sabsim
+ * @param {Picture} picture what
+ * @param {Outcome} outcome that has a script
+ * @param {string} module the URL of the agents' module
+ * @returns {string}
+ * @throws {NotMade}
+ */
+export function pictureOf(path, { format, made }, outcome, module) {
+  const { status, output, errors } = sabsim(path, ["replay", "--format", format], outcome.script ?? "");
+  if (status !== 0) throw new NotMade(`sabsim ended with status ${status}: ${errors.trim()}`);
+  return made(output, outcome, module);
+}
+
+/**
+ * Keeps all of them beside the script.
  * @param {import("./keep.mjs").Keeper} keeper
- * @param {{ seed: number, script?: string }} outcome of the run that is kept
+ * @param {Outcome} outcome of the run that is kept
  * @param {string | undefined} path of sabsim; undefined: it isn't there, or isn't asked
+ * @param {string} module the URL of the agents' module
  * @returns {string[]} what isn't kept though there is a script to make it from, and why
  */
-export function keepPictures(keeper, { seed, script }, path) {
+export function keepPictures(keeper, outcome, path, module) {
+  const { seed, script } = outcome;
   if (script === undefined) return [];
   if (path === undefined) {
-    const names = PICTURES.map((format) => `seed-${seed}.${format}`);
+    const names = PICTURES.map(({ ending }) => `seed-${seed}.${ending}`);
     return [`not kept, since only sabsim makes them: ${names.join(", ")}`];
   }
-  return PICTURES.flatMap((format) => {
-    const { status, output, errors } = sabsim(path, ["replay", "--format", format], script);
-    if (status !== 0) return [`not kept: seed-${seed}.${format}: sabsim ended with status ${status}: ${errors.trim()}`];
-    keeper.keepAll(seed, { [format]: output });
-    return [];
+  return PICTURES.flatMap((picture) => {
+    const { ending } = picture;
+    try {
+      keeper.keepAll(seed, { [ending]: pictureOf(path, picture, outcome, module) });
+      return [];
+    } catch (problem) {
+      if (problem instanceof NotMade) return [`not kept: seed-${seed}.${ending}: ${problem.message}`];
+      throw problem;
+    }
   });
 }

@@ -87,13 +87,14 @@ export class Session {
    * @param {unknown} stopped why not all were made, if so
    */
   #keepMore(stopped) {
-    if (this.keeper === undefined) return;
+    const { keeper, summary: { failing } } = this;
+    if (keeper === undefined) return;
     if (stopped instanceof Difference) {
       const { outcome: { seed, script, report, trace }, replayed, judged } = stopped;
       const theirs = { "sabsim-report": replayed, "sabsim-verdict": judged };
-      this.keeper.keepAll(seed, { json: script, report, "trace.jsonl": trace, ...theirs });
-    } else if (this.keeper.seed !== undefined && this.keeper.seed === this.summary.failing?.seed) {
-      this.leftOut.push(...keepPictures(this.keeper, this.summary.failing, this.sabsim));
+      keeper.keepAll(seed, { json: script, report, "trace.jsonl": trace, ...theirs });
+    } else if (failing?.script !== undefined && keeper.seed === failing.seed) {
+      this.leftOut.push(...keepPictures(keeper, failing, this.sabsim, this.options.module));
     }
   }
 

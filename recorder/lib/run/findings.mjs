@@ -1,7 +1,8 @@
 // The data races of a run, as they are told.
 
 import { FLAG } from "./log.mjs";
-import { deedOf, elementName, sourceName, whenOf } from "./places.mjs";
+import { NO_NAMES } from "./names.mjs";
+import { deedOf, elementName, whenOf } from "./places.mjs";
 import { racesOf } from "./races.mjs";
 import { ownCalls } from "./transcript.mjs";
 
@@ -13,7 +14,7 @@ import { ownCalls } from "./transcript.mjs";
  * @property {number} block
  * @property {number} byte its first byte
  * @property {number} size how many bytes
- * @property {string} element the view's name and the index of the element on which the two meet
+ * @property {string} element the element on which the two meet: its name, or its view's and its index
  * @property {number} call which of the agent's calls it is; of an ordinary access, how many began before
  * @property {string | null} source file, line and column
  */
@@ -39,7 +40,7 @@ function accessOf(flags) {
  * @property {import("./transcript.mjs").Run} run
  * @property {import("./transcript.mjs").Transcript} transcript
  * @property {string[][]} sources the positions of each agent's code by their numbers; empty where none were taken
- * @property {string} module the URL of the agents' module
+ * @property {import("./source-names.mjs").SourceNames} sourceNames
  */
 
 // More aren't told of one run, but counted.
@@ -48,12 +49,10 @@ const MOST_TOLD = 1_000;
 /** What is told of accesses; what is asked for again and again is made out once. */
 class Teller {
   /** @param {Telling} telling */
-  constructor({ run, transcript, sources, module }) {
+  constructor({ run, transcript, sources, sourceNames }) {
     this.run = run;
     this.transcript = transcript;
-    this.module = module;
-    /** The name of each agent's source positions; the ones made out so far. */
-    this.names = run.records.map(() => /** @type {string[]} */ ([]));
+    this.sourceNames = sourceNames;
     this.sources = sources;
     /** @type {ReturnType<typeof ownCalls>[]} each agent's own calls, likewise */
     this.calls = [];
@@ -65,17 +64,21 @@ class Teller {
    * @param {number} byte
    */
   line(event, byte) {
-    const { log, lengths } = this.run;
+    const { log } = this.run;
     const agent = log.agentAt(event);
     const source = this.#source(agent, log.sourceAt(event));
     if (source !== null) return source;
-    return `agent ${agent}'s ${accessOf(log.flagsAt(event))} of ${elementName(log.at(event), byte, lengths)}`;
+    return `agent ${agent}'s ${accessOf(log.flagsAt(event))} of ${this.#element(log.at(event), byte)}`;
+  }
+
+  /** @param {import("./log.mjs").LogEvent} event @param {number} byte on which the two meet */
+  #element(event, byte) {
+    return elementName(event, byte, this.run.lengths, this.run.names ?? NO_NAMES);
   }
 
   /** @param {number} position in the log @param {number} byte on which the two meet @returns {Side} */
   side(position, byte) {
-    const { log, lengths } = this.run;
-    const event = log.at(position);
+    const event = this.run.log.at(position);
     const { agent, flags, block, from, to, call, source } = event;
     return {
       agent,
@@ -84,7 +87,7 @@ class Teller {
       block,
       byte: from,
       size: to - from,
-      element: elementName(event, byte, lengths),
+      element: this.#element(event, byte),
       call,
       source: this.#source(agent, source),
     };
@@ -106,9 +109,7 @@ class Teller {
   /** @param {number} agent @param {number} number @returns {string | null} */
   #source(agent, number) {
     const place = this.sources[agent]?.[number] ?? "";
-    if (place === "") return null;
-    this.names[agent][number] ??= sourceName(place, this.module);
-    return this.names[agent][number];
+    return place === "" ? null : this.sourceNames.nameOf(place);
   }
 
   /** @param {number} agent */

@@ -6,6 +6,7 @@ import { KINDS, SIZES } from "../../script/kinds.mjs";
 import { SCRIPT_LIMITS } from "../../script/limits.mjs";
 import { scriptText } from "../../script/text.mjs";
 import { FLAG, READ } from "./log.mjs";
+import { NO_NAMES } from "./names.mjs";
 import { transcriptOf } from "./transcript.mjs";
 
 /** @typedef {import("./stores.mjs").Store} Store */
@@ -159,7 +160,22 @@ function reasonAgainst(counts, stores) {
 }
 
 /**
- * A transcript and its script, or why it can't be one.
+ * A run's transcript and its script, or why it can't be one. Where names alone stand against it, it goes without them.
+ * @param {import("./transcript.mjs").Run} run
+ * @param {Store[]} own
+ * @param {Store[]} initial
+ * @returns {{ transcript: Transcript, script?: string, noScript?: string }}
+ */
+function withScript(run, own, initial) {
+  const transcript = transcriptOf(run, own, initial);
+  const found = { transcript, ...spelled(transcript) };
+  if (found.script !== undefined || (run.names ?? NO_NAMES).list.length === 0) return found;
+  const unnamed = transcriptOf({ ...run, names: NO_NAMES }, own, initial);
+  return { transcript: unnamed, ...spelled(unnamed) };
+}
+
+/**
+ * A transcript's script, or why it can't be one.
  * @param {Transcript} transcript
  * @returns {{ script?: string, noScript?: string }}
  */
@@ -218,8 +234,7 @@ export function fitted(run, stores, initial, final) {
     const [own, first] = list();
     noScript = reasonAgainst(counts, [...first, ...own]);
     if (noScript !== undefined) continue;
-    const transcript = transcriptOf(run, own, first);
-    const { script, noScript: why } = spelled(transcript);
+    const { transcript, script, noScript: why } = withScript(run, own, first);
     noScript = why;
     if (script === undefined) continue;
     const bytes = holds === "all" ? final : bytesLeft(final, touched, [...first, ...own]);

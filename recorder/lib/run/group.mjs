@@ -35,6 +35,7 @@ import { Thread } from "./thread.mjs";
  * @property {string} [noScript] why there is no script
  * @property {string} [report] what sabsim must answer
  * @property {string} [trace] each event as an object of JSON, a line each
+ * @property {import("./source-names.mjs").SourceText[]} [sources] the code of each file that the trace names
  */
 
 /**

@@ -1,11 +1,11 @@
 // Who went after whom: for each two accesses of different agents that come one after the other at a place, the pair of
 // their positions in the code. So it is seen which orders of lines runs have tried, and when nothing new comes.
 
-import { sourceName } from "./places.mjs";
 import { placeNumber, PLACES } from "../board/known-places.mjs";
 
 /** @typedef {import("./log.mjs").Log} Log */
 /** @typedef {import("../agent/sources.mjs").Sources} Sources */
+/** @typedef {import("./source-names.mjs").SourceNames} SourceNames */
 
 // A pair's number: that of the earlier position, and below it that of the later one.
 const POSITIONS = 2 ** 24;
@@ -14,9 +14,9 @@ const POSITIONS = 2 ** 24;
 const UNKNOWN = "?";
 
 export class Meetings {
-  /** @param {string} module the URL of the agents' module */
-  constructor(module) {
-    this.module = module;
+  /** @param {SourceNames} sourceNames */
+  constructor(sourceNames) {
+    this.sourceNames = sourceNames;
     /** For each place, in which run it was accessed last, by whom, and at which position. */
     this.runs = new Int32Array(PLACES);
     this.agents = new Uint8Array(PLACES);
@@ -102,7 +102,7 @@ export class Meetings {
 
   /** @param {string} place file, line and column, as an agent tells them */
   #number(place) {
-    const name = place === "" ? UNKNOWN : sourceName(place, this.module);
+    const name = place === "" ? UNKNOWN : this.sourceNames.nameOf(place);
     const known = this.numbers.get(name);
     if (known !== undefined) return known;
     this.numbers.set(name, this.names.length);

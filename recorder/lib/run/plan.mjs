@@ -4,9 +4,10 @@
 import { SCRIPT_LIMITS } from "../../script/limits.mjs";
 import { PLAIN, SWITCH } from "../board/strategy/ways.mjs";
 import { meant, slipOf } from "../nearest.mjs";
+import { checkedNames } from "./names.mjs";
+import { Refused } from "./refused.mjs";
 
-/** What was asked for can't be: a sentence says why. The command line answers it with status 2. */
-export class Refused extends Error {}
+export { Refused };
 
 /**
  * @typedef {object} Choices what can be chosen by a word
@@ -30,7 +31,7 @@ export const CHOICES = Object.freeze(/** @type {Words} */ ({
 export const DEFAULT_TIMEOUTS = 0.05;
 
 // What a module's `setup` can say.
-const SETUP = ["agents", "buffers", "noBlock"];
+const SETUP = ["agents", "buffers", "noBlock", "names"];
 
 // What a module of agents can export besides its agent.
 const EXPORTS = ["setup", "init", "check"];
@@ -52,6 +53,7 @@ export const DEFAULTS = Object.freeze({
  * @property {number} agents how many
  * @property {number[]} buffers the length of each in bytes
  * @property {boolean[]} canBlock of each agent
+ * @property {import("./names.mjs").Name[]} names of words and of whole arrays
  */
 
 /** @type {(value: unknown, least: number, most: number) => value is number} */
@@ -162,7 +164,8 @@ export function planOf(options, setup) {
   if (other !== undefined) throw new Refused(`\`setup\` can't have a member ${other}: ${meant(other, SETUP)}`);
   const agents = checkedAgents(options.agents ?? given.agents);
   const buffers = checkedBuffers(options.buffers ?? given.buffers);
-  return { agents, buffers, canBlock: canBlockOf(options.noBlock ?? given.noBlock, agents) };
+  const canBlock = canBlockOf(options.noBlock ?? given.noBlock, agents);
+  return { agents, buffers, canBlock, names: checkedNames(given.names, buffers) };
 }
 
 /**

@@ -14,12 +14,13 @@ import { initialStores } from "./initial.mjs";
 import { Log } from "./log.mjs";
 import { Meetings } from "./meetings.mjs";
 import { Memory } from "./memory.mjs";
+import { Names } from "./names.mjs";
 import { PILOTS, PILOT_SECONDS, Pilots } from "./pilots.mjs";
-import { sourceName, withSourceNames } from "./places.mjs";
 import { isRacy } from "./races.mjs";
 import { Records } from "./records.mjs";
+import { SourceNames } from "./source-names.mjs";
 import { Stores } from "./stores.mjs";
-import { traceText } from "./trace.mjs";
+import { placesIn, traceText } from "./trace.mjs";
 import { ownCalls, transcriptOf, waitingText } from "./transcript.mjs";
 
 /** @typedef {import("./group.mjs").Outcome} Outcome */
@@ -71,10 +72,11 @@ const log = new Log(shared.log, board.words, WORD.EVENTS);
 const stores = new Stores(shared.stores, board.words, memory);
 const records = shared.records.map((each) => new Records(each));
 const sources = shared.sources.map((each) => new Sources(each));
+const sourceNames = new SourceNames(options.module);
 const agents = plan.canBlock.map((_, agent) => agent);
-const run = { log, records, lengths: plan.buffers, canBlock: plan.canBlock };
+const run = { log, records, lengths: plan.buffers, canBlock: plan.canBlock, names: new Names(plan.names) };
 
-const meetings = options.tellsMeetings ? new Meetings(options.module) : undefined;
+const meetings = options.tellsMeetings ? new Meetings(sourceNames) : undefined;
 const tellsAlways = options.trace || meetings !== undefined;
 
 /** Whether the next run tells its lines of code at once: where the one before raced, it may well. */
@@ -147,7 +149,7 @@ async function made(seed, tellsSources) {
   const waiting = told.ending === "deadlock" ? whoWaits() : [];
   const gone = sentHome();
   const racy = options.ordinary === "watch" && isRacy(log, plan.agents);
-  const detail = told.ending === "bound" ? withSourceNames(told.detail, options.module) : told.detail;
+  const detail = told.ending === "bound" ? sourceNames.withNames(told.detail) : told.detail;
   return { ending: told.ending, detail, bytes, gone, racy, initial, waiting };
 }
 
@@ -247,7 +249,7 @@ function tellWhole(outcome, found) {
  */
 function tellRaces(tellsSources) {
   const list = tellsSources ? sources.map((each) => each.list()) : [];
-  return racesTold({ run, transcript: transcriptOf(run, []), sources: list, module: options.module });
+  return racesTold({ run, transcript: transcriptOf(run, []), sources: list, sourceNames });
 }
 
 /**
@@ -300,7 +302,10 @@ async function addSources(outcome, found, hasSources) {
  */
 function tellSources(outcome, wantsTrace) {
   outcome.races = options.ordinary === "watch" ? tellRaces(true) : [];
-  if (wantsTrace) outcome.trace = traceText(log, sources.map(namesOf));
+  if (!wantsTrace) return;
+  const names = sources.map(namesOf);
+  outcome.trace = traceText(log, names);
+  outcome.sources = sourceNames.textsOf(placesIn(log, names));
 }
 
 /**
@@ -308,7 +313,7 @@ function tellSources(outcome, wantsTrace) {
  * @param {Sources} each
  */
 const namesOf = (each) =>
-  each.list().map((/** @type {string} */ place) => (place === "" ? "" : sourceName(place, options.module)));
+  each.list().map((/** @type {string} */ place) => (place === "" ? "" : sourceNames.nameOf(place)));
 
 /**
  * How the races of the run that was made last were judged here, where its script is told, so that both can be checked.

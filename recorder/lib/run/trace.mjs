@@ -63,3 +63,18 @@ function linesFrom(log, first, spelled) {
   }
   return lines.join("");
 }
+
+/**
+ * The places of the agents' code that a trace names.
+ * @param {import("./log.mjs").Log} log
+ * @param {string[][]} sources the positions of each agent's code, by their numbers
+ * @returns {Set<string>}
+ */
+export function placesIn(log, sources) {
+  const places = new Set();
+  for (let position = 0; position < log.length; position += 1) {
+    const place = sources[log.agentAt(position)]?.[log.sourceAt(position)] ?? "";
+    if (place !== "") places.add(place);
+  }
+  return places;
+}

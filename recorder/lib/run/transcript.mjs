@@ -5,6 +5,7 @@ import { EVENTS, LEAVE, TIME_UP } from "../board/journal.mjs";
 import { CONSTRUCTORS, KINDS, SIZES } from "../../script/kinds.mjs";
 import { answerText } from "../../script/report.mjs";
 import { READ } from "./log.mjs";
+import { NO_NAMES, nameText } from "./names.mjs";
 import { callText, viewName } from "./spelling.mjs";
 
 /** @typedef {import("./stores.mjs").Store} Store */
@@ -24,6 +25,7 @@ import { callText, viewName } from "./spelling.mjs";
  * @property {boolean} joined whether it joined the line of waiters
  * @property {string | null} answer as a report spells it, or null while it waits
  * @property {boolean} isOwn whether the agent called it; else it stands for an ordinary write
+ * @property {string} [name] of its element, where that has one
  */
 
 /** @typedef {{ agent: number, timeUp: boolean }} Move */
@@ -43,6 +45,7 @@ import { callText, viewName } from "./spelling.mjs";
  * @property {import("./records.mjs").Records[]} records of each agent
  * @property {number[]} lengths of the blocks
  * @property {boolean[]} canBlock of each agent
+ * @property {import("./names.mjs").Names} [names] of words and of whole arrays
  */
 
 /**
@@ -59,10 +62,11 @@ const STORED = new Uint8Array(Math.max(...SIZES));
 const ELEMENTS = CONSTRUCTORS.map((Kind) => new Kind(STORED.buffer, 0, 1));
 
 class Writer {
-  /** @param {number[]} lengths @param {boolean[]} canBlock */
-  constructor(lengths, canBlock) {
+  /** @param {number[]} lengths @param {boolean[]} canBlock @param {import("./names.mjs").Names} names */
+  constructor(lengths, canBlock, names) {
     this.lengths = lengths;
     this.canBlock = canBlock;
+    this.names = names;
     /** @type {Map<string, View>} */
     this.views = new Map();
     /** @type {Done[][]} */
@@ -73,6 +77,8 @@ class Writer {
     this.moves = [];
     /** @type {Map<string, string[]>} the names of the views of stores, by whose they are: of each block's kinds */
     this.storeNames = new Map();
+    // All names are there, so that who reads the script knows them.
+    for (const view of names.list) this.addView(view.name, view);
   }
 
   /** @param {string} name @param {Parameters<typeof viewOf>[1]} range */
@@ -90,11 +96,13 @@ class Writer {
    * @param {string} whose what its view's name begins with
    */
   addStore({ agent, block, byte, kind, bytes }, whose) {
-    const name = this.#storeName(whose, kind, block);
+    const named = this.names.at(kind, block, byte);
+    const name = named === undefined ? this.#storeName(whose, kind, block) : `${whose}_${named.view.name}`;
+    if (named !== undefined) this.addView(name, named.view);
     STORED.set(bytes);
     const [value] = ELEMENTS[kind];
     const isBig = typeof value === "bigint";
-    const index = byte / SIZES[kind];
+    const index = named?.index ?? byte / SIZES[kind];
     const text = `["store", "${name}", ${index}, ${isBig ? `"${value}"` : value}]`;
     this.calls[agent].push({ text, joined: false, answer: answerText(value), isOwn: false });
     this.addMoves(agent, EVENTS[0].moves, false);
@@ -123,9 +131,12 @@ class Writer {
   addEvent(records, agent, event) {
     if (event !== LEAVE && event !== TIME_UP) {
       const call = records.callAt(this.own[agent]);
-      const name = viewName(this.lengths, call);
-      this.addView(name, call);
-      this.calls[agent].push({ text: callText(name, call), ...records.doneAt(this.own[agent]), isOwn: true });
+      const named = this.names.ofCall(call);
+      const name = named?.view.name ?? viewName(this.lengths, call);
+      this.addView(name, named?.view ?? call);
+      const text = callText(name, { ...call, index: named?.index ?? call.index });
+      const done = records.doneAt(this.own[agent]);
+      this.calls[agent].push({ text, ...done, isOwn: true, name: named && nameText(named) });
       this.own[agent] += 1;
     }
     this.addMoves(agent, EVENTS[event].moves, event === TIME_UP);
@@ -139,8 +150,8 @@ class Writer {
  * @param {Store[]} [initial] those that fill the buffers at first, of an agent of their own
  * @returns {Transcript}
  */
-export function transcriptOf({ log, records, lengths, canBlock }, stores, initial = []) {
-  const writer = new Writer(lengths, initial.length === 0 ? canBlock : [...canBlock, true]);
+export function transcriptOf({ log, records, lengths, canBlock, names = NO_NAMES }, stores, initial = []) {
+  const writer = new Writer(lengths, initial.length === 0 ? canBlock : [...canBlock, true], names);
   for (const store of initial) writer.addStore(store, "init");
   let next = 0;
   /** @param {number} position */
@@ -181,9 +192,9 @@ export function waitingText(waiting, transcript) {
   const lines = waiting.map(({ agent, block, byte }) => {
     const calls = ownCalls(transcript, agent);
     const number = calls.length - 1;
-    const { text, inScript } = calls[number];
+    const { text, inScript, name = `byte ${byte} of block ${block}` } = calls[number];
     const there = inScript === number ? "" : `, which is ${inScript} in the script`;
-    return `agent ${agent} waits at byte ${byte} of block ${block}: its call ${number}, ${text}${there}`;
+    return `agent ${agent} waits at ${name}: its call ${number}, ${text}${there}`;
   });
   return lines.join("\n");
 }

@@ -68,7 +68,7 @@ async function failureOf(failing, passed, { out, options, folder }) {
   const sabsim = sabsimOf(checked);
   const keeper = new Keeper(resolve(out ?? mkdtempSync(join(tmpdir(), "sabsim-"))), "out");
   keeper.keepLowest(outcome);
-  const notKept = keepPictures(keeper, outcome, sabsim);
+  const notKept = keepPictures(keeper, outcome, sabsim, checked.module);
   const kept = keeper.names.length === 0 ? [] : [`kept in ${keeper.folder}: ${keeper.names.join(", ")}`];
   return failureText({ outcome, passed, sabsim, kept: [...kept, ...notKept] });
 }

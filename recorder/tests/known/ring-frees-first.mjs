@@ -1,6 +1,6 @@
 // Wrong: the slot is given free before the byte is copied out, and the other agent may write it anew.
 
-export const setup = { agents: 2, buffers: [8, 2] };
+export const setup = { agents: 2, buffers: [8, 2], names: { HEAD: 0, TAIL: 1, slots: ["Uint8", 1] } };
 
 const HEAD = 0;
 const TAIL = 1;

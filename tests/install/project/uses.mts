@@ -2,9 +2,11 @@
 
 import { explore, record, Difference, LostJob, NoSabsim, Refused } from "sabsim";
 import type { Agent, AgentRun, Ending, ExploreOptions, Outcome, Race, RaceSide } from "sabsim";
-import type { RecordOptions, Setup, WithBuffers } from "sabsim";
+import type { Kind, NamedPlace, RecordOptions, Setup, WithBuffers } from "sabsim";
 
-export const setup: Setup = { agents: 2, buffers: [8, 16], noBlock: [1] };
+const kind: Kind = "Uint8";
+const slots: NamedPlace = [kind, 1];
+export const setup: Setup = { agents: 2, buffers: [8, 16], noBlock: [1], names: { LOCK: 0, slots, one: [kind, 1, 0] } };
 
 export const agent: Agent = ({ buffers, agent, agents, args }: AgentRun) => {
   const words = new Int32Array(buffers[0]!);

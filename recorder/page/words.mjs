@@ -1,0 +1,154 @@
+// The facts of a run in the words of `sabsim replay --format explained`, from what `--format json` tells of it. It runs
+// in the page of a run, and in tests.
+
+/**
+ * @typedef {object} Entry what `sabsim replay --format json` tells of an entry
+ * @property {number} agent
+ * @property {number} entry its position in the report
+ * @property {number} call the position of the agent's call
+ * @property {"begin" | "act" | "wait" | "leave" | "return" | "stuck"} what
+ * @property {number | string} [answer]
+ * @property {(string | number)[]} does the call: its name, its view's, its index, and what else it takes
+ * @property {Place} [place]
+ * @property {number} [since]
+ * @property {Record<string, any>} [found]
+ */
+
+/** @typedef {{ block: number, byte: number }} Place */
+/** @typedef {{ name: string, kind: string, block: number, offset: number, length: number }} View */
+
+/**
+ * @typedef {object} Known what an entry's words rest on besides the entry
+ * @property {Map<string, View>} views by their names
+ * @property {(number | undefined)[]} waits for each agent, the entry of its last wait
+ */
+
+/**
+ * What a call takes, answers or finds: a string of digits is a BigInt.
+ * @param {unknown} value
+ */
+export const valueText = (value) => (typeof value === "string" && /^-?\d+$/.test(value) ? `${value}n` : `${value}`);
+
+/**
+ * A call as JavaScript writes it.
+ * @param {(string | number)[]} does
+ */
+export const callText = ([name, view, ...others]) => `${name}(${[view, ...others.map(valueText)].join(", ")})`;
+
+/**
+ * The element that a call names.
+ * @param {(string | number)[]} does
+ */
+export const elementText = ([, view, index]) => `${view}[${index}]`;
+
+/** @param {number} count @param {string} one @param {string} several */
+const counted = (count, one, several) => `${count} ${count === 1 ? one : several}`;
+
+/**
+ * Why a call throws, by the first check that fails.
+ * @param {Entry} entry
+ * @param {Known} known
+ */
+function failureText({ agent, does, found = {}, answer }, { views }) {
+  const [name, view] = does;
+  const { kind = "", length = 0 } = views.get(`${view}`) ?? {};
+  const waits = name === "wait" || name === "notify";
+  switch (found.failed) {
+    case "kind": return `${view} is ${kind}, ${waits ? "not Int32 or BigInt64" : "which Atomics doesn't take"}`;
+    case "index": return `${view} has ${counted(length, "element", "elements")}`;
+    case "operand": return `${view} takes ${kind.startsWith("Big") ? "BigInts" : "Numbers"}`;
+    case "can-block": return `agent ${agent} can't block`;
+    default: return `${answer}`;
+  }
+}
+
+/**
+ * Whom a notify wakes.
+ * @param {Entry} entry
+ * @param {Known} known
+ */
+function notifyText({ does, found = {} }, { waits }) {
+  const element = elementText(does);
+  const { waited, woken } = /** @type {{ waited: number, woken: number[] }} */ (found);
+  if (waited === 0) return `wakes nobody: nobody waits at ${element}`;
+  if (woken.length === 0) {
+    return `wakes nobody: its count is below 1, and ${counted(waited, "agent waits", "agents wait")} at ${element}`;
+  }
+  const whom = woken.length === 1
+    ? `agent ${woken[0]}, which waited at ${element} since ${waits[woken[0]]}`
+    : `agents that waited at ${element}: ${woken.map((agent) => `${agent} since ${waits[agent]}`).join(", ")}`;
+  const left = waited - woken.length;
+  return left === 0 ? `wakes ${whom}` : `wakes ${whom}; ${counted(left, "still waits", "still wait")}`;
+}
+
+/**
+ * What an act did.
+ * @param {Entry} entry
+ * @param {Known} known
+ */
+function actText(entry, known) {
+  const { does, answer, found = {} } = entry;
+  const element = elementText(does);
+  const [before, after] = [valueText(found.before), valueText(found.after)];
+  if (answer === "TypeError" || answer === "RangeError") return `throws: ${failureText(entry, known)}`;
+  switch (does[0]) {
+    case "load": return `reads ${valueText(found.element)}`;
+    case "wait": return `doesn't wait, ${element} is ${valueText(found.element)}`;
+    case "notify": return notifyText(entry, known);
+    case "compareExchange":
+      if (!found.exchanged) return `fails, ${element} is ${after}`;
+      if (before === after) return `exchanges, ${element} stays ${after}`;
+      break;
+    default:
+      if (before === after) return `leaves ${element} at ${after}`;
+  }
+  return `changes ${element} from ${before} to ${after}`;
+}
+
+/**
+ * The words of an entry: of an act, a wait or the end of one. Of a begin and a return there is no more than that.
+ * @param {Entry} entry
+ * @param {Known} known
+ * @returns {string}
+ */
+export function entryText(entry, known) {
+  const { does, what, answer, found = {}, since } = entry;
+  const call = callText(does);
+  switch (what) {
+    case "begin": return `calls ${call}`;
+    case "return": return /Error$/.test(`${answer}`) ? `throws out of ${call}` : `returns from ${call}`;
+    case "wait": return `${call} waits at ${elementText(does)}${placeInLine(found.ahead)}`;
+    case "leave":
+      if (answer === "ok") return `${call} was woken by ${found.woken_by}`;
+      return `${call} times out after waiting at ${elementText(does)} since ${since}`;
+    default: return `${call} ${actText(entry, known)}`;
+  }
+}
+
+/** @param {number[]} ahead the agents before one in line */
+function placeInLine(ahead) {
+  if (ahead.length === 0) return ", first in line";
+  return ` behind ${ahead.length === 1 ? "agent" : "agents"} ${ahead.join(", ")}`;
+}
+
+/**
+ * How far an agent came that hasn't come to the end of its calls.
+ * @param {Record<string, any>} standing as `--format json` tells it
+ * @returns {string}
+ */
+export function standingText({ at, does, since, notified, woken_by: by }) {
+  const call = callText(does);
+  switch (at) {
+    case "ready": return `hasn't begun ${call}`;
+    case "begun": return `began ${call} at ${since} and hasn't acted`;
+    case "woken": return `was woken by ${by} and hasn't left ${call}`;
+    case "waits": {
+      const element = elementText(does);
+      const since0 = `waits at ${element} since ${since}, in ${call}`;
+      return notified
+        ? `${since0}; ${element} was notified since, waking others or nobody`
+        : `${since0}; nobody has notified ${element} since`;
+    }
+    default: return `hasn't returned from ${call}`;
+  }
+}

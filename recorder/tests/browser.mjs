@@ -1,0 +1,176 @@
+// A real browser, for tests of pages: Chromium without a screen, by its own protocol over two pipes.
+
+import { spawn, spawnSync } from "node:child_process";
+import { mkdtempSync, rmSync } from "node:fs";
+import { tmpdir } from "node:os";
+import { join } from "node:path";
+
+const NAMES = ["chromium", "chromium-browser", "google-chrome", "google-chrome-stable"];
+const MOST_MILLISECONDS = 30_000;
+
+/** The browser of this machine, or undefined. */
+export const BROWSER = NAMES.find((name) => spawnSync(name, ["--version"]).status === 0);
+
+/** For tests that need a browser. */
+export const withBrowser = { skip: BROWSER === undefined ? "there is no Chromium on this machine" : false };
+
+const WORDS = [
+  "--headless", "--no-sandbox", "--disable-gpu", "--disable-dev-shm-usage", "--force-device-scale-factor=1",
+  "--no-first-run", "--remote-debugging-pipe",
+];
+
+/** What a key is called by the protocol, besides its name. */
+const KEY_CODES = {
+  ArrowUp: 38, ArrowDown: 40, ArrowLeft: 37, ArrowRight: 39, Home: 36, End: 35, PageUp: 33, PageDown: 34, Tab: 9,
+  Enter: 13,
+};
+
+export class Browser {
+  constructor() {
+    this.room = mkdtempSync(join(tmpdir(), "recorder-browser-"));
+    const stdio = ["ignore", "ignore", "ignore", "pipe", "pipe"];
+    const env = { ...process.env, HOME: this.room };
+    this.child = spawn(BROWSER, [...WORDS, `--user-data-dir=${this.room}`], { stdio, env });
+    this.ended = new Promise((done) => {
+      this.child.on("exit", done);
+    });
+    this.count = 0;
+    /** @type {Map<number, (answer: object) => void>} */
+    this.asked = new Map();
+    /** @type {{ method: string, params: any, sessionId?: string }[]} */
+    this.events = [];
+    let text = "";
+    this.child.stdio[4].setEncoding("utf8").on("data", (part) => {
+      const messages = (text + part).split("\0");
+      text = messages.pop();
+      for (const message of messages) this.#take(JSON.parse(message));
+    });
+  }
+
+  /** @param {any} message */
+  #take(message) {
+    const answered = this.asked.get(message.id);
+    this.asked.delete(message.id);
+    if (answered === undefined) this.events.push(message);
+    else answered(message);
+  }
+
+  /** Asks for something. @param {string} method @param {object} [params] @param {string} [sessionId] */
+  async send(method, params = {}, sessionId) {
+    this.count += 1;
+    const id = this.count;
+    const answer = new Promise((done, fail) => {
+      const timer = setTimeout(() => fail(new Error(`${method} took too long`)), MOST_MILLISECONDS);
+      this.asked.set(id, (message) => {
+        clearTimeout(timer);
+        done(message);
+      });
+    });
+    this.child.stdio[3].write(`${JSON.stringify({ id, method, params, sessionId })}\0`);
+    const { result, error } = /** @type {any} */ (await answer);
+    if (error !== undefined) throw new Error(`${method}: ${error.message}`);
+    return result;
+  }
+
+  /** Opens a page, in a window of some size, for one who asks for a light or a dark background. */
+  async open(url, { width = 1280, height = 800, background = "light" } = {}) {
+    const { targetId } = await this.send("Target.createTarget", { url: "about:blank" });
+    const { sessionId } = await this.send("Target.attachToTarget", { targetId, flatten: true });
+    const page = new Tab(this, sessionId);
+    for (const part of ["Page", "Runtime", "Log", "Accessibility", "DOM"]) await page.send(`${part}.enable`);
+    await page.send("Emulation.setDeviceMetricsOverride", { width, height, deviceScaleFactor: 1, mobile: false });
+    await page.send("Emulation.setEmulatedMedia", { features: [{ name: "prefers-color-scheme", value: background }] });
+    await page.go(url);
+    return page;
+  }
+
+  async close() {
+    this.child.stdio[3].end();
+    const timer = setTimeout(() => this.child.kill("SIGKILL"), 5_000);
+    this.child.kill();
+    await this.ended;
+    clearTimeout(timer);
+    rmSync(this.room, { recursive: true, force: true, maxRetries: 5 });
+  }
+}
+
+class Tab {
+  /** @param {Browser} browser @param {string} session */
+  constructor(browser, session) {
+    this.browser = browser;
+    this.session = session;
+  }
+
+  /** @param {string} method @param {object} [params] */
+  send(method, params) {
+    return this.browser.send(method, params, this.session);
+  }
+
+  /** @param {string} url */
+  async go(url) {
+    const before = this.#eventsOf("Page.loadEventFired").length;
+    await this.send("Page.navigate", { url });
+    for (const end = Date.now() + MOST_MILLISECONDS; this.#eventsOf("Page.loadEventFired").length === before;) {
+      if (Date.now() > end) throw new Error(`${url} wasn't loaded`);
+      await new Promise((done) => {
+        setTimeout(done, 10);
+      });
+    }
+  }
+
+  /** @param {string} method */
+  #eventsOf(method) {
+    return this.browser.events.filter((event) => event.method === method && event.sessionId === this.session);
+  }
+
+  /** What went wrong in the page: what its code threw, and what the browser complains of. @returns {string[]} */
+  complaints() {
+    const thrown = this.#eventsOf("Runtime.exceptionThrown").map(({ params }) => params.exceptionDetails.text);
+    const logged = this.#eventsOf("Log.entryAdded").map(({ params }) => params.entry.text);
+    return [...thrown, ...logged];
+  }
+
+  /** What code of JavaScript answers in the page. @param {string} expression */
+  async value(expression) {
+    const { result, exceptionDetails } = await this.send("Runtime.evaluate", { expression, returnByValue: true });
+    if (exceptionDetails !== undefined) throw new Error(exceptionDetails.exception?.description ?? expression);
+    return result.value;
+  }
+
+  /** Presses keys, one after the other. @param {...string} keys */
+  async press(...keys) {
+    for (const key of keys) {
+      const windowsVirtualKeyCode = KEY_CODES[key] ?? key.toUpperCase().charCodeAt(0);
+      const text = key.length === 1 || key === "Enter" ? { text: key === "Enter" ? "\r" : key } : {};
+      await this.send("Input.dispatchKeyEvent", { type: "keyDown", key, windowsVirtualKeyCode, ...text });
+      await this.send("Input.dispatchKeyEvent", { type: "keyUp", key, windowsVirtualKeyCode });
+    }
+  }
+
+  /** Clicks amid an element. @param {string} selector */
+  async click(selector) {
+    const { x, y } = await this.value(`(() => {
+      const box = document.querySelector(${JSON.stringify(selector)}).getBoundingClientRect();
+      return { x: box.left + Math.min(box.width / 2, 80), y: box.top + box.height / 2 };
+    })()`);
+    const at = { x, y, button: "left", clickCount: 1 };
+    await this.send("Input.dispatchMouseEvent", { type: "mousePressed", ...at });
+    await this.send("Input.dispatchMouseEvent", { type: "mouseReleased", ...at });
+  }
+
+  /** What readers of screens are told: roles, names and what else is known of each. */
+  async accessible() {
+    const { nodes } = await this.send("Accessibility.getFullAXTree");
+    return nodes.filter(({ ignored }) => !ignored).map(({ role, name, properties = [] }) => ({
+      role: role?.value,
+      name: name?.value ?? "",
+      ...Object.fromEntries(properties.map((each) => [each.name, each.value.value])),
+    }));
+  }
+
+  /** @returns {Promise<Buffer>} a picture of the window, as PNG */
+  async picture() {
+    const { data } = await this.send("Page.captureScreenshot", { format: "png" });
+    return Buffer.from(data, "base64");
+  }
+}

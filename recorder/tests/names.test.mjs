@@ -1,0 +1,209 @@
+// Names of words and of whole arrays, which a module's `setup` gives: in scripts, in what sabsim tells of them, and in
+// the recorder's own texts.
+
+import assert from "node:assert/strict";
+import { spawnSync } from "node:child_process";
+import { writeFileSync } from "node:fs";
+import { join } from "node:path";
+import { test } from "node:test";
+import { checkedNames, Names } from "../lib/run/names.mjs";
+import { Refused } from "../lib/run/refused.mjs";
+import { KINDS } from "../script/kinds.mjs";
+import { SABSIM, temporaryFolder, withSabsim } from "./common.mjs";
+import { recorded, seedsTo } from "./recorded.mjs";
+
+const INT32 = KINDS.indexOf("Int32");
+const UINT8 = KINDS.indexOf("Uint8");
+
+/** Records a module of agents, whose every script sabsim replays to the same. */
+async function recordedModule(context, setup, body, { seeds = [1], ...options } = {}) {
+  const path = join(temporaryFolder(context), "agents.mjs");
+  const code = `export const setup = ${JSON.stringify(setup)};\n` +
+    `export default function agent({ buffers, agent, agents, args }) {\n${body}\n}\n`;
+  writeFileSync(path, code);
+  return recorded({ module: path, ...options }, seeds);
+}
+
+/** The lines of the explained report of a script, without begins and returns. */
+function explained(script) {
+  const { status, stdout } = spawnSync(SABSIM, ["replay", "--format", "explained", "--acts"], {
+    input: script, encoding: "utf8",
+  });
+  assert.equal(status, 0);
+  return stdout.trimEnd().split("\n").map((line) => line.replace(/ {2,}/, "  "));
+}
+
+test("what a name may be, and what it may stand for", () => {
+  const words = checkedNames({ LOCK: 0, wake: ["Int32", 0, 1], big: ["BigInt64", 1, 1], slots: ["Uint8", 1] }, [8, 16]);
+  assert.deepEqual(words, [
+    { name: "LOCK", isWord: true, kind: INT32, block: 0, offset: 0, length: 1 },
+    { name: "wake", isWord: true, kind: INT32, block: 0, offset: 4, length: 1 },
+    { name: "big", isWord: true, kind: KINDS.indexOf("BigInt64"), block: 1, offset: 8, length: 1 },
+    { name: "slots", isWord: false, kind: UINT8, block: 1, offset: 0, length: 16 },
+  ]);
+  assert.deepEqual(checkedNames(undefined, [8]), []);
+  assert.equal(checkedNames({ [`a${"_".repeat(22)}`]: 0 }, [8]).length, 1);
+});
+
+for (const [names, why] of [
+  [[0], /^`names` must be an object, as \{ LOCK: 0/],
+  ["LOCK", /^`names` must be an object/],
+  [null, /^`names` must be an object/],
+  [{ "my lock": 0 }, /^`names` can't have "my lock": a name has 1 to 23 letters, digits or _$/],
+  [{ "": 0 }, /^`names` can't have "": a name has 1 to 23/],
+  [{ ["a".repeat(24)]: 0 }, /a name has 1 to 23/],
+  [{ "naïve": 0 }, /a name has 1 to 23/],
+  [{ Int32: 0 }, /^`names` can't have Int32: scripts name other views so: give it another name$/],
+  [{ Uint8_b1_at8_x4: 0 }, /scripts name other views so/],
+  [{ ordinary_x: 0 }, /scripts name other views so/],
+  [{ init_: 0 }, /scripts name other views so/],
+  [{ LOCK: "0" }, /^`names` says of LOCK no place: give \[kind, buffer, index\] for an element/],
+  [{ LOCK: ["Int32"] }, /says of LOCK no place/],
+  [{ LOCK: ["Int32", 0, 0, 0] }, /says of LOCK no place/],
+  [{ LOCK: ["int32", 0, 0] }, /^`names` says of LOCK that its kind is int32: is Int32 meant\?$/],
+  [{ LOCK: ["Int32Array", 0, 0] }, /that its kind is Int32Array: is Int32 meant\?$/],
+  [{ LOCK: ["Int32", 2, 0] }, /^`names` puts LOCK on buffer 2: there is no such buffer, but 0 to 1$/],
+  [{ LOCK: ["Int32", "0", 0] }, /puts LOCK on buffer 0: there is no such buffer/],
+  [{ LOCK: 2 }, /^`names` puts LOCK at index 2: buffer 0 has 2 elements of kind Int32, counted from 0$/],
+  [{ LOCK: -1 }, /puts LOCK at index -1/],
+  [{ LOCK: 0.5 }, /puts LOCK at index 0.5/],
+  [{ LOCK: ["Int32", 0, undefined] }, /puts LOCK at index undefined/],
+  [{ LOCK: 0, lock: ["Int32", 0, 0] }, /^`names` has two names for one place, LOCK and lock: give one$/],
+  [{ a: ["Uint8", 1], b: ["Uint8", 1] }, /two names for one place, a and b/],
+  [Object.fromEntries(Array.from({ length: 65 }, (_, at) => [`w${at}`, at])), /^`names` has 65 names: a script has /],
+]) {
+  test(`names that can't be: ${JSON.stringify(names).slice(0, 60)}`, () => {
+    assert.throws(() => checkedNames(names, [8, 16]), (error) => {
+      assert.ok(error instanceof Refused);
+      assert.match(error.message, why);
+      return true;
+    });
+  });
+}
+
+test("a module whose names can't be is refused before anything runs", async (context) => {
+  const run = recordedModule(context, { agents: 1, buffers: [4], names: { LOCK: 1 } }, "");
+  await assert.rejects(run, (error) => error instanceof Refused && /puts LOCK at index 1/.test(error.message));
+});
+
+test("an element goes by its word, and else by its array", () => {
+  const list = checkedNames({ first: ["Uint8", 1, 0], slots: ["Uint8", 1], half: ["Uint16", 1, 1] }, [8, 16]);
+  const names = new Names(list);
+  const told = (...place) => {
+    const named = names.at(...place);
+    return named && `${named.view.name} ${named.index}`;
+  };
+  assert.deepEqual([told(UINT8, 1, 0), told(UINT8, 1, 3)], ["first 0", "slots 3"]);
+  assert.deepEqual([told(KINDS.indexOf("Uint16"), 1, 2), told(KINDS.indexOf("Uint16"), 1, 4)], ["half 0", undefined]);
+  assert.deepEqual([told(UINT8, 0, 0), told(KINDS.indexOf("Int8"), 1, 0)], [undefined, undefined]);
+});
+
+test("scripts and reports have the names, from whichever view a call comes", withSabsim, async (context) => {
+  const setup = { agents: 1, buffers: [16, 4], names: { LOCK: 0, wake: ["Int32", 0, 3], slots: ["Uint8", 1] } };
+  const [{ script }] = await recordedModule(context, setup, `
+    const words = new Int32Array(buffers[0]);
+    const later = new Int32Array(buffers[0], 8, 2);
+    const slots = new Uint8Array(buffers[1]);
+    Atomics.store(words, 0, 5);
+    Atomics.add(words, 1, 1);
+    Atomics.store(words, 3, 7);
+    Atomics.load(later, 1);
+    Atomics.load(new Uint32Array(buffers[0]), 0);
+    slots[2] = 9;
+    Atomics.load(new Uint8Array(buffers[1], 1), 1);
+    Atomics.notify(words, 3);
+  `);
+  assert.deepEqual(explained(script).filter((line) => / act /.test(line)).map((line) => line.split("  ")[1]), [
+    "store(LOCK, 0, 5) changes LOCK[0] from 0 to 5",
+    "add(Int32_b0, 1, 1) changes Int32_b0[1] from 0 to 1",
+    "store(wake, 0, 7) changes wake[0] from 0 to 7",
+    "load(wake, 0) reads 7",
+    "load(Uint32_b0, 0) reads 5",
+    "store(ordinary_slots, 2, 9) changes ordinary_slots[2] from 0 to 9",
+    "load(slots, 2) reads 9",
+    "notify(wake, 0) wakes nobody: nobody waits at wake[0]",
+  ]);
+});
+
+test("an index that isn't its view's throws by that view, though a word stands there", withSabsim, async (context) => {
+  const setup = { agents: 1, buffers: [16], names: { LOCK: 0, WAKE: 1, low: ["Float64", 0, 1] } };
+  const [{ script, answers, ending }] = await recordedModule(context, setup, `
+    const one = new Int32Array(buffers[0], 0, 1);
+    const thrown = [];
+    for (const call of [() => Atomics.load(one, 1), () => Atomics.wait(one, 1, 0, 0), () => Atomics.load(one, -1),
+      () => Atomics.load(new Float64Array(buffers[0]), 1), () => Atomics.wait(new Int32Array(buffers[0]), 1, 0n, 0)]) {
+      try {
+        call();
+      } catch (error) {
+        thrown.push(error.constructor.name);
+      }
+    }
+    if (thrown.join() !== "RangeError,RangeError,RangeError,TypeError,TypeError") throw new Error(thrown.join());
+  `);
+  assert.equal(ending, "finished");
+  assert.deepEqual(answers, [["RangeError", "RangeError", "RangeError", "TypeError", "TypeError"]]);
+  assert.deepEqual(explained(script).filter((line) => / act /.test(line)).map((line) => line.split("  ")[1]), [
+    "load(Int32_x1, 1) throws: Int32_x1 has 1 element",
+    "wait(Int32_x1, 1, 0, 0) throws: Int32_x1 has 1 element",
+    "load(Int32_x1, -1) throws: Int32_x1 has 1 element",
+    "load(low, 0) throws: low is Float64, which Atomics doesn't take",
+    "wait(WAKE, 0, 0n, 0) throws: WAKE takes Numbers",
+  ]);
+});
+
+test("a deadlock and a race are told by names", withSabsim, async (context) => {
+  const setup = { agents: 2, buffers: [12], names: { LOCK: 0, WAKE: 1, data: ["Uint8", 0] } };
+  const [deadlock] = await recordedModule(context, setup, `
+    const words = new Int32Array(buffers[0]);
+    if (agent === 0) Atomics.wait(words, 1, 0);
+    else Atomics.load(words, 0);
+  `);
+  assert.deepEqual([deadlock.ending, deadlock.detail], [
+    "deadlock", 'agent 0 waits at WAKE: its call 0, ["wait", "WAKE", 0, 0]',
+  ]);
+  const races = await recordedModule(context, setup, `
+    const words = new Int32Array(buffers[0]);
+    Atomics.load(words, 0);
+    if (agent === 0) new Uint8Array(buffers[0], 8)[1] = 1;
+    else if (new Uint8Array(buffers[0])[9] > 1) throw new Error("never");
+  `);
+  const [{ ending, detail, races: [{ sides }] }] = races;
+  assert.equal(ending, "race");
+  assert.match(detail, /agent 0 writes data\[9\] at agents.mjs:\d+:\d+, after its call 0/);
+  assert.match(detail, /agent 1 reads data\[9\] at agents.mjs:\d+:\d+, after its call 0/);
+  assert.deepEqual(sides.map(({ element }) => element), ["data[9]", "data[9]"]);
+});
+
+test("with names, runs of all seeds come to the same as without", withSabsim, async (context) => {
+  const setup = { agents: 3, buffers: [12] };
+  const body = `
+    const words = new Int32Array(buffers[0]);
+    for (let time = 0; time < 2; time += 1) {
+      while (Atomics.exchange(words, 0, 1) !== 0) Atomics.wait(words, 1, 0);
+      words[2] += 1;
+      Atomics.store(words, 0, 0);
+      Atomics.notify(words, 1, 1);
+    }
+  `;
+  const names = { LOCK: 0, WAKE: 1, count: 2 };
+  const plain = await recordedModule(context, setup, body, { seeds: seedsTo(20) });
+  const named = await recordedModule(context, { ...setup, names }, body, { seeds: seedsTo(20) });
+  const same = ({ seed, ending, moves, calls, bytes, report }) => ({ seed, ending, moves, calls, bytes, report });
+  assert.deepEqual(named.map(same), plain.map(same));
+  assert.ok(named.every(({ script }) => !script.includes('"Int32"')
+    || /\{"name": "LOCK", "kind": "Int32"/.test(script)), "no view has the kind's name");
+});
+
+test("where names would take too many views, a script goes without them", withSabsim, async (context) => {
+  // 40 words, named, of which each is used by calls and by ordinary writes: 80 views, where a script has 64.
+  const names = Object.fromEntries(Array.from({ length: 40 }, (_, at) => [`word${at}`, at]));
+  const [{ ending, script, noScript }] = await recordedModule(context, { agents: 1, buffers: [160], names }, `
+    const words = new Int32Array(buffers[0]);
+    for (let at = 0; at < 40; at += 1) {
+      words[at] = at + 1;
+      Atomics.load(words, at);
+    }
+  `);
+  assert.deepEqual([ending, noScript], ["finished", undefined]);
+  assert.deepEqual(JSON.parse(script).views.map(({ name }) => name), ["ordinary_Int32", "Int32"]);
+});

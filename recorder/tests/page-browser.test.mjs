@@ -1,0 +1,215 @@
+// The page of a run in a real browser: keys, pointer, what is highlighted, what readers of screens are told, colours.
+// Where there is no Chromium on the machine this is said, and the tests are skipped.
+
+import assert from "node:assert/strict";
+import { writeFileSync } from "node:fs";
+import { join } from "node:path";
+import { pathToFileURL } from "node:url";
+import { after, before, describe, it } from "node:test";
+import { pageData, pageOf } from "../lib/command/page.mjs";
+import { Browser, withBrowser } from "./browser.mjs";
+import { temporaryFolder } from "./common.mjs";
+import { FACTS, FILE, OUTCOME, lines } from "./page-run.mjs";
+
+/** What is chosen, and what is highlighted of it. */
+const SHOWN = `(() => {
+  const text = (selector) => [...document.querySelectorAll(selector)].map((each) => each.textContent);
+  return {
+    step: text("#timeline [aria-selected=true]").length === 1 &&
+      document.getElementById("timeline").getAttribute("aria-activedescendant"),
+    line: text("#code [aria-current] .number").join(),
+    word: text("#code mark").join(),
+    file: document.getElementById("code").getAttribute("aria-label"),
+    here: text("#code .here .who .badge").join(),
+    agents: text("#agents .does").join(", "),
+    now: text("#memory .now .value").join(),
+    waiters: text("#memory .line-of-waiters .badge").join(),
+    sentence: text("#sentence .fact").join(),
+  };
+})()`;
+
+describe("the page of a run, in a browser", { ...withBrowser, timeout: 120_000 }, () => {
+  /** @type {Browser} */
+  let browser;
+  before(() => {
+    browser = withBrowser.skip === false ? new Browser() : undefined;
+  });
+  after(() => browser?.close());
+
+  /** Writes the page of the run by hand, and opens it. */
+  async function opened(context, { parts = {}, data = {}, ...window } = {}) {
+    const path = join(temporaryFolder(context), "seed-5.html");
+    writeFileSync(path, pageOf({ ...pageData({ ...OUTCOME, ...parts }, lines(FACTS), FILE), ...data }));
+    return browser.open(pathToFileURL(path).href, window);
+  }
+
+  it("opens at what fails, with the line of code, and the browser has nothing to complain of", async (context) => {
+    const page = await opened(context);
+    assert.deepEqual(await page.value(SHOWN), {
+      step: "step-8", line: "7", word: "Atomics", file: "Code of a.mjs", here: "0,1",
+      agents: "does no more, waits at FLAG[0] since 14", now: "", waiters: "1",
+      sentence: "wait(FLAG, 0, -1) waits at FLAG[0], first in line",
+    });
+    assert.equal(await page.value("document.activeElement.id"), "timeline");
+    assert.deepEqual(page.complaints(), []);
+  });
+
+  it("goes by keys, and the highlighted line with it", async (context) => {
+    const page = await opened(context);
+    const at = async (...keys) => {
+      await page.press(...keys);
+      const { step, line, file } = await page.value(SHOWN);
+      return [step, line, file];
+    };
+    assert.deepEqual(await at("ArrowUp"), ["step-7", "6", "Code of a.mjs"]);
+    assert.deepEqual(await at("ArrowLeft"), ["step-6", "1", "Code of a.mjs"]);
+    assert.deepEqual(await at("p"), ["step-2", "2", "Code of a.mjs"]);
+    assert.deepEqual(await at("ArrowDown"), ["step-3", "", "Code of b.mjs"]);
+    const code = await page.value("document.getElementById('code').textContent");
+    assert.equal(code, "The code of b.mjs couldn't be read when this run was kept.");
+    assert.deepEqual(await at("ArrowRight"), ["step-4", "4", "Code of a.mjs"]);
+    assert.equal((await page.value(SHOWN)).now, "-1");
+    assert.deepEqual(await at("n"), ["step-6", "1", "Code of a.mjs"]);
+    assert.deepEqual(await at("f"), ["step-8", "7", "Code of a.mjs"]);
+    assert.equal((await at("Home"))[0], "step-0");
+    assert.equal((await at("ArrowUp"))[0], "step-0");
+    assert.equal((await at("End"))[0], "step-9");
+    assert.equal((await at("PageUp"))[0], "step-0");
+    assert.deepEqual(page.complaints(), []);
+  });
+
+  it("goes by pointer: by rows, by buttons, and to where an agent is", async (context) => {
+    const page = await opened(context);
+    await page.click("#step-3 .does");
+    assert.equal((await page.value(SHOWN)).step, "step-3");
+    for (const [button, step] of [
+      ["forward", "step-4"], ["back", "step-3"], ["switch-forward", "step-6"], ["switch-back", "step-2"],
+      ["last", "step-9"], ["first", "step-0"], ["failing", "step-8"],
+    ]) {
+      await page.click(`#${button}`);
+      assert.equal((await page.value(SHOWN)).step, step, button);
+    }
+    await page.click("#agents li:first-child button");
+    const { step, line, here } = await page.value(SHOWN);
+    assert.deepEqual([step, line, here], ["step-8", "5", "0,1"]);
+  });
+
+  it("can be used by keys alone: nothing holds the focus, and it is seen", async (context) => {
+    const page = await opened(context);
+    const focused = [];
+    const where = `(() => {
+      const { id, className, tagName } = document.activeElement;
+      return tagName === "BODY" ? "" : id || className.split(" ")[0];
+    })()`;
+    for (let time = 0; time < 40 && focused.at(-1) !== ""; time += 1) {
+      await page.press("Tab");
+      focused.push(await page.value(where));
+      const outline = await page.value("getComputedStyle(document.activeElement).outlineStyle");
+      if (focused.at(-1) !== "") assert.notEqual(outline, "none", focused.at(-1));
+    }
+    assert.deepEqual(focused, ["agent", "agent", "file", "file", "code", "memory-pane", ""]);
+    await page.press("Tab", "Tab");
+    assert.equal(await page.value(where), "back");
+    await page.press("Enter");
+    assert.equal((await page.value(SHOWN)).step, "step-7");
+    await page.press("p");
+    assert.equal((await page.value(SHOWN)).step, "step-6");
+  });
+
+  it("tells readers of screens its parts, the chosen entry and its sentence", async (context) => {
+    const page = await opened(context);
+    await page.press("ArrowUp", "ArrowUp");
+    const nodes = await page.accessible();
+    const named = (role) => nodes.filter((node) => node.role === role).map(({ name }) => name);
+    for (const role of ["banner", "main", "contentinfo"]) assert.equal(named(role).length, 1, role);
+    assert.deepEqual(named("toolbar"), ["Go to a step"]);
+    assert.deepEqual(named("region").sort(), [
+      "Agents and their code", "Code of a.mjs", "Memory, and who waits", "Memory, and who waits", "Timeline",
+    ]);
+    assert.deepEqual(named("listbox"), ["Timeline"]);
+    const options = nodes.filter(({ role }) => role === "option");
+    assert.equal(options.length, 10);
+    assert.deepEqual(options.filter(({ selected }) => selected).map(({ name }) => name.replace(/\s+/g, " ").trim()), [
+      "11 agent 1: wait(FLAG, 0, 0) goes on",
+    ]);
+    const [status] = nodes.filter(({ role }) => role === "status");
+    assert.equal(status.live, "polite");
+    assert.deepEqual(named("columnheader"), ["Where", "Value", "Who waits"]);
+    assert.deepEqual(named("rowheader"), ["FLAG", "slots"]);
+    assert.deepEqual(named("button").slice(0, 4), ["First", "Back", "Forward", "Last"]);
+    const text = await page.value("document.getElementById('sentence').textContent");
+    assert.match(text, /agent 1 .*wait\(FLAG, 0, 0\) was woken by 9/);
+  });
+
+  for (const background of ["light", "dark"]) {
+    it(`can be read on a ${background} background`, async (context) => {
+      const page = await opened(context, { background });
+      const ground = await page.value("getComputedStyle(document.body).backgroundColor");
+      assert.equal(ground === "rgb(255, 255, 255)", background === "light", ground);
+      for (const key of ["ArrowUp", "Home", "ArrowDown", "n", "ArrowDown", "End"]) {
+        await page.press(key);
+        assert.deepEqual(await page.value(PALE_TEXTS), []);
+      }
+    });
+  }
+
+  it("fits a narrow window", async (context) => {
+    const page = await opened(context, { width: 400, height: 800 });
+    const beyond = "document.scrollingElement.scrollWidth - document.scrollingElement.clientWidth";
+    assert.equal(await page.value(beyond), 0);
+    await page.press("ArrowUp");
+    assert.equal((await page.value(SHOWN)).line, "6");
+  });
+
+  it("shows texts that look like code as they are", async (context) => {
+    const evil = '</script><script>document.title = "broken"</script><!-- <img src=x onerror=alert(1)>';
+    const sources = [{ file: "a.mjs", text: evil.concat("\n").repeat(8) }];
+    const page = await opened(context, { parts: { detail: evil, sources }, data: { module: "<b>&amp;" } });
+    const detail = await page.value("document.getElementById('detail').textContent");
+    const code = await page.value("document.querySelector('#code .chosen code').textContent");
+    const title = await page.value("document.title");
+    assert.deepEqual([detail, code, title], [evil, evil, "seed 5 of <b>&amp;: deadlock"]);
+    assert.deepEqual(page.complaints(), []);
+  });
+
+  it("is fast with 3,000 steps", async (context) => {
+    const [, , store] = FACTS;
+    const facts = Array.from({ length: 3_000 }, (_, at) => ({ ...store, entry: 3 * at + 1, agent: at % 2,
+      found: { before: at - 1, after: at } }));
+    const page = await opened(context, { data: { entries: facts, events: [], races: [], ending: "check" } });
+    assert.equal((await page.value(SHOWN)).step, "step-3001");
+    const begun = Date.now();
+    await page.press(...Array(20).fill("ArrowUp"), "Home", "n");
+    assert.equal((await page.value(SHOWN)).step, "step-2");
+    assert.ok(Date.now() - begun < 5_000, `${Date.now() - begun} ms`);
+  });
+});
+
+/** The texts that are too pale for what is behind them (Web Content Accessibility Guidelines 2.1: 4.5 to 1). */
+const PALE_TEXTS = `(() => {
+  const parsed = (color) => color.match(/[\\d.]+/g).map(Number);
+  const light = (color) => {
+    const [red, green, blue] = color.map((part) => {
+      const share = part / 255;
+      return share <= 0.03928 ? share / 12.92 : ((share + 0.055) / 1.055) ** 2.4;
+    });
+    return 0.2126 * red + 0.7152 * green + 0.0722 * blue;
+  };
+  const behind = (element) => {
+    for (let each = element; each !== null; each = each.parentElement) {
+      const [red, green, blue, share = 1] = parsed(getComputedStyle(each).backgroundColor);
+      if (share === 1) return [red, green, blue];
+    }
+    return [255, 255, 255];
+  };
+  const pale = [];
+  const texts = document.createTreeWalker(document.body, NodeFilter.SHOW_TEXT);
+  for (let node = texts.nextNode(); node !== null; node = texts.nextNode()) {
+    const element = node.parentElement;
+    if (node.textContent.trim() === "" || element.closest("script, noscript, .spoken") !== null) continue;
+    const [one, other] = [light(parsed(getComputedStyle(element).color)), light(behind(element))].sort((a, b) => b - a);
+    const contrast = (one + 0.05) / (other + 0.05);
+    if (contrast < 4.5) pale.push(node.textContent.slice(0, 40) + " " + contrast.toFixed(2));
+  }
+  return [...new Set(pale)];
+})()`;
