@@ -4,7 +4,7 @@ import { NaiveMutex } from "./mutex-naive.mjs";
 import { countTogether } from "./count-together.mjs";
 
 /** @type {import("sabsim").Setup} */
-export const setup = { agents: 3, buffers: [12] };
+export const setup = { agents: 3, buffers: [12], names: { STATE: 0, BELL: 1, COUNT: 2 } };
 
 /** @type {import("sabsim").Agent} */
 export default function agent({ buffers, args }) {
