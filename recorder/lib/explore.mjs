@@ -33,10 +33,10 @@ export function explore(options) {
 export function explored(options, callersFolder) {
   const checked = exploreOptions(options, callersFolder);
   const sabsim = sabsimOf(checked);
-  const { signal, seeds, jobs, checkEvery: every } = checked;
+  const { signal, seeds, checkEvery: every, ...rest } = checked;
   const asking = { isLeftOut: isLeftOut(checked), sabsim, every };
   const checkEvery = sabsim === undefined ? 0 : every;
-  return outcomesOf({ ...checked, ...seeds, sabsim, checkEvery, here: jobs === 1 }, asking, signal);
+  return outcomesOf({ ...rest, ...seeds, sabsim, checkEvery, here: rest.jobs === 1 }, asking, signal);
 }
 
 /** @typedef {ReturnType<typeof exploreOptions>} Checked */

@@ -96,6 +96,6 @@ export function moduleUrlOf(module, folderOf) {
   }
   const url = moduleUrl(module, folder);
   if (!url.startsWith("file:") || isFile(url)) return url;
-  const from = isRelative ? `: \`module\` is "${module}", from the folder of the file that calls \`record\`` : "";
+  const from = isRelative ? `: \`module\` is "${module}", from the folder of the file that asks for it` : "";
   throw new Refused(`there is no file ${pathOf(url)}${from}`);
 }

@@ -85,7 +85,7 @@ test("a relative path is taken from the file that calls the library, however it 
   assert.deepEqual((await common()).bytes, ["01"]);
   await assert.rejects(calls.missing(), (error) => {
     assert.ok(error instanceof Refused);
-    const from = '`module` is "./none.mjs", from the folder of the file that calls `record`';
+    const from = '`module` is "./none.mjs", from the folder of the file that asks for it';
     assert.equal(error.message, `there is no file ${join(folder, "suite", "none.mjs")}: ${from}`);
     return true;
   });

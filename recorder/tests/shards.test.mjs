@@ -2,9 +2,10 @@
 
 import assert from "node:assert/strict";
 import { execFile, spawnSync } from "node:child_process";
-import { readFileSync, readdirSync, writeFileSync } from "node:fs";
+import { mkdtempSync, readFileSync, readdirSync, rmSync, writeFileSync } from "node:fs";
+import { tmpdir } from "node:os";
 import { join } from "node:path";
-import { test } from "node:test";
+import { after, before, test } from "node:test";
 import { fileURLToPath } from "node:url";
 import { merged, partsOf } from "../lib/command/merging.mjs";
 import { optionsOf } from "../lib/command/options.mjs";
@@ -70,23 +71,22 @@ test("a shard is what its words say, and others are refused", () => {
   refused(["--format", "yaml"], /^--format must be plain or json, but is "yaml"$/);
 });
 
-/** The summary of four shards, joined, and that of one run. @param {string[]} words */
-async function bothWays(words) {
-  const shards = ["1/4", "2/4", "3/4", "4/4"].map((shard) => summaryOf([...words, "--shard", shard]));
+/** The summary of some shards, joined, and that of one run. @param {string[]} words @param {number} of */
+async function bothWays(words, of) {
+  const shards = Array.from({ length: of }, (_, at) => summaryOf([...words, "--shard", `${at + 1}/${of}`]));
   const [one, ...parts] = await Promise.all([summaryOf(words), ...shards]);
-  return { one, joined: merged(parts.reverse().map((summary, at) => ({ name: `part ${at}`, summary }))), parts };
+  return { one, joined: merged(parts.reverse().map((summary, at) => ({ name: `part ${at}`, summary }))) };
 }
 
 const MODULES = [
-  ["some deadlock", agentsPath("naive-mutex"), ["--seeds", "3..82", "--check", "7"], ["deadlock", "finished"]],
-  ["some race, and some fail", known("ring-frees-first"), ["--seeds", "1..40"], ["failed", "race", "finished"]],
-  ["races are allowed", known("ring-frees-first"), ["--seeds", "1..21", "--races", "allow"], ["failed", "finished"]],
-  ["none fails", agentsPath("three-state-mutex"), ["--seeds", "1..20", "--ordinary", "store"], ["finished"]],
+  ["some deadlock", 4, agentsPath("naive-mutex"), ["--seeds", "20..47", "--check", "7"], ["deadlock", "finished"]],
+  ["some race, and some fail", 3, known("ring-frees-first"), ["--seeds", "1..20"], ["failed", "race", "finished"]],
+  ["none fails", 2, agentsPath("three-state-mutex"), ["--seeds", "1..8", "--ordinary", "store"], ["finished"]],
 ];
 
-for (const [what, module, words, endings] of MODULES) {
-  test(`the summary of four shards is that of one run: ${what}`, withSabsim, async () => {
-    const { one, joined } = await bothWays([module, ...words, "--sabsim", SABSIM]);
+for (const [what, of, module, words, endings] of MODULES) {
+  test(`the summary of ${of} shards is that of one run: ${what}`, withSabsim, async () => {
+    const { one, joined } = await bothWays([module, ...words, "--sabsim", SABSIM], of);
     assert.deepEqual(joined, one);
     const found = [...one.endings.failing, ...one.endings.passing].map(({ ending }) => ending);
     assert.deepEqual(found, endings);
@@ -94,29 +94,31 @@ for (const [what, module, words, endings] of MODULES) {
   });
 }
 
-/** Files with the summaries of two shards of a module, the first of which has no failing run. */
-async function shardFiles(context, words = []) {
-  const folder = temporaryFolder(context);
+/** Files with the summaries of three shards, each with files of its own, and the words of all. */
+const shared = { folder: mkdtempSync(join(tmpdir(), "recorder-")), files: [], words: [] };
+after(() => rmSync(shared.folder, { recursive: true, force: true }));
+
+before(async () => {
+  const { folder } = shared;
   const module = agentsOf(folder, `
     const words = new Int32Array(buffers[0]);
     Atomics.add(words, 0, 1);
     if (Math.random() < 0.2) Atomics.wait(words, 1, 0);
   `);
-  const all = [module, "--agents", "1", "--buffers", "8", "--seeds", "1..30", "--check", "0", ...words];
-  const files = await Promise.all([1, 2, 3].map(async (number) => {
-    const shard = [...all, "--shard", `${number}/3`, "--out", join(folder, `found-${number}`)];
+  shared.words = [module, "--agents", "1", "--buffers", "8", "--seeds", "1..30", "--check", "0"];
+  shared.files = await Promise.all([1, 2, 3].map(async (number) => {
+    const shard = [...shared.words, "--shard", `${number}/3`, "--out", join(folder, `found-${number}`)];
     const file = join(folder, `${number}.json`);
     writeFileSync(file, JSON.stringify(await summaryOf(shard)));
     return file;
   }));
-  return { folder, files, all };
-}
+});
 
-test("merge.mjs tells what all shards came to, and where the files of the first failing run lie", async (context) => {
-  const { folder, files, all } = await shardFiles(context);
+test("merge.mjs tells what all shards came to, and where the files of the first failing run lie", async () => {
+  const { folder, files, words } = shared;
   const [plain, json, one] = await Promise.all([
     ran([MERGE, ...files]), ran([MERGE, "--format", "json", ...files]),
-    ran([RECORD, ...all, "--out", join(folder, "found")]),
+    ran([RECORD, ...words, "--out", join(folder, "found")]),
   ]);
   assert.deepEqual([plain.status, plain.stderr, json.status, one.status], [1, "", 1, 1]);
   const [, seed] = /^first failing seed: (\d+), deadlock$/m.exec(one.stdout);
@@ -128,8 +130,8 @@ test("merge.mjs tells what all shards came to, and where the files of the first 
   assert.deepEqual(readdirSync(kept.path).sort(), [...kept.files].sort());
 });
 
-test("summaries may stand in one file, each on its line, and a joined one can be joined again", async (context) => {
-  const { files: [first, ...others] } = await shardFiles(context);
+test("summaries may stand in one file, each on its line, and a joined one can be joined again", async () => {
+  const { files: [first, ...others] } = shared;
   const lines = others.map((file) => `${readFileSync(file, "utf8")}\n`).join("\n");
   const [all, two] = await Promise.all([
     ran([MERGE, first, "-"], { input: lines }), ran([MERGE, "-", "--format", "json"], { input: lines }),
@@ -140,8 +142,8 @@ test("summaries may stand in one file, each on its line, and a joined one can be
   assert.deepEqual(again, all);
 });
 
-test("where a shard is missing, or was stopped, that is told with status 3", async (context) => {
-  const { folder, files: [first, second, third] } = await shardFiles(context);
+test("where a shard is missing, or was stopped, that is told with status 3", async () => {
+  const { folder, files: [first, second, third] } = shared;
   const missing = await ran([MERGE, third, first]);
   assert.deepEqual([missing.status, missing.stderr], [3, "merge: no summary has the seeds 11 to 20\n"]);
   assert.match(missing.stdout, /^no summary has the seeds 11 to 20\n.*20 runs/);
@@ -153,8 +155,8 @@ test("where a shard is missing, or was stopped, that is told with status 3", asy
   assert.match(stdout, /^interrupted by SIGINT after 30 of 45 runs\n/);
 });
 
-test("files that are no summaries, or don't fit together, are refused with status 2 and one line", async (context) => {
-  const { folder, files: [first, second] } = await shardFiles(context);
+test("files that are no summaries, or don't fit together, are refused with one line", () => {
+  const { folder, files: [first, second] } = shared;
   const summary = JSON.parse(readFileSync(second, "utf8"));
   const { asked } = summary;
   const write = (name, text) => {
@@ -164,7 +166,6 @@ test("files that are no summaries, or don't fit together, are refused with statu
   const changed = (name, parts) => write(name, JSON.stringify({ ...summary, ...parts }));
   const other = { ...asked, module: "other.mjs", digest: "00" };
   const faults = [
-    [[], /^merge: the summaries' files are missing; --help shows more\n$/],
     [[join(folder, "none.json")], /none\.json can't be read: ENOENT/],
     [[folder], /can't be read: EISDIR/],
     [[write("empty", "\n")], /empty has no summary: it is empty\n/],
@@ -181,15 +182,31 @@ test("files that are no summaries, or don't fit together, are refused with statu
     [[first, changed("edited", { asked: { ...asked, digest: "00" } })], /the text of .*agents\.mjs isn't the same in /],
     [[first, changed("option", { asked: { ...asked, options: { ...asked.options, noBlock: [1] } } })],
       /don't fit together: --no-block is not given in the one and \[1\] in the other\n/],
-    [[first, "--wrong"], /^merge: Unknown option '--wrong'/],
-    [[first, "--format", "xml"], /--format must be plain or json/],
   ];
-  const told = await Promise.all(faults.map(([words]) => ran([MERGE, ...words])));
+  for (const [files, why] of faults) {
+    assert.throws(() => merged(files.flatMap(partsOf)), (error) => {
+      assert.ok(error instanceof Refused, error.stack);
+      assert.match(`merge: ${error.message}\n`, why);
+      return !error.message.includes("\n");
+    });
+  }
+});
+
+test("what merge.mjs can't do is told with status 2, and its help with 0", async () => {
+  const { files: [first] } = shared;
+  const faults = [
+    [[], /^merge: the summaries' files are missing; --help shows more\n$/],
+    [[first, "--wrong"], /^merge: Unknown option '--wrong'[^\n]*\n$/],
+    [[first, "--format", "xml"], /^merge: --format must be plain or json, but is "xml"\n$/],
+    [[first, first], /^merge: .* don't fit together: both have seed 1\n$/],
+  ];
+  const all = [["--help"], ...faults.map(([words]) => words)];
+  const [help, ...told] = await Promise.all(all.map((words) => ran([MERGE, ...words])));
+  assert.equal(help.status, 0);
+  assert.match(help.stdout, /^usage: node recorder\/merge\.mjs FILE\.\. /);
   told.forEach(({ status, stdout, stderr }, at) => {
-    const [words, why] = faults[at];
-    assert.deepEqual([status, stdout], [2, ""], words.join(" "));
-    assert.match(stderr, why);
-    assert.match(stderr, /^merge: [^\n]+\n$/);
+    assert.deepEqual([status, stdout], [2, ""]);
+    assert.match(stderr, faults[at][1]);
   });
 });
 
@@ -212,7 +229,7 @@ test("what went wrong is a member of the summary too", async (context) => {
   const words = [module, "--agents", "1", "--buffers", "4", "--seeds", "1..9", "--check", "0", "--format", "json"];
   const { status, stdout, stderr } = await ran([RECORD, ...words]);
   const { problems: [problem], stopped, runs } = JSON.parse(stdout);
-  assert.match(problem, /^a job's process ended by itself \(SIGKILL\), and nothing is told of the? seeds? \d/);
+  assert.match(problem, /^a job's process ended by itself \(SIGKILL\), and nothing is told of (the seeds|seed) \d/);
   assert.deepEqual([status, stderr], [3, `record: ${problem}\n`]);
   assert.deepEqual(stopped, { why: "stopped", wanted: 9 });
   assert.ok(runs < 9, stdout);

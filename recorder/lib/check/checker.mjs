@@ -87,6 +87,7 @@ export class Checker {
     this.idle = [];
     /** @type {((process: CheckProcess) => void)[]} */
     this.queue = [];
+    this.isClosed = false;
   }
 
   /** @returns {number} how many checks haven't begun */
@@ -110,14 +111,16 @@ export class Checker {
     if (difference !== undefined) throw differenceError(run, difference);
   }
 
-  /** Ends its processes. Checks that are waited for, or under way, come to nothing. */
+  /** Ends its processes. Checks that are under way, or that are asked for afterwards, come to nothing. */
   async close() {
+    this.isClosed = true;
     this.queue = [];
     await Promise.all([...this.processes].map((process) => process.close()));
   }
 
   /** @returns {Promise<CheckProcess>} */
   #taken() {
+    if (this.isClosed) return new Promise(() => {});
     const idle = this.idle.pop();
     if (idle !== undefined) return Promise.resolve(idle);
     if (this.processes.size < MOST_PROCESSES) return Promise.resolve(this.#started());

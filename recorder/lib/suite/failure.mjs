@@ -35,13 +35,26 @@ export function failureText({ outcome, passed, sabsim: path, kept }) {
  * @returns {string[]} none where there is no sabsim, or no script
  */
 function explainedEnd({ script }, path) {
-  if (script === undefined || path === undefined) return [];
-  const { status, output } = sabsim(path, ["replay", "--format", "explained", "--acts"], script);
-  if (status !== 0) return [];
+  const output = script === undefined || path === undefined ? undefined : explained(path, script);
+  if (output === undefined) return [];
   const lines = output.trimEnd().split("\n");
   const end = lines.findIndex((line) => line.startsWith("block "));
   const acts = lines.slice(Math.max(0, end - MOST_LINES), end);
   return [TITLE, ...indented([...acts, ...lines.slice(end)].map(shortened))];
+}
+
+/**
+ * @param {string} path of sabsim
+ * @param {string} script
+ * @returns {string | undefined} undefined where it can't tell it
+ */
+function explained(path, script) {
+  try {
+    const { status, output } = sabsim(path, ["replay", "--format", "explained", "--acts"], script);
+    return status === 0 ? output : undefined;
+  } catch {
+    return undefined;
+  }
 }
 
 /** @param {string} line */

@@ -6,6 +6,7 @@ import { tmpdir } from "node:os";
 import { join, resolve } from "node:path";
 import { Keeper } from "../command/keep.mjs";
 import { keepPictures } from "../command/pictures.mjs";
+import { toldOf } from "../command/problems.mjs";
 import { counted, digits } from "../command/words.mjs";
 import { explored, sabsimOf } from "../explore.mjs";
 import { checkedOut, exploreOptions } from "../library-options.mjs";
@@ -56,19 +57,35 @@ export async function tried(given, { folder, place }) {
 }
 
 /**
- * Keeps the shortest run that fails as one does.
+ * What is told of a run that fails. What can't be kept or explained is told beside it.
  * @param {Outcome} failing
  * @param {number} passed how many runs of lower seeds passed
  * @param {{ out?: string, options: Omit<TrialOptions, "out">, folder: Caller["folder"] }} about
- * @returns {Promise<string>} what is told of it
+ * @returns {Promise<string>}
  */
 async function failureOf(failing, passed, { out, options, folder }) {
   const checked = exploreOptions(options, folder);
   const outcome = await shortestOf(failing, checked);
   const sabsim = sabsimOf(checked);
-  const keeper = new Keeper(resolve(out ?? mkdtempSync(join(tmpdir(), "sabsim-"))), "out");
-  keeper.keepLowest(outcome);
-  const notKept = keepPictures(keeper, outcome, sabsim, checked.module);
-  const kept = keeper.names.length === 0 ? [] : [`kept in ${keeper.folder}: ${keeper.names.join(", ")}`];
-  return failureText({ outcome, passed, sabsim, kept: [...kept, ...notKept] });
+  return failureText({ outcome, passed, sabsim, kept: keptLines(outcome, checked.module, out, sabsim) });
+}
+
+/**
+ * Keeps a run.
+ * @param {Outcome} outcome
+ * @param {string} module its URL
+ * @param {string | undefined} out where; undefined: in a new folder for temporary files
+ * @param {string | undefined} sabsim
+ * @returns {string[]} what lies where, and what doesn't
+ */
+function keptLines(outcome, module, out, sabsim) {
+  try {
+    const keeper = new Keeper(resolve(out ?? mkdtempSync(join(tmpdir(), "sabsim-"))), "`out`");
+    keeper.keepLowest(outcome);
+    const notKept = keepPictures(keeper, outcome, sabsim, module);
+    const kept = keeper.names.length === 0 ? [] : [`kept in ${keeper.folder}: ${keeper.names.join(", ")}`];
+    return [...kept, ...notKept];
+  } catch (problem) {
+    return [`not kept: ${toldOf(problem)}`];
+  }
 }
