@@ -5,8 +5,7 @@ import { SCRIPT_LIMITS } from "../../script/limits.mjs";
 
 const { Uint8Array, SharedArrayBuffer } = globalThis;
 
-// What is known of a byte; a smaller number is that of the one agent that uses it, and one more.
-const NOTHING = 0;
+// What is known of a byte: nothing where it is 0; else a smaller number is that of the one agent that uses it, and one.
 const READ_ALONE = 254;
 const SHARED = 255;
 
@@ -29,11 +28,6 @@ export class KnownPlaces {
   /** @param {SharedArrayBuffer} memory */
   constructor(memory) {
     this.known = new Uint8Array(memory);
-  }
-
-  /** Nothing is known any more. */
-  forget() {
-    this.known.fill(NOTHING);
   }
 
   /** @param {number} place that one agent uses alone @param {number} agent */

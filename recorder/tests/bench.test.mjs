@@ -1,0 +1,41 @@
+// The benchmark of strategies: it runs, and its programs are wrong.
+
+import assert from "node:assert/strict";
+import { readFileSync } from "node:fs";
+import { test } from "node:test";
+import { COLUMNS, PROGRAMS, measured, tables } from "../bench/strategies.mjs";
+
+const README = readFileSync(new URL("../bench/README.md", import.meta.url), "utf8");
+
+test("a table has a row for each program, and a column for each strategy", async () => {
+  const text = await tables(["barrier-reused", "philosophers"], { seeds: 5, jobs: 1 });
+  const lines = text.split("\n").filter((line) => line.startsWith("| barrier") || line.startsWith("| philosophers"));
+  assert.equal(lines.length, 6);
+  for (const line of lines) assert.equal(line.split(" | ").length, COLUMNS.length + 1);
+  // Five runs are counted as of 1,000.
+  const [, ...cells] = lines[0].slice(2, -2).split(" | ").map(Number);
+  for (const cell of cells) assert.ok(cell % 200 === 0 && cell <= 1_000, lines[0]);
+});
+
+test("three exact switches among 200 calls are found by mixed runs within 200 seeds", async () => {
+  const { runs, failed, first } = await measured("three-exact-switches", {}, { seeds: 200, jobs: 1 });
+  assert.equal(runs, 200);
+  assert.ok(failed > 0 && first <= 200);
+});
+
+test("README's table has each program, and says that mixed runs find each of them", () => {
+  const lines = README.split("\n").filter((line) => /^\| [a-z-]+ \|/.test(line));
+  const rows = lines.map((line) => line.slice(2).split(" | "));
+  for (const name of PROGRAMS) {
+    const [, mixed] = rows.find(([program]) => program === name) ?? assert.fail(`${name} isn't in README`);
+    assert.ok(Number(mixed) > 0, name);
+  }
+  assert.ok(PROGRAMS.length >= 15);
+});
+
+test("each program says in its first line what is wrong", () => {
+  for (const name of PROGRAMS) {
+    const [first] = readFileSync(new URL(`../bench/programs/${name}.mjs`, import.meta.url), "utf8").split("\n");
+    assert.match(first, /^\/\/ Wrong: .{20,}$/, name);
+  }
+});

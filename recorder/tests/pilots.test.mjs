@@ -1,0 +1,88 @@
+// Pilots among real runs: they show nothing of themselves, they end in time, and what they learn changes what is found
+// in no wrong way. And runs until they are covered.
+
+import assert from "node:assert/strict";
+import { spawnSync } from "node:child_process";
+import { test } from "node:test";
+import { record } from "../recorder.mjs";
+import { RECORD, agentsOf, agentsPath, recordCase, temporaryFolder } from "./common.mjs";
+
+/** Runs the command line to its end, without sabsim. @param {string[]} words */
+function run(words) {
+  return spawnSync(process.execPath, [RECORD, ...words, "--check", "0"], { encoding: "utf8" });
+}
+
+test("what agents print in pilots is left out, and no module remembers pilots", (context) => {
+  const module = agentsOf(temporaryFolder(context), `
+    globalThis.runs = (globalThis.runs ?? 0) + 1;
+    console.log("run", globalThis.runs, "of agent", agent);
+    Atomics.add(new Int32Array(buffers[0]), 0, globalThis.runs);
+  `);
+  const { stdout, stderr } = run([module, "--agents", "2", "--buffers", "4", "--seeds", "7..8"]);
+  assert.equal(stderr, "run 1 of agent 0\nrun 1 of agent 1\nrun 2 of agent 0\nrun 2 of agent 1\n");
+  assert.match(stdout, /^2 runs: 2 finished\n2 final states/);
+});
+
+test("calls beside ordinary accesses that race are places to switch, though none of the calls is shared", (context) => {
+  const module = agentsOf(temporaryFolder(context), `
+    const words = new Int32Array(buffers[0]);
+    Atomics.add(words, 4 + agent, 1);
+    const before = words[0];
+    Atomics.add(words, 4 + agent, 1);
+    words[0] = before + 1;
+    Atomics.add(words, 4 + agent, 1);
+  `);
+  const { stdout } = run([module, "--agents", "2", "--buffers", "32", "--seeds", "1..60", "--races", "allow"]);
+  // Where both have read before one writes, one addition is lost.
+  for (const bytes of ["01000000", "02000000"]) assert.match(stdout, new RegExp(`^ {2}\\d+ runs .*: ${bytes}`, "m"));
+});
+
+test("an agent that waits for what pilots couldn't see doesn't spin for ever", (context) => {
+  // A pilot is cut after 10,000 moves, before agent 1 comes to its store: six agents make 700 calls of three moves each.
+  // So for all that pilots show the flag is agent 0's own.
+  const module = agentsOf(temporaryFolder(context), `
+    const words = new Int32Array(buffers[0]);
+    for (let time = 0; agent > 0 && time < 700; time += 1) Atomics.add(words, agent, 1);
+    if (agent === 1) Atomics.store(words, 0, 1);
+    for (let look = 0; agent === 0 && Atomics.load(words, 0) === 0; look += 1) if (look > 990) throw new Error("no");
+  `);
+  const words = ["--agents", "6", "--buffers", "24", "--seeds", "1..10", "--strategy", "uniform"];
+  const { status, stdout } = run([module, ...words]);
+  assert.equal(status, 0, stdout);
+});
+
+test("pilots that meet a bound, that fail or that don't end let the runs be made all the same", async () => {
+  const begun = performance.now();
+  const spins = await recordCase("spins", {});
+  assert.deepEqual([spins.ending, /has made 1000 calls/.test(spins.detail)], ["bound", true]);
+  const endless = await recordCase("loops", { seconds: 3 });
+  assert.deepEqual([endless.ending, endless.detail], ["bound", "agent 1 has made no call for 3 s"]);
+  // Two seconds are spent on a pilot, and three on the run.
+  assert.ok(performance.now() - begun < 30_000);
+  const init = () => {
+    throw new Error("no");
+  };
+  assert.match((await recordCase("addition", { init })).detail, /^init threw Error: no/);
+  assert.equal((await recordCase("exits", {})).ending, "failed");
+});
+
+test("a run is the same whether its group has made others before, with other options for its workers", async () => {
+  const options = { module: agentsPath("naive-mutex"), sabsim: false, seed: 21 };
+  const one = await record({ ...options });
+  assert.deepEqual(await record({ ...options, strategy: "mixed", everywhere: false }), one);
+  assert.notEqual((await record({ ...options, everywhere: true, strategy: "switch:0.5" })).moves, 0);
+});
+
+test("--until-covered ends when 500 seeds have shown nothing new, whatever the number of jobs", () => {
+  const words = [agentsPath("naive-mutex"), "--until-covered"];
+  const [one, three] = ["1", "3"].map((jobs) => run([...words, "--jobs", jobs]));
+  assert.deepEqual([three.stdout, three.status], [one.stdout, one.status]);
+  const [, runs] = /^\d+ of ([\d,]+) runs failed/.exec(one.stdout);
+  const told = /^(\d+) pairs of lines .*\n {2}the last new one in seed (\d+), none in 500 seeds since: covered$/m;
+  const [, pairs, last] = told.exec(one.stdout);
+  assert.equal(Number(runs), Number(last) + 500);
+  // Two agents at each of the six lines, at the most.
+  assert.ok(pairs > 5 && pairs <= 36, one.stdout);
+  const cut = run([...words, "--seeds", "1..30"]).stdout;
+  assert.match(cut, /^ {2}the last new one in seed \d+, none in \d+ seeds since: not covered$/m);
+});
