@@ -31,6 +31,7 @@ import { callText, elementText, entryText, standingText, valueText } from "./wor
  * @property {Entry[]} entries those that act, wait and leave
  * @property {Record<string, any>[]} standings of agents that haven't come to the end of their calls
  * @property {Event[]} events of the trace; none where it isn't known
+ * @property {boolean} isWhole whether all are there; else those that are ordinary and don't race aren't
  * @property {string[]} places of the code: file, line and column
  * @property {{ file: string, text: string | null }[]} files
  * @property {[number, number][]} races the two events of each, the most telling first

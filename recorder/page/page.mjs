@@ -478,10 +478,11 @@ class Page {
   }
 
   #head() {
-    const { seed, module, ending, detail } = this.run.data;
+    const { seed, module, ending, detail, isWhole } = this.run.data;
     by("ending").textContent = ending;
     by("ending").className = `ending ${ending}`;
     by("what").textContent = `seed ${seed} of ${module}`;
+    if (!isWhole) by("timeline-title").textContent = "Timeline, without ordinary accesses: there are too many";
     const lines = detail === "" ? [] : detail.split("\n");
     by("detail").append(...lines.slice(0, SHORT_DETAIL_LINES).map((line) => made("p", "", line)));
     if (lines.length <= SHORT_DETAIL_LINES) return;

@@ -158,6 +158,20 @@ test("of a race both accesses fail, each in its turn", () => {
   assert.deepEqual([runOf({ races }).failing, runOf({ races }).racing], [[8], [[7, 3]]]);
 });
 
+test("of a long trace ordinary accesses are left out, but for those that race", () => {
+  const many = Array.from({ length: 20_001 }, (_, at) => ({ ...EVENTS[1], event: at, source: "a.mjs:9:9" }));
+  const side = (at, access) => ({ ...EVENTS[at], access });
+  const races = [{ sides: [side(2, "write"), side(6, "read")] }];
+  const run = runOf({ ending: "race", races, trace: lines([...EVENTS.slice(0, 2), ...many, ...EVENTS.slice(2)]) });
+  assert.equal(run.data.isWhole, false);
+  assert.equal(runOf().data.isWhole, true);
+  assert.deepEqual(run.steps.map(({ text }) => text).slice(1, -1), [
+    "wait(FLAG, 0, 0)", "writes slots[1]", "store(FLAG, 0, -1)", "notify(FLAG, 0)", "wait(FLAG, 0, 0)",
+    "reads slots[1]", "wait(FLAG, 0, -1)",
+  ]);
+  assert.deepEqual(run.failing, [2, 6]);
+});
+
 test("without a trace, or with one of another run, there are the calls alone", () => {
   const other = lines(EVENTS.map((event) => (event.does === "notify" ? { ...event, does: "add" } : event)));
   for (const trace of [undefined, other]) {

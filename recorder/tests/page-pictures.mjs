@@ -89,7 +89,8 @@ function withFewColours(png) {
   const { width, height, points } = coloursOf(png);
   const counts = new Map();
   for (const point of points) counts.set(point, (counts.get(point) ?? 0) + 1);
-  const palette = [...counts].sort(([, one], [, other]) => other - one).slice(0, MOST_COLOURS).map(([colour]) => colour);
+  const frequent = [...counts].sort(([, one], [, other]) => other - one).slice(0, MOST_COLOURS);
+  const palette = frequent.map(([colour]) => colour);
   const numbers = new Map([...counts.keys()].map((colour) => [colour, nearest(palette, colour)]));
   const lines = Buffer.alloc((width + 1) * height);
   points.forEach((point, at) => {

@@ -10,7 +10,7 @@ import { readFileSync } from "node:fs";
 const FOLDER = new URL("../../page/", import.meta.url);
 const CODE = ["words.mjs", "model.mjs", "page.mjs"];
 
-// So many steps a page can show at once. Where there are more, ordinary accesses that changed nothing are left out.
+// Of a trace of more events the ordinary accesses are left out, but for those that race.
 const MOST_EVENTS = 20_000;
 
 /** @param {string} name */
@@ -32,45 +32,48 @@ const escaped = (text) => text.replace(/[&<>"']/g, (sign) => `&#${sign.charCodeA
 const objectsOf = (text) => text.split("\n").filter((line) => line !== "").map((line) => JSON.parse(line));
 
 /**
- * What an access of a trace has in common with a side of a race.
- * @param {any} event
+ * What tells an access of a trace, and a side of a race, from others.
+ * @param {any} access
  */
-const keyOf = ({ agent, block, byte, size, atomic, call, source }) =>
-  [agent, block, byte, size, atomic, call, source].join(" ");
+const keyOf = ({ agent, block, byte, size, atomic, call, source, read, write, access = accessOf(read, write) }) =>
+  [agent, block, byte, size, atomic, call, source, access].join(" ");
 
 /**
- * The events of each race: each side's first access of that kind.
+ * What a side of a race calls an access.
+ * @param {boolean} read
+ * @param {boolean} write
+ */
+function accessOf(read, write) {
+  if (read && write) return "read and write";
+  return write ? "write" : "read";
+}
+
+/**
+ * The events of each race: of each side the first access that is like it.
  * @param {Outcome["races"]} races
  * @param {any[]} events
- * @returns {[number, number][]}
+ * @returns {any[][]}
  */
-function raceEvents(races, events) {
-  const positions = new Map();
+function racingEvents(races, events) {
+  const first = new Map();
+  if (races.length === 0) return [];
   for (const event of events) {
-    for (const access of accessesOf(event)) {
-      const key = `${keyOf(event)} ${access}`;
-      if (!positions.has(key)) positions.set(key, event.event);
-    }
+    const key = keyOf(event);
+    if (!first.has(key)) first.set(key, event);
   }
-  /** @param {import("../run/findings.mjs").Side} side */
-  const find = (side) => positions.get(`${keyOf(side)} ${side.access}`);
-  const pairs = races.map(({ sides: [one, other] }) => [find(one), find(other)]);
-  return /** @type {[number, number][]} */ (pairs.filter((pair) => pair.every((at) => at !== undefined)));
-}
-
-/** @param {any} event @returns {string[]} what a side of a race may call it */
-function accessesOf({ read, write }) {
-  if (read && write) return ["read and write"];
-  return write ? ["write"] : ["read"];
+  const pairs = races.map(({ sides }) => sides.map((side) => first.get(keyOf(side))));
+  return pairs.filter((pair) => !pair.includes(undefined));
 }
 
 /**
- * The events that a page shows, and where in the trace each of them stands.
+ * The events that a page shows.
  * @param {any[]} events
+ * @param {any[][]} racing
  */
-function shownEvents(events) {
+function shownEvents(events, racing) {
   if (events.length <= MOST_EVENTS) return events;
-  return events.filter(({ does }) => does !== "read" && does !== "write");
+  const kept = new Set(racing.flat());
+  return events.filter((event) => (event.does !== "read" && event.does !== "write") || kept.has(event));
 }
 
 /**
@@ -84,22 +87,23 @@ export function pageData(outcome, facts, module) {
   const { seed, ending, detail, races, script = "{}", trace = "", sources = [], scriptHolds: holds = "all" } = outcome;
   const { blocks, views } = JSON.parse(script);
   const told = objectsOf(facts);
-  const events = shownEvents(objectsOf(trace));
-  const numbers = new Map(events.map((event, at) => [event.event, at]));
+  const all = objectsOf(trace);
+  const racing = racingEvents(races, all);
+  const events = shownEvents(all, racing);
+  const numbers = new Map(events.map((event, at) => [event, at]));
   const places = [...new Set(events.map(({ source }) => source))].filter((source) => source !== null);
-  const numberOf = new Map(places.map((place, at) => [place, at]));
+  const placeNumbers = new Map(places.map((place, at) => [place, at]));
   return {
     seed, ending, detail, holds, blocks, views, places, files: sources,
-    module: module.slice(module.lastIndexOf("/") + 1),
+    module: decodeURIComponent(module.replace(/[?#].*$/, "").replace(/^.*\//, "")),
     agents: outcome.progress.length,
+    isWhole: events.length === all.length,
     entries: told.filter(({ what }) => what === "act" || what === "wait" || what === "leave"),
     standings: told.filter(({ standing }) => standing !== undefined),
     events: events.map(({ agent, call, does, block, byte, size, read, write, source }) => {
-      return { agent, call, does, block, byte, size, read, write, place: numberOf.get(source) ?? -1 };
+      return { agent, call, does, block, byte, size, read, write, place: placeNumbers.get(source) ?? -1 };
     }),
-    races: /** @type {[number, number][]} */ (raceEvents(races, events).map((pair) => {
-      return pair.map((event) => numbers.get(event));
-    })),
+    races: /** @type {[number, number][]} */ (racing.map((pair) => pair.map((event) => numbers.get(event)))),
   };
 }
 
