@@ -127,6 +127,7 @@ export class Player {
     const source = this.#source();
     this.table.board.line.become(this.agent, PHASE.ASKS);
     this.#untilTurn();
+    this.#stayInRow(call);
     this.table.records.begin(this.made, call);
     this.last = call;
     if (call.call === WAIT) return this.#wait(call, view, source);
@@ -426,6 +427,15 @@ export class Player {
     if (!board.journal.takesText(textRoom(mapGet(this.views, key), call))) {
       this.#bound(`the script would be longer than ${text} bytes`);
     }
+  }
+
+  /**
+   * Ends the run where another call was to be made.
+   * @param {Call} call
+   */
+  #stayInRow(call) {
+    const { board, lengths } = this.table;
+    if (!board.row.has(this.agent, this.made, call)) this.#end("failed", callText(viewName(lengths, call), call));
   }
 
   /** @param {number} most */

@@ -8,6 +8,7 @@ import { End } from "./end.mjs";
 import { EVENTS, Journal } from "./journal.mjs";
 import { ORDER, PHASE, WORD, wordsFor } from "./layout.mjs";
 import { Line } from "./line.mjs";
+import { Row, STRAYS } from "./row.mjs";
 import { NOBODY_MOVES, Strategy } from "./strategy.mjs";
 import { REASON_BYTES, Turn } from "./turn.mjs";
 
@@ -24,6 +25,7 @@ const TEXT_BYTES = 16_384;
  * @property {SharedArrayBuffer} text
  * @property {SharedArrayBuffer} reasons
  * @property {SharedArrayBuffer} times
+ * @property {import("./row.mjs").RowMemory} row
  */
 
 export class Board {
@@ -36,6 +38,7 @@ export class Board {
       text: new SharedArrayBuffer(TEXT_BYTES),
       reasons: new SharedArrayBuffer(agents * REASON_BYTES),
       times: Clock.memory(agents),
+      row: Row.memory(),
     };
   }
 
@@ -52,7 +55,9 @@ export class Board {
     this.line = new Line(this.words, agents);
     this.journal = new Journal(this.words, new Float64Array(memory.views), agents);
     this.clock = new Clock(memory.times);
-    this.strategy = new Strategy(this.words, rules, new Random(new Int32Array(memory.words, WORD.RANDOM * 4, 4)));
+    this.row = new Row(memory.row, this.words, agents);
+    const random = new Random(new Int32Array(memory.words, WORD.RANDOM * 4, 4));
+    this.strategy = new Strategy(this.words, rules, random, this.row);
   }
 
   /**
@@ -108,7 +113,8 @@ export class Board {
       return false;
     }
     const next = strategy.next();
-    if (next === NOBODY_MOVES) end.end(this.#somebodyWaits(line) ? "deadlock" : "finished", "");
+    if (next === STRAYS) end.end("failed", "");
+    else if (next === NOBODY_MOVES) end.end(this.#somebodyWaits(line) ? "deadlock" : "finished", "");
     else if (next !== agent) turn.give(next);
     return next === agent;
   }

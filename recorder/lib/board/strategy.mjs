@@ -22,11 +22,13 @@ export class Strategy {
    * @param {Int32Array} words of the board
    * @param {Rules} rules
    * @param {import("../run/random.mjs").Random} random
+   * @param {import("./row.mjs").Row} row
    */
-  constructor(words, rules, random) {
+  constructor(words, rules, random, row) {
     this.words = words;
     this.rules = rules;
     this.random = random;
+    this.row = row;
     this.able = new Int32Array(rules.agents);
     this.count = 0;
   }
@@ -46,12 +48,13 @@ export class Strategy {
     return words[WORD.STARTED] - 1;
   }
 
-  /** @returns {number} who moves next, or `NOBODY_MOVES` where nobody can */
+  /** @returns {number} who moves next; `NOBODY_MOVES` where nobody can, `STRAYS` where a row can't be followed */
   next() {
-    this.#gather();
-    if (this.count === 0) return NOBODY_MOVES;
-    this.words[WORD.LAST] = this.#chosen();
-    return this.words[WORD.LAST];
+    const next = this.row.isForced() ? this.row.next() : this.#drawn();
+    if (next < 0) return next;
+    this.row.note(next);
+    this.words[WORD.LAST] = next;
+    return next;
   }
 
   /** @returns {boolean} whether there are moves left for whatever is done next */
@@ -62,6 +65,12 @@ export class Strategy {
   /** @returns {number} the agent that moved last, or -1 */
   lastMoved() {
     return this.words[WORD.LAST];
+  }
+
+  /** @returns {number} who moves next by the seed, or `NOBODY_MOVES` */
+  #drawn() {
+    this.#gather();
+    return this.count === 0 ? NOBODY_MOVES : this.#chosen();
   }
 
   /** Gathers the agents that can move. */

@@ -1,0 +1,223 @@
+// The shortest run that fails in the same way as one that was found: the one with the fewest changes of agents, and of
+// these the one with the fewest calls. It is looked for by runs that are forced to go by rows: the found run's row
+// without some of its stretches, with two stretches of an agent joined, or with one made shorter, as long as that helps.
+
+import { areSame, failsAlike } from "./alike.mjs";
+import { changesOf, joinedFrom, rowOf, shortenedAt, stretchesOf, without } from "./stretches.mjs";
+
+/** @typedef {import("../run/group.mjs").Outcome} Outcome */
+/** @typedef {import("../run/group.mjs").One} One */
+/** @typedef {import("./stretches.mjs").Stretch} Stretch */
+/** @typedef {import("./alike.mjs").Told} Told */
+
+/** @typedef {{ before: number, after: number }} Change */
+
+/**
+ * @typedef {object} Shortened what the shortening of a failing run came to
+ * @property {number} runs how many it took
+ * @property {Change} changes how often another agent moved than before: in the run as it was found, and in the shortest
+ * @property {Change} calls of Atomics that were begun, likewise
+ * @property {string} [stopped] why it was ended before all was tried
+ * @property {string} [unchanged] why the run is told as it was found
+ */
+
+/**
+ * @typedef {object} Found
+ * @property {One} [shortest] undefined: the run is told as it was found
+ * @property {Shortened} shortened
+ */
+
+/**
+ * @typedef {object} Limits
+ * @property {number} [most] how many runs are made at most
+ * @property {number} [milliseconds] how long it may take
+ * @property {(tried: Tried) => void} [onTry] is told of each run that was made
+ */
+
+/** @typedef {{ runs: number, changes: number }} Tried how many runs were made, and the changes of the shortest so far */
+
+/** The runs that are made at most. A machine that makes as many in time finds the same run as every other one. */
+const MOST_RUNS = 400;
+
+const MOST_MILLISECONDS = 10_000;
+
+const NOT_AGAIN = "it couldn't be made again in the same way: its agents do something else when they run once more";
+
+/** @typedef {{ row: number[], changes: number, calls: number }} Measured */
+
+/**
+ * How long a run is.
+ * @param {Outcome} outcome whose row is told
+ * @returns {Measured}
+ */
+const measured = ({ row = [], calls }) => ({ row, changes: changesOf(row), calls });
+
+/**
+ * @param {Measured} one
+ * @param {Measured} other
+ */
+function isShorter(one, other) {
+  if (one.changes !== other.changes) return one.changes < other.changes;
+  if (one.calls !== other.calls) return one.calls < other.calls;
+  return one.row.length < other.row.length;
+}
+
+/**
+ * Why a failing run isn't shortened, if so.
+ * @param {Told} told
+ * @returns {string | undefined}
+ */
+function whyNot({ ending, detail }) {
+  if (ending === "bound") return "it met a bound";
+  if (ending === "failed" && /^agent \d+'s worker died: /.test(detail)) return "an agent's worker died";
+  return undefined;
+}
+
+class Search {
+  /**
+   * @param {import("../run/group.mjs").Group} group
+   * @param {One} first the run as it was found, with its row
+   * @param {Required<Limits>} limits
+   * @param {number} begun when it has begun, in milliseconds
+   */
+  constructor(group, first, limits, begun) {
+    this.group = group;
+    this.first = first;
+    this.limits = limits;
+    this.until = begun + limits.milliseconds;
+    this.best = measured(first.outcome);
+    // That run is the first, and the shortest will be made once more.
+    this.runs = 2;
+    /** The rows that were tried. */
+    this.tried = new Set();
+    /** @type {string | undefined} why it has ended before all was tried */
+    this.stopped = undefined;
+  }
+
+  /** Looks for shorter runs until no try is better. */
+  async run() {
+    await this.#dropChunks();
+    for (let isBetter = true; isBetter;) {
+      const joined = await this.#tryAll(joinedFrom);
+      const dropped = await this.#tryAll((stretches, at) => [without(stretches, at, 1)]);
+      const cut = await this.#tryAll(shortenedAt);
+      isBetter = joined || dropped || cut;
+    }
+  }
+
+  /** Leaves out many stretches that stand together, then ever fewer. */
+  async #dropChunks() {
+    let size = Math.ceil(stretchesOf(this.best.row).length / 2);
+    for (;;) {
+      for (let at = 0; at < stretchesOf(this.best.row).length;) {
+        if (!await this.#isBetter(without(stretchesOf(this.best.row), at, size))) at += size;
+      }
+      if (size <= 1) return;
+      size = Math.ceil(size / 2);
+    }
+  }
+
+  /**
+   * Tries changes of each stretch.
+   * @param {(stretches: Stretch[], at: number) => Stretch[][]} changesAt
+   * @returns {Promise<boolean>} whether one was better
+   */
+  async #tryAll(changesAt) {
+    let isBetter = false;
+    for (let at = 0; at < stretchesOf(this.best.row).length;) {
+      if (await this.#tryEach(changesAt(stretchesOf(this.best.row), at))) isBetter = true;
+      else at += 1;
+    }
+    return isBetter;
+  }
+
+  /** @param {Stretch[][]} rows @returns {Promise<boolean>} whether one was better; those behind it aren't tried */
+  async #tryEach(rows) {
+    for (const row of rows) {
+      if (await this.#isBetter(row)) return true;
+    }
+    return false;
+  }
+
+  /**
+   * Makes a run, and keeps it where it is shorter than all before, and fails in the same way.
+   * @param {Stretch[]} stretches that it is to go by
+   */
+  async #isBetter(stretches) {
+    const row = rowOf(stretches);
+    const name = stretchesOf(row).map(({ agent, draws }) => `${agent}x${draws}`).join();
+    if (this.tried.has(name) || !this.#goesOn()) return false;
+    this.tried.add(name);
+    this.runs += 1;
+    const { seed, ending } = this.first.outcome;
+    const run = await this.group.one({
+      seed, whole: false, row, tellsRow: true, isTrial: true, tellsLines: ending === "race",
+    });
+    const found = measured(run.outcome);
+    const isBetter = failsAlike(run, this.first) && isShorter(found, this.best);
+    if (isBetter) this.best = found;
+    this.limits.onTry({ runs: this.runs, changes: this.best.changes });
+    return isBetter;
+  }
+
+  #goesOn() {
+    if (this.runs >= this.limits.most) this.stopped ??= "the most that are made";
+    else if (performance.now() > this.until) {
+      this.stopped ??= `stopped after ${this.limits.milliseconds / 1_000} s, so a faster machine may find a shorter one`;
+    }
+    return this.stopped === undefined;
+  }
+}
+
+/**
+ * Looks for the shortest run that fails in the same way as one that was found by its seed.
+ * @param {import("../run/group.mjs").Group} group of the same agents
+ * @param {Told} told of the run that was found
+ * @param {Limits} [limits]
+ * @returns {Promise<Found>}
+ */
+export async function shorten(group, told, limits = {}) {
+  const all = { most: MOST_RUNS, milliseconds: MOST_MILLISECONDS, onTry: () => {}, ...limits };
+  const begun = performance.now();
+  const same = { before: told.calls, after: told.calls };
+  const why = whyNot(told);
+  if (why !== undefined) return { shortened: { runs: 0, changes: { before: 0, after: 0 }, calls: same, unchanged: why } };
+  const { seed, ending } = told;
+  const first = await group.one({ seed, whole: false, tellsRow: true, isTrial: true, tellsLines: ending === "race" });
+  const { row, changes, calls } = measured(first.outcome);
+  const asFound = { runs: 1, changes: { before: changes, after: changes }, calls: same };
+  if (!areSame(first.outcome, told) || !failsAlike(first, first)) {
+    return { shortened: { ...asFound, unchanged: NOT_AGAIN } };
+  }
+  const search = new Search(group, first, all, begun);
+  await search.run();
+  const { best, runs, stopped } = search;
+  const shortened = { ...asFound, runs, ...(stopped === undefined ? {} : { stopped }) };
+  if (best.row.length === row.length && best.changes === changes && best.calls === calls) {
+    return { shortened: { ...shortened, runs: runs - 1, unchanged: "no shorter one was found" } };
+  }
+  const shortest = await remade(group, first, best);
+  if (shortest === undefined) return { shortened: { ...shortened, unchanged: NOT_AGAIN } };
+  return {
+    shortest,
+    shortened: {
+      ...shortened, changes: { before: changes, after: best.changes }, calls: { before: calls, after: best.calls },
+    },
+  };
+}
+
+/**
+ * Makes the shortest run once more, by workers that were started anew, as who replays it will; all of it is told.
+ * @param {import("../run/group.mjs").Group} group
+ * @param {One} first
+ * @param {Measured} best
+ * @returns {Promise<One | undefined>} undefined: it wasn't the same
+ */
+async function remade(group, first, { row, calls }) {
+  const { seed } = first.outcome;
+  const run = await group.one({
+    seed, whole: true, row, isExact: true, tellsRow: true, tellsTrace: true, isFresh: true,
+  });
+  const isSame = run.outcome.calls === calls && run.outcome.row?.length === row.length;
+  return isSame && failsAlike(run, first) ? run : undefined;
+}
