@@ -36,6 +36,8 @@ import { checkedAgents, checkedBuffers, checkedChoice, checkedNoBlock } from "./
  * @property {string | boolean} [sabsim] the program's path, or true: it must be there; false: it isn't asked; else it
  * is asked where it is there
  * @property {boolean} [trace] whether the outcome has its trace
+ * @property {boolean} [shorten] whether the outcome of a run that fails is that of the shortest one that fails in the
+ * same way; else false
  */
 
 const MOST_SECONDS = 3_600;
@@ -89,6 +91,7 @@ const CHECKS = {
   check: that((value) => typeof value === "function", "a function"),
   sabsim: that((value) => typeof value === "boolean" || isName(value), "a path, true or false"),
   trace: flag,
+  shorten: flag,
 };
 
 const OWN_DEFAULTS = {
@@ -98,7 +101,8 @@ const OWN_DEFAULTS = {
 /**
  * @param {unknown} options
  * @param {() => string | undefined} callersFolder from which a relative path is taken, where that is known
- * @returns {Omit<import("./run/group.mjs").GroupOptions, "fresh"> & { seed: number, sabsim?: string | boolean }}
+ * @returns {Omit<import("./run/group.mjs").GroupOptions, "fresh"> &
+ *   { seed: number, sabsim?: string | boolean, shorten?: boolean }}
  */
 export function checkedOptions(options, callersFolder) {
   if (typeof options !== "object" || options === null) throw new Refused("the options must be an object");

@@ -3,6 +3,7 @@
 import { Difference, sabsim, sabsimFor, sabsimPlaces } from "../check/sabsim.mjs";
 import { preloads } from "../seeds/node-words.mjs";
 import { recordSeeds } from "../seeds/seeds.mjs";
+import { shortenInJob } from "../shorter/in-job.mjs";
 import { Interrupted, Interruption } from "./interruption.mjs";
 import { Keeper } from "./keep.mjs";
 import { print } from "./print.mjs";
@@ -49,6 +50,7 @@ export class Session {
       }
     };
     await attempt(() => this.#record());
+    if (problems.length === 0) await attempt(() => this.#shorten());
     const [stopped] = problems;
     this.progress.clear();
     await attempt(() => this.#keepMore(stopped));
@@ -68,6 +70,19 @@ export class Session {
     await recordSeeds(this.options, onOutcome, { onCheck, signal: this.interruption.signal });
   }
 
+  /** Looks for the shortest run that fails as the one that is kept, and keeps it in its place. */
+  async #shorten() {
+    const { keeper, options, progress, summary, interruption: { signal } } = this;
+    const { failing } = summary;
+    if (!options.shorten || failing === undefined || failing.seed !== keeper?.seed) return;
+    progress.clear();
+    /** @param {import("../shorter/shorten.mjs").Tried} tried */
+    const onTry = (tried) => progress.showShortening(failing.seed, tried);
+    summary.shortened = await shortenInJob(options, failing, { onTry, signal });
+    const { shortest } = summary.shortened;
+    if (shortest !== undefined) keeper.keepShortest(failing, shortest);
+  }
+
   /**
    * Keeps what is made from the runs when they are over.
    * @param {unknown} stopped why not all were made, if so
@@ -79,13 +94,13 @@ export class Session {
       const theirs = { "sabsim-report": replayed, "sabsim-verdict": judged };
       this.keeper.keepAll(seed, { json: script, report, "trace.jsonl": trace, ...theirs });
     } else if (this.keeper.seed !== undefined) {
-      this.#keepPictures(this.keeper, this.summary.failing);
+      this.#keepPictures(this.keeper, this.summary.shortened?.shortest ?? this.summary.failing);
     }
   }
 
   /**
    * @param {Keeper} keeper
-   * @param {Outcome | undefined} outcome of the first failing run
+   * @param {Outcome | undefined} outcome of the first failing run, or of the shortest that fails as it does
    */
   #keepPictures(keeper, outcome) {
     if (outcome?.script === undefined || keeper.seed !== outcome.seed) return;

@@ -2,6 +2,7 @@
 // so that there can be any number of them; the first failing one alone is kept whole.
 
 import { HOW_TO_BUILD } from "../check/sabsim.mjs";
+import { shortenedLines } from "./shortened.mjs";
 import { Tally } from "./tally.mjs";
 import { counted, digits, listed } from "./words.mjs";
 
@@ -62,6 +63,8 @@ export class Summary {
     this.scriptless = new Tally();
     /** @type {Outcome | undefined} the failing run of the least seed */
     this.failing = undefined;
+    /** @type {import("../shorter/in-job.mjs").ShortenedByJob | undefined} what its shortening came to */
+    this.shortened = undefined;
   }
 
   /** @param {Outcome} outcome */
@@ -136,7 +139,8 @@ export class Summary {
     const { seed, ending, detail, noScript } = this.failing;
     const lines = detail === "" ? [] : detail.split("\n");
     if (noScript !== undefined) lines.push(`it has no script: ${noScript}`);
-    return [`first failing seed: ${seed}, ${ending}`, ...lines.map(indented)];
+    const shortened = this.shortened === undefined ? [] : shortenedLines(this.shortened, this.failing);
+    return [`first failing seed: ${seed}, ${ending}`, ...lines.map(indented), ...shortened];
   }
 
   #raceLines() {

@@ -85,32 +85,43 @@ class Search {
     this.first = first;
     this.limits = limits;
     this.until = begun + limits.milliseconds;
+    /** The shortest of all, and the shortest of those that go on from the found run in one way. */
     this.best = measured(first.outcome);
+    this.current = this.best;
     // That run is the first, and the shortest will be made once more.
     this.runs = 2;
-    /** The rows that were tried. */
-    this.tried = new Set();
+    /** @type {Map<string, Measured | undefined>} what came of the rows that were tried; undefined: another failure */
+    this.known = new Map();
     /** @type {string | undefined} why it has ended before all was tried */
     this.stopped = undefined;
   }
 
-  /** Looks for shorter runs until no try is better. */
+  /** Looks for shorter runs, from the found run's first stretch on and from its last one, until no try is better. */
   async run() {
-    await this.#dropChunks();
-    for (let isBetter = true; isBetter;) {
-      const joined = await this.#tryAll(joinedFrom);
-      const dropped = await this.#tryAll((stretches, at) => [without(stretches, at, 1)]);
-      const cut = await this.#tryAll(shortenedAt);
-      isBetter = joined || dropped || cut;
+    for (const isBackward of [false, true]) {
+      this.current = measured(this.first.outcome);
+      await this.#dropChunks(isBackward);
+      while (await this.#tryAll(joinedFrom) || await this.#tryAll(droppedAt) || await this.#tryAll(shortenedAt));
+      if (isShorter(this.current, this.best)) this.best = this.current;
     }
   }
 
-  /** Leaves out many stretches that stand together, then ever fewer. */
-  async #dropChunks() {
-    let size = Math.ceil(stretchesOf(this.best.row).length / 2);
+  /** @returns {Stretch[]} those of the shortest run so far */
+  #stretches() {
+    return stretchesOf(this.current.row);
+  }
+
+  /**
+   * Leaves out many stretches that stand together, then ever fewer.
+   * @param {boolean} isBackward whether the last ones are left out first
+   */
+  async #dropChunks(isBackward) {
+    let size = Math.ceil(this.#stretches().length / 2);
     for (;;) {
-      for (let at = 0; at < stretchesOf(this.best.row).length;) {
-        if (!await this.#isBetter(without(stretchesOf(this.best.row), at, size))) at += size;
+      for (let tried = 0; tried < this.#stretches().length;) {
+        const all = this.#stretches();
+        const at = isBackward ? Math.max(0, all.length - tried - size) : tried;
+        if (!await this.#isBetter(without(all, at, size))) tried += size;
       }
       if (size <= 1) return;
       size = Math.ceil(size / 2);
@@ -124,8 +135,8 @@ class Search {
    */
   async #tryAll(changesAt) {
     let isBetter = false;
-    for (let at = 0; at < stretchesOf(this.best.row).length;) {
-      if (await this.#tryEach(changesAt(stretchesOf(this.best.row), at))) isBetter = true;
+    for (let at = 0; at < this.#stretches().length;) {
+      if (await this.#tryEach(changesAt(this.#stretches(), at))) isBetter = true;
       else at += 1;
     }
     return isBetter;
@@ -140,24 +151,34 @@ class Search {
   }
 
   /**
-   * Makes a run, and keeps it where it is shorter than all before, and fails in the same way.
-   * @param {Stretch[]} stretches that it is to go by
+   * Tries a row, and goes on from it where its run is shorter, and fails in the same way.
+   * @param {Stretch[]} stretches
    */
   async #isBetter(stretches) {
     const row = rowOf(stretches);
     const name = stretchesOf(row).map(({ agent, draws }) => `${agent}x${draws}`).join();
-    if (this.tried.has(name) || !this.#goesOn()) return false;
-    this.tried.add(name);
-    this.runs += 1;
+    if (!this.known.has(name)) {
+      if (!this.#goesOn()) return false;
+      this.known.set(name, await this.#made(row));
+    }
+    const found = this.known.get(name);
+    if (found === undefined || !isShorter(found, this.current)) return false;
+    this.current = found;
+    return true;
+  }
+
+  /**
+   * Makes a run by a row.
+   * @param {number[]} row
+   * @returns {Promise<Measured | undefined>} undefined: it doesn't fail in the same way
+   */
+  async #made(row) {
     const { seed, ending } = this.first.outcome;
-    const run = await this.group.one({
-      seed, whole: false, row, tellsRow: true, isTrial: true, tellsLines: ending === "race",
-    });
-    const found = measured(run.outcome);
-    const isBetter = failsAlike(run, this.first) && isShorter(found, this.best);
-    if (isBetter) this.best = found;
-    this.limits.onTry({ runs: this.runs, changes: this.best.changes });
-    return isBetter;
+    const wanted = { seed, whole: false, row, tellsRow: true, isTrial: true, tellsLines: ending === "race" };
+    const run = await this.group.one(wanted);
+    this.runs += 1;
+    this.limits.onTry({ runs: this.runs, changes: Math.min(this.best.changes, this.current.changes) });
+    return failsAlike(run, this.first) ? measured(run.outcome) : undefined;
   }
 
   #goesOn() {
@@ -168,6 +189,9 @@ class Search {
     return this.stopped === undefined;
   }
 }
+
+/** @param {Stretch[]} stretches @param {number} at */
+const droppedAt = (stretches, at) => [without(stretches, at, 1)];
 
 /**
  * Looks for the shortest run that fails in the same way as one that was found by its seed.

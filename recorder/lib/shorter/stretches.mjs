@@ -31,9 +31,12 @@ export const changesOf = (row) => Math.max(0, stretchesOf(row).length - 1);
  */
 export const without = (stretches, at, count) => [...stretches.slice(0, at), ...stretches.slice(at + count)];
 
+// An agent that isn't held up makes fewer calls, so where two of its stretches are joined it may need fewer draws.
+const MOST_FEWER = 3;
+
 /**
  * Rows in which two stretches of one agent are one: the next one of the agent comes right behind one, or that one comes
- * right before the next, or all that the agent does comes at once.
+ * right before the next, both with up to three draws less, or all that the agent does comes at once.
  * @param {Stretch[]} stretches
  * @param {number} at the stretch that is joined with others
  * @returns {Stretch[][]} none where the agent has no later one
@@ -45,25 +48,37 @@ export function joinedFrom(stretches, at) {
   const before = stretches.slice(0, at);
   const between = stretches.slice(at + 1, next);
   const behind = stretches.slice(next + 1);
-  const both = { agent, draws: draws + stretches[next].draws };
-  const others = behind.filter((each) => each.agent !== agent);
+  const both = draws + stretches[next].draws;
+  const rows = [];
+  for (let less = 0; less <= MOST_FEWER && less < both; less += 1) {
+    const joined = { agent, draws: both - less };
+    rows.push([...before, joined, ...between, ...behind], [...before, ...between, joined, ...behind]);
+  }
   const own = behind.filter((each) => each.agent === agent);
-  const all = { agent, draws: own.reduce((sum, each) => sum + each.draws, both.draws) };
-  const joined = [[...before, both, ...between, ...behind], [...before, ...between, both, ...behind]];
-  return own.length === 0 ? joined : [...joined, [...before, all, ...between, ...others]];
+  const others = behind.filter((each) => each.agent !== agent);
+  const all = { agent, draws: own.reduce((sum, each) => sum + each.draws, both) };
+  return own.length === 0 ? rows : [...rows, [...before, all, ...between, ...others]];
 }
 
 /**
- * Rows in which a stretch is shorter: first the shortest, then by ever less.
+ * Rows in which a stretch is shorter: first the shortest, then by ever less; and each of them also so that what the next
+ * agent does comes at once behind it.
  * @param {Stretch[]} stretches
  * @param {number} at
  * @returns {Stretch[][]}
  */
 export function shortenedAt(stretches, at) {
   const { agent, draws } = stretches[at];
+  const before = stretches.slice(0, at);
+  const behind = stretches.slice(at + 1);
+  const next = behind.filter((each) => each.agent === behind[0].agent);
+  const others = behind.filter((each) => each.agent !== behind[0].agent);
+  const all = next.map((each) => ({ agent: each.agent, draws: each.draws }));
   const rows = [];
   for (let less = draws - 1; less >= 1; less = Math.floor(less / 2)) {
-    rows.push([...stretches.slice(0, at), { agent, draws: draws - less }, ...stretches.slice(at + 1)]);
+    const shorter = { agent, draws: draws - less };
+    rows.push([...before, shorter, ...behind]);
+    if (next.length > 1) rows.push([...before, shorter, ...all, ...others]);
   }
   return rows;
 }
