@@ -7,16 +7,18 @@ import { endBy, Interrupted } from "./lib/command/interruption.mjs";
 import { NotKept } from "./lib/command/keep.mjs";
 import { USAGE, optionsOf } from "./lib/command/options.mjs";
 import { NotPrinted, print } from "./lib/command/print.mjs";
+import { Replay } from "./lib/command/replay.mjs";
 import { Session } from "./lib/command/session.mjs";
 import { Refused } from "./lib/run/plan.mjs";
 import { moduleUrl } from "./lib/recorder.mjs";
 import { Difference, NoSabsim } from "./lib/check/sabsim.mjs";
 import { LostJob } from "./lib/seeds/seeds.mjs";
+import { NoLongerTheSame } from "./lib/shorter/differing.mjs";
 
 const STATUS = Object.freeze({ NONE_FAILED: 0, SOME_FAILED: 1, REFUSED: 2, NOT_DONE: 3 });
 
 /** What can go wrong without a defect of the recorder: a sentence says all of it. */
-const EXPECTED = [Refused, Difference, NoSabsim, LostJob, NotKept, NotPrinted];
+const EXPECTED = [Refused, Difference, NoSabsim, LostJob, NoLongerTheSame, NotKept, NotPrinted];
 
 /** @param {string} module @returns {string} its URL */
 function existing(module) {
@@ -46,10 +48,13 @@ function complain(problem) {
  */
 async function run(words) {
   try {
-    const options = optionsOf(words);
-    if (!options.help) return await new Session({ ...options, module: existing(options.module) }).run();
-    await print(USAGE);
-    return { failed: false, problems: [] };
+    const asked = optionsOf(words);
+    if (asked.help) {
+      await print(USAGE);
+      return { failed: false, problems: [] };
+    }
+    const options = { ...asked, module: existing(asked.module) };
+    return await (options.replay === undefined ? new Session(options) : new Replay(options, options.replay)).run();
   } catch (problem) {
     return { failed: false, problems: [problem] };
   }

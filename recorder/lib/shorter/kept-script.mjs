@@ -1,0 +1,184 @@
+// A script that the recorder has kept, read back: the row of draws that its run was made by, and what was done in it.
+//
+// An access or a notify is three moves in a row, and one draw. So is a wait that doesn't wait; one that waits is two
+// moves, and two more where it is woken or its time is up, which is another draw. Stores by the views of ordinary
+// writes and of `init` are no draws.
+
+import { CALLS, KINDS } from "../../script/kinds.mjs";
+import { callNumber } from "../board/row.mjs";
+import { Refused } from "../run/plan.mjs";
+import { viewKey } from "../run/spelling.mjs";
+
+/**
+ * @typedef {object} Step a call that begins, or a store that stands for an ordinary write
+ * @property {number} agent
+ * @property {boolean} isOwn whether the agent called it
+ * @property {number} call its number among the agent's own; of a store that of the next one
+ * @property {string} text as the script has it
+ * @property {string} key the same, with what its view is in place of the view's name
+ */
+
+/** @typedef {{ agent: number, call: number, goesOn: boolean }} Draw of who makes a call, or goes on from a wait */
+
+/**
+ * @typedef {object} KeptScript
+ * @property {number[]} lengths of the blocks
+ * @property {boolean[]} canBlock of each agent, without the one of `init`
+ * @property {Draw[]} draws
+ * @property {Step[]} steps in the order in which they begin
+ */
+
+const METHODS = CALLS.map(({ name }) => name);
+
+// What the name of a view begins with that is no agent's own.
+const OTHERS = /^(ordinary|init)_/;
+const OF_INIT = /^init_/;
+
+/** A text that is no script of the recorder's; it says why. */
+class Unlike extends Error {}
+
+/**
+ * @param {boolean} holds
+ * @param {string} why it is no script of the recorder's where that doesn't hold
+ * @returns {asserts holds}
+ */
+function need(holds, why) {
+  if (!holds) throw new Unlike(why);
+}
+
+/** @type {(value: unknown) => value is number} */
+const isCount = (value) => Number.isInteger(value) && Number(value) >= 0;
+
+/** @param {any} script @returns {Map<string, string>} the key of each view, by its name */
+function viewKeys({ views }) {
+  need(Array.isArray(views), "it has no views");
+  return new Map(views.map(({ name, kind, block, offset, length }) => {
+    const number = KINDS.indexOf(kind);
+    const isView = typeof name === "string" && number >= 0 && [block, offset, length].every(isCount);
+    need(isView, `its view ${JSON.stringify(name)} isn't one`);
+    return [name, `${viewKey({ kind: number, block, offset, length })}`];
+  }));
+}
+
+/**
+ * @param {any} parts of a call as a script has it
+ * @param {Map<string, string>} keys
+ * @returns {Pick<Step, "isOwn" | "text" | "key"> & { view: string, waits: boolean }}
+ */
+function callOf(parts, keys) {
+  need(Array.isArray(parts) && METHODS.includes(parts[0]), `${JSON.stringify(parts)} is no call`);
+  const [method, view, ...rest] = parts;
+  const key = keys.get(view);
+  need(key !== undefined, `its call ${JSON.stringify(parts)} has a view that it doesn't have`);
+  const spelled = rest.map((value) => `, ${JSON.stringify(value)}`).join("");
+  return {
+    isOwn: !OTHERS.test(view), view, waits: method === "wait",
+    text: `["${method}", "${view}"${spelled}]`, key: `["${method}", "${key}"${spelled}]`,
+  };
+}
+
+class Reader {
+  /** @param {any} script */
+  constructor(script) {
+    need(Array.isArray(script?.blocks) && script.blocks.every(isCount), "it has no blocks");
+    need(Array.isArray(script.agents) && Array.isArray(script.schedule), "it has no agents, or no schedule");
+    const keys = viewKeys(script);
+    this.schedule = script.schedule;
+    this.lengths = script.blocks;
+    /** @type {ReturnType<typeof callOf>[][]} */
+    this.calls = script.agents.map((/** @type {any} */ { calls }) => {
+      need(Array.isArray(calls), "an agent has no calls");
+      return calls.map((call) => callOf(call, keys));
+    });
+    const isOfInit = this.calls.at(-1)?.some(({ view }) => OF_INIT.test(view));
+    /** @type {boolean[]} */
+    this.canBlock = script.agents.slice(0, isOfInit ? -1 : undefined).map((/** @type {any} */ { block }) => block);
+    need(this.canBlock.every((block) => typeof block === "boolean"), "an agent doesn't say whether it can block");
+    /** Of each agent: how many calls have begun, how many of these are its own, and whether the last one waits. */
+    this.at = this.calls.map(() => ({ begun: 0, own: 0, waits: false }));
+    /** @type {Draw[]} */
+    this.draws = [];
+    /** @type {Step[]} */
+    this.steps = [];
+    this.position = 0;
+  }
+
+  /** @returns {KeptScript} */
+  read() {
+    while (this.position < this.schedule.length) this.#next();
+    const rest = this.at.findIndex(({ begun }, agent) => begun < this.calls[agent].length);
+    need(rest < 0, `agent ${rest} has calls that its schedule doesn't make`);
+    const { lengths, canBlock, draws, steps } = this;
+    return { lengths, canBlock, draws, steps };
+  }
+
+  #next() {
+    const move = this.schedule[this.position];
+    const timeUp = move?.timeout;
+    const agent = timeUp ?? move;
+    const at = this.at[agent];
+    need(at !== undefined, `its move ${this.position} is no agent's`);
+    if (at.waits) {
+      need(this.#hasMoves(agent, 1), `its move ${this.position} doesn't end a wait in a row`);
+      this.draws.push({ agent, call: at.own - 1, goesOn: true });
+      at.waits = false;
+      this.position += 2;
+      return;
+    }
+    need(timeUp === undefined, `its move ${this.position} ends a wait that there isn't`);
+    this.#begin(agent, at);
+  }
+
+  /**
+   * @param {number} agent
+   * @param {{ begun: number, own: number, waits: boolean }} at
+   */
+  #begin(agent, at) {
+    const call = this.calls[agent][at.begun];
+    need(call !== undefined, `its move ${this.position} is one of no call`);
+    const { isOwn, text, key, waits } = call;
+    const isWhole = this.#hasMoves(agent, 2);
+    need(isWhole || (waits && this.#hasMoves(agent, 1)), `its move ${this.position} doesn't make a call in a row`);
+    this.steps.push({ agent, isOwn, call: at.own, text, key });
+    if (isOwn) this.draws.push({ agent, call: at.own, goesOn: false });
+    at.begun += 1;
+    at.own += isOwn ? 1 : 0;
+    at.waits = !isWhole;
+    this.position += isWhole ? 3 : 2;
+  }
+
+  /** @param {number} agent @param {number} count @returns {boolean} whether so many moves of an agent come next */
+  #hasMoves(agent, count) {
+    return this.schedule.slice(this.position + 1, this.position + 1 + count).filter((/** @type {unknown} */ move) => {
+      return move === agent;
+    }).length === count;
+  }
+}
+
+/**
+ * Reads a script of the recorder's.
+ * @param {string} text
+ * @param {string} name of its file, for messages
+ * @returns {KeptScript}
+ * @throws {Refused}
+ */
+export function keptScript(text, name) {
+  try {
+    return new Reader(JSON.parse(text)).read();
+  } catch (problem) {
+    if (!(problem instanceof Unlike || problem instanceof SyntaxError)) throw problem;
+    throw new Refused(`${name} is no script that the recorder has kept: ${problem.message.split("\n")[0]}`);
+  }
+}
+
+/**
+ * The numbers of the calls that each agent makes itself.
+ * @param {KeptScript} kept
+ * @returns {Int32Array[]}
+ */
+export function callNumbers({ canBlock, steps }) {
+  return canBlock.map((_, agent) => {
+    const own = steps.filter((step) => step.isOwn && step.agent === agent);
+    return Int32Array.from(own, ({ key }) => callNumber(key));
+  });
+}
