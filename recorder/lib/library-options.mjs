@@ -90,8 +90,8 @@ const CHECKS = {
   init: that((value) => typeof value === "function", "a function"),
   check: that((value) => typeof value === "function", "a function"),
   sabsim: that((value) => typeof value === "boolean" || isName(value), "a path, true or false"),
-  trace: flag,
   shorten: flag,
+  trace: flag,
 };
 
 const OWN_DEFAULTS = {

@@ -1,5 +1,5 @@
-// What --replay does: the agents run once more, by the row of a kept script. They run in this process, so that a debugger
-// that is attached to it can stop in them.
+// What --replay does: the agents run once more, by the row of a kept script. They run in this process, so that a
+// debugger that is attached to it can stop in them.
 
 import { readFileSync } from "node:fs";
 import inspector from "node:inspector";

@@ -23,8 +23,8 @@ import { unlessStopped } from "../seeds/seeds.mjs";
  * @param {import("../run/group.mjs").GroupOptions & import("../seeds/seeds.mjs").SeedsOptions} options
  * @param {Outcome} outcome
  * @param {Listening} listening
- * @returns {Promise<ShortenedByJob>} fails with a Difference where sabsim says something else of the shortest run, where
- * the job's process was lost, and where it is to stop, with the reason for that
+ * @returns {Promise<ShortenedByJob>} fails with a Difference where sabsim says something else of the shortest run,
+ * where the job's process was lost, and where it is to stop, with the reason for that
  */
 export async function shortenInJob(options, outcome, { onTry, signal }) {
   const { seed, ending, detail, moves, calls, state } = outcome;

@@ -1,6 +1,7 @@
 // The shortest run that fails in the same way as one that was found: the one with the fewest changes of agents, and of
 // these the one with the fewest calls. It is looked for by runs that are forced to go by rows: the found run's row
-// without some of its stretches, with two stretches of an agent joined, or with one made shorter, as long as that helps.
+// without some of its stretches, with two stretches of an agent joined, or with one made shorter, as long as that
+// helps.
 
 import { areSame, failsAlike } from "./alike.mjs";
 import { changesOf, joinedFrom, rowOf, shortenedAt, stretchesOf, without } from "./stretches.mjs";
@@ -34,7 +35,7 @@ import { changesOf, joinedFrom, rowOf, shortenedAt, stretchesOf, without } from 
  * @property {(tried: Tried) => void} [onTry] is told of each run that was made
  */
 
-/** @typedef {{ runs: number, changes: number }} Tried how many runs were made, and the changes of the shortest so far */
+/** @typedef {{ runs: number, changes: number }} Tried how many runs were made, and the changes of the shortest then */
 
 /** The runs that are made at most. A machine that makes as many in time finds the same run as every other one. */
 const MOST_RUNS = 400;
@@ -63,7 +64,8 @@ function isShorter(one, other) {
 }
 
 /**
- * Why a failing run isn't shortened, if so.
+ * Why a failing run isn't shortened, if so. How far a run gets that meets a bound says little; and where a worker dies
+ * in each run that is tried, it takes too long.
  * @param {Told} told
  * @returns {string | undefined}
  */
@@ -184,7 +186,8 @@ class Search {
   #goesOn() {
     if (this.runs >= this.limits.most) this.stopped ??= "the most that are made";
     else if (performance.now() > this.until) {
-      this.stopped ??= `stopped after ${this.limits.milliseconds / 1_000} s, so a faster machine may find a shorter one`;
+      const seconds = this.limits.milliseconds / 1_000;
+      this.stopped ??= `stopped after ${seconds} s, so a faster machine may find a shorter one`;
     }
     return this.stopped === undefined;
   }
@@ -201,33 +204,40 @@ const droppedAt = (stretches, at) => [without(stretches, at, 1)];
  * @returns {Promise<Found>}
  */
 export async function shorten(group, told, limits = {}) {
-  const all = { most: MOST_RUNS, milliseconds: MOST_MILLISECONDS, onTry: () => {}, ...limits };
   const begun = performance.now();
-  const same = { before: told.calls, after: told.calls };
   const why = whyNot(told);
-  if (why !== undefined) return { shortened: { runs: 0, changes: { before: 0, after: 0 }, calls: same, unchanged: why } };
+  if (why !== undefined) return asFound(told, { row: [] }, 0, why);
   const { seed, ending } = told;
   const first = await group.one({ seed, whole: false, tellsRow: true, isTrial: true, tellsLines: ending === "race" });
-  const { row, changes, calls } = measured(first.outcome);
-  const asFound = { runs: 1, changes: { before: changes, after: changes }, calls: same };
-  if (!areSame(first.outcome, told) || !failsAlike(first, first)) {
-    return { shortened: { ...asFound, unchanged: NOT_AGAIN } };
-  }
+  const isAgain = areSame(first.outcome, told) && failsAlike(first, first);
+  if (!isAgain) return asFound(told, first.outcome, 1, NOT_AGAIN);
+  const all = { most: MOST_RUNS, milliseconds: MOST_MILLISECONDS, onTry: () => {}, ...limits };
   const search = new Search(group, first, all, begun);
   await search.run();
   const { best, runs, stopped } = search;
-  const shortened = { ...asFound, runs, ...(stopped === undefined ? {} : { stopped }) };
-  if (best.row.length === row.length && best.changes === changes && best.calls === calls) {
-    return { shortened: { ...shortened, runs: runs - 1, unchanged: "no shorter one was found" } };
+  if (!isShorter(best, measured(first.outcome))) {
+    return asFound(told, first.outcome, runs - 1, "no shorter one was found", stopped);
   }
   const shortest = await remade(group, first, best);
-  if (shortest === undefined) return { shortened: { ...shortened, unchanged: NOT_AGAIN } };
-  return {
-    shortest,
-    shortened: {
-      ...shortened, changes: { before: changes, after: best.changes }, calls: { before: calls, after: best.calls },
-    },
-  };
+  if (shortest === undefined) return asFound(told, first.outcome, runs, NOT_AGAIN, stopped);
+  const changes = { before: changesOf(first.outcome.row ?? []), after: best.changes };
+  const shortened = { runs, changes, calls: { before: told.calls, after: best.calls } };
+  return { shortest, shortened: stopped === undefined ? shortened : { ...shortened, stopped } };
+}
+
+/**
+ * What is told of a run that stays as it was found.
+ * @param {Told} told
+ * @param {Pick<Outcome, "row">} first
+ * @param {number} runs
+ * @param {string} unchanged why it stays so
+ * @param {string} [stopped]
+ * @returns {Found}
+ */
+function asFound({ calls }, { row = [] }, runs, unchanged, stopped) {
+  const changes = changesOf(row);
+  const both = { changes: { before: changes, after: changes }, calls: { before: calls, after: calls } };
+  return { shortened: { runs, ...both, ...(stopped === undefined ? {} : { stopped }), unchanged } };
 }
 
 /**

@@ -61,8 +61,8 @@ export function joinedFrom(stretches, at) {
 }
 
 /**
- * Rows in which a stretch is shorter: first the shortest, then by ever less; and each of them also so that what the next
- * agent does comes at once behind it.
+ * Rows in which a stretch is shorter: first the shortest, then by ever less; and each of them also so that what the
+ * next agent does comes at once behind it.
  * @param {Stretch[]} stretches
  * @param {number} at
  * @returns {Stretch[][]}
