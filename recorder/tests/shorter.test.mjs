@@ -64,7 +64,7 @@ test("an agent that has nothing to do with it comes at once, or where the run en
   assert.deepEqual(throws.progress.map(({ calls }) => calls), [4, 1, 0]);
 });
 
-test("two locks in two orders: one takes its first, the other its own, and both wait for the other", async (context) => {
+test("two locks in two orders: one takes its first, the other its own, and both wait", async (context) => {
   const { outcome } = await shortestOf(context, "locks", 2);
   assert.ok(["000011111100", "111100000011"].includes(outcome.row.join("")), outcome.row.join(""));
   assert.equal(outcome.ending, "deadlock");

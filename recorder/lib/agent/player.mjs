@@ -262,6 +262,7 @@ export class Player {
     board.line.join(this.agent, call.block, byteOf(call), call.limit !== undefined);
     if (call.limit !== undefined) board.clock.setDeadline(this.agent, call.milliseconds ?? call.limit);
     this.#untilTurn();
+    this.#stayInRow();
     const isWoken = board.line.phase(this.agent) === PHASE.WOKEN;
     if (!isWoken) board.clock.reachDeadline(this.agent);
     this.#log(isWoken ? LEAVE : TIME_UP, call, FLAG.WAITERS, source);
@@ -430,12 +431,13 @@ export class Player {
   }
 
   /**
-   * Ends the run where another call was to be made.
-   * @param {Call} call
+   * Ends the run where something else was to be done.
+   * @param {Call} [call] that the agent makes; else it goes on from a wait
    */
   #stayInRow(call) {
     const { board, lengths } = this.table;
-    if (!board.row.has(this.agent, this.made, call)) this.#end("failed", callText(viewName(lengths, call), call));
+    if (board.row.allows(this.agent, call)) return;
+    this.#end("failed", call === undefined ? "" : callText(viewName(lengths, call), call));
   }
 
   /** @param {number} most */

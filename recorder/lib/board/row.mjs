@@ -20,8 +20,8 @@ const codeAt = uncurried(String.prototype.charCodeAt);
 /** What `next` answers where the run strays from its row. */
 export const STRAYS = -2;
 
-// More draws than moves there can't be.
-const MOST_DRAWS = SCRIPT_LIMITS.moves;
+// A draw makes two moves at least; and one may be the last thing that is done.
+const MOST_DRAWS = SCRIPT_LIMITS.moves / 2 + 1;
 
 // Behind the row's end another agent that can move gets its turn after so many draws of one agent: it may spin.
 const MOST_ALIKE = 200;
@@ -44,10 +44,13 @@ const FREE = 0;
 const LENIENT = 1;
 const EXACT = 2;
 
-/** @typedef {"call" | "waits" | "ended" | "goes on"} StrayReason how a run has strayed */
+// In place of a call's number: the agent goes on from a wait.
+const NO_CALL = 0;
+
+/** @typedef {"call" | "leaves" | "waits" | "ended" | "goes on"} StrayReason how a run has strayed */
 
 /** @type {readonly StrayReason[]} the word STRAY is a position here, from 1 on; with 0 the run hasn't strayed */
-const REASONS = Object.freeze(["call", "waits", "ended", "goes on"]);
+const REASONS = Object.freeze(["call", "leaves", "waits", "ended", "goes on"]);
 
 /** @param {StrayReason} reason */
 const numberOf = (reason) => {
@@ -58,8 +61,8 @@ const numberOf = (reason) => {
 
 /**
  * @typedef {object} Stray how a run that was forced exactly has strayed from its row
- * @property {StrayReason} reason the agent makes another call; or it is to move, and waits or has come to its end; or
- * the row has come to its end, and the agent goes on
+ * @property {StrayReason} reason the agent makes another call; or it leaves a wait where it is to make a call; or it is
+ * to move, and waits or has come to its end; or the row has come to its end, and the agent goes on
  * @property {number} agent
  * @property {number} draw how many draws had been made by the row
  */
@@ -68,7 +71,8 @@ const numberOf = (reason) => {
  * @typedef {object} RowWanted
  * @property {number[]} [row] the agents in the order in which they are to be drawn; else the seed draws
  * @property {boolean} [isExact] whether the run ends where it strays from the row
- * @property {Int32Array[]} [calls] the numbers (see `callNumber`) of the calls that each agent is to make
+ * @property {Int32Array} [calls] for each draw the number of the call (see `callNumber`) that the agent is to make; 0
+ * where it is to go on from a wait
  * @property {boolean} [tellsRow] whether the run's own row is told
  */
 
@@ -83,22 +87,22 @@ const numberOf = (reason) => {
 /**
  * A number of a call by its text: others hardly ever have the same.
  * @param {string} text of the call, whose view is spelled by its key
+ * @returns {number} not 0
  */
 export function callNumber(text) {
   let number = 0x811c9dc5;
   for (let at = 0; at < text.length; at += 1) number = imul(number ^ codeAt(text, at), 0x01000193);
-  return number;
+  return number === NO_CALL ? 1 : number;
 }
 
 export class Row {
   /** @returns {RowMemory} */
   static memory() {
-    const { agents, calls } = SCRIPT_LIMITS;
     return {
       state: new SharedArrayBuffer(STATE_WORDS * 4),
       forced: new SharedArrayBuffer(MOST_DRAWS),
       drawn: new SharedArrayBuffer(MOST_DRAWS),
-      calls: new SharedArrayBuffer(agents * calls * 4),
+      calls: new SharedArrayBuffer(MOST_DRAWS * 4),
     };
   }
 
@@ -134,7 +138,7 @@ export class Row {
     this.forced.set(row);
     if (calls === undefined) return;
     state[KNOWS_CALLS] = 1;
-    calls.forEach((numbers, agent) => this.calls.set(numbers, agent * SCRIPT_LIMITS.calls));
+    this.calls.set(calls);
   }
 
   /** @returns {number[] | undefined} the run's own row, where it is told */
@@ -176,18 +180,18 @@ export class Row {
   }
 
   /**
-   * Whether a call is the one that the agent is to make; where none is known, each is.
+   * Whether an agent that was drawn does what it is to do; where that isn't known, all is right.
    * @param {number} agent
-   * @param {number} position of the call among the agent's
-   * @param {import("../run/records.mjs").Call} call
+   * @param {import("../run/records.mjs").Call} [call] that it makes; else it goes on from a wait
    */
-  has(agent, position, call) {
-    if (this.state[KNOWS_CALLS] === 0) return true;
-    const number = callNumber(callText(`${viewKey(call)}`, call));
-    if (this.calls[agent * SCRIPT_LIMITS.calls + position] === number) return true;
-    // The draw that has let the agent make the call isn't one by the row.
-    this.state[AT] -= 1;
-    this.#stray("call", agent);
+  allows(agent, call) {
+    const { state } = this;
+    if (state[KNOWS_CALLS] === 0) return true;
+    const number = call === undefined ? NO_CALL : callNumber(callText(`${viewKey(call)}`, call));
+    if (this.calls[state[AT] - 1] === number) return true;
+    // That draw isn't one by the row.
+    state[AT] -= 1;
+    this.#stray(call === undefined ? "leaves" : "call", agent);
     return false;
   }
 
@@ -261,5 +265,6 @@ export class Row {
 export function strayText({ reason, agent }, call) {
   if (reason === "call") return `agent ${agent} makes another call than by the row: ${call}`;
   if (reason === "goes on") return `the row has come to its end, and agent ${agent} goes on`;
+  if (reason === "leaves") return `agent ${agent} is to make a call by the row, and goes on from a wait`;
   return `agent ${agent} is to move by the row, and ${reason === "waits" ? "waits" : "has come to its end"}`;
 }

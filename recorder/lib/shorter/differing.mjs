@@ -23,10 +23,14 @@ export function strayedText({ reason, agent, draw }, detail, { draws, steps }) {
   const { call, goesOn } = draws[draw];
   const step = steps.find((each) => each.isOwn && each.agent === agent && each.call === call);
   const was = `agent ${agent}'s call ${call}`;
-  if (reason === "call") return `${was} was ${step?.text} in the script, and is now ${detail.replace(/^[^[]*/, "")}`;
-  const now = reason === "waits" ? "the agent still waits" : "the agent has come to its end";
-  if (goesOn) return `${was}, ${step?.text}, came to its end in the script, and now ${now}`;
-  return `${was} was ${step?.text} in the script, and now ${now} before it`;
+  const other = detail.replace(/^[^[]*/, "");
+  if (reason === "call" && !goesOn) return `${was} was ${step?.text} in the script, and is now ${other}`;
+  const now = {
+    call: `it makes the next one, ${other}`, leaves: "it goes on from a wait", waits: "it still waits",
+    ended: "it has come to its end",
+  }[reason];
+  if (goesOn) return `agent ${agent} was still in its call ${call}, ${step?.text}, in the script, and now ${now}`;
+  return `${was} was ${step?.text} in the script, and now the agent hasn't come so far: ${now}`;
 }
 
 /** @param {Step} step in words */

@@ -172,13 +172,16 @@ export function keptScript(text, name) {
 }
 
 /**
- * The numbers of the calls that each agent makes itself.
+ * The number of the call that is made by each draw; 0 where the agent goes on from a wait.
  * @param {KeptScript} kept
- * @returns {Int32Array[]}
+ * @returns {Int32Array}
  */
-export function callNumbers({ canBlock, steps }) {
-  return canBlock.map((_, agent) => {
-    const own = steps.filter((step) => step.isOwn && step.agent === agent);
-    return Int32Array.from(own, ({ key }) => callNumber(key));
+export function callNumbers({ draws, steps }) {
+  const numbers = steps.filter(({ isOwn }) => isOwn).map(({ key }) => callNumber(key));
+  let next = 0;
+  return Int32Array.from(draws, ({ goesOn }) => {
+    if (goesOn) return 0;
+    next += 1;
+    return numbers[next - 1];
   });
 }
