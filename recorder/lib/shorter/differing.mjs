@@ -18,19 +18,18 @@ export class NoLongerTheSame extends Error {
  * @param {KeptScript} kept
  * @returns {string}
  */
-export function strayedText({ reason, agent, draw }, detail, { draws, steps }) {
+export function strayedText({ reason, agent, draw }, detail, { draws }) {
   if (reason === "goes on") return `agent ${agent} goes on where the script ends`;
-  const { call, goesOn } = draws[draw];
-  const step = steps.find((each) => each.isOwn && each.agent === agent && each.call === call);
+  const { step: { call, text }, goesOn } = draws[draw];
   const was = `agent ${agent}'s call ${call}`;
   const other = detail.replace(/^[^[]*/, "");
-  if (reason === "call" && !goesOn) return `${was} was ${step?.text} in the script, and is now ${other}`;
+  if (reason === "call" && !goesOn) return `${was} was ${text} in the script, and is now ${other}`;
   const now = {
     call: `it makes the next one, ${other}`, leaves: "it goes on from a wait", waits: "it still waits",
     ended: "it has come to its end",
   }[reason];
-  if (goesOn) return `agent ${agent} was still in its call ${call}, ${step?.text}, in the script, and now ${now}`;
-  return `${was} was ${step?.text} in the script, and now the agent hasn't come so far: ${now}`;
+  if (goesOn) return `agent ${agent} was still in its call ${call}, ${text}, in the script, and now ${now}`;
+  return `${was} was ${text} in the script, and now the agent hasn't come so far: ${now}`;
 }
 
 /** @param {Step} step in words */

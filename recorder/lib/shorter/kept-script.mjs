@@ -4,7 +4,7 @@
 // moves, and two more where it is woken or its time is up, which is another draw. Stores by the views of ordinary
 // writes and of `init` are no draws.
 
-import { CALLS, KINDS } from "../../script/kinds.mjs";
+import { CALLS, KINDS, SIZES } from "../../script/kinds.mjs";
 import { callNumber } from "../board/row.mjs";
 import { Refused } from "../run/plan.mjs";
 import { viewKey } from "../run/spelling.mjs";
@@ -16,9 +16,13 @@ import { viewKey } from "../run/spelling.mjs";
  * @property {number} call its number among the agent's own; of a store that of the next one
  * @property {string} text as the script has it
  * @property {string} key the same, with what its view is in place of the view's name
+ * @property {number} block
+ * @property {number} from the first byte of its element
+ * @property {number} to the byte behind its last one
+ * @property {boolean} loads whether it is a load, which changes nothing
  */
 
-/** @typedef {{ agent: number, call: number, goesOn: boolean }} Draw of who makes a call, or goes on from a wait */
+/** @typedef {{ agent: number, step: Step, goesOn: boolean }} Draw of who makes a call, or goes on from a wait */
 
 /**
  * @typedef {object} KeptScript
@@ -49,31 +53,35 @@ function need(holds, why) {
 /** @type {(value: unknown) => value is number} */
 const isCount = (value) => Number.isInteger(value) && Number(value) >= 0;
 
-/** @param {any} script @returns {Map<string, string>} the key of each view, by its name */
-function viewKeys({ views }) {
+/** @typedef {{ key: string, block: number, offset: number, size: number }} View its size is that of an element */
+
+/** @param {any} script @returns {Map<string, View>} by their names */
+function viewsOf({ views }) {
   need(Array.isArray(views), "it has no views");
   return new Map(views.map(({ name, kind, block, offset, length }) => {
     const number = KINDS.indexOf(kind);
     const isView = typeof name === "string" && number >= 0 && [block, offset, length].every(isCount);
     need(isView, `its view ${JSON.stringify(name)} isn't one`);
-    return [name, `${viewKey({ kind: number, block, offset, length })}`];
+    return [name, { key: `${viewKey({ kind: number, block, offset, length })}`, block, offset, size: SIZES[number] }];
   }));
 }
 
 /**
  * @param {any} parts of a call as a script has it
- * @param {Map<string, string>} keys
- * @returns {Pick<Step, "isOwn" | "text" | "key"> & { view: string, waits: boolean }}
+ * @param {Map<string, View>} views
+ * @returns {Omit<Step, "agent" | "call"> & { view: string, waits: boolean }}
  */
-function callOf(parts, keys) {
+function callOf(parts, views) {
   need(Array.isArray(parts) && METHODS.includes(parts[0]), `${JSON.stringify(parts)} is no call`);
-  const [method, view, ...rest] = parts;
-  const key = keys.get(view);
-  need(key !== undefined, `its call ${JSON.stringify(parts)} has a view that it doesn't have`);
-  const spelled = rest.map((value) => `, ${JSON.stringify(value)}`).join("");
+  const [method, name, index, ...rest] = parts;
+  const view = views.get(name);
+  need(view !== undefined, `its call ${JSON.stringify(parts)} has a view that it doesn't have`);
+  const { key, block, offset, size } = view;
+  const spelled = [index, ...rest].map((value) => `, ${JSON.stringify(value)}`).join("");
+  const from = offset + index * size;
   return {
-    isOwn: !OTHERS.test(view), view, waits: method === "wait",
-    text: `["${method}", "${view}"${spelled}]`, key: `["${method}", "${key}"${spelled}]`,
+    isOwn: !OTHERS.test(name), view: name, waits: method === "wait", loads: method === "load",
+    text: `["${method}", "${name}"${spelled}]`, key: `["${method}", "${key}"${spelled}]`, block, from, to: from + size,
   };
 }
 
@@ -82,20 +90,23 @@ class Reader {
   constructor(script) {
     need(Array.isArray(script?.blocks) && script.blocks.every(isCount), "it has no blocks");
     need(Array.isArray(script.agents) && Array.isArray(script.schedule), "it has no agents, or no schedule");
-    const keys = viewKeys(script);
+    const views = viewsOf(script);
     this.schedule = script.schedule;
     this.lengths = script.blocks;
     /** @type {ReturnType<typeof callOf>[][]} */
     this.calls = script.agents.map((/** @type {any} */ { calls }) => {
       need(Array.isArray(calls), "an agent has no calls");
-      return calls.map((call) => callOf(call, keys));
+      return calls.map((call) => callOf(call, views));
     });
     const isOfInit = this.calls.at(-1)?.some(({ view }) => OF_INIT.test(view));
     /** @type {boolean[]} */
     this.canBlock = script.agents.slice(0, isOfInit ? -1 : undefined).map((/** @type {any} */ { block }) => block);
     need(this.canBlock.every((block) => typeof block === "boolean"), "an agent doesn't say whether it can block");
-    /** Of each agent: how many calls have begun, how many of these are its own, and whether the last one waits. */
-    this.at = this.calls.map(() => ({ begun: 0, own: 0, waits: false }));
+    /**
+     * Of each agent: how many calls have begun, how many of these are its own, and the last one where it waits.
+     * @type {{ begun: number, own: number, waits: Step | undefined }[]}
+     */
+    this.at = this.calls.map(() => ({ begun: 0, own: 0, waits: undefined }));
     /** @type {Draw[]} */
     this.draws = [];
     /** @type {Step[]} */
@@ -118,10 +129,10 @@ class Reader {
     const agent = timeUp ?? move;
     const at = this.at[agent];
     need(at !== undefined, `its move ${this.position} is no agent's`);
-    if (at.waits) {
+    if (at.waits !== undefined) {
       need(this.#hasMoves(agent, 1), `its move ${this.position} doesn't end a wait in a row`);
-      this.draws.push({ agent, call: at.own - 1, goesOn: true });
-      at.waits = false;
+      this.draws.push({ agent, step: at.waits, goesOn: true });
+      at.waits = undefined;
       this.position += 2;
       return;
     }
@@ -131,19 +142,19 @@ class Reader {
 
   /**
    * @param {number} agent
-   * @param {{ begun: number, own: number, waits: boolean }} at
+   * @param {Reader["at"][number]} at
    */
   #begin(agent, at) {
     const call = this.calls[agent][at.begun];
     need(call !== undefined, `its move ${this.position} is one of no call`);
-    const { isOwn, text, key, waits } = call;
     const isWhole = this.#hasMoves(agent, 2);
-    need(isWhole || (waits && this.#hasMoves(agent, 1)), `its move ${this.position} doesn't make a call in a row`);
-    this.steps.push({ agent, isOwn, call: at.own, text, key });
-    if (isOwn) this.draws.push({ agent, call: at.own, goesOn: false });
+    need(isWhole || (call.waits && this.#hasMoves(agent, 1)), `its move ${this.position} doesn't make a call in a row`);
+    const step = { ...call, agent, call: at.own };
+    this.steps.push(step);
+    if (step.isOwn) this.draws.push({ agent, step, goesOn: false });
     at.begun += 1;
-    at.own += isOwn ? 1 : 0;
-    at.waits = !isWhole;
+    at.own += step.isOwn ? 1 : 0;
+    at.waits = isWhole ? undefined : step;
     this.position += isWhole ? 3 : 2;
   }
 
@@ -176,12 +187,6 @@ export function keptScript(text, name) {
  * @param {KeptScript} kept
  * @returns {Int32Array}
  */
-export function callNumbers({ draws, steps }) {
-  const numbers = steps.filter(({ isOwn }) => isOwn).map(({ key }) => callNumber(key));
-  let next = 0;
-  return Int32Array.from(draws, ({ goesOn }) => {
-    if (goesOn) return 0;
-    next += 1;
-    return numbers[next - 1];
-  });
+export function callNumbers({ draws }) {
+  return Int32Array.from(draws, ({ goesOn, step }) => (goesOn ? 0 : callNumber(step.key)));
 }

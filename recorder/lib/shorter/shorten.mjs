@@ -1,9 +1,11 @@
 // The shortest run that fails in the same way as one that was found: the one with the fewest changes of agents, and of
-// these the one with the fewest calls. It is looked for by runs that are forced to go by rows: the found run's row
-// without some of its stretches, with two stretches of an agent joined, or with one made shorter, as long as that
-// helps.
+// these the one with the fewest calls. It is looked for by runs that are forced to go by rows: the found run's row in
+// another order, without some of its stretches, with two stretches of an agent joined, or with one made shorter, as
+// long as that helps.
 
 import { areSame, failsAlike } from "./alike.mjs";
+import { inOneGo } from "./in-one-go.mjs";
+import { keptScript } from "./kept-script.mjs";
 import { changesOf, joinedFrom, rowOf, shortenedAt, stretchesOf, without } from "./stretches.mjs";
 
 /** @typedef {import("../run/group.mjs").Outcome} Outcome */
@@ -100,12 +102,23 @@ class Search {
 
   /** Looks for shorter runs, from the found run's first stretch on and from its last one, until no try is better. */
   async run() {
+    await this.#tryEach(this.#orders());
+    const start = this.current;
     for (const isBackward of [false, true]) {
-      this.current = measured(this.first.outcome);
+      this.current = start;
       await this.#dropChunks(isBackward);
       while (await this.#tryAll(joinedFrom) || await this.#tryAll(droppedAt) || await this.#tryAll(shortenedAt));
       if (isShorter(this.current, this.best)) this.best = this.current;
     }
+  }
+
+  /** @returns {Stretch[][]} the found run's row in other orders that come to the same */
+  #orders() {
+    const { script } = this.first.outcome;
+    if (script === undefined) return [];
+    const kept = keptScript(script, "the run");
+    const rows = kept.canBlock.map((_, agent) => stretchesOf(inOneGo(kept, agent)));
+    return rows.sort((one, other) => one.length - other.length);
   }
 
   /** @returns {Stretch[]} those of the shortest run so far */
@@ -207,8 +220,8 @@ export async function shorten(group, told, limits = {}) {
   const begun = performance.now();
   const why = whyNot(told);
   if (why !== undefined) return asFound(told, { row: [] }, 0, why);
-  const { seed, ending } = told;
-  const first = await group.one({ seed, whole: false, tellsRow: true, isTrial: true, tellsLines: ending === "race" });
+  const { seed } = told;
+  const first = await group.one({ seed, whole: true, tellsRow: true });
   const isAgain = areSame(first.outcome, told) && failsAlike(first, first);
   if (!isAgain) return asFound(told, first.outcome, 1, NOT_AGAIN);
   const all = { most: MOST_RUNS, milliseconds: MOST_MILLISECONDS, onTry: () => {}, ...limits };
