@@ -9,6 +9,8 @@ import { test } from "node:test";
 import { Progress } from "../lib/command/progress.mjs";
 import { shortenedLines } from "../lib/command/shortened.mjs";
 import { failsAlike } from "../lib/shorter/alike.mjs";
+import { inOneGo } from "../lib/shorter/in-one-go.mjs";
+import { keptScript } from "../lib/shorter/kept-script.mjs";
 import { shorten } from "../lib/shorter/shorten.mjs";
 import { changesOf, joinedFrom, rowOf, shortenedAt, stretchesOf, without } from "../lib/shorter/stretches.mjs";
 import { record } from "../recorder.mjs";
@@ -33,11 +35,39 @@ test("rows are stretches of agents, which are left out, joined and made shorter"
   assert.deepEqual(digitsOf(shortenedAt(stretchesOf([0, 0, 1, 0, 1]), 0)), ["0101", "0110"]);
 });
 
+/** A script of two agents. @param {unknown[][][]} calls of each @param {unknown[]} schedule */
+function scriptOf(calls, schedule) {
+  const view = (name) => ({ name, kind: "Int32", block: 0, offset: 0, length: 8 });
+  const agents = calls.map((each) => ({ block: true, calls: each }));
+  const views = [view("Int32"), view("ordinary_Int32")];
+  return keptScript(JSON.stringify({ blocks: [32], views, agents, schedule }), "it");
+}
+
+test("draws that touch nothing in common change places, so that an agent goes on as long as it can", () => {
+  const add = (index) => ["add", "Int32", index, 1];
+  const load = ["load", "Int32", 2];
+  // Agent 1's load comes behind agent 0's store.
+  const own = scriptOf([[add(0), add(0), ["store", "Int32", 2, 5]], [add(1), add(1), load]],
+    [0, 0, 0, 1, 1, 1, 0, 0, 0, 1, 1, 1, 0, 0, 0, 1, 1, 1]);
+  assert.deepEqual([inOneGo(own, 0).join(""), inOneGo(own, 1).join("")], ["000111", "110001"]);
+  // Loads change places, and an add stays behind the loads before it.
+  const loads = scriptOf([[load, add(2)], [load, load]], [1, 1, 1, 0, 0, 0, 1, 1, 1, 0, 0, 0]);
+  assert.deepEqual([inOneGo(loads, 0).join(""), inOneGo(loads, 1).join("")], ["0110", "1100"]);
+  // A wait, the notify that wakes it and its end stay as they were.
+  const waits = scriptOf([[["wait", "Int32", 0, 0], add(3)], [["notify", "Int32", 0], add(1)]],
+    [0, 0, 1, 1, 1, 0, 0, 1, 1, 1, 0, 0, 0]);
+  assert.deepEqual([inOneGo(waits, 0).join(""), inOneGo(waits, 1).join("")], ["01100", "01100"]);
+  // What agent 0 writes behind its first call comes before agent 1's load.
+  const writes = scriptOf([[add(0), ["store", "ordinary_Int32", 2, 7], add(0)], [add(1), load]],
+    [0, 0, 0, 0, 0, 0, 1, 1, 1, 1, 1, 1, 0, 0, 0]);
+  assert.deepEqual([inOneGo(writes, 0).join(""), inOneGo(writes, 1).join("")], ["0011", "1001"]);
+});
+
 /** The shortest failing run of a program whose shortest is known. */
 async function shortestOf(context, name, agents) {
   const group = await groupOf(context, MODULE, { args: [name], agents });
   const first = await firstFailing(group);
-  const { shortest, shortened } = await shorten(group, first);
+  const { shortest, shortened } = await shorten(group, first, { milliseconds: 60_000 });
   // Where the seed makes the shortest at once, that one stays.
   const { outcome } = shortest ?? await group.one({ seed: first.seed, whole: true, tellsRow: true });
   assert.deepEqual(shortened.changes.after, changesOf(outcome.row));

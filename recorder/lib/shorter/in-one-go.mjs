@@ -30,7 +30,7 @@ class Byte {
  * @param {KeptScript} kept
  * @returns {number[][]}
  */
-function orderOf({ draws, steps }) {
+function orderOf({ draws }) {
   /** @type {Map<string, Byte>} */
   const bytes = new Map();
   /** @type {number[][]} */
@@ -44,17 +44,18 @@ function orderOf({ draws, steps }) {
       before[draw].push(...known.take(draw, loads));
     }
   };
-  let next = 0;
-  draws.forEach(({ step, goesOn }, draw) => {
-    if (!goesOn) {
-      // Ordinary writes are made just before the next call of their agent.
-      for (; steps[next] !== step; next += 1) take(steps[next], draw);
-      next += 1;
-    }
-    take(step, draw);
+  draws.forEach(({ step, writes }, draw) => {
+    for (const each of [step, ...writes]) take(each, draw);
   });
-  return before;
+  // What a draw touches twice comes before itself.
+  return before.map((others, draw) => others.filter((other) => other !== draw));
 }
+
+/**
+ * @param {number[] | undefined} before the draws that must come before one; undefined: there is none
+ * @param {Set<number>} done
+ */
+const isFree = (before, done) => before !== undefined && before.every((other) => done.has(other));
 
 /**
  * A row of a script's draws in another order that comes to the same, where each agent goes on as long as it can.
@@ -65,21 +66,19 @@ function orderOf({ draws, steps }) {
 export function inOneGo(kept, first) {
   const before = orderOf(kept);
   const { length } = kept.canBlock;
-  /** The draws of each agent that are left. */
-  const left = kept.canBlock.map((_, agent) => kept.draws.flatMap((draw, at) => (draw.agent === agent ? [at] : [])));
+  /** The draws of each agent, and how many of them are done. */
+  const own = kept.canBlock.map((_, agent) => kept.draws.flatMap((draw, at) => (draw.agent === agent ? [at] : [])));
+  const at = own.map(() => 0);
   const done = new Set();
   const row = [];
   let agent = first;
-  for (let idle = 0; idle < length;) {
-    const own = left[agent];
-    const start = row.length;
-    let next = 0;
-    for (; next < own.length && before[own[next]].every((other) => done.has(other)); next += 1) {
-      done.add(own[next]);
+  for (let idle = 0; idle < length; idle += 1) {
+    for (let draw = own[agent][at[agent]]; isFree(before[draw], done); draw = own[agent][at[agent]]) {
+      at[agent] += 1;
+      done.add(draw);
       row.push(agent);
+      idle = -1;
     }
-    left[agent] = own.slice(next);
-    idle = row.length === start ? idle + 1 : 0;
     agent = (agent + 1) % length;
   }
   return row;

@@ -22,7 +22,13 @@ import { viewKey } from "../run/spelling.mjs";
  * @property {boolean} loads whether it is a load, which changes nothing
  */
 
-/** @typedef {{ agent: number, step: Step, goesOn: boolean }} Draw of who makes a call, or goes on from a wait */
+/**
+ * @typedef {object} Draw of who makes a call, or goes on from a wait
+ * @property {number} agent
+ * @property {Step} step the call
+ * @property {boolean} goesOn
+ * @property {Step[]} writes what the agent has written ordinarily before it asked for its next call
+ */
 
 /**
  * @typedef {object} KeptScript
@@ -103,10 +109,11 @@ class Reader {
     this.canBlock = script.agents.slice(0, isOfInit ? -1 : undefined).map((/** @type {any} */ { block }) => block);
     need(this.canBlock.every((block) => typeof block === "boolean"), "an agent doesn't say whether it can block");
     /**
-     * Of each agent: how many calls have begun, how many of these are its own, and the last one where it waits.
-     * @type {{ begun: number, own: number, waits: Step | undefined }[]}
+     * Of each agent: how many calls have begun, how many of these are its own, the last one where it waits, and its
+     * last draw.
+     * @type {{ begun: number, own: number, waits: Step | undefined, last: Draw | undefined }[]}
      */
-    this.at = this.calls.map(() => ({ begun: 0, own: 0, waits: undefined }));
+    this.at = this.calls.map(() => ({ begun: 0, own: 0, waits: undefined, last: undefined }));
     /** @type {Draw[]} */
     this.draws = [];
     /** @type {Step[]} */
@@ -131,13 +138,19 @@ class Reader {
     need(at !== undefined, `its move ${this.position} is no agent's`);
     if (at.waits !== undefined) {
       need(this.#hasMoves(agent, 1), `its move ${this.position} doesn't end a wait in a row`);
-      this.draws.push({ agent, step: at.waits, goesOn: true });
+      this.#draw({ agent, step: at.waits, goesOn: true, writes: [] });
       at.waits = undefined;
       this.position += 2;
       return;
     }
     need(timeUp === undefined, `its move ${this.position} ends a wait that there isn't`);
     this.#begin(agent, at);
+  }
+
+  /** @param {Draw} draw */
+  #draw(draw) {
+    this.draws.push(draw);
+    this.at[draw.agent].last = draw;
   }
 
   /**
@@ -151,7 +164,8 @@ class Reader {
     need(isWhole || (call.waits && this.#hasMoves(agent, 1)), `its move ${this.position} doesn't make a call in a row`);
     const step = { ...call, agent, call: at.own };
     this.steps.push(step);
-    if (step.isOwn) this.draws.push({ agent, step, goesOn: false });
+    if (step.isOwn) this.#draw({ agent, step, goesOn: false, writes: [] });
+    else at.last?.writes.push(step);
     at.begun += 1;
     at.own += step.isOwn ? 1 : 0;
     at.waits = isWhole ? undefined : step;
