@@ -7,6 +7,7 @@ import { endBy, Interrupted } from "./lib/command/interruption.mjs";
 import { USAGE, optionsOf } from "./lib/command/options.mjs";
 import { print } from "./lib/command/print.mjs";
 import { toldOf } from "./lib/command/problems.mjs";
+import { Replay } from "./lib/command/replay.mjs";
 import { Session } from "./lib/command/session.mjs";
 import { STATUS } from "./lib/command/status.mjs";
 import { moduleUrl } from "./lib/module-url.mjs";
@@ -34,10 +35,14 @@ function complain(problem) {
  */
 async function run(words) {
   try {
-    const options = optionsOf(words);
-    if (!options.help) return await new Session(options, existing(options.module)).run();
-    await print(USAGE);
-    return { failed: false, problems: [] };
+    const asked = optionsOf(words);
+    if (asked.help) {
+      await print(USAGE);
+      return { failed: false, problems: [] };
+    }
+    const module = existing(asked.module);
+    if (asked.replay === undefined) return await new Session(asked, module).run();
+    return await new Replay({ ...asked, module }, asked.replay).run();
   } catch (problem) {
     return { failed: false, problems: [problem] };
   }

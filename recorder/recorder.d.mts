@@ -87,6 +87,8 @@ export interface RecordOptions {
   sabsim?: string | boolean;
   /** Whether the outcome has its trace. */
   trace?: boolean;
+  /** Whether the outcome of a run that fails is that of the shortest one that fails in the same way; else false. */
+  shorten?: boolean;
 }
 
 /** The options of many runs: those of one, but for its seed, and these. */
@@ -145,10 +147,30 @@ export interface Outcome {
   trace?: string;
   /** The code of each file that the trace names; null where it can't be read, or is longer than 2^20 characters. */
   sources?: { file: string; text: string | null }[];
+  /** Which agent moved with each draw, in order; told of the shortest run. */
+  row?: number[];
   /** Whether sabsim has replayed the run and judged its data races, and said the same. */
   checked: boolean;
   /** Why it hasn't. */
   unchecked?: string;
+  /** The run as its seed makes it, where the outcome is that of a shorter one. */
+  original?: Omit<Outcome, "original" | "shortened">;
+  /** What came of the option `shorten`, where the run failed. */
+  shortened?: Shortened;
+}
+
+/** What the shortening of a failing run came to. */
+export interface Shortened {
+  /** How many runs it took. */
+  runs: number;
+  /** How often another agent moved than before: in the run as it was found, and in the shortest. */
+  changes: { before: number; after: number };
+  /** How many calls of Atomics were begun, likewise. */
+  calls: { before: number; after: number };
+  /** Why it was ended before all was tried. */
+  stopped?: string;
+  /** Why the run is told as it was found. */
+  unchanged?: string;
 }
 
 /** A data race. */

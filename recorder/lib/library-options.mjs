@@ -38,6 +38,8 @@ import { checkedAgents, checkedBuffers, checkedChoice, checkedNoBlock, checkedSt
  * @property {string | boolean} [sabsim] the program's path, or true: it must be there; false: it isn't asked; else it
  * is asked where it is there
  * @property {boolean} [trace] whether the outcome has its trace
+ * @property {boolean} [shorten] whether the outcome of a run that fails is that of the shortest one that fails in the
+ * same way; else false
  */
 
 /**
@@ -113,6 +115,7 @@ const CHECKS = {
   init: that((value) => typeof value === "function", "a function"),
   check: that((value) => typeof value === "function", "a function"),
   sabsim: that((value) => typeof value === "boolean" || isName(value), "a path, true or false"),
+  shorten: flag,
   trace: flag,
 };
 

@@ -4,6 +4,7 @@ import { check as checkWithSabsim, checkable, sabsimFor } from "./check/sabsim.m
 import { checkedOptions } from "./library-options.mjs";
 import { folderOfCaller } from "./module-url.mjs";
 import { Group } from "./run/group.mjs";
+import { shorten } from "./shorter/shorten.mjs";
 import { whyUnchecked } from "./unchecked.mjs";
 
 export { Difference, NoSabsim } from "./check/sabsim.mjs";
@@ -12,7 +13,7 @@ export { moduleUrl } from "./module-url.mjs";
 export { Refused } from "./run/plan.mjs";
 export { LostJob } from "./seeds/seeds.mjs";
 
-/** @typedef {import("./run/group.mjs").Outcome & Check} Outcome */
+/** @typedef {import("./run/group.mjs").Outcome & Check & Shortening} Outcome */
 /** @typedef {import("./library-options.mjs").RecordOptions} RecordOptions */
 
 /**
@@ -22,28 +23,48 @@ export { LostJob } from "./seeds/seeds.mjs";
  */
 
 /**
+ * @typedef {object} Shortening what is told besides of a failing run that was to be shortened
+ * @property {import("./run/group.mjs").Outcome & Check} [original] the run as it was found by its seed, where the
+ * outcome is that of a shorter one
+ * @property {import("./shorter/shorten.mjs").Shortened} [shortened]
+ */
+
+/**
  * Runs the agents once, under the schedule of one seed. Sabsim checks the run where it is there, unless that is said to
  * be needed or not to be done. A relative path of the module is taken from the file whose code calls this function.
  * @param {RecordOptions} options
- * @returns {Promise<Outcome>} told whole; fails with Refused for options that can't be, with a Difference where sabsim
- * says something else, and with NoSabsim where it was asked for and isn't there
+ * @returns {Promise<Outcome>} told whole, that of the shortest run where it was to be shortened; fails with Refused for
+ * options that can't be, with a Difference where sabsim says something else, and with NoSabsim where it was asked for
+ * and isn't there
  */
 export async function record(options) {
-  const { seed, sabsim: asked, ...rest } = checkedOptions(options, () => folderOfCaller(record));
+  const { seed, sabsim: asked, shorten: isShortened, ...rest } = checkedOptions(options, () => folderOfCaller(record));
   const isLeftOut = asked === false;
   const path = typeof asked === "string" ? asked : undefined;
   const sabsim = isLeftOut ? undefined : sabsimFor({ path, isAsked: asked === true });
   const group = await Group.open({ ...rest, fresh: false });
   try {
-    /** @type {Parameters<Parameters<Group["run"]>[1]>[]} */
-    const runs = [];
-    await group.run([{ seed, whole: true }], (...only) => void runs.push(only));
-    const [[outcome, judgement]] = runs;
-    const unchecked = whyUnchecked({ isLeftOut, sabsim }, outcome);
-    if (unchecked !== undefined || sabsim === undefined) return { ...outcome, checked: false, unchecked };
-    checkWithSabsim(sabsim, checkable(outcome, judgement));
-    return { ...outcome, checked: true };
+    /** @param {import("./run/group.mjs").One} run */
+    const checked = (run) => checkedBy(sabsim, isLeftOut, run);
+    const found = checked(await group.one({ seed, whole: true }));
+    if (!isShortened || !found.fails) return found;
+    const { shortest, shortened } = await shorten(group, found);
+    return shortest === undefined ? { ...found, shortened } : { ...checked(shortest), original: found, shortened };
   } finally {
     await group.close();
   }
+}
+
+/**
+ * A run's outcome, which sabsim has checked where it can.
+ * @param {string | undefined} sabsim
+ * @param {boolean} isLeftOut whether the options say that it isn't to be
+ * @param {import("./run/group.mjs").One} run
+ * @returns {import("./run/group.mjs").Outcome & Check}
+ */
+function checkedBy(sabsim, isLeftOut, { outcome, judgement }) {
+  const unchecked = whyUnchecked({ isLeftOut, sabsim }, outcome);
+  if (unchecked !== undefined || sabsim === undefined) return { ...outcome, checked: false, unchecked };
+  checkWithSabsim(sabsim, checkable(outcome, judgement));
+  return { ...outcome, checked: true };
 }

@@ -5,12 +5,16 @@
 import assert from "node:assert/strict";
 import { readFileSync, readdirSync } from "node:fs";
 import { describe, it } from "node:test";
-import { recordSeeds } from "../lib/seeds/seeds.mjs";
+import { RemoteJob } from "../lib/seeds/remote-job.mjs";
+import { keptScript } from "../lib/shorter/kept-script.mjs";
 import { SABSIM, withSabsim } from "./common.mjs";
 
 const FOLDER = new URL("./known/", import.meta.url);
 const NAMES = readdirSync(FOLDER).filter((name) => name.endsWith(".mjs"));
 const SEEDS = 500;
+
+// The seeds whose runs are made once more by their rows.
+const AGAIN = [1, 2];
 const CHECKED = 25;
 const LEAST_PROGRAMS = 36;
 
@@ -18,18 +22,33 @@ const LEAST_PROGRAMS = 36;
 const SIDE_BY_SIDE = 4;
 
 /**
- * What the runs of a program come to.
+ * What the runs of a program come to, and a few of them where they are made once more by their rows.
  * @param {string} name of its file
  */
 async function runsOf(name) {
-  const outcomes = [];
-  const options = {
-    module: new URL(name, FOLDER).href, args: [], first: 1, last: SEEDS, jobs: 1, checkEvery: CHECKED, sabsim: SABSIM,
-    ordinary: "watch", maxMoves: 100_000, seconds: 5, fresh: false,
+  let checked = 0;
+  const job = new RemoteJob(() => {
+    checked += 1;
+  });
+  const module = new URL(name, FOLDER).href;
+  /** @param {object[]} wanted */
+  const made = async (wanted) => {
+    const outcomes = [];
+    await job.run(wanted, (outcome) => outcomes.push(outcome));
+    await job.finish();
+    return outcomes;
   };
-  const { checked } = await recordSeeds(options, (outcome) => outcomes.push(outcome));
-  outcomes.sort((one, other) => one.seed - other.seed);
-  return { outcomes, checked };
+  try {
+    await job.open({ module, args: [], checks: true, sabsim: SABSIM, maxMoves: 100_000, seconds: 5, fresh: false });
+    const seeds = Array.from({ length: SEEDS }, (_, at) => ({ seed: at + 1, whole: at % CHECKED === 0 }));
+    const outcomes = await made(seeds);
+    const counted = checked;
+    const free = await made(AGAIN.map((seed) => ({ seed, whole: true, tellsRow: true })));
+    const forced = await made(free.map(({ seed, row }) => ({ seed, whole: true, tellsRow: true, row, isExact: true })));
+    return { outcomes, checked: counted, free, forced };
+  } finally {
+    await job.close();
+  }
 }
 
 /** How often each value occurs, and what it occurred with first. */
@@ -90,17 +109,26 @@ function demandChecks(outcomes, checked) {
   assert.ok(checked >= SEEDS / CHECKED);
 }
 
+/** A run that is made by its row is the same run, and the row of its script is that row. */
+function demandRows(free, forced) {
+  assert.deepEqual(forced, free);
+  for (const { script, row } of free) {
+    assert.deepEqual(keptScript(script, "it").draws.map(({ agent }) => agent), row);
+  }
+}
+
 describe("programs with known answers", { concurrency: SIDE_BY_SIDE, ...withSabsim }, () => {
   it("are many", () => assert.ok(NAMES.length >= LEAST_PROGRAMS));
 
   for (const name of NAMES) {
     it(name.replace(".mjs", ""), async () => {
       const { known } = await import(new URL(name, FOLDER).href);
-      const { outcomes, checked } = await runsOf(name);
+      const { outcomes, checked, free, forced } = await runsOf(name);
       assert.equal(outcomes.length, SEEDS);
       demandEndings(known, outcomes);
       demandRaces(known, outcomes);
       demandChecks(outcomes, checked);
+      demandRows(free, forced);
     });
   }
 });

@@ -49,7 +49,9 @@ test("where some fail, the status is 1, and the first is kept in --out", withSab
   assert.deepEqual([status, stderr], [1, ""]);
   const [, seed] = /^first failing seed: (\d+), deadlock\n  agent \d waits at byte 4 /m.exec(stdout);
   assert.match(stdout, /^\d+ of 100 runs failed: \d+ deadlock; \d+ finished\n/);
-  const kept = ["json", "report", "trace.jsonl", "explained", "svg", "html"].map((ending) => `seed-${seed}.${ending}`);
+  const first = ["json", "report", "trace.jsonl"];
+  const endings = [...first, ...first.map((ending) => `original.${ending}`), "explained", "svg", "html"];
+  const kept = endings.map((ending) => `seed-${seed}.${ending}`);
   assert.ok(stdout.endsWith(`\nkept in ${out}: ${kept.join(", ")}\n`), stdout);
   const script = readFileSync(join(out, `seed-${seed}.json`));
   const replayed = spawnSync(SABSIM, ["replay"], { input: script, encoding: "utf8" });
@@ -63,7 +65,7 @@ test("where some fail, the status is 1, and the first is kept in --out", withSab
 
 test("the explained report that is kept ends with the agents that wait", withSabsim, (context) => {
   const out = temporaryFolder(context);
-  const alike = ["--strategy", "uniform", "--everywhere"];
+  const alike = ["--strategy", "uniform", "--everywhere", "--no-shorten"];
   const { stdout } = run([agentsPath("naive-mutex"), "--seeds", "93", ...alike, "--out", out, ...sabsim]);
   const waiting = [...stdout.matchAll(/^  agent (\d) waits at byte 4 of block 0: its call (\d+), /gm)];
   assert.deepEqual(waiting.map(([, agent, call]) => [agent, call]), [["1", "3"], ["0", "8"]]);

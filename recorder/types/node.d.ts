@@ -71,6 +71,11 @@ declare interface Error {
   readonly code?: string;
 }
 
+declare module "node:inspector" {
+  const inspector: { url(): string | undefined };
+  export default inspector;
+}
+
 declare class Buffer extends Uint8Array {
   static alloc(bytes: number): Buffer;
   static concat(parts: Uint8Array[]): Buffer;
@@ -251,6 +256,7 @@ declare module "node:os" {
 
 declare module "node:path" {
   export const posix: { dirname(path: string): string; relative(from: string, to: string): string };
+  export function basename(path: string): string;
   export function dirname(path: string): string;
   export function isAbsolute(path: string): boolean;
   export function join(...parts: string[]): string;

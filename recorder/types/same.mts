@@ -7,6 +7,7 @@ import * as writtenTesting from "../lib/suite/tests.mjs";
 import type { ExploreOptions, TrialOptions, WithBuffers } from "../lib/library-options.mjs";
 import type { Ending } from "../lib/run/group.mjs";
 import type { Side, Told } from "../lib/run/findings.mjs";
+import type { Shortened } from "../lib/shorter/shorten.mjs";
 
 type Same<One, Other> =
   (<T>() => T extends One ? 1 : 2) extends (<T>() => T extends Other ? 1 : 2) ? true : false;
@@ -25,6 +26,7 @@ export type Held = [
   Holds<Same<declared.Ending, Ending>>,
   Holds<Same<Flat<declared.Race>, Flat<Told>>>,
   Holds<Same<Flat<declared.RaceSide>, Flat<Side>>>,
+  Holds<Same<Flat<declared.Shortened>, Flat<Shortened>>>,
   Holds<Same<Parameters<declared.WithBuffers>, Parameters<WithBuffers>>>,
   Holds<Same<ReturnType<declared.WithBuffers>, ReturnType<WithBuffers>>>,
   Holds<Same<Flat<declared.Difference["outcome"]>, Flat<written.Difference["outcome"]>>>,

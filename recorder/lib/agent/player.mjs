@@ -129,6 +129,7 @@ export class Player {
     const source = this.#source(called);
     this.#ask(call);
     this.#untilTurn();
+    this.#stayInRow(call);
     this.table.records.begin(this.made, call);
     this.last = call;
     if (call.call === WAIT) return this.#wait(call, view, source);
@@ -268,6 +269,7 @@ export class Player {
     board.line.join(this.agent, call.block, byteOf(call), call.limit !== undefined);
     if (call.limit !== undefined) board.clock.setDeadline(this.agent, call.milliseconds ?? call.limit);
     this.#untilTurn();
+    this.#stayInRow();
     const isWoken = board.line.phase(this.agent) === PHASE.WOKEN;
     if (!isWoken) board.clock.reachDeadline(this.agent);
     this.#log(isWoken ? LEAVE : TIME_UP, call, FLAG.WAITERS, source);
@@ -441,6 +443,16 @@ export class Player {
     if (!board.journal.takesText(textRoom(mapGet(this.views, key), call))) {
       this.#bound(`the script would be longer than ${text} bytes`);
     }
+  }
+
+  /**
+   * Ends the run where something else was to be done.
+   * @param {Call} [call] that the agent makes; else it goes on from a wait
+   */
+  #stayInRow(call) {
+    const { board, lengths } = this.table;
+    if (board.row.allows(this.agent, call)) return;
+    this.#end("failed", call === undefined ? "" : callText(viewName(lengths, call), call));
   }
 
   /** @param {number} most */

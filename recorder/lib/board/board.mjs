@@ -9,6 +9,7 @@ import { EVENTS, Journal } from "./journal.mjs";
 import { KnownPlaces } from "./known-places.mjs";
 import { ORDER, PHASE, WORD, wordsFor } from "./layout.mjs";
 import { Line } from "./line.mjs";
+import { Row, STRAYS } from "./row.mjs";
 import { NOBODY_MOVES, Strategy } from "./strategy.mjs";
 import { REASON_BYTES, Turn } from "./turn.mjs";
 
@@ -26,6 +27,7 @@ const TEXT_BYTES = 16_384;
  * @property {SharedArrayBuffer} reasons
  * @property {SharedArrayBuffer} times
  * @property {SharedArrayBuffer} places
+ * @property {import("./row.mjs").RowMemory} row
  */
 
 export class Board {
@@ -39,6 +41,7 @@ export class Board {
       reasons: new SharedArrayBuffer(agents * REASON_BYTES),
       times: Clock.memory(agents),
       places: KnownPlaces.memory(),
+      row: Row.memory(),
     };
   }
 
@@ -56,8 +59,9 @@ export class Board {
     this.journal = new Journal(this.words, new Float64Array(memory.views), agents);
     this.clock = new Clock(memory.times);
     this.places = new KnownPlaces(memory.places);
+    this.row = new Row(memory.row, this.words, agents);
     const random = new Random(new Int32Array(memory.words, WORD.RANDOM * 4, 4));
-    this.strategy = new Strategy(this.words, rules, random, this.places);
+    this.strategy = new Strategy(this.words, rules, random, this.places, this.row);
   }
 
   /**
@@ -114,7 +118,8 @@ export class Board {
       return false;
     }
     const next = strategy.next();
-    if (next === NOBODY_MOVES) end.end(this.#somebodyWaits(line) ? "deadlock" : "finished", "");
+    if (next === STRAYS) end.end("failed", "");
+    else if (next === NOBODY_MOVES) end.end(this.#somebodyWaits(line) ? "deadlock" : "finished", "");
     else if (next !== agent) turn.give(next);
     return next === agent;
   }

@@ -34,11 +34,13 @@ export class Strategy {
    * @param {Rules} rules
    * @param {import("../run/random.mjs").Random} random
    * @param {import("./known-places.mjs").KnownPlaces} places
+   * @param {import("./row.mjs").Row} row
    */
-  constructor(words, rules, random, places) {
+  constructor(words, rules, random, places, row) {
     this.words = words;
     this.rules = rules;
     this.random = random;
+    this.row = row;
     this.able = new Able(rules.agents);
     this.asked = new Asked(words, places);
     this.ways = this.#made(rules.ways);
@@ -79,15 +81,13 @@ export class Strategy {
     return words[WORD.STARTED] - 1;
   }
 
-  /** @returns {number} who moves next, or `NOBODY_MOVES` where nobody can */
+  /** @returns {number} who moves next; `NOBODY_MOVES` where nobody can, `STRAYS` where a row can't be followed */
   next() {
-    const { words, able } = this;
-    const last = words[WORD.LAST];
-    if (last >= 0 && this.#goesOn(last)) return last;
-    const sure = this.#gather();
-    if (able.count === 0) return NOBODY_MOVES;
-    words[WORD.LAST] = sure >= 0 ? sure : this.#way().drawing.drawn(able, last);
-    return words[WORD.LAST];
+    const next = this.row.isForced() ? this.row.next() : this.#drawn();
+    if (next < 0) return next;
+    this.row.note(next);
+    this.words[WORD.LAST] = next;
+    return next;
   }
 
   /** @returns {boolean} whether there are moves left for whatever is done next */
@@ -101,6 +101,16 @@ export class Strategy {
   /** @returns {number} the agent that moved last, or -1 */
   lastMoved() {
     return this.words[WORD.LAST];
+  }
+
+  /** @returns {number} who moves next by the seed, or `NOBODY_MOVES` */
+  #drawn() {
+    const { able } = this;
+    const last = this.words[WORD.LAST];
+    if (last >= 0 && this.#goesOn(last)) return last;
+    const sure = this.#gather();
+    if (able.count === 0) return NOBODY_MOVES;
+    return sure >= 0 ? sure : this.#way().drawing.drawn(able, last);
   }
 
   #way() {

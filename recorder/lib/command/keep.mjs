@@ -47,6 +47,22 @@ export class Keeper {
   }
 
   /**
+   * Keeps the shortest run in place of the one that was found, which stays beside it.
+   * @param {import("../run/group.mjs").Outcome} original that is kept
+   * @param {import("../run/group.mjs").Outcome} shortest
+   */
+  keepShortest(original, { script, report, trace }) {
+    const { seed } = original;
+    this.keepAll(seed, {
+      "original.json": original.script, "original.report": original.report, "original.trace.jsonl": original.trace,
+    });
+    const texts = { json: script, report, "trace.jsonl": trace };
+    this.keepAll(seed, texts);
+    const missing = Object.entries(texts).filter(([, text]) => text === undefined);
+    this.#remove(missing.map(([ending]) => `seed-${seed}.${ending}`).filter((name) => this.names.includes(name)));
+  }
+
+  /**
    * Keeps what is told of a run, in files of their own.
    * @param {number} seed
    * @param {Record<string, string | undefined>} texts by the endings of their names; undefined: there is none

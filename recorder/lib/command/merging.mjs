@@ -119,14 +119,14 @@ function stoppedOf(summaries) {
  * What the run of the first failing seed has left: its files, and what belongs to it alone.
  * @param {WholeSummary[]} summaries
  * @param {import("./summary.mjs").Told} told of all
- * @returns {Pick<WholeSummary, "kept" | "notKept">}
+ * @returns {Pick<WholeSummary, "shortened" | "kept" | "notKept">}
  */
 function leftBy(summaries, { firstFailing }) {
   const owner = firstFailing === null
     ? summaries.find(({ kept }) => kept !== null)
     : summaries.find((summary) => summary.firstFailing?.seed === firstFailing.seed);
-  if (owner === undefined) return { kept: null, notKept: [] };
-  const { kept, notKept } = owner;
+  if (owner === undefined) return { shortened: null, kept: null, notKept: [] };
+  const { shortened, kept, notKept } = owner;
   // It was given from the folder in which that command line ran.
-  return { kept: kept === null ? null : { ...kept, folder: kept.path }, notKept };
+  return { shortened, kept: kept === null ? null : { ...kept, folder: kept.path }, notKept };
 }

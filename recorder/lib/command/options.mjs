@@ -35,6 +35,11 @@ Runs the agents of a module under seeded schedules, and keeps the first run that
   --until-covered ends when 500 seeds in a row have shown no new pair of lines that came one after the other at a place
   --format FORM   how the summary is told: plain, or json, which is one line (plain)
   --out DIR       where the first failing run's script and report are kept; nothing is written without it
+  --no-shorten    keeps that run as its seed makes it; else the shortest run that fails in the same way is kept, and the
+                  run of the seed beside it
+  --replay FILE   runs the agents once more, by the row of a script that was kept, in this process, so that a debugger
+                  can stop in them (node --inspect-brk recorder/record.mjs ..); status 3 where the code no longer does
+                  what stands in the script
   --jobs N        how many groups of workers run side by side (1)
   --fresh         starts the agents' workers anew for each seed
   --max-moves M   how many moves a run may have (${SCRIPT_LIMITS.moves})
@@ -68,6 +73,8 @@ const SHAPE = {
   format: { type: "string" },
   "until-covered": { type: "boolean" },
   out: { type: "string" },
+  "no-shorten": { type: "boolean" },
+  replay: { type: "string" },
   jobs: { type: "string" },
   fresh: { type: "boolean" },
   "max-moves": { type: "string" },
@@ -178,7 +185,24 @@ export function optionsOf(words) {
     ...rulesOf(values),
     ...shardFrom(seedsOf(values.seeds ?? (values["until-covered"] ? SEEDS_UNTIL_COVERED : "1..100")), values.shard),
     ...workOf(values),
+    shorten: values["no-shorten"] !== true,
+    replay: replayOf(values),
   };
+}
+
+/**
+ * The kept script by whose row the agents are to run.
+ * @param {Record<string, any>} values by option
+ * @returns {{ file: string, seed: number | undefined } | undefined} its seed where that is given
+ */
+function replayOf({ replay: file, seeds, out }) {
+  if (file === undefined) return undefined;
+  if (file === "") throw new Refused("--replay must name a script that was kept");
+  if (out !== undefined) throw new Refused("--replay keeps nothing: leave --out away");
+  if (seeds === undefined) return { file, seed: undefined };
+  const { first, last } = seedsOf(seeds);
+  if (first !== last) throw new Refused(`--replay makes one run: --seeds must be one seed, but is "${seeds}"`);
+  return { file, seed: first };
 }
 
 /**

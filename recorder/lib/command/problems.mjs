@@ -3,11 +3,12 @@
 import { Difference, NoSabsim } from "../check/sabsim.mjs";
 import { Refused } from "../run/plan.mjs";
 import { LostJob } from "../seeds/seeds.mjs";
+import { NoLongerTheSame } from "../shorter/differing.mjs";
 import { NotKept } from "./keep.mjs";
 import { NotPrinted } from "./print.mjs";
 
 /** What can go wrong without a defect of the recorder: a sentence says all of it. */
-const EXPECTED = [Refused, Difference, NoSabsim, LostJob, NotKept, NotPrinted];
+const EXPECTED = [Refused, Difference, NoSabsim, LostJob, NoLongerTheSame, NotKept, NotPrinted];
 
 /** @param {unknown} problem @returns {string} a sentence; of a defect all that is known */
 export function toldOf(problem) {

@@ -19,6 +19,18 @@ export class Progress {
     process.stderr.write(`\r${digits(runs)} of ${digits(this.runs)} runs, ${digits(failed)} failed`);
   }
 
+  /**
+   * @param {number} seed whose run is shortened
+   * @param {import("../shorter/shorten.mjs").Tried} tried
+   */
+  showShortening(seed, { runs, changes }) {
+    const now = performance.now();
+    if (now - this.shown < BETWEEN_LINES_MILLISECONDS) return;
+    this.shown = now;
+    const so = `${digits(changes)} changes of agents so far`;
+    process.stderr.write(`\r\x1b[Kshortening the run of seed ${digits(seed)}: ${digits(runs)} runs, ${so}`);
+  }
+
   /** Takes the line away. */
   clear() {
     if (process.stderr.isTTY) process.stderr.write("\r\x1b[K");

@@ -5,6 +5,7 @@ import { Difference, sabsimFor, sabsimPlaces, versionOf } from "../check/sabsim.
 import { Coverage } from "../seeds/coverage.mjs";
 import { preloads } from "../seeds/node-words.mjs";
 import { recordSeeds } from "../seeds/seeds.mjs";
+import { shortenInJob } from "../shorter/in-job.mjs";
 import { askedOf } from "./asked.mjs";
 import { formatted } from "./formats.mjs";
 import { Interrupted, Interruption } from "./interruption.mjs";
@@ -62,6 +63,7 @@ export class Session {
       }
     };
     await attempt(() => this.#record());
+    if (problems.length === 0) await attempt(() => this.#shorten());
     const [stopped] = problems;
     this.progress.clear();
     await attempt(() => this.#keepMore(stopped));
@@ -82,19 +84,33 @@ export class Session {
     await recordSeeds(this.options, onOutcome, { onCheck, signal, coverage });
   }
 
+  /** Looks for the shortest run that fails as the one that is kept, and keeps it in its place. */
+  async #shorten() {
+    const { keeper, options, progress, summary, interruption: { signal } } = this;
+    const { failing } = summary;
+    if (!options.shorten || failing === undefined || failing.seed !== keeper?.seed) return;
+    progress.clear();
+    /** @param {import("../shorter/shorten.mjs").Tried} tried */
+    const onTry = (tried) => progress.showShortening(failing.seed, tried);
+    summary.shortened = await shortenInJob(options, failing, { onTry, signal });
+    const { shortest } = summary.shortened;
+    if (shortest !== undefined) keeper.keepShortest(failing, shortest);
+  }
+
   /**
    * Keeps what is made from the runs when they are over.
    * @param {unknown} stopped why not all were made, if so
    */
   #keepMore(stopped) {
-    const { keeper, summary: { failing } } = this;
+    const { keeper, summary: { failing, shortened } } = this;
     if (keeper === undefined) return;
     if (stopped instanceof Difference) {
       const { outcome: { seed, script, report, trace }, replayed, judged } = stopped;
       const theirs = { "sabsim-report": replayed, "sabsim-verdict": judged };
       keeper.keepAll(seed, { json: script, report, "trace.jsonl": trace, ...theirs });
-    } else if (failing?.script !== undefined && keeper.seed === failing.seed) {
-      this.leftOut.push(...keepPictures(keeper, failing, this.sabsim, this.options.module));
+    } else if (failing !== undefined && keeper.seed === failing.seed) {
+      const outcome = shortened?.shortest ?? failing;
+      this.leftOut.push(...keepPictures(keeper, outcome, this.sabsim, this.options.module));
     }
   }
 

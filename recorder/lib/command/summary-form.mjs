@@ -42,6 +42,8 @@ const texts = list(text);
 const range = (value, place) => object({ first: whole, last: whole })(value, place) ??
   that(({ first, last }) => first <= last)(value, place);
 
+const change = object({ before: whole, after: whole });
+
 const COUNTS = { runs: whole, first: whole };
 
 /** @type {(members: Record<string, Check>) => Check} */
@@ -66,6 +68,10 @@ const MEMBERS = object({
   failed: whole,
   endings: object({ failing: endings, passing: endings }),
   firstFailing: orNull(object({ seed: whole, ending: text, detail: texts, noScript: orNull(text) })),
+  shortened: orNull(object({
+    runs: whole, changes: change, calls: change, stopped: orNull(text), unchanged: orNull(text), checked: flag,
+    detail: texts,
+  })),
   races: object({ allowed: flag, runs: whole, pairs: listed({ lines: texts }) }),
   states: object({ failing: states, passing: states }),
   sabsim: object({

@@ -2,6 +2,7 @@
 
 import { HOW_TO_BUILD } from "../check/sabsim.mjs";
 import { rangeText } from "../seeds/ranges.mjs";
+import { shortenedLines } from "./shortened.mjs";
 import { counted, digits, listed } from "./words.mjs";
 
 /** @typedef {import("./summary.mjs").Told} Told */
@@ -46,11 +47,11 @@ function endingLine({ runs, failed, endings }) {
 }
 
 /** @param {Told} summary */
-function failingLines({ firstFailing }) {
+function failingLines({ firstFailing, shortened }) {
   if (firstFailing === null) return [];
   const { seed, ending, detail, noScript } = firstFailing;
   const lines = noScript === null ? detail : [...detail, `it has no script: ${noScript}`];
-  return [`first failing seed: ${seed}, ${ending}`, ...lines.map(indented)];
+  return [`first failing seed: ${seed}, ${ending}`, ...lines.map(indented), ...shortenedLines(shortened)];
 }
 
 /** @param {Told} summary */

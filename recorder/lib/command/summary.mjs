@@ -2,6 +2,7 @@
 // out. Of the runs little is kept, so that there can be any number of them; the first failing one alone is kept whole.
 
 import { Coverage } from "../seeds/coverage.mjs";
+import { shorteningOf } from "./shortened.mjs";
 import { summaryText } from "./summary-text.mjs";
 import { Tally } from "./tally.mjs";
 
@@ -48,6 +49,7 @@ import { Tally } from "./tally.mjs";
  * @property {number} failed
  * @property {Record<"failing" | "passing", { ending: string, runs: number, first: number }[]>} endings
  * @property {{ seed: number, ending: string, detail: string[], noScript: string | null } | null} firstFailing
+ * @property {import("./shortened.mjs").Shortening | null} shortened what the shortening of that run came to
  * @property {{ allowed: boolean, runs: number, pairs: Listed<{ lines: string[] }> }} races
  * @property {Record<"failing" | "passing", Listed<{ ending: string, hash: string, shown: string[] }>>} states
  * @property {CheckedBy} sabsim
@@ -122,6 +124,8 @@ export class Summary {
     this.scriptless = new Tally();
     /** @type {Failing | undefined} the failing run of the least seed */
     this.failing = undefined;
+    /** @type {import("../shorter/in-job.mjs").ShortenedByJob | undefined} what its shortening came to */
+    this.shortened = undefined;
   }
 
   /** @param {Outcome} outcome */
@@ -188,6 +192,7 @@ export class Summary {
         failing: endingsTold(FAILING, this.endings.failing), passing: endingsTold(PASSING, this.endings.passing),
       },
       firstFailing: this.failing === undefined ? null : failingTold(this.failing),
+      shortened: this.shortened === undefined ? null : shorteningOf(this.shortened, this.failing),
       races: {
         allowed: this.races === "allow", runs: this.raced, pairs: listedOf(this.pairs, (_, { lines }) => ({ lines })),
       },

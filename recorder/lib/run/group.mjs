@@ -36,6 +36,7 @@ import { Thread } from "./thread.mjs";
  * @property {string} [report] what sabsim must answer
  * @property {string} [trace] each event as an object of JSON, a line each
  * @property {import("./source-names.mjs").SourceText[]} [sources] the code of each file that the trace names
+ * @property {number[]} [row] which agent moved with each draw, in order, where that is asked for
  */
 
 /**
@@ -45,9 +46,22 @@ import { Thread } from "./thread.mjs";
  */
 
 /**
- * @typedef {object} Wanted
+ * @typedef {object} Wanting
  * @property {number} seed
  * @property {boolean} whole whether answers, script and report are told even of a run that finishes
+ * @property {boolean} [isTrial] whether only its ending is wanted: no answers, script, report or trace is told
+ * @property {boolean} [tellsLines] whether a trial tells the lines of its races
+ * @property {boolean} [tellsTrace] whether the trace is told in any case
+ * @property {boolean} [isFresh] whether the agents' workers are started anew before
+ */
+
+/** @typedef {Wanting & import("../board/row.mjs").RowWanted} Wanted a run that is to be made */
+
+/**
+ * @typedef {object} Aside what is told beside an outcome to who compares runs
+ * @property {{ agent: number, block: number, byte: number }[]} waiting who waits where in a deadlock, in order of
+ * arrival
+ * @property {import("../board/row.mjs").Stray} [stray] how it has strayed from the row that it was to go by exactly
  */
 
 /**
@@ -56,6 +70,8 @@ import { Thread } from "./thread.mjs";
  * @property {boolean} racy whether it has found any
  * @property {Int32Array} events those of the run's log
  */
+
+/** @typedef {{ outcome: Outcome, judgement?: Judgement, aside: Aside }} One all that is told of one run */
 
 /** @typedef {(buffers: SharedArrayBuffer[], about: { agents: number, args: string[] }) => unknown} OfBuffers */
 
@@ -173,7 +189,7 @@ export class Group {
   /**
    * Makes a run for each seed, in their order.
    * @param {Wanted[]} seeds
-   * @param {(outcome: Outcome, judgement?: Judgement) => void} onOutcome
+   * @param {(outcome: Outcome, judgement: Judgement | undefined, aside: Aside) => void} onOutcome
    */
   run(seeds, onOutcome) {
     return this.#work({ seeds }, onOutcome);
@@ -196,13 +212,25 @@ export class Group {
       const { message, ended } = await referee.next();
       if (ended !== undefined) throw new Error(`the referee's worker failed: ${ended}`);
       if (message.finished) return;
-      if (message.outcome) onOutcome(message.outcome, message.judgement);
+      if (message.outcome) onOutcome(message.outcome, message.judgement, message.aside);
       if (message.replace) {
         await Promise.all(message.replace.map((/** @type {number} */ agent) => this.#replace(agent)));
         referee.post({ replaced: true });
       }
       if (message.ask) referee.post({ problem: this.#askedHere(message.ask) });
     }
+  }
+
+  /**
+   * Makes one run.
+   * @param {Wanted} wanted
+   * @returns {Promise<One>}
+   */
+  async one(wanted) {
+    /** @type {One[]} */
+    const runs = [];
+    await this.run([wanted], (outcome, judgement, aside) => void runs.push({ outcome, judgement, aside }));
+    return runs[0];
   }
 
   async #start() {

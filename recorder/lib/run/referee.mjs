@@ -6,6 +6,7 @@ import { createHash } from "node:crypto";
 import { workerData } from "node:worker_threads";
 import { Board } from "../board/board.mjs";
 import { ORDER, WORD } from "../board/layout.mjs";
+import { strayText } from "../board/row.mjs";
 import { Sources } from "../agent/sources.mjs";
 import { reportText } from "../../script/report.mjs";
 import { racesTold } from "./findings.mjs";
@@ -25,6 +26,8 @@ import { ownCalls, transcriptOf, waitingText } from "./transcript.mjs";
 
 /** @typedef {import("./group.mjs").Outcome} Outcome */
 /** @typedef {import("./group.mjs").Judgement} Judgement */
+/** @typedef {import("./group.mjs").Wanted} Wanted */
+/** @typedef {import("./group.mjs").Aside} Aside */
 
 /**
  * @typedef {object} Made what a run came to, before it is told
@@ -35,6 +38,7 @@ import { ownCalls, transcriptOf, waitingText } from "./transcript.mjs";
  * @property {boolean} racy
  * @property {import("./stores.mjs").Store[]} initial what filled the buffers at first
  * @property {{ agent: number, block: number, byte: number }[]} waiting who waits where, in order of arrival
+ * @property {import("../board/row.mjs").Stray} [stray] how it has strayed from the row that it was to go by
  */
 
 /**
@@ -119,22 +123,26 @@ function sentHome() {
   return agents.filter((agent) => !board.turn.isBack(agent, GRACE_MILLISECONDS));
 }
 
-/** Leaves nothing of an earlier run. */
-function cleared() {
+/**
+ * Leaves nothing of an earlier run.
+ * @param {Wanted} wanted
+ */
+function cleared(wanted) {
   memory.reset();
+  board.row.begin(wanted);
   log.begin();
   stores.begin();
   board.journal.begin();
 }
 
 /**
- * One run, by a seed.
- * @param {number} seed
+ * One run, by a seed, or by a row.
+ * @param {Wanted} wanted
  * @param {boolean} tellsSources whether each access tells its line of code
  * @returns {Promise<Made>}
  */
-async function made(seed, tellsSources) {
-  cleared();
+async function made(wanted, tellsSources) {
+  cleared(wanted);
   const problem = options.init === undefined ? "" : await asked("init");
   const initial = options.init === undefined ? [] : initialStores(memory, plan.agents);
   if (problem !== "") {
@@ -142,15 +150,17 @@ async function made(seed, tellsSources) {
     return { ending: "failed", detail: `init ${problem}`, ...nothing };
   }
   board.words[WORD.TELLS_SOURCES] = tellsSources ? 1 : 0;
-  board.begin(seed);
+  board.begin(wanted.seed);
   board.turn.awaitEnd(options.seconds);
   const told = board.end.told();
+  const stray = board.row.strayed();
   const bytes = memory.hex();
   const waiting = told.ending === "deadlock" ? whoWaits() : [];
   const gone = sentHome();
   const racy = options.ordinary === "watch" && isRacy(log, plan.agents);
-  const detail = told.ending === "bound" ? sourceNames.withNames(told.detail) : told.detail;
-  return { ending: told.ending, detail, bytes, gone, racy, initial, waiting };
+  const named = told.ending === "bound" ? sourceNames.withNames(told.detail) : told.detail;
+  const detail = stray === undefined ? named : strayText(stray, named);
+  return { ending: told.ending, detail, bytes, gone, racy, initial, waiting, stray };
 }
 
 /** Who waits where, in order of arrival. */
@@ -205,11 +215,12 @@ function stateOf({ ending, bytes }) {
 
 /**
  * What is told of each run.
- * @param {number} seed
+ * @param {Wanted} wanted
  * @param {Made} found
  * @returns {Outcome}
  */
-function briefly(seed, found) {
+function briefly({ seed }, found) {
+  const row = board.row.told();
   return {
     seed,
     ending: found.ending,
@@ -221,6 +232,7 @@ function briefly(seed, found) {
     progress: agents.map((agent) => board.journal.progress(agent)),
     state: stateOf(found),
     races: [],
+    ...(row === undefined ? {} : { row }),
   };
 }
 
@@ -272,14 +284,26 @@ async function replaced(gone) {
 }
 
 /**
+ * Whether a run's trace is made.
+ * @param {Wanted} wanted
+ * @param {Outcome} outcome
+ */
+function isTraceWanted({ isTrial = false, tellsTrace = false }, { fails }) {
+  if (isTrial) return false;
+  const isFirst = fails && !isTraced;
+  isTraced ||= fails;
+  return options.trace || tellsTrace || isFirst;
+}
+
+/**
  * Adds the lines of code to what is told of a run: it is made once more where it hasn't told them.
+ * @param {Wanted} wanted
  * @param {Outcome} outcome
  * @param {Made} found
  * @param {boolean} hasSources whether its accesses have told their lines
  */
-async function addSources(outcome, found, hasSources) {
-  const wantsTrace = options.trace || (outcome.fails && !isTraced);
-  isTraced ||= outcome.fails;
+async function addSources(wanted, outcome, found, hasSources) {
+  const wantsTrace = isTraceWanted(wanted, outcome);
   if (!found.racy && !wantsTrace) return;
   if (hasSources) {
     tellSources(outcome, wantsTrace);
@@ -289,8 +313,8 @@ async function addSources(outcome, found, hasSources) {
   outcome.races = found.racy ? tellRaces(false) : [];
   // Who didn't come back made no call for long, and would take as long again.
   if (found.gone.length > 0) return;
-  const again = await made(outcome.seed, true);
-  const same = areAlike(briefly(outcome.seed, await judgedAgain(again, found)), outcome);
+  const again = await made(wanted, true);
+  const same = areAlike(briefly(wanted, await judgedAgain(again, found)), outcome);
   await replaced(options.fresh ? agents : again.gone);
   if (same) tellSources(outcome, wantsTrace);
 }
@@ -326,34 +350,51 @@ function judgementOf({ script }, { racy }) {
 }
 
 /**
- * The outcome of a seed.
- * @param {import("./group.mjs").Wanted} wanted
- * @returns {Promise<{ outcome: Outcome, judgement?: Judgement }>}
+ * A run that is made only to see how it ends: nothing is kept of it.
+ * @param {Wanted} wanted
+ * @returns {Promise<{ outcome: Outcome, aside: Aside }>}
  */
-async function outcomeOf({ seed, whole }) {
+async function triedOf(wanted) {
+  const { tellsLines = false } = wanted;
+  const found = await judged(await made(wanted, tellsLines));
+  const outcome = briefly(wanted, found);
+  await replaced(options.fresh ? agents : found.gone);
+  if (tellsLines) await addSources(wanted, outcome, found, log.hasRoom());
+  return { outcome, aside: asideOf(found) };
+}
+
+/** @param {Made} found @returns {Aside} */
+const asideOf = ({ waiting, stray }) => ({ waiting, stray });
+
+/**
+ * The outcome of a seed.
+ * @param {Wanted} wanted
+ * @returns {Promise<{ outcome: Outcome, judgement?: Judgement, aside: Aside }>}
+ */
+async function outcomeOf(wanted) {
   let hasSources = tellsNext;
-  let found = await made(seed, hasSources);
+  let found = await made(wanted, hasSources);
   const pairs = meetings?.add(log, sources);
   const isCut = hasSources && !log.hasRoom();
   if (isCut) {
     // Not all accesses have told their lines: this is judged by a run that keeps each of them once.
     await replaced(found.gone);
     hasSources = false;
-    found = await made(seed, false);
+    found = await made(wanted, false);
   }
   found = await judged(found);
-  const outcome = briefly(seed, found);
-  if (whole || outcome.fails) tellWhole(outcome, found);
+  const outcome = briefly(wanted, found);
+  if (wanted.whole || outcome.fails) tellWhole(outcome, found);
   // Here the log has all events: one with lines of code, in a run that is made once more, may lack some reads.
   const judgement = judgementOf(outcome, found);
   await replaced(options.fresh ? agents : found.gone);
-  await addSources(outcome, found, hasSources);
+  await addSources(wanted, outcome, found, hasSources);
   /** @type {import("./group.mjs").Covering} */
   const covering = pairs === undefined ? {} : { meetings: pairs };
   Object.assign(outcome, covering);
   if (outcome.ending === "race") outcome.detail = outcome.races.map(({ text }) => text).join("\n");
   tellsNext = tellsAlways || (found.racy && !isCut);
-  return { outcome, judgement };
+  return { outcome, judgement, aside: asideOf(found) };
 }
 
 /**
@@ -362,7 +403,7 @@ async function outcomeOf({ seed, whole }) {
  * @returns {Promise<boolean>} whether all is seen that the agents did
  */
 async function flown(seed) {
-  cleared();
+  cleared({ seed, whole: false });
   board.words[WORD.IS_PILOT] = 1;
   if (options.init !== undefined && (await asked("init")) !== "") return false;
   board.words[WORD.TELLS_SOURCES] = 0;
@@ -389,10 +430,13 @@ async function learn() {
   await replaced(agents);
 }
 
-/** @param {{ seeds?: import("./group.mjs").Wanted[], learns?: boolean }} work */
+/** @param {{ seeds?: Wanted[], learns?: boolean }} work */
 async function record({ seeds = [], learns = false }) {
   if (learns) await learn();
-  for (const wanted of seeds) port.postMessage(await outcomeOf(wanted));
+  for (const wanted of seeds) {
+    if (wanted.isFresh) await replaced(agents);
+    port.postMessage(await (wanted.isTrial ? triedOf(wanted) : outcomeOf(wanted)));
+  }
   port.once("message", record);
   port.postMessage({ finished: true });
 }

@@ -55,6 +55,19 @@ export function callText(view, call) {
 }
 
 /**
+ * A call as a script has it, with the place of its element instead of view and index: so it is the same by whatever
+ * view and name. A call whose view hasn't that element keeps both.
+ * @param {Range & { index: number }} at
+ * @param {Call} call
+ * @returns {string}
+ */
+export function placedCallText({ kind, block, offset, length, index }, call) {
+  if (!(index >= 0 && index < length)) return callText(`${viewKey({ kind, block, offset, length })}`, call);
+  const element = { kind, block, offset: offset + index * SIZES[kind], length: 1 };
+  return callText(`${viewKey(element)}`, { ...call, index: 0 });
+}
+
+/**
  * How many bytes of a script a call and its moves take at most.
  * @param {number} nameLength of its view
  * @param {Call} call

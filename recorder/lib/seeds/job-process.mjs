@@ -17,6 +17,7 @@ function send(message) {
 async function answerTo(request) {
   if (request.open !== undefined) job = await Job.open(request.open, (seed) => send({ checked: seed }));
   if (request.run !== undefined) await job?.run(request.run, (outcome) => send({ outcome }));
+  if (request.shorten !== undefined) return job?.shorten(request.shorten, (tried) => send({ tried }));
   return request.finish === undefined ? undefined : job?.finish();
 }
 

@@ -3,6 +3,7 @@
 import { Checker } from "../check/checker.mjs";
 import { Group } from "../run/group.mjs";
 import { checkable, foundSabsim } from "../check/sabsim.mjs";
+import { shorten } from "../shorter/shorten.mjs";
 
 /**
  * @typedef {object} CheckOptions
@@ -61,6 +62,19 @@ export class Job {
       if (checker !== undefined && outcome.script !== undefined) this.#check(checker, checkable(outcome, judgement));
     });
     if (this.failure !== undefined) throw this.failure;
+  }
+
+  /**
+   * Looks for the shortest run that fails as one that was found, and has it checked.
+   * @param {import("../shorter/alike.mjs").Told} told of that run
+   * @param {(tried: import("../shorter/shorten.mjs").Tried) => void} onTry
+   * @returns {Promise<import("../shorter/in-job.mjs").ShortenedByJob>} fails where the check has failed
+   */
+  async shorten(told, onTry) {
+    const { shortest, shortened } = await shorten(this.group, told, { onTry });
+    const isChecked = this.checker !== undefined && shortest?.outcome.script !== undefined;
+    if (isChecked) await this.checker?.check(checkable(shortest.outcome, shortest.judgement));
+    return { shortest: shortest?.outcome, shortened, checked: isChecked };
   }
 
   /** @returns {Promise<void>} when the last check is done; fails where one has failed */

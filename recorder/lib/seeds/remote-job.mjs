@@ -14,12 +14,14 @@ import { jobWords } from "./node-words.mjs";
  * @typedef {object} Request what a job's process is asked for: one of these
  * @property {Parameters<typeof import("./job.mjs").Job.open>[0]} [open]
  * @property {import("../run/group.mjs").Wanted[]} [run]
+ * @property {import("../shorter/alike.mjs").Told} [shorten]
  * @property {true} [finish]
  */
 
 /**
  * @typedef {object} Message what it answers: one of these
  * @property {number} [checked] the seed of a run that sabsim says the same of
+ * @property {import("../shorter/shorten.mjs").Tried} [tried]
  * @property {Outcome} [outcome]
  * @property {Packed} [failed]
  * @property {unknown} [done]
@@ -67,6 +69,8 @@ export class RemoteJob {
   /** @param {(seed: number) => void} onCheck is told of each run that sabsim says the same of */
   constructor(onCheck) {
     this.onCheck = onCheck;
+    /** @type {(tried: import("../shorter/shorten.mjs").Tried) => void} */
+    this.onTry = () => {};
     const stdio = ["ignore", "inherit", "inherit", "ipc"];
     const execArgv = jobWords(process.execArgv);
     this.child = fork(PROGRAM, { stdio, execArgv, serialization: "advanced", detached: true, windowsHide: true });
@@ -97,6 +101,16 @@ export class RemoteJob {
     return this.#ask({ run: seeds }, onOutcome);
   }
 
+  /**
+   * @param {import("../shorter/alike.mjs").Told} told of a run that was found
+   * @param {(tried: import("../shorter/shorten.mjs").Tried) => void} onTry
+   * @returns {Promise<import("../shorter/in-job.mjs").ShortenedByJob>}
+   */
+  shorten(told, onTry) {
+    this.onTry = onTry;
+    return this.#ask({ shorten: told });
+  }
+
   /** @returns {Promise<void>} when the last check is done */
   finish() {
     return this.#ask({ finish: true });
@@ -106,6 +120,7 @@ export class RemoteJob {
   async close() {
     this.onMessage = undefined;
     this.onCheck = () => {};
+    this.onTry = () => {};
     if (this.lost === undefined) endGroup(this.child.pid);
     await this.gone;
   }
@@ -133,8 +148,9 @@ export class RemoteJob {
 
   /** @param {Message} message */
   #take(message) {
-    if (message.checked === undefined) this.onMessage?.(message);
-    else this.onCheck(message.checked);
+    if (message.checked !== undefined) this.onCheck(message.checked);
+    else if (message.tried !== undefined) this.onTry(message.tried);
+    else this.onMessage?.(message);
   }
 
   /**

@@ -157,7 +157,7 @@ function listener({ first, failFast, coverage }, row, onOutcome, onCheck) {
  * @param {Promise<T>} promise
  * @returns {Promise<T>}
  */
-function unlessStopped(signal, promise) {
+export function unlessStopped(signal, promise) {
   if (signal === undefined) return promise;
   return new Promise((done, fail) => {
     const stop = () => fail(signal.reason);

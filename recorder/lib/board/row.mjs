@@ -1,0 +1,270 @@
+// The row of a run: which agent moved with each draw. It is told where that is asked for; and a run can be forced to go
+// by a row, where the seed draws nothing, and only clocks and random numbers come from it.
+//
+// Exactly: where the row names an agent that can't move, or has come to its end while an agent can, or an agent makes
+// another call than it is to make, the run strays from the row, which ends it. Leniently: what can't move is left out,
+// and behind the row's end the agent that moved last goes on as long as it can, then the next one in number.
+//
+// All of it lies in shared memory. Only the thread that has the turn changes it, as the words of the board.
+
+import { SCRIPT_LIMITS } from "../../script/limits.mjs";
+import { uncurried } from "../../kept/own.mjs";
+import { placedCallText } from "../run/spelling.mjs";
+import { AGENT_WORD, NOBODY, PHASE, wordOf } from "./layout.mjs";
+
+// Agents may change what they find, so the engine's own functions are kept here, before.
+const { Int32Array, Uint8Array, SharedArrayBuffer } = globalThis;
+const { imul } = Math;
+const codeAt = uncurried(String.prototype.charCodeAt);
+
+/** What `next` answers where the run strays from its row. */
+export const STRAYS = -2;
+
+// A draw makes two moves at least; and one may be the last thing that is done.
+const MOST_DRAWS = SCRIPT_LIMITS.moves / 2 + 1;
+
+// Behind the row's end another agent that can move gets its turn after so many draws of one agent: it may spin.
+const MOST_ALIKE = 200;
+
+// The words of the row's state.
+const HOW = 0;
+const LENGTH = 1;
+const AT = 2;
+const TELLS = 3;
+const DRAWN = 4;
+const LAST = 5;
+const ALIKE = 6;
+const KNOWS_CALLS = 7;
+const STRAY = 8;
+const STRAY_AGENT = 9;
+const STATE_WORDS = 10;
+
+// The word HOW.
+const FREE = 0;
+const LENIENT = 1;
+const EXACT = 2;
+
+// In place of a call's number: the agent goes on from a wait.
+const NO_CALL = 0;
+
+/** @typedef {"call" | "leaves" | "waits" | "ended" | "goes on"} StrayReason how a run has strayed */
+
+/** @type {readonly StrayReason[]} the word STRAY is a position here, from 1 on; with 0 the run hasn't strayed */
+const REASONS = Object.freeze(["call", "leaves", "waits", "ended", "goes on"]);
+
+/** @param {StrayReason} reason */
+const numberOf = (reason) => {
+  let number = 0;
+  while (REASONS[number] !== reason) number += 1;
+  return number + 1;
+};
+
+/**
+ * @typedef {object} Stray how a run that was forced exactly has strayed from its row
+ * @property {StrayReason} reason the agent makes another call; or it leaves a wait where it is to make a call; or it is
+ * to move, and waits or has come to its end; or the row has come to its end, and the agent goes on
+ * @property {number} agent
+ * @property {number} draw how many draws had been made by the row
+ */
+
+/**
+ * @typedef {object} RowWanted
+ * @property {number[]} [row] the agents in the order in which they are to be drawn; else the seed draws
+ * @property {boolean} [isExact] whether the run ends where it strays from the row
+ * @property {Int32Array} [calls] for each draw the number of the call (see `callNumber`) that the agent is to make; 0
+ * where it is to go on from a wait
+ * @property {boolean} [tellsRow] whether the run's own row is told
+ */
+
+/**
+ * @typedef {object} RowMemory
+ * @property {SharedArrayBuffer} state
+ * @property {SharedArrayBuffer} forced
+ * @property {SharedArrayBuffer} drawn
+ * @property {SharedArrayBuffer} calls
+ */
+
+/**
+ * A number of a call by its text: others hardly ever have the same.
+ * @param {string} text of the call, whose view is spelled by its key
+ * @returns {number} not 0
+ */
+export function callNumber(text) {
+  let number = 0x811c9dc5;
+  for (let at = 0; at < text.length; at += 1) number = imul(number ^ codeAt(text, at), 0x01000193);
+  return number === NO_CALL ? 1 : number;
+}
+
+export class Row {
+  /** @returns {RowMemory} */
+  static memory() {
+    return {
+      state: new SharedArrayBuffer(STATE_WORDS * 4),
+      forced: new SharedArrayBuffer(MOST_DRAWS),
+      drawn: new SharedArrayBuffer(MOST_DRAWS),
+      calls: new SharedArrayBuffer(MOST_DRAWS * 4),
+    };
+  }
+
+  /**
+   * @param {RowMemory} memory
+   * @param {Int32Array} words of the board
+   * @param {number} agents how many
+   */
+  constructor(memory, words, agents) {
+    this.state = new Int32Array(memory.state);
+    this.forced = new Uint8Array(memory.forced);
+    this.drawn = new Uint8Array(memory.drawn);
+    this.calls = new Int32Array(memory.calls);
+    this.words = words;
+    this.agents = agents;
+    this.state[LAST] = NOBODY;
+  }
+
+  // The referee's part.
+
+  /**
+   * A run begins. No agent may be busy.
+   * @param {RowWanted} wanted
+   */
+  begin({ row, isExact = false, calls, tellsRow = false }) {
+    const { state } = this;
+    state.fill(0);
+    state[LAST] = NOBODY;
+    state[TELLS] = tellsRow ? 1 : 0;
+    if (row === undefined) return;
+    state[HOW] = isExact ? EXACT : LENIENT;
+    state[LENGTH] = row.length;
+    this.forced.set(row);
+    if (calls === undefined) return;
+    state[KNOWS_CALLS] = 1;
+    this.calls.set(calls);
+  }
+
+  /** @returns {number[] | undefined} the run's own row, where it is told */
+  told() {
+    return this.state[TELLS] === 0 ? undefined : Array.from(this.drawn.subarray(0, this.state[DRAWN]));
+  }
+
+  /** @returns {Stray | undefined} */
+  strayed() {
+    const { state } = this;
+    if (state[STRAY] === 0) return undefined;
+    return { reason: REASONS[state[STRAY] - 1], agent: state[STRAY_AGENT], draw: state[AT] };
+  }
+
+  // The part of the agent that has the turn.
+
+  /** @returns {boolean} whether the run goes by a row */
+  isForced() {
+    return this.state[HOW] !== FREE;
+  }
+
+  /** @returns {number} who moves next by the row, or `NOBODY` where nobody can, or `STRAYS` */
+  next() {
+    return this.state[HOW] === EXACT ? this.#exactNext() : this.#lenientNext();
+  }
+
+  /**
+   * Takes note of a draw.
+   * @param {number} agent that moves next
+   */
+  note(agent) {
+    const { state } = this;
+    if (state[HOW] === FREE && state[TELLS] === 0) return;
+    state[ALIKE] = agent === state[LAST] ? state[ALIKE] + 1 : 1;
+    state[LAST] = agent;
+    if (state[TELLS] === 0) return;
+    this.drawn[state[DRAWN]] = agent;
+    state[DRAWN] += 1;
+  }
+
+  /**
+   * Whether an agent that was drawn does what it is to do; where that isn't known, all is right.
+   * @param {number} agent
+   * @param {import("../run/records.mjs").Call} [call] that it makes; else it goes on from a wait
+   */
+  allows(agent, call) {
+    const { state } = this;
+    if (state[KNOWS_CALLS] === 0) return true;
+    const number = call === undefined ? NO_CALL : callNumber(placedCallText(call, call));
+    if (this.calls[state[AT] - 1] === number) return true;
+    // That draw isn't one by the row.
+    state[AT] -= 1;
+    this.#stray(call === undefined ? "leaves" : "call", agent);
+    return false;
+  }
+
+  #exactNext() {
+    const { state } = this;
+    if (state[AT] === state[LENGTH]) {
+      const other = this.#able();
+      return other === NOBODY ? NOBODY : this.#stray("goes on", other);
+    }
+    const agent = this.forced[state[AT]];
+    if (!this.#isReady(agent) && !this.#isTimed(agent)) {
+      return this.#stray(this.#phase(agent) === PHASE.WAITS ? "waits" : "ended", agent);
+    }
+    state[AT] += 1;
+    return agent;
+  }
+
+  #lenientNext() {
+    const { state } = this;
+    while (state[AT] < state[LENGTH]) {
+      const agent = this.forced[state[AT]];
+      state[AT] += 1;
+      if (this.#isReady(agent) || this.#isTimed(agent)) return agent;
+    }
+    const last = state[LAST];
+    if (last !== NOBODY && state[ALIKE] < MOST_ALIKE && this.#isReady(last)) return last;
+    return this.#able();
+  }
+
+  /** The next agent in number that can move, after the one that moved last; ends of times come behind all others. */
+  #able() {
+    const first = this.state[LAST] + 1;
+    let timed = NOBODY;
+    for (let step = 0; step < this.agents; step += 1) {
+      const agent = (first + step) % this.agents;
+      if (this.#isReady(agent)) return agent;
+      if (timed === NOBODY && this.#isTimed(agent)) timed = agent;
+    }
+    return timed;
+  }
+
+  /** @param {number} agent */
+  #phase(agent) {
+    return this.words[wordOf(agent, AGENT_WORD.AT)];
+  }
+
+  /** @param {number} agent */
+  #isReady(agent) {
+    const phase = this.#phase(agent);
+    return phase === PHASE.ASKS || phase === PHASE.WOKEN;
+  }
+
+  /** @param {number} agent */
+  #isTimed(agent) {
+    return this.#phase(agent) === PHASE.WAITS_TIMED;
+  }
+
+  /** @param {StrayReason} reason @param {number} agent */
+  #stray(reason, agent) {
+    this.state[STRAY] = numberOf(reason);
+    this.state[STRAY_AGENT] = agent;
+    return STRAYS;
+  }
+}
+
+/**
+ * Why a run that has strayed has ended, in words.
+ * @param {Stray} stray
+ * @param {string} call that the agent makes, where that is why
+ */
+export function strayText({ reason, agent }, call) {
+  if (reason === "call") return `agent ${agent} makes another call than by the row: ${call}`;
+  if (reason === "goes on") return `the row has come to its end, and agent ${agent} goes on`;
+  if (reason === "leaves") return `agent ${agent} is to make a call by the row, and goes on from a wait`;
+  return `agent ${agent} is to move by the row, and ${reason === "waits" ? "waits" : "has come to its end"}`;
+}

@@ -1,0 +1,118 @@
+// What --replay does: the agents run once more, by the row of a kept script. They run in this process, so that a
+// debugger that is attached to it can stop in them.
+
+import { readFileSync } from "node:fs";
+import inspector from "node:inspector";
+import { basename } from "node:path";
+import { checkable, check as checkWithSabsim, sabsimFor, sabsimPlaces } from "../check/sabsim.mjs";
+import { Group } from "../run/group.mjs";
+import { Refused } from "../run/plan.mjs";
+import { preloads } from "../seeds/node-words.mjs";
+import { NoLongerTheSame, differenceText, strayedText } from "../shorter/differing.mjs";
+import { callNumbers, keptScript } from "../shorter/kept-script.mjs";
+import { print } from "./print.mjs";
+import { Summary } from "./summary.mjs";
+
+/** @typedef {import("../shorter/kept-script.mjs").KeptScript} KeptScript */
+
+// A debugger holds agents for as long as somebody looks at them.
+const DEBUGGED_SECONDS = 3_600;
+
+const DEFAULT_SEED = 1;
+
+/** @param {string} file @returns {string} what is in it */
+function textOf(file) {
+  try {
+    return readFileSync(file, "utf8");
+  } catch (error) {
+    throw new Refused(`--replay ${file} can't be read: ${/** @type {Error} */ (error).message}`);
+  }
+}
+
+/**
+ * Refuses options that aren't those of the script's run.
+ * @param {string} name
+ * @param {unknown} given undefined: it isn't given
+ * @param {unknown} kept
+ */
+function needSame(name, given, kept) {
+  if (given === undefined || `${given}` === `${kept}`) return;
+  throw new Refused(`--${name} is ${given}, but the script's run had ${kept}: leave it away, the script says it`);
+}
+
+/**
+ * What the agents run on: the script says it.
+ * @param {KeptScript} kept
+ * @param {import("./options.mjs").Options} options
+ */
+function placeOf({ lengths, canBlock }, options) {
+  const noBlock = canBlock.flatMap((can, agent) => (can ? [] : [agent]));
+  needSame("agents", options.agents, canBlock.length);
+  needSame("buffers", options.buffers, lengths);
+  needSame("no-block", options.noBlock && [...new Set(options.noBlock)].sort((one, other) => one - other), noBlock);
+  return { agents: canBlock.length, buffers: lengths, noBlock };
+}
+
+export class Replay {
+  /**
+   * @param {import("./options.mjs").Options} options with the URL of the module
+   * @param {NonNullable<import("./options.mjs").Options["replay"]>} wanted
+   */
+  constructor(options, { file, seed }) {
+    this.options = options;
+    this.file = file;
+    this.kept = keptScript(textOf(file), file);
+    const named = /^seed-(\d+)\./.exec(basename(file))?.[1];
+    this.isNamed = named !== undefined || seed !== undefined;
+    this.seed = seed ?? Number(named ?? DEFAULT_SEED);
+    const { checkEvery, sabsim: path, isSabsimAsked: isAsked } = options;
+    this.sabsim = checkEvery === 0 ? undefined : sabsimFor({ path, isAsked });
+    this.place = placeOf(this.kept, options);
+  }
+
+  /**
+   * Makes the run, and tells how it ended.
+   * @returns {Promise<{ failed: boolean, problems: unknown[] }>} whether it failed
+   * @throws {NoLongerTheSame}
+   */
+  async run() {
+    const { options, sabsim } = this;
+    const { outcome, judgement, aside } = await this.#made();
+    if (aside.stray !== undefined) throw new NoLongerTheSame(strayedText(aside.stray, outcome.detail, this.kept));
+    const { script } = outcome;
+    const difference = script === undefined ? undefined : differenceText(this.kept, keptScript(script, "the run"));
+    if (difference !== undefined) throw new NoLongerTheSame(difference);
+    const summary = new Summary({
+      ordinary: options.ordinary, races: options.races, checks: sabsim !== undefined,
+      missing: options.checkEvery > 0 && sabsim === undefined ? sabsimPlaces() : undefined,
+      preloads: preloads([...process.execArgv, process.env.NODE_OPTIONS ?? ""]),
+    });
+    summary.add(outcome);
+    if (sabsim !== undefined && script !== undefined) {
+      checkWithSabsim(sabsim, checkable(outcome, judgement));
+      summary.addCheck();
+    }
+    await print(`${this.#title()}\n${summary.text()}`);
+    return { failed: outcome.fails, problems: [] };
+  }
+
+  async #made() {
+    const { kept: { draws }, options, place, seed } = this;
+    const isDebugged = inspector.url() !== undefined;
+    const seconds = isDebugged ? DEBUGGED_SECONDS : options.seconds;
+    const loadSeconds = isDebugged ? DEBUGGED_SECONDS : undefined;
+    const limits = loadSeconds === undefined ? { seconds } : { seconds, loadSeconds };
+    const group = await Group.open({ ...options, ...place, ...limits, fresh: false });
+    try {
+      const row = draws.map(({ agent }) => agent);
+      return await group.one({ seed, whole: true, row, isExact: true, calls: callNumbers(this.kept) });
+    } finally {
+      await group.close();
+    }
+  }
+
+  #title() {
+    const why = this.isNamed ? "" : ", since the file's name has none; --seeds gives another";
+    return `replayed ${this.file}, with the clocks and random numbers of seed ${this.seed}${why}`;
+  }
+}

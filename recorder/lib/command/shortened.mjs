@@ -1,0 +1,44 @@
+// What is told of the shortening of the run that is kept.
+
+import { counted, digits } from "./words.mjs";
+
+/** @typedef {import("../shorter/in-job.mjs").ShortenedByJob} ShortenedByJob */
+/** @typedef {import("../shorter/shorten.mjs").Change} Change */
+
+/**
+ * @typedef {object} Shortening as JSON
+ * @property {number} runs how many it took
+ * @property {Change} changes of agents, in the run as it was found and in the shortest
+ * @property {Change} calls of Atomics that were begun, likewise
+ * @property {string | null} stopped why it was ended before all was tried
+ * @property {string | null} unchanged why the run is kept as it was found; null: the shortest is kept
+ * @property {boolean} checked whether sabsim says the same of the shortest run
+ * @property {string[]} detail of the shortest run, where it isn't that of the run as it was found
+ */
+
+/**
+ * @param {ShortenedByJob} found
+ * @param {{ detail: string } | undefined} failing the run as it was found
+ * @returns {Shortening}
+ */
+export function shorteningOf({ shortest, shortened, checked }, failing) {
+  const { runs, changes, calls, stopped = null, unchanged = null } = shortened;
+  const { detail = "" } = shortest ?? {};
+  const lines = detail === "" || detail === failing?.detail ? [] : detail.split("\n");
+  return { runs, changes, calls, stopped, unchanged, checked, detail: lines };
+}
+
+/**
+ * @param {Shortening | null} shortening
+ * @returns {string[]} lines; the first one isn't indented
+ */
+export function shortenedLines(shortening) {
+  if (shortening === null) return [];
+  const { runs, changes, calls, stopped, unchanged, checked, detail } = shortening;
+  const made = [`in ${counted(runs, "run")}`, ...(stopped === null ? [] : [stopped])].join(", ");
+  if (unchanged !== null) return [`not shortened: ${unchanged}${runs === 0 ? "" : `, ${made}`}`];
+  const changed = `${counted(changes.before, "change")} of agents to ${digits(changes.after)}`;
+  const called = `${counted(calls.before, "call")} to ${digits(calls.after)}`;
+  const same = checked ? "; sabsim says the same of it" : "";
+  return [`shortened: ${changed}, ${called}, ${made}${same}`, ...detail.map((line) => `  ${line}`)];
+}

@@ -1,0 +1,55 @@
+// Whether two runs fail in the same way.
+
+/** @typedef {import("../run/group.mjs").Outcome} Outcome */
+/** @typedef {import("../run/group.mjs").Aside} Aside */
+/** @typedef {{ outcome: Outcome, aside: Aside }} Run */
+
+// A number, with its sign and its fraction.
+const NUMBERS = /-?\d+(\.\d+)?/g;
+
+/**
+ * What was found, whatever numbers it was found with: the first line, and the place in the code where a stack has one.
+ * @param {string} detail
+ */
+function findingOf(detail) {
+  const [first, ...rest] = detail.split("\n");
+  const place = rest.find((line) => /^\s+at /.test(line)) ?? "";
+  return `${first.replaceAll(NUMBERS, "0")}${place}`;
+}
+
+/**
+ * Which agents wait where.
+ * @param {Aside} aside
+ */
+const waitersOf = ({ waiting }) => waiting.map(({ agent, block, byte }) => `${agent} ${block} ${byte}`).sort().join();
+
+/** @param {string[]} lines */
+const pairOf = (lines) => lines.join(" and ");
+
+/**
+ * Whether a run fails as another one does: with the same ending; a deadlock with the same agents at the same places, a
+ * race with the pair of lines that the other one tells first, and else with the same message up to its numbers.
+ * @param {Run} run
+ * @param {Run} other
+ * @returns {boolean}
+ */
+export function failsAlike(run, other) {
+  const { ending, detail, races } = other.outcome;
+  if (run.outcome.ending !== ending || run.aside.stray !== undefined) return false;
+  if (ending === "deadlock") return waitersOf(run.aside) === waitersOf(other.aside);
+  if (ending !== "race") return findingOf(run.outcome.detail) === findingOf(detail);
+  return races.length > 0 && run.outcome.races.some(({ lines }) => pairOf(lines) === pairOf(races[0].lines));
+}
+
+/**
+ * Whether two runs did the same, as far as is told of every run.
+ * @param {Told} one
+ * @param {Told} other
+ */
+export function areSame(one, other) {
+  /** @param {Told} told */
+  const parts = ({ ending, moves, calls, state }) => [ending, moves, calls, state.hash].join(" ");
+  return parts(one) === parts(other);
+}
+
+/** @typedef {Pick<Outcome, "seed" | "ending" | "detail" | "moves" | "calls" | "state">} Told */

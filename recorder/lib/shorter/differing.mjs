@@ -1,0 +1,67 @@
+// How a run that was made by the row of a kept script differs from that script, in words.
+
+/** @typedef {import("./kept-script.mjs").KeptScript} KeptScript */
+/** @typedef {import("./kept-script.mjs").Step} Step */
+
+/** The code no longer does what stands in a kept script. */
+export class NoLongerTheSame extends Error {
+  /** @param {string} how */
+  constructor(how) {
+    super(`the code no longer does the same: ${how}`);
+  }
+}
+
+/**
+ * How a run has strayed from its row.
+ * @param {import("../board/row.mjs").Stray} stray
+ * @param {string} detail of its outcome, which ends with the call that is made now
+ * @param {KeptScript} kept
+ * @returns {string}
+ */
+export function strayedText({ reason, agent, draw }, detail, { draws }) {
+  if (reason === "goes on") return `agent ${agent} goes on where the script ends`;
+  const { step: { call, text }, goesOn } = draws[draw];
+  const was = `agent ${agent}'s call ${call}`;
+  const other = detail.replace(/^[^[]*/, "");
+  if (reason === "call" && !goesOn) return `${was} was ${text} in the script, and is now ${other}`;
+  const now = {
+    call: `it makes the next one, ${other}`, leaves: "it goes on from a wait", waits: "it still waits",
+    ended: "it has come to its end",
+  }[reason];
+  if (goesOn) return `agent ${agent} was still in its call ${call}, ${text}, in the script, and now ${now}`;
+  return `${was} was ${text} in the script, and now the agent hasn't come so far: ${now}`;
+}
+
+/** @param {Step} step in words */
+function writeText({ agent, call, text }) {
+  return `agent ${agent}'s ordinary write before its call ${call} was ${text} in the script`;
+}
+
+/** @param {Step} step in words */
+function initText({ text }) {
+  return `\`init\` left ${text} in the script`;
+}
+
+/**
+ * The first step in which a run differs from a script.
+ * @param {KeptScript} kept
+ * @param {KeptScript} now
+ * @returns {string | undefined} how it differs; undefined where both are the same
+ */
+export function differenceText(kept, now) {
+  const { length } = kept.steps;
+  /** @param {Step | undefined} step */
+  const nameOf = (step) => step && `${step.agent} ${step.isOwn} ${step.key}`;
+  let at = 0;
+  while (at < length && nameOf(kept.steps[at]) === nameOf(now.steps[at])) at += 1;
+  const [was, is] = [kept.steps[at], now.steps[at]];
+  if (was === undefined && is === undefined) return undefined;
+  if (was === undefined || was.isOwn) {
+    if (is === undefined || is.isOwn) return "its calls are others, or come in another order";
+    const { agent, call, text } = is;
+    return `agent ${agent} makes an ordinary write before its call ${call} that isn't in the script, ${text}`;
+  }
+  const text = was.agent < kept.canBlock.length ? writeText(was) : initText(was);
+  const isOther = is !== undefined && !is.isOwn && is.agent === was.agent;
+  return isOther ? `${text}, and is now ${is.text}` : `${text}, and isn't made now`;
+}

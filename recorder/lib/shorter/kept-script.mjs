@@ -1,0 +1,221 @@
+// A script that the recorder has kept, read back: the row of draws that its run was made by, and what was done in it.
+//
+// An access or a notify is three moves in a row, and one draw. So is a wait that doesn't wait; one that waits is two
+// moves, and two more where it is woken or its time is up, which is another draw. Stores by the views of ordinary
+// writes and of `init` are no draws.
+
+import { CALLS, KINDS, SIZES } from "../../script/kinds.mjs";
+import { callNumber } from "../board/row.mjs";
+import { Refused } from "../run/plan.mjs";
+import { viewKey } from "../run/spelling.mjs";
+
+/**
+ * @typedef {object} Step a call that begins, or a store that stands for an ordinary write
+ * @property {number} agent
+ * @property {boolean} isOwn whether the agent called it
+ * @property {number} call its number among the agent's own; of a store that of the next one
+ * @property {string} text as the script has it
+ * @property {string} key the same, with what its view is in place of the view's name
+ * @property {number} block
+ * @property {number} from the first byte of its element
+ * @property {number} to the byte behind its last one
+ * @property {boolean} loads whether it is a load, which changes nothing
+ */
+
+/**
+ * @typedef {object} Draw of who makes a call, or goes on from a wait
+ * @property {number} agent
+ * @property {Step} step the call
+ * @property {boolean} goesOn
+ * @property {Step[]} writes what the agent has written ordinarily before it asked for its next call
+ */
+
+/**
+ * @typedef {object} KeptScript
+ * @property {number[]} lengths of the blocks
+ * @property {boolean[]} canBlock of each agent, without the one of `init`
+ * @property {Draw[]} draws
+ * @property {Step[]} steps in the order in which they begin
+ */
+
+const METHODS = CALLS.map(({ name }) => name);
+
+// What the name of a view begins with that is no agent's own.
+const OTHERS = /^(ordinary|init)_/;
+const OF_INIT = /^init_/;
+
+/** A text that is no script of the recorder's; it says why. */
+class Unlike extends Error {}
+
+/**
+ * @param {boolean} holds
+ * @param {string} why it is no script of the recorder's where that doesn't hold
+ * @returns {asserts holds}
+ */
+function need(holds, why) {
+  if (!holds) throw new Unlike(why);
+}
+
+/** @type {(value: unknown) => value is number} */
+const isCount = (value) => Number.isInteger(value) && Number(value) >= 0;
+
+/** @typedef {import("../run/spelling.mjs").Range} View */
+
+/** @param {any} script @returns {Map<string, View>} by their names */
+function viewsOf({ views }) {
+  need(Array.isArray(views), "it has no views");
+  return new Map(views.map(({ name, kind, block, offset, length }) => {
+    const number = KINDS.indexOf(kind);
+    const isView = typeof name === "string" && number >= 0 && [block, offset, length].every(isCount);
+    need(isView, `its view ${JSON.stringify(name)} isn't one`);
+    return [name, { kind: number, block, offset, length }];
+  }));
+}
+
+/**
+ * @param {any} parts of a call as a script has it
+ * @param {Map<string, View>} views
+ * @returns {Omit<Step, "agent" | "call"> & { view: string, waits: boolean }}
+ */
+function callOf(parts, views) {
+  need(Array.isArray(parts) && METHODS.includes(parts[0]), `${JSON.stringify(parts)} is no call`);
+  const [method, name, index, ...rest] = parts;
+  const view = views.get(name);
+  need(view !== undefined, `its call ${JSON.stringify(parts)} has a view that it doesn't have`);
+  const { kind, block, offset } = view;
+  const spelled = rest.map((value) => `, ${JSON.stringify(value)}`).join("");
+  const from = offset + index * SIZES[kind];
+  return {
+    isOwn: !OTHERS.test(name), view: name, waits: method === "wait", loads: method === "load",
+    text: `["${method}", "${name}", ${JSON.stringify(index)}${spelled}]`, key: keyOf(method, view, index, spelled),
+    block, from, to: from + SIZES[kind],
+  };
+}
+
+/**
+ * A call as `placedCallText` has it.
+ * @param {string} method
+ * @param {View} view
+ * @param {number} index
+ * @param {string} rest of the call
+ */
+function keyOf(method, { kind, block, offset, length }, index, rest) {
+  const isInside = index >= 0 && index < length;
+  const element = { kind, block, offset: offset + index * SIZES[kind], length: 1 };
+  const [key, at] = isInside ? [viewKey(element), 0] : [viewKey({ kind, block, offset, length }), index];
+  return `["${method}", "${key}", ${at}${rest}]`;
+}
+
+class Reader {
+  /** @param {any} script */
+  constructor(script) {
+    need(Array.isArray(script?.blocks) && script.blocks.every(isCount), "it has no blocks");
+    need(Array.isArray(script.agents) && Array.isArray(script.schedule), "it has no agents, or no schedule");
+    const views = viewsOf(script);
+    this.schedule = script.schedule;
+    this.lengths = script.blocks;
+    /** @type {ReturnType<typeof callOf>[][]} */
+    this.calls = script.agents.map((/** @type {any} */ { calls }) => {
+      need(Array.isArray(calls), "an agent has no calls");
+      return calls.map((call) => callOf(call, views));
+    });
+    const isOfInit = this.calls.at(-1)?.some(({ view }) => OF_INIT.test(view));
+    /** @type {boolean[]} */
+    this.canBlock = script.agents.slice(0, isOfInit ? -1 : undefined).map((/** @type {any} */ { block }) => block);
+    need(this.canBlock.every((block) => typeof block === "boolean"), "an agent doesn't say whether it can block");
+    /**
+     * Of each agent: how many calls have begun, how many of these are its own, the last one where it waits, and its
+     * last draw.
+     * @type {{ begun: number, own: number, waits: Step | undefined, last: Draw | undefined }[]}
+     */
+    this.at = this.calls.map(() => ({ begun: 0, own: 0, waits: undefined, last: undefined }));
+    /** @type {Draw[]} */
+    this.draws = [];
+    /** @type {Step[]} */
+    this.steps = [];
+    this.position = 0;
+  }
+
+  /** @returns {KeptScript} */
+  read() {
+    while (this.position < this.schedule.length) this.#next();
+    const rest = this.at.findIndex(({ begun }, agent) => begun < this.calls[agent].length);
+    need(rest < 0, `agent ${rest} has calls that its schedule doesn't make`);
+    const { lengths, canBlock, draws, steps } = this;
+    return { lengths, canBlock, draws, steps };
+  }
+
+  #next() {
+    const move = this.schedule[this.position];
+    const timeUp = move?.timeout;
+    const agent = timeUp ?? move;
+    const at = this.at[agent];
+    need(at !== undefined, `its move ${this.position} is no agent's`);
+    if (at.waits !== undefined) {
+      need(this.#hasMoves(agent, 1), `its move ${this.position} doesn't end a wait in a row`);
+      this.#draw({ agent, step: at.waits, goesOn: true, writes: [] });
+      at.waits = undefined;
+      this.position += 2;
+      return;
+    }
+    need(timeUp === undefined, `its move ${this.position} ends a wait that there isn't`);
+    this.#begin(agent, at);
+  }
+
+  /** @param {Draw} draw */
+  #draw(draw) {
+    this.draws.push(draw);
+    this.at[draw.agent].last = draw;
+  }
+
+  /**
+   * @param {number} agent
+   * @param {Reader["at"][number]} at
+   */
+  #begin(agent, at) {
+    const call = this.calls[agent][at.begun];
+    need(call !== undefined, `its move ${this.position} is one of no call`);
+    const isWhole = this.#hasMoves(agent, 2);
+    need(isWhole || (call.waits && this.#hasMoves(agent, 1)), `its move ${this.position} doesn't make a call in a row`);
+    const step = { ...call, agent, call: at.own };
+    this.steps.push(step);
+    if (step.isOwn) this.#draw({ agent, step, goesOn: false, writes: [] });
+    else at.last?.writes.push(step);
+    at.begun += 1;
+    at.own += step.isOwn ? 1 : 0;
+    at.waits = isWhole ? undefined : step;
+    this.position += isWhole ? 3 : 2;
+  }
+
+  /** @param {number} agent @param {number} count @returns {boolean} whether so many moves of an agent come next */
+  #hasMoves(agent, count) {
+    return this.schedule.slice(this.position + 1, this.position + 1 + count).filter((/** @type {unknown} */ move) => {
+      return move === agent;
+    }).length === count;
+  }
+}
+
+/**
+ * Reads a script of the recorder's.
+ * @param {string} text
+ * @param {string} name of its file, for messages
+ * @returns {KeptScript}
+ * @throws {Refused}
+ */
+export function keptScript(text, name) {
+  try {
+    return new Reader(JSON.parse(text)).read();
+  } catch (problem) {
+    if (!(problem instanceof Unlike || problem instanceof SyntaxError)) throw problem;
+    throw new Refused(`${name} is no script that the recorder has kept: ${problem.message.split("\n")[0]}`);
+  }
+}
+
+/**
+ * The number of the call that is made by each draw; 0 where the agent goes on from a wait.
+ * @param {KeptScript} kept
+ * @returns {Int32Array}
+ */
+export function callNumbers({ draws }) {
+  return Int32Array.from(draws, ({ goesOn, step }) => (goesOn ? 0 : callNumber(step.key)));
+}

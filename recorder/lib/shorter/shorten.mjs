@@ -1,0 +1,270 @@
+// The shortest run that fails in the same way as one that was found: the one with the fewest changes of agents, and of
+// these the one with the fewest calls. It is looked for by runs that are forced to go by rows: the found run's row in
+// another order, without some of its stretches, with two stretches of an agent joined, or with one made shorter, as
+// long as that helps.
+
+import { areSame, failsAlike } from "./alike.mjs";
+import { inOneGo } from "./in-one-go.mjs";
+import { keptScript } from "./kept-script.mjs";
+import { changesOf, joinedFrom, rowOf, shortenedAt, stretchesOf, without } from "./stretches.mjs";
+
+/** @typedef {import("../run/group.mjs").Outcome} Outcome */
+/** @typedef {import("../run/group.mjs").One} One */
+/** @typedef {import("./stretches.mjs").Stretch} Stretch */
+/** @typedef {import("./alike.mjs").Told} Told */
+
+/** @typedef {{ before: number, after: number }} Change */
+
+/**
+ * @typedef {object} Shortened what the shortening of a failing run came to
+ * @property {number} runs how many it took
+ * @property {Change} changes how often another agent moved than before: in the run as it was found, and in the shortest
+ * @property {Change} calls of Atomics that were begun, likewise
+ * @property {string} [stopped] why it was ended before all was tried
+ * @property {string} [unchanged] why the run is told as it was found
+ */
+
+/**
+ * @typedef {object} Found
+ * @property {One} [shortest] undefined: the run is told as it was found
+ * @property {Shortened} shortened
+ */
+
+/**
+ * @typedef {object} Limits
+ * @property {number} [most] how many runs are made at most
+ * @property {number} [milliseconds] how long it may take
+ * @property {(tried: Tried) => void} [onTry] is told of each run that was made
+ */
+
+/** @typedef {{ runs: number, changes: number }} Tried how many runs were made, and the changes of the shortest then */
+
+/** The runs that are made at most. A machine that makes as many in time finds the same run as every other one. */
+const MOST_RUNS = 400;
+
+const MOST_MILLISECONDS = 10_000;
+
+const NOT_AGAIN = "it couldn't be made again in the same way: its agents do something else when they run once more";
+
+/** @typedef {{ row: number[], changes: number, calls: number }} Measured */
+
+/**
+ * How long a run is.
+ * @param {Outcome} outcome whose row is told
+ * @returns {Measured}
+ */
+const measured = ({ row = [], calls }) => ({ row, changes: changesOf(row), calls });
+
+/**
+ * @param {Measured} one
+ * @param {Measured} other
+ */
+function isShorter(one, other) {
+  if (one.changes !== other.changes) return one.changes < other.changes;
+  if (one.calls !== other.calls) return one.calls < other.calls;
+  return one.row.length < other.row.length;
+}
+
+/**
+ * Why a failing run isn't shortened, if so. How far a run gets that meets a bound says little; and where a worker dies
+ * in each run that is tried, it takes too long.
+ * @param {Told} told
+ * @returns {string | undefined}
+ */
+function whyNot({ ending, detail }) {
+  if (ending === "bound") return "it met a bound";
+  if (ending === "failed" && /^agent \d+'s worker died: /.test(detail)) return "an agent's worker died";
+  return undefined;
+}
+
+class Search {
+  /**
+   * @param {import("../run/group.mjs").Group} group
+   * @param {One} first the run as it was found, with its row
+   * @param {Required<Limits>} limits
+   * @param {number} begun when it has begun, in milliseconds
+   */
+  constructor(group, first, limits, begun) {
+    this.group = group;
+    this.first = first;
+    this.limits = limits;
+    this.until = begun + limits.milliseconds;
+    /** The shortest of all, and the shortest of those that go on from the found run in one way. */
+    this.best = measured(first.outcome);
+    this.current = this.best;
+    // That run is the first, and the shortest will be made once more.
+    this.runs = 2;
+    /** @type {Map<string, Measured | undefined>} what came of the rows that were tried; undefined: another failure */
+    this.known = new Map();
+    /** @type {string | undefined} why it has ended before all was tried */
+    this.stopped = undefined;
+  }
+
+  /** Looks for shorter runs, from the found run's first stretch on and from its last one, until no try is better. */
+  async run() {
+    await this.#tryEach(this.#orders());
+    const start = this.current;
+    for (const isBackward of [false, true]) {
+      this.current = start;
+      await this.#dropChunks(isBackward);
+      while (await this.#tryAll(joinedFrom) || await this.#tryAll(droppedAt) || await this.#tryAll(shortenedAt));
+      if (isShorter(this.current, this.best)) this.best = this.current;
+    }
+  }
+
+  /** @returns {Stretch[][]} the found run's row in other orders that come to the same */
+  #orders() {
+    const { script } = this.first.outcome;
+    if (script === undefined) return [];
+    const kept = keptScript(script, "the run");
+    const rows = kept.canBlock.map((_, agent) => stretchesOf(inOneGo(kept, agent)));
+    return rows.sort((one, other) => one.length - other.length);
+  }
+
+  /** @returns {Stretch[]} those of the shortest run so far */
+  #stretches() {
+    return stretchesOf(this.current.row);
+  }
+
+  /**
+   * Leaves out many stretches that stand together, then ever fewer.
+   * @param {boolean} isBackward whether the last ones are left out first
+   */
+  async #dropChunks(isBackward) {
+    let size = Math.ceil(this.#stretches().length / 2);
+    for (;;) {
+      for (let tried = 0; tried < this.#stretches().length;) {
+        const all = this.#stretches();
+        const at = isBackward ? Math.max(0, all.length - tried - size) : tried;
+        if (!await this.#isBetter(without(all, at, size))) tried += size;
+      }
+      if (size <= 1) return;
+      size = Math.ceil(size / 2);
+    }
+  }
+
+  /**
+   * Tries changes of each stretch.
+   * @param {(stretches: Stretch[], at: number) => Stretch[][]} changesAt
+   * @returns {Promise<boolean>} whether one was better
+   */
+  async #tryAll(changesAt) {
+    let isBetter = false;
+    for (let at = 0; at < this.#stretches().length;) {
+      if (await this.#tryEach(changesAt(this.#stretches(), at))) isBetter = true;
+      else at += 1;
+    }
+    return isBetter;
+  }
+
+  /** @param {Stretch[][]} rows @returns {Promise<boolean>} whether one was better; those behind it aren't tried */
+  async #tryEach(rows) {
+    for (const row of rows) {
+      if (await this.#isBetter(row)) return true;
+    }
+    return false;
+  }
+
+  /**
+   * Tries a row, and goes on from it where its run is shorter, and fails in the same way.
+   * @param {Stretch[]} stretches
+   */
+  async #isBetter(stretches) {
+    const row = rowOf(stretches);
+    const name = stretchesOf(row).map(({ agent, draws }) => `${agent}x${draws}`).join();
+    if (!this.known.has(name)) {
+      if (!this.#goesOn()) return false;
+      this.known.set(name, await this.#made(row));
+    }
+    const found = this.known.get(name);
+    if (found === undefined || !isShorter(found, this.current)) return false;
+    this.current = found;
+    return true;
+  }
+
+  /**
+   * Makes a run by a row.
+   * @param {number[]} row
+   * @returns {Promise<Measured | undefined>} undefined: it doesn't fail in the same way
+   */
+  async #made(row) {
+    const { seed, ending } = this.first.outcome;
+    const wanted = { seed, whole: false, row, tellsRow: true, isTrial: true, tellsLines: ending === "race" };
+    const run = await this.group.one(wanted);
+    this.runs += 1;
+    this.limits.onTry({ runs: this.runs, changes: Math.min(this.best.changes, this.current.changes) });
+    return failsAlike(run, this.first) ? measured(run.outcome) : undefined;
+  }
+
+  #goesOn() {
+    if (this.runs >= this.limits.most) this.stopped ??= "the most that are made";
+    else if (performance.now() > this.until) {
+      const seconds = this.limits.milliseconds / 1_000;
+      this.stopped ??= `stopped after ${seconds} s, so a faster machine may find a shorter one`;
+    }
+    return this.stopped === undefined;
+  }
+}
+
+/** @param {Stretch[]} stretches @param {number} at */
+const droppedAt = (stretches, at) => [without(stretches, at, 1)];
+
+/**
+ * Looks for the shortest run that fails in the same way as one that was found by its seed.
+ * @param {import("../run/group.mjs").Group} group of the same agents
+ * @param {Told} told of the run that was found
+ * @param {Limits} [limits]
+ * @returns {Promise<Found>}
+ */
+export async function shorten(group, told, limits = {}) {
+  const begun = performance.now();
+  const why = whyNot(told);
+  if (why !== undefined) return asFound(told, { row: [] }, 0, why);
+  const { seed } = told;
+  const first = await group.one({ seed, whole: true, tellsRow: true });
+  const isAgain = areSame(first.outcome, told) && failsAlike(first, first);
+  if (!isAgain) return asFound(told, first.outcome, 1, NOT_AGAIN);
+  const all = { most: MOST_RUNS, milliseconds: MOST_MILLISECONDS, onTry: () => {}, ...limits };
+  const search = new Search(group, first, all, begun);
+  await search.run();
+  const { best, runs, stopped } = search;
+  if (!isShorter(best, measured(first.outcome))) {
+    return asFound(told, first.outcome, runs - 1, "no shorter one was found", stopped);
+  }
+  const shortest = await remade(group, first, best);
+  if (shortest === undefined) return asFound(told, first.outcome, runs, NOT_AGAIN, stopped);
+  const changes = { before: changesOf(first.outcome.row ?? []), after: best.changes };
+  const shortened = { runs, changes, calls: { before: told.calls, after: best.calls } };
+  return { shortest, shortened: stopped === undefined ? shortened : { ...shortened, stopped } };
+}
+
+/**
+ * What is told of a run that stays as it was found.
+ * @param {Told} told
+ * @param {Pick<Outcome, "row">} first
+ * @param {number} runs
+ * @param {string} unchanged why it stays so
+ * @param {string} [stopped]
+ * @returns {Found}
+ */
+function asFound({ calls }, { row = [] }, runs, unchanged, stopped) {
+  const changes = changesOf(row);
+  const both = { changes: { before: changes, after: changes }, calls: { before: calls, after: calls } };
+  return { shortened: { runs, ...both, ...(stopped === undefined ? {} : { stopped }), unchanged } };
+}
+
+/**
+ * Makes the shortest run once more, by workers that were started anew, as who replays it will; all of it is told.
+ * @param {import("../run/group.mjs").Group} group
+ * @param {One} first
+ * @param {Measured} best
+ * @returns {Promise<One | undefined>} undefined: it wasn't the same
+ */
+async function remade(group, first, { row, calls }) {
+  const { seed } = first.outcome;
+  const run = await group.one({
+    seed, whole: true, row, isExact: true, tellsRow: true, tellsTrace: true, isFresh: true,
+  });
+  const isSame = run.outcome.calls === calls && run.outcome.row?.length === row.length;
+  return isSame && failsAlike(run, first) ? run : undefined;
+}

@@ -1,0 +1,34 @@
+// Groups of workers in this process, for tests that make single runs.
+
+import assert from "node:assert/strict";
+import { moduleUrl } from "../lib/recorder.mjs";
+import { Group } from "../lib/run/group.mjs";
+
+/**
+ * A group that ends with the test.
+ * @param {import("node:test").TestContext} context
+ * @param {string | URL} module of agents
+ * @param {object} [options]
+ */
+export async function groupOf(context, module, options = {}) {
+  const fixed = { args: [], maxMoves: 100_000, seconds: 5, fresh: false };
+  const group = await Group.open({ ...fixed, ...options, module: moduleUrl(module) });
+  context.after(() => group.close());
+  return group;
+}
+
+/**
+ * The first failing run of a group's agents that meets no bound, by its seed.
+ * @param {Group} group
+ * @param {number} [most] how many seeds are tried
+ * @returns {Promise<import("../lib/run/group.mjs").Outcome>}
+ */
+export async function firstFailing(group, most = 500) {
+  for (let first = 1; first <= most; first += 10) {
+    const failing = [];
+    const seeds = Array.from({ length: 10 }, (_, at) => ({ seed: first + at, whole: false, isTrial: true }));
+    await group.run(seeds, (outcome) => outcome.fails && outcome.ending !== "bound" && failing.push(outcome.seed));
+    if (failing.length > 0) return (await group.one({ seed: failing[0], whole: true })).outcome;
+  }
+  return assert.fail(`none of ${most} runs failed`);
+}

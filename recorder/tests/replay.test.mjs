@@ -1,0 +1,242 @@
+// --replay: the agents run once more by the row of a kept script, and where the code no longer does the same it is said
+// what it does in place of that.
+
+import assert from "node:assert/strict";
+import { spawnSync } from "node:child_process";
+import { readFileSync, writeFileSync } from "node:fs";
+import { join } from "node:path";
+import { test } from "node:test";
+import { pathToFileURL } from "node:url";
+import { optionsOf } from "../lib/command/options.mjs";
+import { Replay } from "../lib/command/replay.mjs";
+import { Refused } from "../lib/run/plan.mjs";
+import { NoLongerTheSame } from "../lib/shorter/differing.mjs";
+import { keptScript } from "../lib/shorter/kept-script.mjs";
+import { record } from "../recorder.mjs";
+import { RECORD, SABSIM, agentsPath, temporaryFolder, withSabsim } from "./common.mjs";
+
+// A relay with an `init`, ordinary writes, waits with and without a time, and an end that its `check` may find wrong.
+const CODE = `
+export const setup = { agents: 2, buffers: [32] };
+
+export function init([buffer]) {
+  new Int32Array(buffer)[5] = 77;
+}
+
+export default function agent({ buffers: [buffer], agent }) {
+  const words = new Int32Array(buffer);
+  if (agent === 0) {
+    Atomics.wait(words, 6, 0, 5);
+    words[4] = 12;
+    Atomics.store(words, 0, 1);
+    Atomics.notify(words, 0, 1);
+  } else {
+    while (Atomics.load(words, 0) === 0) Atomics.wait(words, 0, 0);
+    Atomics.add(words, 1, Math.floor(Math.random() * 1000) + words[4]);
+  }
+}
+
+export const check = ([buffer]) => new Int32Array(buffer)[1] < 0;
+`;
+
+/** A folder with the module and with the kept script of its run by a seed, which its \`check\` finds wrong. */
+async function keptRun(context, seed = 4) {
+  const folder = temporaryFolder(context);
+  const module = join(folder, "relay.mjs");
+  writeFileSync(module, CODE);
+  const outcome = await record({ module, seed, sabsim: false });
+  assert.equal(outcome.ending, "check");
+  const file = join(folder, `seed-${seed}.json`);
+  writeFileSync(file, outcome.script);
+  return { folder, module, file, outcome };
+}
+
+/** Replays in this process. @param {string} module @param {string} file @param {string[]} words */
+function replayed(module, file, ...words) {
+  const options = optionsOf([module, "--replay", file, "--check", "0", ...words]);
+  return new Replay({ ...options, module: pathToFileURL(module).href }, options.replay).run();
+}
+
+/** Replays by the command line. */
+function replay(words, options = {}) {
+  const { status, stdout, stderr } = spawnSync(process.execPath, [RECORD, ...words], { encoding: "utf8", ...options });
+  return { status, stdout, stderr };
+}
+
+test("a kept run is made again, and sabsim says the same of it", withSabsim, async (context) => {
+  const { module, file, outcome } = await keptRun(context);
+  const { status, stdout, stderr } = replay([module, "--replay", file, "--sabsim", SABSIM]);
+  assert.deepEqual([status, stderr], [1, ""], stderr);
+  const lines = stdout.trimEnd().split("\n");
+  assert.deepEqual(lines.slice(0, 6), [
+    `replayed ${file}, with the clocks and random numbers of seed 4`,
+    "1 of 1 run failed: 1 check",
+    "first failing seed: 4, check",
+    "  check answered false",
+    "1 final state: how it ended, and the bytes",
+    // What agent 1 has added is a random number of the seed.
+    `  1 run check, seed 4 the first: ${outcome.bytes[0].slice(0, 48)}…`,
+  ]);
+  assert.equal(lines[6], "1 run checked: sabsim says the same");
+});
+
+test("the seed is that of the file's name, or of --seeds, or else 1", async (context) => {
+  const { folder, module, file, outcome } = await keptRun(context);
+  const other = join(folder, "other.json");
+  writeFileSync(other, outcome.script);
+  const words = [module, "--replay", other, "--check", "0"];
+  const given = replay([...words, "--seeds", "4"]);
+  assert.equal(given.status, 1);
+  assert.ok(given.stdout.startsWith(`replayed ${other}, with the clocks and random numbers of seed 4\n`));
+  // With seed 1 agent 1 adds another number, which is told.
+  const { status, stdout, stderr } = replay(words);
+  assert.deepEqual([status, stdout], [3, ""]);
+  assert.match(stderr, /^record: the code no longer does the same: agent 1's call \d was \["add", "Int32", 1, \d+\] /);
+  await assert.rejects(replayed(module, file, "--seeds", "1"), NoLongerTheSame);
+});
+
+test("where the code now finishes with the same calls the status is 0", async (context) => {
+  const { module, file } = await keptRun(context);
+  writeFileSync(module, CODE.replace("< 0", ">= 0"));
+  const { status, stdout } = replay([module, "--replay", file, "--check", "0"]);
+  assert.equal(status, 0);
+  assert.match(stdout, /^replayed [^\n]+\n1 run: 1 finished\n/);
+});
+
+test("the code's first difference from the script is told", async (context) => {
+  const { module, file, outcome } = await keptRun(context);
+  const { draws, steps } = keptScript(outcome.script, file);
+  assert.deepEqual(steps.slice(0, 1).map(({ text }) => text), ['["store", "init_Int32", 5, 77]']);
+  assert.ok(draws.length > 4);
+  const changed = [
+    ["store(words, 0, 1)", "store(words, 0, 2)",
+      'agent 0\'s call 1 was ["store", "Int32", 0, 1] in the script, and is now ["store", "Int32", 0, 2]'],
+    ["Atomics.notify(words, 0, 1);", "",
+      'agent 0\'s call 2 was ["notify", "Int32", 0, 1] in the script, and now the agent hasn\'t come so far: it has '],
+    ["Atomics.notify(words, 0, 1);", "Atomics.notify(words, 0, 1); Atomics.load(words, 0);",
+      "agent 0 goes on where the script ends"],
+    ["words[4] = 12;", "", 'agent 1\'s call [^\n]* and is now ["add", '],
+    ["= 77", "= 78",
+      '`init` left ["store", "init_Int32", 5, 77] in the script, and is now ["store", "init_Int32", 5, 78]'],
+    ["words[4] = 12;", "words[4] = 12; words[7] = 3;",
+      'agent 0 makes an ordinary write before its call 1 that isn\'t in the script, ["store", "ordinary_Int32", 7, 3]'],
+  ];
+  for (const [from, to, how] of changed) {
+    assert.ok(CODE.includes(from), from);
+    writeFileSync(module, CODE.replace(from, to));
+    await assert.rejects(replayed(module, file), (error) => {
+      assert.ok(error instanceof NoLongerTheSame, error.stack);
+      const [start, end = ""] = how.split("[^\n]*");
+      const told = error.message.replace("the code no longer does the same: ", "");
+      assert.ok(told.startsWith(start) && told.includes(end), `${told}\nand not\n${how}`);
+      return true;
+    });
+  }
+});
+
+/**
+ * The kept script of a run of two agents in which agent 0 waits at word 0, and the code after a change.
+ * @param {import("node:test").TestContext} context
+ * @param {[string, string]} written what agent 0 writes before it waits, before and after the change
+ * @param {boolean} joins whether it is to have waited in the line
+ */
+async function changedBefore(context, [before, after], joins) {
+  const folder = temporaryFolder(context);
+  const module = join(folder, "waits.mjs");
+  const code = (write) => `
+    export const setup = { agents: 2, buffers: [8] };
+    export default function agent({ buffers: [buffer], agent }) {
+      const words = new Int32Array(buffer);
+      if (agent === 1) Atomics.notify(words, 0, 1);
+      else {
+        ${write}
+        Atomics.wait(words, 0, 0);
+        Atomics.load(words, 1);
+        throw new Error("it is woken");
+      }
+    }`;
+  writeFileSync(module, code(before));
+  for (let seed = 1; seed < 50; seed += 1) {
+    const outcome = await record({ module, seed, sabsim: false });
+    if (outcome.ending !== "failed" || outcome.answers[0][0] !== (joins ? "ok" : "not-equal")) continue;
+    const file = join(folder, `seed-${seed}.json`);
+    writeFileSync(file, outcome.script);
+    writeFileSync(module, code(after));
+    return { module, file };
+  }
+  return assert.fail("no seed does it");
+}
+
+test("an agent that goes on from a wait at once, or still waits, is told of", async (context) => {
+  const write = "words[0] = 1;";
+  const wait = 'agent 0 was still in its call 0, ["wait", "Int32", 0, 0], in the script, and now ';
+  const load = 'agent 0\'s call 1 was ["load", "Int32", 1] in the script, and now ';
+  const changed = [
+    [["", write], true, `${wait}it makes the next one, ["load", "Int32", 1]`],
+    [[write, ""], false, `${load}the agent hasn't come so far: it still waits`],
+  ];
+  for (const [written, joins, how] of changed) {
+    const { module, file } = await changedBefore(context, written, joins);
+    await assert.rejects(replayed(module, file), (error) => {
+      assert.equal(error.message, `the code no longer does the same: ${how}`);
+      return error instanceof NoLongerTheSame;
+    });
+  }
+});
+
+test("what is no script of the recorder's is refused, and options that aren't those of its run", async (context) => {
+  const { folder, module, file, outcome } = await keptRun(context);
+  const script = JSON.parse(outcome.script);
+  const { schedule: moves } = script;
+  const written = (name, text) => {
+    writeFileSync(join(folder, name), text);
+    return join(folder, name);
+  };
+  const changed = (change) => JSON.stringify({ ...script, ...change });
+  const wrong = [
+    [join(folder, "none.json"), /^--replay .*none\.json can't be read: ENOENT/],
+    [written("report", outcome.report), /^.*report is no script that the recorder has kept: [^\n]+$/],
+    [written("empty.json", "{}"), /is no script that the recorder has kept: it has no blocks$/],
+    [written("null.json", "null"), /is no script that the recorder has kept: it has no blocks$/],
+    [written("views.json", changed({ views: [{ name: "Int32" }] })), /its view "Int32" isn't one$/],
+    [written("short.json", changed({ schedule: moves.slice(0, -3) })), /agent \d has calls that its schedule/],
+    [written("split.json", changed({ schedule: [0, 1, ...moves] })), /its move 0 doesn't make a call in a row$/],
+    [written("more.json", changed({ schedule: [...moves, 1, 1, 1] })), /its move \d+ is one of no call$/],
+    [written("time.json", changed({ schedule: [{ timeout: 0 }, ...moves] })), /ends a wait that there isn't$/],
+  ];
+  for (const [path, why] of wrong) {
+    assert.throws(() => replayed(module, path), (error) => {
+      assert.ok(error instanceof Refused, `${path}: ${error.stack}`);
+      assert.match(error.message, why);
+      return true;
+    });
+  }
+  const options = [
+    [["--agents", "3"], "--agents is 3, but the script's run had 2: leave it away, the script says it"],
+    [["--buffers", "8,8"], "--buffers is 8,8, but the script's run had 32: leave it away, the script says it"],
+    [["--seeds", "1..4"], '--replay makes one run: --seeds must be one seed, but is "1..4"'],
+    [["--out", folder], "--replay keeps nothing: leave --out away"],
+  ];
+  for (const [words, why] of options) {
+    assert.throws(() => replayed(module, file, ...words), (error) => error instanceof Refused && error.message === why);
+  }
+  const { status, stderr } = replay([module, "--replay", join(folder, "report")]);
+  assert.equal(status, 2);
+  assert.match(stderr, /^record: [^\n]+\n$/);
+});
+
+test("a debugger of the process stops in the agents, and the time of agents isn't up meanwhile", async (context) => {
+  const { folder, module, file } = await keptRun(context);
+  const debuggerFile = new URL("./agents/debugger.mjs", import.meta.url).href;
+  const seconds = ["--seconds", "1"];
+  const words = ["--inspect=127.0.0.1:0", "--import", debuggerFile, RECORD, module, "--replay", file, "--check", "0"];
+  const { status, stdout, stderr } = spawnSync(process.execPath, [...words, ...seconds], {
+    encoding: "utf8", timeout: 60_000, env: { ...process.env, STOP_IN: module, STOP_FOR: "1500" },
+  });
+  assert.equal(status, 1, stderr);
+  assert.match(stderr, /^Debugger listening on ws:/m);
+  const line = CODE.split("\n").findIndex((text) => text.includes("Atomics.store(words, 0, 1)")) + 1;
+  assert.match(stderr, new RegExp(`^stopped in relay\\.mjs at line ${line}, in agent$`, "m"));
+  assert.match(stdout, /^1 of 1 run failed: 1 check$/m);
+  assert.ok(readFileSync(join(folder, "relay.mjs"), "utf8") === CODE);
+});

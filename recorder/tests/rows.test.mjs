@@ -1,0 +1,150 @@
+// Runs that are forced to go by a row of draws: on the board alone, and with examples and wrong programs, of which some
+// are shortened. `known.test.mjs` forces runs of all known programs.
+
+import assert from "node:assert/strict";
+import { readdirSync } from "node:fs";
+import { describe, it, test } from "node:test";
+import { Board } from "../lib/board/board.mjs";
+import { PHASE } from "../lib/board/layout.mjs";
+import { check as checkWithSabsim, checkable } from "../lib/check/sabsim.mjs";
+import { keptScript } from "../lib/shorter/kept-script.mjs";
+import { shorten } from "../lib/shorter/shorten.mjs";
+import { SABSIM, agentsPath, withSabsim } from "./common.mjs";
+import { firstFailing, groupOf } from "./groups.mjs";
+
+const { ASKS, WAITS, WAITS_TIMED, WOKEN, DONE } = PHASE;
+
+/**
+ * A board whose agents have all been started, and are at a phase.
+ * @param {number[]} phases
+ * @param {object} row that is wanted
+ */
+function boardAt(phases, row) {
+  const board = new Board(Board.memory(), { agents: phases.length, maxMoves: 100_000, timeouts: 1 });
+  board.row.begin({ tellsRow: true, ...row });
+  board.begin(1);
+  for (let agent = 0; agent < phases.length - 1; agent += 1) board.pass(agent);
+  phases.forEach((phase, agent) => board.line.become(agent, phase));
+  return board;
+}
+
+/** Who gets the turn, if it is passed on so many times. */
+function drawn(board, times) {
+  for (let time = 0; time < times; time += 1) board.pass(board.strategy.lastMoved());
+  return board.row.told();
+}
+
+test("a row is followed, entries of agents that can't move are left out, and a wait's time may be up", () => {
+  const board = boardAt([ASKS, WAITS, WAITS_TIMED, DONE, WOKEN], { row: [4, 1, 2, 3, 0, 4, 4] });
+  assert.deepEqual(drawn(board, 5), [4, 2, 0, 4, 4]);
+});
+
+test("behind its end the agent goes on that moved last, then the next one in number that can", () => {
+  const board = boardAt([ASKS, WAITS_TIMED, WAITS, ASKS], { row: [0] });
+  assert.deepEqual(drawn(board, 3), [0, 0, 0]);
+  board.line.become(0, DONE);
+  assert.deepEqual(drawn(board, 2), [0, 0, 0, 3, 3]);
+  board.line.become(0, WOKEN);
+  board.line.become(3, WAITS);
+  assert.deepEqual(drawn(board, 1).slice(5), [0]);
+  // Now nothing is left but the end of a time.
+  board.line.become(0, DONE);
+  assert.deepEqual(drawn(board, 1).slice(6), [1]);
+  board.line.become(1, DONE);
+  board.pass(1);
+  assert.equal(board.end.told().ending, "deadlock");
+  assert.deepEqual(drawn(boardAt([ASKS, ASKS], { row: [] }), 2), [0, 0]);
+});
+
+test("an agent that goes on and on behind the row's end leaves the turn to others at last", () => {
+  const row = drawn(boardAt([ASKS, ASKS, WAITS_TIMED], { row: [1] }), 1_500);
+  assert.deepEqual([...new Set(row)].sort(), [0, 1]);
+  const longest = row.join("").match(/0+|1+/g).map(({ length }) => length);
+  assert.ok(Math.max(...longest) < 999, `${longest}`);
+  assert.ok(Math.min(...longest.slice(0, -1)) >= 100, `${longest}`);
+});
+
+test("a row that can't be followed exactly ends the run, and it is told why", () => {
+  const strayed = (phases, row, times) => {
+    const board = boardAt(phases, { row, isExact: true });
+    drawn(board, times);
+    return [board.end.hasEnded() && board.end.told().ending, board.row.strayed()];
+  };
+  assert.deepEqual(strayed([ASKS, WAITS], [0, 1], 2), ["failed", { reason: "waits", agent: 1, draw: 1 }]);
+  assert.deepEqual(strayed([ASKS, DONE], [0, 0, 1], 3), ["failed", { reason: "ended", agent: 1, draw: 2 }]);
+  assert.deepEqual(strayed([ASKS, WOKEN], [1], 2), ["failed", { reason: "goes on", agent: 0, draw: 1 }]);
+  assert.deepEqual(strayed([WAITS_TIMED, DONE], [], 1), ["failed", { reason: "goes on", agent: 0, draw: 0 }]);
+  assert.deepEqual(strayed([WAITS, DONE], [0], 1), ["failed", { reason: "waits", agent: 0, draw: 0 }]);
+  assert.deepEqual(strayed([WAITS, DONE], [], 1), ["deadlock", undefined]);
+  assert.deepEqual(strayed([DONE, DONE], [], 1), ["finished", undefined]);
+});
+
+test("time and chance come from the seed, whatever the row is", async (context) => {
+  const group = await groupOf(context, agentsPath("by-chance"));
+  /** What the agents drew, and what time it was for each at its end. */
+  const made = async (wanted) => {
+    const { outcome } = await group.one({ seed: 5, whole: true, tellsRow: true, ...wanted });
+    const words = new Int32Array(Uint8Array.from(Buffer.from(outcome.bytes[0], "hex")).buffer);
+    return { outcome, numbers: words.slice(0, 6), times: words.slice(6, 9) };
+  };
+  const free = await made({});
+  const exact = await made({ row: free.outcome.row, isExact: true });
+  assert.equal(exact.outcome.script, free.outcome.script);
+  assert.deepEqual(exact.times, free.times);
+  const inNumber = await made({ row: [] });
+  assert.notDeepEqual(inNumber.outcome.row, free.outcome.row);
+  assert.deepEqual(inNumber.numbers, free.numbers);
+  assert.equal(new Set(free.numbers).size, 6);
+  assert.notDeepEqual((await made({ seed: 6, row: [] })).numbers, free.numbers);
+});
+
+const KNOWN = new URL("./known/", import.meta.url);
+const EXAMPLES = new URL("../examples/", import.meta.url);
+
+// Programs that fail in each of the ways that can be shortened.
+const SHORTENED = [
+  ...["condition-if", "deque-takes-twice", "lock-order", "lost-update", "missed-notify", "publish-early"],
+  ...["ring-frees-first", "semaphore-load-store", "ticket-drawn-twice"],
+].map((name) => new URL(`${name}.mjs`, KNOWN));
+SHORTENED.push(new URL("mutex-naive.agents.mjs", EXAMPLES));
+
+/** The run of a program's seed is the same where it is made by its row. */
+async function demandSame(group) {
+  const { outcome: free } = await group.one({ seed: 1, whole: true, tellsRow: true });
+  const again = { seed: 1, whole: true, tellsRow: true, row: free.row, isExact: true };
+  const { outcome: forced, aside } = await group.one(again);
+  assert.equal(aside.stray, undefined, forced.detail);
+  assert.equal(forced.script, free.script);
+  assert.deepEqual([forced.report, forced.ending, forced.row], [free.report, free.ending, free.row]);
+  assert.deepEqual(keptScript(free.script, "it").draws.map(({ agent }) => agent), free.row);
+}
+
+/** The shortest run ends as the first one did, isn't longer, and sabsim says the same of it. */
+async function demandShorter(group) {
+  const first = await firstFailing(group);
+  const { shortest, shortened: { runs, changes, calls, unchanged } } = await shorten(group, first);
+  assert.ok(runs > 1 && runs <= 400, `${runs}`);
+  if (shortest === undefined) {
+    assert.equal(unchanged, "no shorter one was found");
+    return;
+  }
+  const { outcome, judgement } = shortest;
+  assert.equal(outcome.ending, first.ending);
+  if (first.ending === "race") assert.ok(outcome.races.some(({ lines }) => `${lines}` === `${first.races[0].lines}`));
+  assert.ok(changes.after < changes.before || (changes.after === changes.before && calls.after <= calls.before));
+  assert.equal(outcome.row.filter((agent, at) => at > 0 && agent !== outcome.row[at - 1]).length, changes.after);
+  assert.deepEqual([calls.before, calls.after], [first.calls, outcome.calls]);
+  assert.deepEqual([typeof outcome.trace, outcome.seed], ["string", first.seed]);
+  checkWithSabsim(SABSIM, checkable(outcome, judgement));
+}
+
+describe("examples and wrong programs by their rows", { concurrency: 3, ...withSabsim }, () => {
+  for (const name of readdirSync(EXAMPLES).filter((each) => each.endsWith(".agents.mjs"))) {
+    it(`${name} does the same again`, async (context) => demandSame(await groupOf(context, new URL(name, EXAMPLES))));
+  }
+
+  for (const url of SHORTENED) {
+    const name = url.pathname.split("/").at(-1);
+    it(`${name} is shortened`, async (context) => demandShorter(await groupOf(context, url)));
+  }
+});
