@@ -92,7 +92,7 @@ export interface RecordOptions {
 }
 
 /** The options of many runs: those of one, but for its seed, and these. */
-export interface ExploreOptions extends Omit<RecordOptions, "seed"> {
+export interface ExploreOptions extends Omit<RecordOptions, "seed" | "shorten"> {
   /** As "1..1000", which begins at 1 and ends at 1000; a number: so many of them, from 1 on; else "1..100". */
   seeds?: string | number | { first: number; last: number };
   /**

@@ -2,10 +2,12 @@
 
 import type { ExploreOptions } from "./recorder.mjs";
 
-/** What a trial is made by: the options of `explore`, but for `failFast`, and where the files of a failing run lie. */
+/** What a trial is made by: the options of `explore`, but for `failFast`, and what is done with a failing run. */
 export interface TrialOptions extends Omit<ExploreOptions, "failFast"> {
   /** The folder in which a failing run is kept, from the working directory; else a new one for temporary files. */
   out?: string;
+  /** False: a failing run is shown and kept as it was found, and not the shortest that fails in the same way. */
+  shorten?: boolean;
 }
 
 /**

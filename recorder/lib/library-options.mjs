@@ -56,8 +56,8 @@ import { checkedAgents, checkedBuffers, checkedChoice, checkedNoBlock, checkedSt
  * @property {AbortSignal} [signal] ends all runs when it is aborted
  */
 
-/** @typedef {Omit<RecordOptions, "seed"> & ManyOptions} ExploreOptions */
-/** @typedef {Omit<ExploreOptions, "failFast"> & { out?: string }} TrialOptions */
+/** @typedef {Omit<RecordOptions, "seed" | "shorten"> & ManyOptions} ExploreOptions */
+/** @typedef {Omit<ExploreOptions, "failFast"> & { out?: string, shorten?: boolean }} TrialOptions */
 
 const MOST_SECONDS = 3_600;
 
@@ -119,8 +119,8 @@ const CHECKS = {
   trace: flag,
 };
 
-/** What many runs have in place of `seed`. */
-const { seed: _seed, ...OF_RUNS } = CHECKS;
+/** What many runs have in place of `seed` and `shorten`. */
+const { seed: _seed, shorten: _shorten, ...OF_RUNS } = CHECKS;
 const MANY_CHECKS = {
   ...OF_RUNS,
   seeds: rangeOf,
@@ -198,7 +198,7 @@ function checkedBy(options, checks, defaults, callersFolder) {
  * The options of one run.
  * @param {unknown} options
  * @param {() => string | undefined} callersFolder
- * @returns {Omit<OfAll, "fresh"> & { seed: number }}
+ * @returns {Omit<OfAll, "fresh"> & { seed: number, shorten?: boolean }}
  */
 export const checkedOptions = (options, callersFolder) => checkedBy(options, CHECKS, OWN_DEFAULTS, callersFolder);
 
@@ -219,10 +219,12 @@ export function exploreOptions(options, callersFolder) {
 }
 
 /**
- * The options of a trial, whose `out` alone was looked at.
+ * The options of a trial, of which only its own two were looked at.
  * @param {TrialOptions} options
+ * @returns {TrialOptions}
  */
-export function checkedOut(options) {
+export function checkedOwn(options) {
   if (options?.out !== undefined && !isName(options.out)) throw new Refused("`out` must be the path of a folder");
+  if (options?.shorten !== undefined) flag(options.shorten, "shorten");
   return options ?? {};
 }

@@ -1,11 +1,11 @@
 // The recorder as a library.
 
-import { check as checkWithSabsim, checkable, sabsimFor } from "./check/sabsim.mjs";
+import { sabsimFor } from "./check/sabsim.mjs";
 import { checkedOptions } from "./library-options.mjs";
 import { folderOfCaller } from "./module-url.mjs";
 import { Group } from "./run/group.mjs";
 import { shorten } from "./shorter/shorten.mjs";
-import { whyUnchecked } from "./unchecked.mjs";
+import { checkedBy } from "./unchecked.mjs";
 
 export { Difference, NoSabsim } from "./check/sabsim.mjs";
 export { explore } from "./explore.mjs";
@@ -45,7 +45,7 @@ export async function record(options) {
   const group = await Group.open({ ...rest, fresh: false });
   try {
     /** @param {import("./run/group.mjs").One} run */
-    const checked = (run) => checkedBy(sabsim, isLeftOut, run);
+    const checked = (run) => checkedBy({ isLeftOut, sabsim }, run);
     const found = checked(await group.one({ seed, whole: true }));
     if (!isShortened || !found.fails) return found;
     const { shortest, shortened } = await shorten(group, found);
@@ -53,18 +53,4 @@ export async function record(options) {
   } finally {
     await group.close();
   }
-}
-
-/**
- * A run's outcome, which sabsim has checked where it can.
- * @param {string | undefined} sabsim
- * @param {boolean} isLeftOut whether the options say that it isn't to be
- * @param {import("./run/group.mjs").One} run
- * @returns {import("./run/group.mjs").Outcome & Check}
- */
-function checkedBy(sabsim, isLeftOut, { outcome, judgement }) {
-  const unchecked = whyUnchecked({ isLeftOut, sabsim }, outcome);
-  if (unchecked !== undefined || sabsim === undefined) return { ...outcome, checked: false, unchecked };
-  checkWithSabsim(sabsim, checkable(outcome, judgement));
-  return { ...outcome, checked: true };
 }

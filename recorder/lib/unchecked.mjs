@@ -1,6 +1,6 @@
-// Why sabsim hasn't checked a run, in words.
+// The check of one run by sabsim, and in words why it wasn't made.
 
-import { HOW_TO_BUILD, sabsimPlaces } from "./check/sabsim.mjs";
+import { HOW_TO_BUILD, check, checkable, sabsimPlaces } from "./check/sabsim.mjs";
 
 /**
  * @typedef {object} Asking
@@ -21,4 +21,17 @@ export function whyUnchecked({ isLeftOut, sabsim, every = 1 }, { script, noScrip
   }
   if (noScript !== undefined) return `the run has no script: ${noScript}`;
   return script === undefined && every > 1 ? `of runs that don't fail one in ${every} is checked` : undefined;
+}
+
+/**
+ * A run's outcome, which sabsim has checked where it can.
+ * @param {Asking} asking
+ * @param {import("./run/group.mjs").One} run
+ * @returns {import("./run/group.mjs").Outcome & import("./recorder.mjs").Check}
+ */
+export function checkedBy(asking, { outcome, judgement }) {
+  const unchecked = whyUnchecked(asking, outcome);
+  if (unchecked !== undefined || asking.sabsim === undefined) return { ...outcome, checked: false, unchecked };
+  check(asking.sabsim, checkable(outcome, judgement));
+  return { ...outcome, checked: true };
 }

@@ -84,10 +84,16 @@ export class Session {
     await recordSeeds(this.options, onOutcome, { onCheck, signal, coverage });
   }
 
+  /** The failing run of the least seed. */
+  #failing() {
+    // All that is told of it is known here, where it was made.
+    return /** @type {Outcome | undefined} */ (this.summary.failing);
+  }
+
   /** Looks for the shortest run that fails as the one that is kept, and keeps it in its place. */
   async #shorten() {
     const { keeper, options, progress, summary, interruption: { signal } } = this;
-    const { failing } = summary;
+    const failing = this.#failing();
     if (!options.shorten || failing === undefined || failing.seed !== keeper?.seed) return;
     progress.clear();
     /** @param {import("../shorter/shorten.mjs").Tried} tried */
@@ -102,7 +108,8 @@ export class Session {
    * @param {unknown} stopped why not all were made, if so
    */
   #keepMore(stopped) {
-    const { keeper, summary: { failing, shortened } } = this;
+    const { keeper, summary: { shortened } } = this;
+    const failing = this.#failing();
     if (keeper === undefined) return;
     if (stopped instanceof Difference) {
       const { outcome: { seed, script, report, trace }, replayed, judged } = stopped;

@@ -203,7 +203,7 @@ export class Group {
   /**
    * Has the referee do something, and does what it asks for meanwhile.
    * @param {{ seeds: Wanted[] } | { learns: true }} work
-   * @param {(outcome: Outcome, judgement?: Judgement) => void} onOutcome
+   * @param {(outcome: Outcome, judgement: Judgement | undefined, aside: Aside) => void} onOutcome
    */
   async #work(work, onOutcome) {
     const referee = started(this.referee);

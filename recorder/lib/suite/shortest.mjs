@@ -1,12 +1,24 @@
 // Which run of a failing seed is shown and kept.
 
+import { Group } from "../run/group.mjs";
+import { shorten } from "../shorter/shorten.mjs";
+import { checkedBy } from "../unchecked.mjs";
+
+/** @typedef {import("../recorder.mjs").Outcome} Outcome */
+
 /**
- * The shortest run that is known to fail as another one does.
- * @param {import("../recorder.mjs").Outcome} outcome of the failing run
- * @param {ReturnType<typeof import("../library-options.mjs").exploreOptions>} _options by which it was made
- * @returns {Promise<import("../recorder.mjs").Outcome>}
+ * The shortest run that fails as another one does; sabsim has checked it where that is asked for.
+ * @param {Outcome} failing
+ * @param {ReturnType<typeof import("../library-options.mjs").exploreOptions>} options by which it was made
+ * @param {string | undefined} sabsim undefined: it isn't there, or isn't asked
+ * @returns {Promise<Outcome>} the failing run itself where no shorter one was found
  */
-export async function shortestOf(outcome, _options) {
-  // Nothing makes runs shorter yet: this is the place for it.
-  return outcome;
+export async function shortestOf(failing, options, sabsim) {
+  const group = await Group.open({ ...options, fresh: false });
+  try {
+    const { shortest } = await shorten(group, failing);
+    return shortest === undefined ? failing : checkedBy({ isLeftOut: false, sabsim }, shortest);
+  } finally {
+    await group.close();
+  }
 }

@@ -9,7 +9,7 @@ import { keepPictures } from "../command/pictures.mjs";
 import { toldOf } from "../command/problems.mjs";
 import { counted, digits } from "../command/words.mjs";
 import { explored, sabsimOf } from "../explore.mjs";
-import { checkedOut, exploreOptions } from "../library-options.mjs";
+import { checkedOwn, exploreOptions } from "../library-options.mjs";
 import { failureText } from "./failure.mjs";
 import { shortestOf } from "./shortest.mjs";
 
@@ -44,10 +44,10 @@ class AgentsFailed extends AssertionError {
  * @returns {Promise<string>} what is to be said where none failed; fails with an AssertionError where one did
  */
 export async function tried(given, { folder, place }) {
-  const { out, ...options } = checkedOut(given);
+  const { out, shorten = true, ...options } = checkedOwn(given);
   let [runs, checked, unchecked] = [0, 0, ""];
   for await (const outcome of explored({ ...options, failFast: true }, folder)) {
-    if (outcome.fails) throw new AgentsFailed(await failureOf(outcome, runs, { out, options, folder }), place);
+    if (outcome.fails) throw new AgentsFailed(await failureOf(outcome, runs, { out, shorten, options, folder }), place);
     runs += 1;
     if (outcome.checked) checked += 1;
     else unchecked = outcome.unchecked ?? "";
@@ -60,13 +60,13 @@ export async function tried(given, { folder, place }) {
  * What is told of a run that fails. What can't be kept or explained is told beside it.
  * @param {Outcome} failing
  * @param {number} passed how many runs of lower seeds passed
- * @param {{ out?: string, options: Omit<TrialOptions, "out">, folder: Caller["folder"] }} about
+ * @param {{ out?: string, shorten: boolean, options: Omit<TrialOptions, "out">, folder: Caller["folder"] }} about
  * @returns {Promise<string>}
  */
-async function failureOf(failing, passed, { out, options, folder }) {
+async function failureOf(failing, passed, { out, shorten, options, folder }) {
   const checked = exploreOptions(options, folder);
-  const outcome = await shortestOf(failing, checked);
   const sabsim = sabsimOf(checked);
+  const outcome = shorten ? await shortestOf(failing, checked, sabsim) : failing;
   return failureText({ outcome, passed, sabsim, kept: keptLines(outcome, checked.module, out, sabsim) });
 }
 
