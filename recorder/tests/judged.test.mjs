@@ -12,7 +12,7 @@ import { eventsOfTrace, slowJudge } from "./slow-judge.mjs";
 import { plainText, statusOf } from "./verdict-texts.mjs";
 
 const RING = fileURLToPath(new URL("./known/ring-frees-first.mjs", import.meta.url));
-const RACING_SEED = 2;
+const RACING_SEED = 3;
 const RACE = "data race at byte 1 of block 0: agent 0 writes byte 1 at 2, agent 1 reads byte 1 at 5; " +
   "nothing of agent 0 happens before 5";
 const MEMBERS = [
@@ -89,7 +89,7 @@ describe("the judge of checked runs", withSabsim, () => {
       await assert.rejects(record({ module: RING, seed: RACING_SEED, sabsim, races }), (error) => {
         assert.ok(error instanceof Difference);
         const [title, recorder, other] = error.message.split("\n");
-        assert.equal(title, "seed 2: the recorder and sabsim differ on data races");
+        assert.equal(title, `seed ${RACING_SEED}: the recorder and sabsim differ on data races`);
         assert.match(recorder, found);
         assert.equal(other, "  sabsim:       no data race: 12 accesses by 3 agents");
         return true;
