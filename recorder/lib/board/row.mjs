@@ -118,7 +118,6 @@ export class Row {
     this.calls = new Int32Array(memory.calls);
     this.words = words;
     this.agents = agents;
-    this.state[LAST] = NOBODY;
   }
 
   // The referee's part.

@@ -2,7 +2,6 @@
 // debugger that is attached to it can stop in them.
 
 import { readFileSync } from "node:fs";
-import inspector from "node:inspector";
 import { basename } from "node:path";
 import { checkable, check as checkWithSabsim, sabsimFor, sabsimPlaces } from "../check/sabsim.mjs";
 import { Group } from "../run/group.mjs";
@@ -53,6 +52,17 @@ function placeOf({ lengths, canBlock }, options) {
   return { agents: canBlock.length, buffers: lengths, noBlock };
 }
 
+/** @returns {Promise<boolean>} whether a debugger may be attached to this process */
+async function isDebugged() {
+  try {
+    const { default: inspector } = await import("node:inspector");
+    return inspector.url() !== undefined;
+  } catch {
+    // A node without one can't be debugged.
+    return false;
+  }
+}
+
 export class Replay {
   /**
    * @param {import("./options.mjs").Options} options with the URL of the module
@@ -98,10 +108,8 @@ export class Replay {
 
   async #made() {
     const { kept: { draws }, options, place, seed } = this;
-    const isDebugged = inspector.url() !== undefined;
-    const seconds = isDebugged ? DEBUGGED_SECONDS : options.seconds;
-    const loadSeconds = isDebugged ? DEBUGGED_SECONDS : undefined;
-    const limits = loadSeconds === undefined ? { seconds } : { seconds, loadSeconds };
+    const long = { seconds: DEBUGGED_SECONDS, loadSeconds: DEBUGGED_SECONDS };
+    const limits = await isDebugged() ? long : { seconds: options.seconds };
     const group = await Group.open({ ...options, ...place, ...limits, fresh: false });
     try {
       const row = draws.map(({ agent }) => agent);
