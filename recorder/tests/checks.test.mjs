@@ -37,7 +37,8 @@ describe("init and check", { concurrency: 2, ...withSabsim }, () => {
     const [, seed] = /^first failing seed: (\d+), check\n {2}check threw Error: counted to 1$/m.exec(stdout);
     const kept = (ending) => readFileSync(join(out, `seed-${seed}.${ending}`), "utf8");
     assert.deepEqual(readdirSync(out).sort(), [
-      "explained", "html", "json", "report", "svg", "trace.jsonl",
+      "explained", "html", "json", "original.json", "original.report", "original.trace.jsonl", "report", "svg",
+      "trace.jsonl",
     ].map((ending) => `seed-${seed}.${ending}`));
     assert.equal(sabsim(SABSIM, ["replay"], kept("json")).output, kept("report"));
   });

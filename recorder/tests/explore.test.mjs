@@ -12,8 +12,12 @@ import { Delivery } from "../lib/seeds/delivery.mjs";
 import { NOWHERE, SABSIM, agentsOf, agentsPath, temporaryFolder, withSabsim } from "./common.mjs";
 
 const LIBRARY = new URL("../recorder.mjs", import.meta.url).href;
-const naive = { module: agentsPath("naive-mutex"), sabsim: false };
-const cases = (name) => ({ module: agentsPath("cases"), agents: 2, buffers: [12], args: [name], sabsim: false });
+/** Drawn for before each call, so that there are no pilots, which call `init` too. */
+const everywhere = true;
+const naive = { module: agentsPath("naive-mutex"), sabsim: false, strategy: "uniform", everywhere };
+const cases = (name) => ({
+  module: agentsPath("cases"), agents: 2, buffers: [12], args: [name], sabsim: false, everywhere,
+});
 
 /** All outcomes. @param {AsyncIterable<any>} runs */
 async function allOf(runs) {
@@ -23,7 +27,7 @@ async function allOf(runs) {
 }
 
 test("outcomes come in the order of the seeds, and are those of record, whatever the jobs", withSabsim, async () => {
-  const options = { module: agentsPath("naive-mutex"), sabsim: SABSIM };
+  const options = { ...naive, sabsim: SABSIM };
   const one = await allOf(explore({ ...options, seeds: "20..60", checkEvery: 4 }));
   assert.deepEqual(one.map(({ seed }) => seed), Array.from({ length: 41 }, (_, at) => at + 20));
   const three = await allOf(explore({ ...options, seeds: { first: 20, last: 60 }, checkEvery: 4, jobs: 3 }));
@@ -113,11 +117,14 @@ test("with failFast the first failing run is the last, and with fresh workers ar
 test("runs aren't made far ahead of who takes them", async () => {
   let made = 0;
   const runs = explore({ ...cases("addition"), seeds: 100_000, init: () => void (made += 1) });
-  await runs.next();
-  for (let before = -1; before !== made; await sleep(300)) before = made;
-  assert.ok(made >= 16 && made <= 32, `${made} were made`);
-  for (let seed = 2; seed <= 50; seed += 1) assert.equal((await runs.next()).value.seed, seed);
-  await runs.return();
+  try {
+    await runs.next();
+    for (let before = -1; before !== made; await sleep(300)) before = made;
+    assert.ok(made >= 16 && made <= 32, `${made} were made`);
+    for (let seed = 2; seed <= 50; seed += 1) assert.equal((await runs.next()).value.seed, seed);
+  } finally {
+    await runs.return();
+  }
   const after = made;
   await sleep(100);
   assert.equal(made, after);
