@@ -51,7 +51,7 @@ describe("the time of a run and its random numbers", { concurrency: 2, ...withSa
   });
 
   it("a wait's time is up in about one of 20 draws, as it is asked for, or when nothing else can move", async () => {
-    // All that can move are alike, before each call.
+    // All that can move are alike here, at each call.
     const alike = { strategy: "uniform", everywhere: true };
     const [usual, never, always] = await Promise.all([
       outcomesOf("naps", seedsTo(8), alike),

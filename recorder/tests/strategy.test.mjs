@@ -19,11 +19,11 @@ const call = (word, how) => ({ from: word * 4, to: word * 4 + 4, how });
  * A board all of whose agents ask for a call.
  * @param {string} strategy
  * @param {{ from: number, to: number, how: number }[]} calls of each agent
- * @param {{ seed?: number, everywhere?: boolean, know?: (places: KnownPlaces) => void }} [options]
+ * @param {{ seed?: number, everywhere?: boolean, timeouts?: number, know?: (places: KnownPlaces) => void }} [options]
  */
-function asking(strategy, calls, { seed = 1, everywhere = false, know = () => {} } = {}) {
+function asking(strategy, calls, { seed = 1, everywhere = false, timeouts = 0.05, know = () => {} } = {}) {
   const ways = waysOf(strategy, everywhere);
-  const board = new Board(Board.memory(), { agents: calls.length, ways, maxMoves: 100_000, timeouts: 0.05 });
+  const board = new Board(Board.memory(), { agents: calls.length, ways, maxMoves: 100_000, timeouts });
   know(board.places);
   board.begin(seed);
   for (let agent = 1; agent < calls.length; agent += 1) board.pass(agent - 1);
@@ -88,6 +88,21 @@ test("by partial-order sampling an agent that reads again and again lets the oth
     const turns = row(asking("partial-order", calls, { seed }), calls, 900);
     assert.ok(turns.includes(1), `seed ${seed}: the one that writes never moves`);
   }
+});
+
+test("by partial-order sampling the end of a time is as likely each time that it is offered", () => {
+  const calls = [call(0, READS), call(1, READS | WAITERS)];
+  // The draws up to the end of the time: where it is offered in each it takes two as a rule, since it is one of two.
+  let draws = 0;
+  for (let seed = 0; seed < 500; seed += 1) {
+    const board = asking("partial-order", calls, { seed, timeouts: 1 });
+    board.line.join(1, 0, 4, true);
+    for (let agent = 0; agent === 0; draws += 1) {
+      agent = board.strategy.next();
+      ask(board, 0, calls[0].from, calls[0].to, calls[0].how);
+    }
+  }
+  assert.ok(draws > 850 && draws < 1_150, `${draws} draws`);
 });
 
 test("a call that is the agent's own affair is made without a draw, and a wait or a notify never is", () => {

@@ -2,7 +2,7 @@
 // the moves that conflict with it get new priorities. So orders of moves that conflict are about alike, however many
 // other moves there are.
 
-import { AGENT_WORD, wordOf } from "../layout.mjs";
+import { AGENT_WORD, PHASE, wordOf } from "../layout.mjs";
 
 // No priority was drawn yet.
 const NONE = 0;
@@ -50,9 +50,12 @@ export class PartialOrder {
 
   /** @param {number} agent @returns {number} the priority of its next move */
   #priority(agent) {
+    const { words } = this;
     const word = wordOf(agent, AGENT_WORD.PRIORITY);
-    if (this.words[word] === NONE) this.words[word] = (this.random.next() >>> 2) + 1;
-    return this.words[word];
+    // The end of a time is offered now and then, each time anew: a low priority would put it off for long.
+    const isOffered = words[wordOf(agent, AGENT_WORD.AT)] === PHASE.WAITS_TIMED;
+    if (isOffered || words[word] === NONE) words[word] = (this.random.next() >>> 2) + 1;
+    return words[word];
   }
 
   /** @param {number} next who moves now: the move after it, and those that conflict with it, get other priorities */
