@@ -137,7 +137,11 @@ fn report_arguments<'a>(alloc: Global) -> Result<Vec<Arg<'a>>, AllocError> {
 
 /// What says how threads share the simulator, how often they step at a wait, and their seed.
 fn thread_arguments<'a>(alloc: Global) -> Result<Vec<Arg<'a>>, AllocError> {
-    Ok(vec![in alloc; share_argument(alloc), spins_argument(alloc), mix_argument(alloc)]?)
+    Ok(vec![in alloc;
+        share_argument(alloc),
+        spins_argument(alloc),
+        mix_argument(alloc),
+    ]?)
 }
 
 /// The flag that says that a trace is judged, to which `--finish` and `--explain` mean nothing.
@@ -170,7 +174,10 @@ fn replay_command<'a>(alloc: Global) -> Result<Command<'a>, AllocError> {
 
 /// The command that runs a script's agents in threads.
 fn race_command<'a>(alloc: Global) -> Result<Command<'a>, AllocError> {
-    let race = with_threads(alloc, described(alloc, "race", help::RACE, help::RACE_FORMS))?;
+    let race = with_threads(
+        alloc,
+        described(alloc, "race", help::RACE, help::RACE_FORMS),
+    )?;
     race.args(report_arguments(alloc)?)
 }
 
