@@ -31,8 +31,8 @@ test("outcomes come in the order of the seeds, and are those of record, whatever
   const one = await allOf(explore({ ...options, seeds: "20..60", checkEvery: 4 }));
   assert.deepEqual(one.map(({ seed }) => seed), Array.from({ length: 41 }, (_, at) => at + 20));
   const three = await allOf(explore({ ...options, seeds: { first: 20, last: 60 }, checkEvery: 4, jobs: 3 }));
-  // Each job tells the trace of its own first failing run.
-  const untraced = (outcomes) => outcomes.map((outcome) => ({ ...outcome, trace: undefined }));
+  // Each job tells the trace of its own first failing run, and the code that it names.
+  const untraced = (outcomes) => outcomes.map((outcome) => ({ ...outcome, trace: undefined, sources: undefined }));
   assert.deepEqual(untraced(three), untraced(one));
   for (const { seed, fails, checked, unchecked, script } of one) {
     assert.equal(checked, fails || (seed - 20) % 4 === 0);

@@ -5,6 +5,7 @@ import assert from "node:assert/strict";
 import { readdirSync } from "node:fs";
 import { describe, it, test } from "node:test";
 import { Board } from "../lib/board/board.mjs";
+import { waysOf } from "../lib/board/strategy/ways.mjs";
 import { PHASE } from "../lib/board/layout.mjs";
 import { check as checkWithSabsim, checkable } from "../lib/check/sabsim.mjs";
 import { keptScript } from "../lib/shorter/kept-script.mjs";
@@ -20,7 +21,9 @@ const { ASKS, WAITS, WAITS_TIMED, WOKEN, DONE } = PHASE;
  * @param {object} row that is wanted
  */
 function boardAt(phases, row) {
-  const board = new Board(Board.memory(), { agents: phases.length, maxMoves: 100_000, timeouts: 1 });
+  const board = new Board(Board.memory(), {
+    agents: phases.length, maxMoves: 100_000, timeouts: 1, ways: waysOf("uniform", true),
+  });
   board.row.begin({ tellsRow: true, ...row });
   board.begin(1);
   for (let agent = 0; agent < phases.length - 1; agent += 1) board.pass(agent);

@@ -80,7 +80,7 @@ async function bothWays(words, of) {
 
 const MODULES = [
   ["some deadlock", 4, agentsPath("naive-mutex"), ["--seeds", "20..47", "--check", "7"], ["deadlock", "finished"]],
-  ["some race, and some fail", 3, known("ring-frees-first"), ["--seeds", "1..20"], ["failed", "race", "finished"]],
+  ["some race, and some fail", 3, known("ring-frees-first"), ["--seeds", "30..49"], ["failed", "race", "finished"]],
   ["none fails", 2, agentsPath("three-state-mutex"), ["--seeds", "1..8", "--ordinary", "store"], ["finished"]],
 ];
 

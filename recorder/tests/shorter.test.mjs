@@ -7,7 +7,7 @@ import { readFileSync, readdirSync } from "node:fs";
 import { join } from "node:path";
 import { test } from "node:test";
 import { Progress } from "../lib/command/progress.mjs";
-import { shortenedLines } from "../lib/command/shortened.mjs";
+import { shortenedLines, shorteningOf } from "../lib/command/shortened.mjs";
 import { failsAlike } from "../lib/shorter/alike.mjs";
 import { inOneGo } from "../lib/shorter/in-one-go.mjs";
 import { keptScript } from "../lib/shorter/kept-script.mjs";
@@ -175,7 +175,7 @@ test("the shortest run is kept with the original beside it, whatever the jobs; -
     const same = "12 calls to 12, in \\d+ runs; sabsim says the same of it";
     assert.match(stdout, new RegExp(`^shortened: \\d+ changes of agents to 2, ${same}$`, "m"));
     const first = ["json", "report", "trace.jsonl"];
-    const endings = [...first, ...first.map((ending) => `original.${ending}`), "explained", "svg"];
+    const endings = [...first, ...first.map((ending) => `original.${ending}`), "explained", "svg", "html"];
     assert.deepEqual(Object.keys(files).sort(), endings.map((ending) => `seed-${seed}.${ending}`).sort());
     assert.ok(stdout.endsWith(`: ${endings.map((ending) => `seed-${seed}.${ending}`).join(", ")}\n`), stdout);
     const options = { module: MODULE, args: ["bell"], seed: Number(seed), sabsim: SABSIM };
@@ -200,13 +200,15 @@ test("what a summary says of it", () => {
   const about = { runs: 84, changes, calls };
   const failing = { detail: "as found" };
   const shortest = { detail: "one\ntwo" };
+  /** @param {object} found */
+  const linesOf = (found) => shortenedLines(shorteningOf(found, failing));
   const start = "shortened: 1,031 changes of agents to 4, 60 calls to 22, in";
-  assert.deepEqual(shortenedLines({ shortest, shortened: about, checked: true }, failing),
+  assert.deepEqual(linesOf({ shortest, shortened: about, checked: true }),
     [`${start} 84 runs; sabsim says the same of it`, "  one", "  two"]);
   const stopped = { ...about, runs: 400, stopped: "the most that are made" };
-  assert.deepEqual(shortenedLines({ shortest: failing, shortened: stopped, checked: false }, failing),
+  assert.deepEqual(linesOf({ shortest: failing, shortened: stopped, checked: false }),
     [`${start} 400 runs, the most that are made`]);
-  assert.deepEqual(shortenedLines({ shortened: { ...about, runs: 0, unchanged: "it met a bound" } }, failing),
+  assert.deepEqual(linesOf({ shortened: { ...about, runs: 0, unchanged: "it met a bound" } }),
     ["not shortened: it met a bound"]);
 });
 

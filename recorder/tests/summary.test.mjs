@@ -232,6 +232,7 @@ test("the object of a summary has all that its text has, and what the text leave
       failing: [{ ending: "race", runs: 1, first: 4 }], passing: [{ ending: "finished", runs: 3, first: 1 }],
     },
     firstFailing: { seed: 4, ending: "race", detail: ["one", "two"], noScript: "it is too long" },
+    shortened: null,
     races: {
       allowed: false, runs: 1,
       pairs: { listed: [{ lines: ["ring.mjs:12:7", "ring.mjs:20:11"], runs: 1, first: 4 }], others: 0 },
@@ -242,6 +243,7 @@ test("the object of a summary has all that its text has, and what the text leave
     },
     sabsim: { asked: true, versions: ["sabsim 0.1.0"], checked: 1, judges: true, missing: null },
     scripts: { parts: 0, none: { listed: [{ why: "it is too long", runs: 1, first: 4 }], others: 0 } },
+    coverage: null,
     calls: 17,
     accesses: 21,
     unseen: [],

@@ -37,7 +37,9 @@ async function suite(context, code, env = {}, reporter = "spec") {
   return { folder, temporary, output, status };
 }
 
-const AGENTS = 'testAgents("no wake-up is lost", { module: "./agents.mjs", seeds: "1..200" });';
+// All that can move are alike, before each call.
+const ALIKE = 'module: "./agents.mjs", strategy: "uniform", everywhere: true';
+const AGENTS = `testAgents("no wake-up is lost", { ${ALIKE}, seeds: "1..200", shorten: false });`;
 
 test("a failing test shows seed, ending, its explained end, and where its files lie", withSabsim, async (the) => {
   const { folder, temporary, output, status } = await suite(the, AGENTS);
@@ -45,7 +47,7 @@ test("a failing test shows seed, ending, its explained end, and where its files 
   const [made] = readdirSync(temporary);
   assert.match(made, /^sabsim-/);
   const place = join(temporary, made);
-  const names = ["json", "report", "trace.jsonl", "explained", "svg"].map((ending) => `seed-29.${ending}`);
+  const names = ["json", "report", "trace.jsonl", "explained", "svg", "html"].map((ending) => `seed-29.${ending}`);
   assert.deepEqual(readdirSync(place).sort(), [...names].sort());
   const explained = readFileSync(join(place, "seed-29.explained"), "utf8").split("\n");
   const shown = explained.slice(explained.findIndex((line) => line.startsWith("block ")), -1);
@@ -70,19 +72,31 @@ test("a failing test shows seed, ending, its explained end, and where its files 
 
 test("without sabsim it shows what is known, and a passing test says that nothing was checked", async (the) => {
   const { folder, output, status, temporary } = await suite(the, `
-    testAgents("fails", { module: "./agents.mjs", seeds: "29", out: "found" });
-    testAgents("passes", { module: "./agents.mjs", seeds: { first: 3, last: 12 }, jobs: 2 });
+    testAgents("fails", { ${ALIKE}, seeds: "29", out: "found", shorten: false });
+    testAgents("passes", { ${ALIKE}, seeds: { first: 3, last: 12 }, jobs: 2 });
   `, WITHOUT_SABSIM, "tap");
   assert.equal(status, 1);
   assert.match(output, /^not ok 1 - fails$/m);
   assert.match(output, /^ +seed 29: deadlock\n +agent 0 waits at byte 4 of block 0: its call 19, /m);
   const kept = ["json", "report", "trace.jsonl"].map((ending) => `seed-29.${ending}`);
   assert.ok(output.includes(`kept in ${join(folder, "found")}: ${kept.join(", ")}`), output);
-  assert.match(output, /not kept, since only sabsim makes them: seed-29\.explained, seed-29\.svg$/m);
+  assert.match(output, /not kept, since only sabsim makes them: seed-29\.explained, seed-29\.svg, seed-29\.html$/m);
   assert.deepEqual(readdirSync(join(folder, "found")).sort(), kept);
   assert.match(output, /^ok 2 - passes$/m);
   assert.match(output, /^# 10 runs passed, none checked: sabsim isn't built: there is none at \/nowhere\/sabsim; /m);
   assert.deepEqual(readdirSync(temporary), []);
+});
+
+test("the shortest run that fails so is shown and kept, with the original beside it", withSabsim, async (the) => {
+  const { temporary, output, status } = await suite(the, `testAgents("shorter", { ${ALIKE}, seeds: "29" });`);
+  assert.equal(status, 1);
+  assert.match(output, /^ +agent 0 waits at byte 4 of block 0: its call 1, \["wait", "Int32", 1, 0\]$/m);
+  const place = join(temporary, readdirSync(temporary)[0]);
+  const texts = ["json", "report", "trace.jsonl"];
+  const endings = [...texts, ...texts.map((ending) => `original.${ending}`), "explained", "svg", "html"];
+  assert.deepEqual(readdirSync(place).sort(), endings.map((ending) => `seed-29.${ending}`).sort());
+  const callsOf = (name) => JSON.parse(readFileSync(join(place, name), "utf8")).agents.flatMap(({ calls }) => calls);
+  assert.ok(callsOf("seed-29.json").length < callsOf("seed-29.original.json").length);
 });
 
 test("options that can't be fail their test, and others go on", withSabsim, async (the) => {
@@ -90,7 +104,7 @@ test("options that can't be fail their test, and others go on", withSabsim, asyn
     testAgents("wrong", { module: "./agents.mjs", seed: 1 });
     testAgents("none", { module: "./none.mjs" });
     testAgents("out", { module: "./agents.mjs", out: 5 });
-    testAgents("right", { module: "./agents.mjs", seeds: 20 });
+    testAgents("right", { ${ALIKE}, seeds: 20 });
   `, {}, "tap");
   for (const why of ["there is no option `seed`: is seeds meant?", "`out` must be the path of a folder"]) {
     assert.ok(output.includes(why), output);

@@ -67,21 +67,22 @@ async function failureOf(failing, passed, { out, shorten, options, folder }) {
   const checked = exploreOptions(options, folder);
   const sabsim = sabsimOf(checked);
   const outcome = shorten ? await shortestOf(failing, checked, sabsim) : failing;
-  return failureText({ outcome, passed, sabsim, kept: keptLines(outcome, checked.module, out, sabsim) });
+  return failureText({ outcome, passed, sabsim, kept: keptLines({ failing, outcome }, checked.module, out, sabsim) });
 }
 
 /**
  * Keeps a run.
- * @param {Outcome} outcome
+ * @param {{ failing: Outcome, outcome: Outcome }} runs the one that has failed, and the shortest that fails so
  * @param {string} module its URL
  * @param {string | undefined} out where; undefined: in a new folder for temporary files
  * @param {string | undefined} sabsim
  * @returns {string[]} what lies where, and what doesn't
  */
-function keptLines(outcome, module, out, sabsim) {
+function keptLines({ failing, outcome }, module, out, sabsim) {
   try {
     const keeper = new Keeper(resolve(out ?? mkdtempSync(join(tmpdir(), "sabsim-"))), "`out`");
-    keeper.keepLowest(outcome);
+    keeper.keepLowest(failing);
+    if (outcome !== failing) keeper.keepShortest(failing, outcome);
     const notKept = keepPictures(keeper, outcome, sabsim, module);
     const kept = keeper.names.length === 0 ? [] : [`kept in ${keeper.folder}: ${keeper.names.join(", ")}`];
     return [...kept, ...notKept];
