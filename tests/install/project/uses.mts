@@ -2,7 +2,7 @@
 
 import { explore, record, Difference, LostJob, NoSabsim, Refused } from "sabsim";
 import type { Agent, AgentRun, Ending, ExploreOptions, Outcome, Race, RaceSide } from "sabsim";
-import type { Kind, NamedPlace, RecordOptions, Setup, WithBuffers } from "sabsim";
+import type { Kind, NamedPlace, RecordOptions, Setup, Shortened, WithBuffers } from "sabsim";
 
 const kind: Kind = "Uint8";
 const slots: NamedPlace = [kind, 1];
@@ -20,10 +20,10 @@ const filled: WithBuffers = ([buffer], { agents, args }) => {
 const options: RecordOptions = {
   module: "./lock.mjs", agents: 2, buffers: [8], noBlock: [0], seed: 7, args: ["counting"], switch: 0.5,
   timeouts: 0.1, maxMoves: 1_000, seconds: 2, ordinary: "watch", races: "allow", bounds: "fail", clock: "run",
-  init: filled, check: ([buffer]) => buffer!.byteLength === 8, sabsim: false, trace: true,
+  init: filled, check: ([buffer]) => buffer!.byteLength === 8, sabsim: false, trace: true, shorten: true,
 };
 
-const { seed, ...rest } = options;
+const { seed, shorten, ...rest } = options;
 export const seeds = { ...rest, seeds: "1..20", jobs: 1, checkEvery: 5, fresh: false, failFast: true };
 const range = { first: 1, last: seed ?? 2 };
 export const many: ExploreOptions[] = [seeds, { ...rest, seeds: 20 }, { ...rest, seeds: range }];
@@ -41,6 +41,9 @@ const sideText = ({ agent, access, atomic, block, byte, size, element, call, sou
 const raceText = ({ lines, text, sides: [first, second] }: Race): string =>
   [...lines, text, sideText(first), sideText(second)].join("\n");
 
+const shortening = ({ runs, changes, calls, stopped = "", unchanged = "" }: Shortened): string =>
+  [runs, changes.before - changes.after, calls.before - calls.after, stopped, unchanged, shorten].join(" ");
+
 function summary(outcome: Outcome): string {
   const ending: Ending = outcome.ending;
   const { seed, fails, detail, moves, calls, ordinary, progress, state, races } = outcome;
@@ -54,7 +57,8 @@ function summary(outcome: Outcome): string {
 export async function told(): Promise<string> {
   try {
     const outcome: Outcome = await record(options);
-    return `${summary(outcome)} ${outcome.checked ? "checked" : outcome.unchecked ?? ""}`;
+    const shortened = outcome.shortened === undefined ? "" : shortening(outcome.shortened);
+    return `${summary(outcome)} ${shortened} ${outcome.original?.seed} ${outcome.row} ${outcome.checked ? "checked" : outcome.unchecked ?? ""}`;
   } catch (problem) {
     if (problem instanceof Difference) return `${problem.message} ${problem.replayed} ${problem.outcome.seed}`;
     if (problem instanceof Refused || problem instanceof NoSabsim) return problem.message;
