@@ -1,5 +1,6 @@
 /*
- * A library for LD_PRELOAD that counts how often each thread of a program yields, and can tell threads when to run.
+ * A library for LD_PRELOAD that counts how often each thread of a program yields, and can tell threads when to run. It
+ * doesn't let them yield: how often they do doesn't depend on that, and on a busy machine each yield takes long.
  *
  * COUNT_TOLD=FILE   at the end this file gets one line, "N N N.. apart A": how often the program's first thread yielded,
  *                   then each other one, in the order in which they were started; and how many of these ended before
@@ -107,12 +108,7 @@ static void await_turn(void)
 int sched_yield(void)
 {
     if (counts) yields[self]++;
-    if (turn && threads > 1) {
-        self == 0 ? end_turn() : await_turn();
-    } else if (!starts_late || self != 0) {
-        /* Nobody runs whom the first thread could let run where the others begin late. */
-        really_yield();
-    }
+    if (turn && threads > 1) self == 0 ? end_turn() : await_turn();
     return 0;
 }
 

@@ -78,7 +78,11 @@ fn goes_round(mut sim: Sim, others: usize, rounds: usize) -> bool {
         }
     }
     let report = sim.finish();
-    is_begun && report.agents.iter().all(|agent| agent.returned == agent.total)
+    is_begun
+        && report
+            .agents
+            .iter()
+            .all(|agent| agent.returned == agent.total)
 }
 
 /// So each kind of move comes at each place at which the room is used up.

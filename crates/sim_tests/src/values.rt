@@ -77,7 +77,9 @@ fn notifier(alloc: Global) -> Result<Plan, Fail> {
 }
 
 /// What the views and the scripts of that plan show.
-const VIEW: &str = "PlanView { block: 0, view: View { kind: Int8, block_len: 2, offset: 0, len: 2 } }";
+const VIEW: &str =
+    "PlanView { block: 0, view: View { kind: Int8, block_len: 2, offset: 0, len: 2 } }";
+
 const SCRIPT: &str = "Script { can_block: true, calls: [Notify { view: 0, index: 1, count: None }, \
     Notify { view: 0, index: -1, count: Some(3) }] }";
 
@@ -93,7 +95,9 @@ fn blocks_plans_and_scripts_show_their_parts(rt: HostRuntime) -> Result<(), Fail
     let script = plan.scripts().first().ok_or("no script")?;
     expect(shows(alloc, script, SCRIPT)?, "another script")?;
     let idle = "Script { can_block: false, calls: [] }";
-    let shown = format!(in alloc; "Plan {{ lens: [2], views: [{VIEW}], scripts: [{SCRIPT}, {idle}] }}")?;
+    let shown = format!(in alloc;
+        "Plan {{ lens: [2], views: [{VIEW}], scripts: [{SCRIPT}, {idle}] }}"
+    )?;
     expect(shows(alloc, &plan, shown.as_str())?, "another plan")
 }
 
@@ -101,7 +105,8 @@ fn blocks_plans_and_scripts_show_their_parts(rt: HostRuntime) -> Result<(), Fail
 fn a_report_shows_its_parts(rt: HostRuntime) -> Result<(), Fail> {
     let alloc = rt.alloc();
     let report = replay(alloc, notifier(alloc)?, &[Step(0), TimeUp(1)])?;
-    let shown = "Report { schedule: [Step(0), TimeUp(1)], journal: [Entry { agent: 0, call: 0, what: Began }, \
+    let shown =
+        "Report { schedule: [Step(0), TimeUp(1)], journal: [Entry { agent: 0, call: 0, what: Began }, \
         Entry { agent: 1, call: 0, what: Stuck(NotWaiting) }], blocks: [[0, 0]], \
         agents: [Progress { returned: 0, total: 2 }, Progress { returned: 0, total: 0 }] }";
     expect(shows(alloc, &report, shown)?, "another report")
@@ -127,10 +132,7 @@ fn values_of_plans_and_races_show_their_parts_and_have_copies(rt: HostRuntime) -
     };
     let shown = "Progress { returned: 1, total: 2 }";
     expect(is_shown(alloc, &progress, shown)?, "another progress")?;
-    expect(
-        is_shown(alloc, &TimeUp(1), "TimeUp(1)")?,
-        "another move",
-    )?;
+    expect(is_shown(alloc, &TimeUp(1), "TimeUp(1)")?, "another move")?;
     expect(
         is_shown(alloc, &PlanFault::NoView, "NoView")?,
         "another fault",
