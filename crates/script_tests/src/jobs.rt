@@ -2,7 +2,7 @@
 
 ghost use Rattle.sab_command.specs.Job.{IsWithinLimits};
 
-use crate::scripts::{STORE_AND_LOAD, report_of};
+use crate::scripts::{STORED_AND_LOADED, STORE_AND_LOAD};
 use sab_command::{Job, Source};
 use sab_ending::Outcome;
 use sab_report::{Format, Lines, Telling, VerdictFormat};
@@ -21,6 +21,14 @@ const PLAIN: Telling = Telling {
     format: Format::Plain,
     lines: Lines::All,
 };
+
+/// What a run of the script with one agent is kept as, whether it was replayed or raced.
+const KEPT: &str = concat!(
+    r#"{"agents":[{"block":true,"calls":[["store","a",0,300],["load","a",0]]}],"bytes":1,"#,
+    r#""schedule":[0,0,0,0,0,0],"#,
+    r#""views":[{"kind":"Uint8","length":null,"name":"a","offset":0}]}"#,
+    "\n"
+);
 
 /// Takes all that is written, and knows whether it was flushed since; a flush can be made to fail.
 #[derive(Drop)]
@@ -46,20 +54,19 @@ impl Write for Basin {
     }
 }
 
-/// Whether the job of a script with one agent writes its whole report, and flushes it unless the flush fails, which it
+/// Whether the job of a script with one agent writes just this text, and flushes it unless the flush fails, which it
 /// tells.
-fn reports_to<R: AllocGlobal + Threads + Wait + Sync + RandomSource>(
+fn writes<R: AllocGlobal + Threads + Wait + Sync + RandomSource>(
     rt: &R,
     job: Job,
+    text: &str,
     is_stuck: bool,
-) -> Result<bool, Fail>
+) -> bool
     requires { IsWithinLimits job }
 {
-    let alloc = rt.alloc();
-    let report = report_of(alloc, STORE_AND_LOAD)?;
     let mut input = STORE_AND_LOAD.as_bytes();
     let mut output = Basin {
-        taken: Vec::new(alloc),
+        taken: Vec::new(rt.alloc()),
         is_flushed: false,
         is_stuck,
     };
@@ -67,11 +74,11 @@ fn reports_to<R: AllocGlobal + Threads + Wait + Sync + RandomSource>(
         Ok(outcome) => outcome == Outcome::Done && output.is_flushed,
         Err(failure) => is_stuck && failure.fault == ToolFault::WriteFailed,
     };
-    Ok(is_right && output.taken == report)
+    is_right && output.taken.as_slice() == text.as_bytes()
 }
 
 #[test]
-fn a_job_flushes_its_report(rt: HostRuntime) -> Result<(), Fail> {
+fn a_job_flushes_its_report(rt: HostRuntime) {
     let jobs = [
         Job::Replay {
             telling: PLAIN,
@@ -93,10 +100,28 @@ fn a_job_flushes_its_report(rt: HostRuntime) -> Result<(), Fail> {
         },
     ];
     for job in jobs {
-        assert!(rt; reports_to(&rt, job, false)?);
-        assert!(rt; reports_to(&rt, job, true)?);
+        assert!(rt; writes(&rt, job, STORED_AND_LOADED, false));
+        assert!(rt; writes(&rt, job, STORED_AND_LOADED, true));
     }
-    Ok(())
+}
+
+#[test]
+fn a_job_flushes_the_script_that_it_keeps(rt: HostRuntime) {
+    let race = |share, mix, finish| Job::RaceAsScript {
+        share,
+        spins: 0,
+        mix,
+        finish,
+    };
+    let jobs = [
+        Job::ReplayAsScript { finish: true },
+        race(Share::Lock, None, false),
+        race(Share::Ring, Some(7), true),
+    ];
+    for job in jobs {
+        assert!(rt; writes(&rt, job, KEPT, false));
+        assert!(rt; writes(&rt, job, KEPT, true));
+    }
 }
 
 /// What a check says of a script, by what came of it; none where the writer failed.

@@ -93,24 +93,46 @@ fn has_too_many_moves<R: Threads + Wait + Sync>(
     answer == Err(ToolFault::TooManyMoves) && text.is_empty()
 }
 
-/// A script of two agents that wait a thousand times each.
-fn many_waits(alloc: Global) -> Result<String, AllocError> {
-    let calls = [r#"["wait","a",0,0]"#]
+/// A script of so many agents that wait a thousand times each.
+fn many_waits(alloc: Global, agents: usize) -> Result<String, AllocError> {
+    let calls = [r#"["wait","a",0,0,5]"#]
         .repeat(alloc, 1_000)?
         .join(alloc, ",")?;
+    let agent = format!(in alloc; r#"{{"block":true,"calls":[{calls}]}}"#)?;
+    let agents = [agent.as_str()].repeat(alloc, agents)?.join(alloc, ",")?;
     format!(in alloc;
         r#"{{"bytes":4,
   "views":[{{"name":"a","kind":"Int32","offset":0,"length":null}}],
-  "agents":[{{"block":true,"calls":[{calls}]}},{{"block":true,"calls":[{calls}]}}],
-  "schedule":[]}}"#
+  "agents":[{agents}],"schedule":[]}}"#
     )
 }
 
 #[test]
 fn too_many_moves_are_refused(rt: HostRuntime) -> Result<(), Fail> {
-    let script = many_waits(rt.alloc())?;
+    let script = many_waits(rt.alloc(), 2)?;
     for share in [Share::Lock, Share::Ring] {
         assert!(rt; has_too_many_moves(&rt, rt.alloc(), script.as_str(), share));
+    }
+    Ok(())
+}
+
+/// Whether the race of a script with 1,005,000 moves is told to its end.
+fn is_told<R: Threads + Wait + Sync>(
+    rt: &R,
+    alloc: Global,
+    script: &str,
+    share: Share,
+) -> Result<bool, ToolFault> {
+    let mut text = Vec::new(alloc);
+    race_bytes(rt, alloc, script.as_bytes(), share, 1_000, &mut text)?;
+    Ok(text.ends_with(b"\n1004999 0 1000 stuck done\nblock 0 00000000\nagent 0 1000 of 1000\n"))
+}
+
+#[test]
+fn as_many_moves_as_a_thousand_waits_have_are_told(rt: HostRuntime) -> Result<(), Fail> {
+    let script = many_waits(rt.alloc(), 1)?;
+    for share in [Share::Lock, Share::Ring] {
+        assert!(rt; is_told(&rt, rt.alloc(), script.as_str(), share)?);
     }
     Ok(())
 }

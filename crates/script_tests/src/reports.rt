@@ -107,6 +107,18 @@ fn an_answer_ends_its_line(rt: HostRuntime) -> Result<(), Fail> {
     Ok(())
 }
 
+#[test]
+fn a_report_of_as_many_entries_as_a_journal_can_have_is_written(
+    rt: HostRuntime,
+) -> Result<(), Fail> {
+    let alloc = rt.alloc();
+    let mut report = empty(alloc);
+    report.journal = vec![in alloc; entry(What::Began); 1_048_576]?;
+    let text = text_of(alloc, &report)?;
+    assert!(rt; text.ends_with(b"\n1048575 15 999 begin\n"));
+    Ok(())
+}
+
 /// Whether the report of these blocks has these lines, and then those of its agents.
 fn are_lines(alloc: Global, blocks: Vec<Vec<u8>>, lines: &str) -> Result<bool, Fail> {
     let text = text_of(alloc, &quiet(alloc, blocks)?)?;

@@ -2,7 +2,7 @@
 
 use crate::expecting::expect;
 use crate::run::{
-    Run, acted, began, enlisted, left, notify, number, plan, returned, stuck, wait, whole,
+    Run, acted, began, enlisted, left, load, notify, number, plan, returned, stuck, wait, whole,
 };
 use sab_block::{Access, Kind};
 use sab_sim::Answer::{Count, TimedOut, Woken};
@@ -19,41 +19,85 @@ fn idle(alloc: Global) -> Result<Plan, Fail> {
     plan(alloc, &[0], &[], &[(true, &[])])
 }
 
-/// Steps agent 0 so often, and tells whether each step was made.
-fn step_on(sim: &mut Sim, count: usize) -> bool {
+/// Makes a move so often, and tells whether it was made each time.
+fn repeats(sim: &mut Sim, m: Move, count: usize) -> bool {
     for _ in 0..count {
-        if sim.step(Step(0)).is_err() {
+        if sim.step(m).is_err() {
             return false;
         }
     }
     true
 }
 
-/// Whether a journal is full, of an agent that has no calls.
-fn is_full(sim: &mut Sim) -> bool {
+/// Whether a journal is full, of an agent that has no calls and is stuck.
+fn is_full(sim: &mut Sim, why: Why) -> bool {
     sim.step(Step(0)) == Err(SimFault::Full)
-        && sim.step(Step(1)) == Err(SimFault::NoAgent)
+        && sim.step(TimeUp(1)) == Err(SimFault::NoAgent)
         && sim.journal().len() == MOST
-        && sim
-            .journal()
-            .iter()
-            .all(|entry| *entry == stuck(0, 0, Why::Done))
+        && sim.journal().iter().all(|entry| *entry == stuck(0, 0, why))
 }
 
-/// Whether a journal gets full, and then stays as it is, with so many entries reserved.
-fn fills(mut sim: Sim, reserved: u32) -> bool {
+/// Whether a journal gets full by a move that is stuck, and then stays as it is, with so many entries reserved.
+fn fills(mut sim: Sim, m: Move, why: Why, reserved: u32) -> bool {
     sim.reserve(reserved).is_ok()
-        && step_on(&mut sim, MOST)
+        && repeats(&mut sim, m, MOST)
         && sim.reserve(reserved).is_ok()
-        && is_full(&mut sim)
+        && is_full(&mut sim, why)
 }
 
 /// With nothing reserved, with all that there can be, and with more.
 #[test]
 fn a_journal_ends_at_its_limit(rt: HostRuntime) -> Result<(), Fail> {
     for reserved in [0, 1_048_576, u32::MAX] {
-        let sim = Sim::new(rt.alloc(), idle(rt.alloc())?)?;
-        expect(fills(sim, reserved), "another end")?;
+        for (m, why) in [(Step(0), Why::Done), (TimeUp(0), Why::NotWaiting)] {
+            let sim = Sim::new(rt.alloc(), idle(rt.alloc())?)?;
+            expect(fills(sim, m, why, reserved), "another end")?;
+        }
+    }
+    Ok(())
+}
+
+/// The moves of an agent for an access, and for a wait whose time ends.
+const ACCESS_AND_WAIT: [Move; 7] = [
+    Step(0),
+    Step(0),
+    Step(0),
+    Step(0),
+    Step(0),
+    TimeUp(0),
+    Step(0),
+];
+
+/// Whether an agent makes its moves for an access and a wait so often, behind so many of another one, with nothing
+/// reserved.
+fn goes_round(mut sim: Sim, others: usize, rounds: usize) -> bool {
+    let is_begun = repeats(&mut sim, TimeUp(1), others);
+    for _ in 0..rounds {
+        if !ACCESS_AND_WAIT.iter().all(|m| sim.step(*m).is_ok()) {
+            return false;
+        }
+    }
+    let report = sim.finish();
+    is_begun
+        && report
+            .agents
+            .iter()
+            .all(|agent| agent.returned == agent.total)
+}
+
+/// So each kind of move comes at each place at which the room is used up.
+#[test]
+fn each_kind_of_move_is_made_wherever_the_room_ends(rt: HostRuntime) -> Result<(), Fail> {
+    let access = Call::Access {
+        view: 0,
+        access: load(0),
+    };
+    let calls = [access, wait(0, 0, Some(5))?].repeat(rt.alloc(), 500)?;
+    let agents: [(bool, &[Call]); 2] = [(true, &calls), (true, &[])];
+    for others in 0..7 {
+        let plan = plan(rt.alloc(), &[4], &[whole(Kind::Int32, 0, 4)?], &agents)?;
+        let sim = Sim::new(rt.alloc(), plan)?;
+        expect(goes_round(sim, others, 500), "a move that isn't made")?;
     }
     Ok(())
 }
@@ -83,7 +127,7 @@ fn a_replay_makes_as_many_moves_as_a_journal_has_entries(rt: HostRuntime) -> Res
 /// Whether a simulator refuses a move of another agent than its one, and goes on as if that move hadn't been.
 fn goes_on(mut sim: Sim) -> bool {
     let refuses = sim.step(Step(1)) == Err(SimFault::NoAgent) && sim.journal().is_empty();
-    let goes_on = step_on(&mut sim, 1);
+    let goes_on = repeats(&mut sim, Step(0), 1);
     let report = sim.finish();
     let none = Progress {
         returned: 0,
@@ -187,7 +231,7 @@ fn longest(alloc: Global) -> Result<Plan, Fail> {
 
 /// Whether twelve steps mark four blocks.
 fn marks(mut sim: Sim) -> bool {
-    let is_stepped = step_on(&mut sim, 12);
+    let is_stepped = repeats(&mut sim, Step(0), 12);
     let report = sim.finish();
     is_stepped && report.blocks.len() == 4 && report.blocks.iter().all(|block| is_marked(block))
 }

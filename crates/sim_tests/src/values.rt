@@ -1,11 +1,12 @@
 //! What plain values show, and their copies.
 
 use crate::expecting::expect;
-use crate::run::{acted, notify, whole};
-use sab_block::{Access, Kind, Operand, RmwOp, Thrown, View};
+use crate::run::{acted, notify, number, plan, whole};
+use sab_block::{Access, Block, Kind, Operand, RmwOp, Thrown, View};
 use sab_race::RaceFault;
 use sab_sim::Answer::Count;
-use sab_sim::{Move, PlanFault, Progress, SimFault};
+use sab_sim::Move::{Step, TimeUp};
+use sab_sim::{Plan, PlanFault, Progress, SimFault, replay};
 use std::alloc::{AllocError, Global};
 use std::fmt;
 use std::test::Fail;
@@ -52,7 +53,63 @@ fn values_of_blocks_show_their_parts_and_have_copies(rt: HostRuntime) -> Result<
     expect(
         is_shown(alloc, &Operand::big(-1), shown)?,
         "another operand",
+    )?;
+    let shown = "Operand { big: false, whole: 9007199254740991 }";
+    let greatest = number(9_007_199_254_740_991)?;
+    expect(is_shown(alloc, &greatest, shown)?, "another operand")
+}
+
+/// Whether a value shows this.
+fn shows<T: fmt::Debug>(alloc: Global, value: &T, text: &str) -> Result<bool, AllocError> {
+    let shown = format!(in alloc; "{value:?}")?;
+    Ok(shown.as_str() == text)
+}
+
+/// One agent that notifies twice, on a block of two bytes.
+fn notifier(alloc: Global) -> Result<Plan, Fail> {
+    let calls = [notify(0, 1, None), notify(0, -1, Some(3))];
+    plan(
+        alloc,
+        &[2],
+        &[whole(Kind::Int8, 0, 2)?],
+        &[(true, &calls), (false, &[])],
     )
+}
+
+/// What the views and the scripts of that plan show.
+const VIEW: &str =
+    "PlanView { block: 0, view: View { kind: Int8, block_len: 2, offset: 0, len: 2 } }";
+
+const SCRIPT: &str = "Script { can_block: true, calls: [Notify { view: 0, index: 1, count: None }, \
+    Notify { view: 0, index: -1, count: Some(3) }] }";
+
+#[test]
+fn blocks_plans_and_scripts_show_their_parts(rt: HostRuntime) -> Result<(), Fail> {
+    let alloc = rt.alloc();
+    let block = Block::new(alloc, 3)?;
+    expect(
+        shows(alloc, &block, "Block { bytes: [0, 0, 0] }")?,
+        "another block",
+    )?;
+    let plan = notifier(alloc)?;
+    let script = plan.scripts().first().ok_or("no script")?;
+    expect(shows(alloc, script, SCRIPT)?, "another script")?;
+    let idle = "Script { can_block: false, calls: [] }";
+    let shown = format!(in alloc;
+        "Plan {{ lens: [2], views: [{VIEW}], scripts: [{SCRIPT}, {idle}] }}"
+    )?;
+    expect(shows(alloc, &plan, shown.as_str())?, "another plan")
+}
+
+#[test]
+fn a_report_shows_its_parts(rt: HostRuntime) -> Result<(), Fail> {
+    let alloc = rt.alloc();
+    let report = replay(alloc, notifier(alloc)?, &[Step(0), TimeUp(1)])?;
+    let shown =
+        "Report { schedule: [Step(0), TimeUp(1)], journal: [Entry { agent: 0, call: 0, what: Began }, \
+        Entry { agent: 1, call: 0, what: Stuck(NotWaiting) }], blocks: [[0, 0]], \
+        agents: [Progress { returned: 0, total: 2 }, Progress { returned: 0, total: 0 }] }";
+    expect(shows(alloc, &report, shown)?, "another report")
 }
 
 #[test]
@@ -75,10 +132,7 @@ fn values_of_plans_and_races_show_their_parts_and_have_copies(rt: HostRuntime) -
     };
     let shown = "Progress { returned: 1, total: 2 }";
     expect(is_shown(alloc, &progress, shown)?, "another progress")?;
-    expect(
-        is_shown(alloc, &Move::TimeUp(1), "TimeUp(1)")?,
-        "another move",
-    )?;
+    expect(is_shown(alloc, &TimeUp(1), "TimeUp(1)")?, "another move")?;
     expect(
         is_shown(alloc, &PlanFault::NoView, "NoView")?,
         "another fault",
