@@ -66,7 +66,7 @@ slice_get_at [] y = refl
 slice_get_at (x ∷ xs) y = slice_get_at xs y
 
 -- an entry that has no effect for the agent leaves its last one
-last_kept : (journal : List Entry) (e : Entry) (a : ℕ) (o : Option ℕ) → (e.agent ≡ a → is_stuck e.what ≡ false → ⊥)
+pub last_kept : (journal : List Entry) (e : Entry) (a : ℕ) (o : Option ℕ) → (e.agent ≡ a → is_stuck e.what ≡ false → ⊥)
     → IsLast journal a o → IsLast (journal ++ e ∷ []) a o
 last_kept journal e a o never h = go o h
   where

@@ -1,7 +1,7 @@
 mod Noting
 mod Seeing
 mod Explaining
-mod LastOnes
+pub mod LastOnes
 mod Concluding
 mod Waking
 mod OneFact

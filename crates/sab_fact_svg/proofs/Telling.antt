@@ -11,8 +11,8 @@ use Rattle.sab_sim.specs.Report.{ReportParts, Fits, IsOnly}
 use Rattle.sab_explain.specs.declared.fact.Fact.{Fact}
 use Rattle.sab_explain.specs.declared.standing.Standing.{Standing}
 use Rattle.sab_text.proofs.Appending.{appends_both}
-use Rattle.sab_fact_text.specs.Explained.{IsTheFact, AreStandings, noted, no_sinces}
-use Rattle.sab_fact_text.proofs.Telling.{sinces_after, AreFacts-none, AreFacts-push, appends_none, from_empty}
+use Rattle.sab_fact_text.specs.Explained.{IsTheFact, AreStandings, noted, sinces_after, no_sinces}
+use Rattle.sab_fact_text.proofs.Telling.{AreFacts-none, AreFacts-push, appends_none, from_empty}
 use Rattle.sab_xml.specs.Xml.{Node, element, Attributes, attributes_text, nodes, nodes_text, node_text}
 use Rattle.sab_xml.proofs.Texts.{nodes_text_both}
 use Rattle.sab_fact_svg.specs.declared.shape.Shape.{Shape}

@@ -19,12 +19,8 @@ use Rattle.sab_text.proofs.Appending.{appends_both, kept_appended, left_after}
 use Rattle.sab_text.specs.declared.lines.Lines.{Lines}
 use Rattle.sab_text.specs.Lines.{line_if}
 use Rattle.sab_text.specs.Text.{block_lines}
-use Rattle.sab_fact_text.specs.Explained.{IsTheFact, AreFacts, Told, explained_line, explained_lines, noted, no_sinces, standing_line, standing_lines, IsStandingOf, AreStandings, Explains, explained_text}
-
--- the last entries with an effect after a journal whose first entry is entry k
-abbrev pub sinces_after : List (Option ℕ) → ℕ → List Entry → List (Option ℕ)
-sinces_after sinces k [] = sinces
-sinces_after sinces k (e ∷ journal) = sinces_after (noted sinces k e) (k + 1) journal
+use Rattle.sab_fact_text.proofs.Noting.{notes_last}
+use Rattle.sab_fact_text.specs.Explained.{IsTheFact, AreFacts, Told, explained_line, explained_lines, noted, sinces_after, no_sinces, standing_line, standing_lines, IsStandingOf, AreStandings, Explains, explained_text}
 
 pub sinces_after-push : (sinces : List (Option ℕ)) (k : ℕ) (journal : List Entry) (e : Entry)
     → sinces_after sinces k (journal ++ e ∷ []) ≡ noted (sinces_after sinces k journal) (k + length journal) e
@@ -172,4 +168,5 @@ explains column names plan lines moves sim report standings a y c chunk empty p 
           (rw (journal, append_assoc) (appends_both (append_known a chunk) y c
           (explained_lines column names plan lines no_sinces 0 sim.journal t.facts)
           (block_lines 0 report.blocks ++ standing_lines column names standings 0 report.agents) t.written w));
+      since = notes_last;
     }

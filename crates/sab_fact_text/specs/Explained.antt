@@ -12,7 +12,7 @@ use Rattle.sab_explain.specs.declared.fact.Fact.{Fact}
 use Rattle.sab_explain.specs.declared.standing.At.{At}
 use Rattle.sab_explain.specs.declared.standing.At.TheVariants as A
 use Rattle.sab_explain.specs.declared.standing.Standing.{Standing}
-use Rattle.sab_explain.specs.Fact.{IsFact, IsOnlyFact}
+use Rattle.sab_explain.specs.Fact.{IsFact, IsOnlyFact, IsLast}
 use Rattle.sab_explain.specs.Standing.{IsStanding, IsOnlyStanding}
 use Rattle.sab_text.specs.declared.lines.Lines.{Lines}
 use Rattle.sab_text.specs.Lines.{line_if}
@@ -29,6 +29,11 @@ explained_line column names plan sinces k e fact =
 -- the position of each agent's last entry with an effect, after entry k
 abbrev pub noted : List (Option ℕ) → ℕ → Entry → List (Option ℕ)
 noted sinces k e = if is_stuck e.what then sinces else slice_set sinces e.agent (Some k)
+
+-- the same, after these entries, of which the first is entry k
+abbrev pub sinces_after : List (Option ℕ) → ℕ → List Entry → List (Option ℕ)
+sinces_after sinces k [] = sinces
+sinces_after sinces k (e ∷ journal) = sinces_after (noted sinces k e) (k + 1) journal
 
 -- a line for each entry that has one, with its fact, of which the first is entry k
 abbrev pub explained_lines : ℕ → List (List ℕ) → PlanParts → Lines → List (Option ℕ) → ℕ → List Entry → List Fact
@@ -89,6 +94,12 @@ standing_lines column names standings a (p ∷ agents) =
 abbrev pub no_sinces : List (Option ℕ)
 no_sinces = replicate 16 None
 
+-- whatever journal came before an entry, what is noted then of each agent is its last entry with an effect: a plan has at
+-- most 16 agents
+abbrev pub NotesLast : Type 0
+NotesLast = (journal : List Entry) (a : ℕ) → a < 16
+    → IsLast journal a (slice_index_or (sinces_after no_sinces 0 journal) a None)
+
 -- the explained text of a report, its journal by these lines, the words from this column on
 abbrev pub explained_text : ℕ → List (List ℕ) → PlanParts → Lines → ReportParts → List Fact → List (Option Standing)
     → List ℕ
@@ -123,7 +134,8 @@ IsStandingOf plan journal a (Some s) = IsStanding plan journal a s × IsOnlyStan
 abbrev pub AreStandings : PlanParts → List Entry → List (Option Standing) → Type 0
 AreStandings plan journal standings = (a : ℕ) → a < 16 → IsStandingOf plan journal a (slice_index_or standings a None)
 
--- the one report of the moves fits, and its explained text came behind what the writer held
+-- the one report of the moves fits, and its explained text came behind what the writer held; since when agents have
+-- waited is told by their last entries
 pub record Explains (column : ℕ) (names : List (List ℕ)) (plan : PlanParts) (lines : Lines) (moves : List Move)
     (old new : Option (List ℕ)) (report : ReportParts) : Type 0 where
   pub fits : Fits plan report
@@ -134,3 +146,4 @@ pub record Explains (column : ℕ) (names : List (List ℕ)) (plan : PlanParts) 
   pub standings : List (Option Standing)
   pub standings_are : AreStandings plan report.journal standings
   pub written : Appends old new (explained_text column names plan lines report facts standings)
+  pub since : NotesLast

@@ -1,7 +1,6 @@
 use Rattle.std.proofs.Common.{◌≡◌, ◌≤◌, ◌+◌, length, take}
 use Rattle.std.specs.Io.KnownBytes.{append_known}
-use Rattle.sab_fact_text.specs.Explained.{no_sinces}
-use Rattle.sab_fact_text.proofs.Telling.{sinces_after}
+use Rattle.sab_fact_text.specs.Explained.{no_sinces, sinces_after}
 use Rattle.sab_fact_svg.specs.Picture.{DrawsEntries}
 use Rattle.sab_fact_svg.proofs.drawing.write_entries.Given as goal
 

@@ -1,8 +1,7 @@
 use Rattle.std.proofs.Common.{◌≡◌, ◌≤◌, ◌+◌, length, take}
 use Rattle.std.specs.Io.KnownBytes.{append_known}
 use Rattle.sab_text.specs.declared.chunk.TheConstants.Chunk.{ROOM, LINE_ROOM}
-use Rattle.sab_fact_text.specs.Explained.{Told, no_sinces}
-use Rattle.sab_fact_text.proofs.Telling.{sinces_after}
+use Rattle.sab_fact_text.specs.Explained.{Told, no_sinces, sinces_after}
 use Rattle.sab_fact_text.proofs.explaining.write_moves.Given as goal
 
 abbrev pub invariant-loop-k : goal.invariant-loop-k
