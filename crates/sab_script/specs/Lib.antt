@@ -6,4 +6,7 @@ pub mod Calls
 pub mod Agents
 pub mod Schedule
 pub mod Setup
+pub mod Places
+pub mod Truth
+pub mod Known
 pub mod Script

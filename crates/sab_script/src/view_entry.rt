@@ -1,10 +1,12 @@
 //! The views of a script, as its array has them.
 
 ghost use Rattle.std.specs.Prelude.{◌≡◌, ◌<◌, ◌≤◌, ℕ, length, IfOk, IfErr, OnErr, None};
-ghost use Rattle.serde_json.specs.Data.{Data, Members as MemberList};
+ghost use Rattle.serde_json.specs.Data.{Data, Members as MemberList, array};
 ghost use Rattle.serde_json.specs.View.{view, items_view, members_view};
 ghost use Rattle.sab_script.specs.Reading.{Refuses, Finds};
 ghost use Rattle.sab_script.specs.Blocks.{with_block, IsBlockIn};
+ghost use Rattle.sab_script.specs.Truth.{IsTrueWhere};
+ghost use Rattle.sab_script.specs.Known.{HasLens};
 ghost use Rattle.sab_script.specs.Views.{description, count_on, SpellsDescription, SpellsView, SpellsViews, IsDescribed, AreDescribed};
 ghost use Rattle.sab_refusal.specs.Why.{fault_of};
 
@@ -115,6 +117,8 @@ fn read_view<'a>(
     requires few { length lens.now ≤ Plan.MAX_BLOCKS }
     ensures read { Finds (λ p. (p.0.now, p.1)) (SpellsView form lens.now (view tree.now)) result }
     ensures made { IfOk result (λ p. IsDescribed lens.now p.1 p.2) }
+    ensures told { IfErr result (IsTrueWhere at (view tree.now)
+        (λ root. ((i : ℕ) × (at ≡ Location.Item Member.Views i)) × HasLens root form lens.now)) }
 {
     let mut rest = members(at, tree)?;
     let block = read_block(at, form, lens.len() as u32, &mut rest)?;
@@ -134,6 +138,8 @@ pub(crate) fn read_views(
     requires few { length lens.now ≤ Plan.MAX_BLOCKS }
     ensures read { Finds (λ p. p.0) (SpellsViews form lens.now (items_view trees.now)) result }
     ensures made { IfOk result (λ p. AreDescribed lens.now p.0 p.1.items) }
+    ensures told { IfErr result (IsTrueWhere at (array (items_view trees.now))
+        (λ root. (at ≡ Location.Member Member.Views) × HasLens root form lens.now)) }
 {
     if trees.len() > Plan::MAX_VIEWS {
         let why = Why::TooMany(Unit::Views, trees.len() as u64, Plan::MAX_VIEWS as u64);
