@@ -19,3 +19,5 @@ pub mod OneOperand
 pub mod OneCall
 pub mod OnlySetup
 pub mod Equality
+pub mod Ordered
+pub mod Telling
