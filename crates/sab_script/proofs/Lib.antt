@@ -20,4 +20,5 @@ pub mod OneCall
 pub mod OnlySetup
 pub mod Equality
 pub mod Ordered
+pub mod Standing
 pub mod Telling
