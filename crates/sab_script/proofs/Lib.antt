@@ -20,3 +20,4 @@ pub mod OneCall
 pub mod OnlySetup
 pub mod Equality
 pub mod KnownViews
+pub mod Unread
