@@ -21,3 +21,5 @@ pub mod OnlySetup
 pub mod Equality
 pub mod KnownViews
 pub mod Unread
+pub mod Ordered
+pub mod Telling
