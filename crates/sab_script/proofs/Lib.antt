@@ -19,6 +19,8 @@ pub mod OneOperand
 pub mod OneCall
 pub mod OnlySetup
 pub mod Equality
+pub mod KnownViews
+pub mod Unread
 pub mod Ordered
 pub mod Standing
 pub mod Telling
