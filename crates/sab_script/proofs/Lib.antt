@@ -24,3 +24,6 @@ pub mod Unread
 pub mod Ordered
 pub mod Standing
 pub mod Telling
+pub mod ToldAgents
+pub mod ToldMoves
+pub mod ToldScript

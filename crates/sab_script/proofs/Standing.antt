@@ -1,8 +1,8 @@
 -- What stands below an array, and how many items it has.
 use Rattle.std.proofs.Common.{◌≡◌, ℕ, zero, suc, ◌<◌, List, [], ◌∷◌, length, get_or, Some, refl, sym, ap, ◌∙◌, arith}
-use Rattle.serde_json.specs.Data.{Data, array, Items}
+use Rattle.serde_json.specs.Data.{Data, array, object, Items, Members}
 use Rattle.serde_json.specs.Events.{items_len}
-use Rattle.serde_json.specs.Find.{get_item, at as nth}
+use Rattle.serde_json.specs.Find.{get_item, get_member}
 use Rattle.serde_json.specs.View.{view, items_view}
 use Rattle.serde_json.specs.declared.value.Value.{Value}
 use Rattle.sab_refusal.specs.declared.location.Location.{Location}
@@ -11,9 +11,9 @@ use Rattle.sab_refusal.specs.declared.member.Member.{Member}
 use Rattle.sab_refusal.specs.declared.member.Member.TheVariants as M
 use Rattle.sab_refusal.specs.declared.why.Unit.{Unit as Units}
 use Rattle.sab_refusal.specs.declared.why.Unit.TheVariants as unit
-use Rattle.sab_refusal.specs.Location.{item_at}
+use Rattle.sab_refusal.specs.Location.{member_name, member_at, item_at}
 use Rattle.sab_script.specs.Places.{Stands, part_of, item_of}
-use Rattle.sab_script.specs.Truth.{HasItems, HasMany, IsListOf}
+use Rattle.sab_script.specs.Truth.{HasMany, IsListOf}
 
 pub items_count : (ts : List Value) → items_len (items_view ts) ≡ length ts
 items_count [] = refl
@@ -60,3 +60,11 @@ item_of_list unit.Calls root place ds i d list stands item =
     item_of_calls list.0 root place ds i d list.1 stands item
 item_of_list unit.Moves root place ds i d list stands item =
     item_of_member M.Schedule root place ds i d list stands item
+
+-- a member of an item of a member of the script
+pub part_of_item : (list part : Member) (i : ℕ) (root : Data) (place : Location) (d x : Data) (ms : Members)
+    → place ≡ at.Item list i → Stands root place d → d ≡ object ms → get_member (member_name part) ms ≡ Some x
+    → Stands root (member_at place part) x
+part_of_item list part i root place d x ms e stands is there =
+    let item : item_of i (part_of list (Some root)) ≡ Some d = rw e at stands in
+    rw e (ap (part_of part) (item ∙ ap Some is) ∙ there)
