@@ -1,5 +1,5 @@
 -- What is told of the members of a script.
-use Rattle.std.proofs.Common.{◌≡◌, List, [], ◌∷◌, Bool, true, false, Option, Some, None, is_some, true≢false, codes, refl, sym, ap, ◌∙◌, arith}
+use Rattle.std.proofs.Common.{◌≡◌, [], ◌∷◌, List, true, false, option_map, Option, Some, None, is_some, true≢false, codes, refl, sym, ap, ◌∙◌, arith}
 use Rattle.serde_json.specs.Data.{Data, object, Members, member}
 use Rattle.sab_refusal.specs.declared.location.Location.TheVariants as at
 use Rattle.sab_refusal.specs.declared.member.Member.{Member}
@@ -16,13 +16,15 @@ use Rattle.sab_script.proofs.Ordered.{order_behind}
 use Rattle.sab_script.proofs.Unread.{Unread, none_read, one_read, member_told, end_told}
 
 -- the form of a script
-pub form_bytes : (o : Option Data) → is_some o ≡ true → form_by o ≡ Bytes
-form_bytes (Some d) e = refl
-form_bytes None e = absurd (true≢false (sym e))
+pub form_bytes : {T : Type 0} (f : T → Data) (o : Option T) (found : Option Data) → option_map f o ≡ found
+    → is_some o ≡ true → form_by found ≡ Bytes
+form_bytes f (Some x) found e is = ap form_by (sym e)
+form_bytes f None found e is = absurd (true≢false (sym is))
 
-pub form_blocks : (o : Option Data) → is_some o ≡ false → form_by o ≡ Blocks
-form_blocks (Some d) e = absurd (true≢false e)
-form_blocks None e = refl
+pub form_blocks : {T : Type 0} (f : T → Data) (o : Option T) (found : Option Data) → option_map f o ≡ found
+    → is_some o ≡ false → form_by found ≡ Blocks
+form_blocks f (Some x) found e is = absurd (true≢false is)
+form_blocks f None found e is = ap form_by (sym e)
 
 pub form_of_script : (form : Form) (root a l s v : Data) → root ≡ script_object form a l s v → form_of root ≡ form
 form_of_script Bytes root a l s v e = ap form_of e
