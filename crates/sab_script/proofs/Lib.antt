@@ -19,3 +19,4 @@ pub mod OneOperand
 pub mod OneCall
 pub mod OnlySetup
 pub mod Equality
+pub mod ToldArguments

@@ -10,6 +10,7 @@ ghost use Rattle.sab_script.specs.Views.{view_names};
 ghost use Rattle.sab_script.specs.Places.{IsNamed};
 ghost use Rattle.sab_script.specs.Truth.{IsTrueWhere, IsTrueOf};
 ghost use Rattle.sab_script.specs.Known.{HasNames, HasArguments};
+ghost use Rattle.sab_script.specs.Arguments.{IsNameOfRmw};
 ghost use Rattle.sab_script.specs.Calls.{spelling_of, SpellsParts, SpellsCall, SpellsCalls};
 
 use crate::elements::{Reader, read_each};
@@ -26,7 +27,7 @@ use std::alloc::Global;
 fn rmw_op(at: Location, name: &str) -> Result<RmwOp, Located>
     ensures found { Finds (λ op. op) (λ op. name.now ≡ function_of_op op) result }
     ensures told { IfErr result (λ e. (root : Data) (i j : ℕ) → at ≡ Location.Call M.Agents i M.Calls j
-        → IsNamed root i j name.now → IsTrueOf root e) }
+        → IsNamed root i j name.now → IsNameOfRmw name.now → IsTrueOf root e) }
 {
     match name {
         "exchange" => Ok(RmwOp::Exchange),
