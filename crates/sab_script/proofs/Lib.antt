@@ -20,3 +20,6 @@ pub mod OneCall
 pub mod OnlySetup
 pub mod Equality
 pub mod ToldArguments
+pub mod Ordered
+pub mod Standing
+pub mod Telling
