@@ -1,14 +1,13 @@
 -- What is told of the arguments of a call is true.
-use Rattle.std.proofs.Common.{◌≡◌, ℕ, zero, suc, ◌+◌, ◌<◌, ◌≤◌, List, [], ◌∷◌, ◌++◌, length, map, get_or, drop, replicate, Option, Some, None, Result, Ok, Err, refl, sym, ap, ◌∙◌, subst, arith, length-append}
+use Rattle.std.proofs.Common.{◌≡◌, ℕ, zero, suc, ◌+◌, ◌<◌, ◌≤◌, List, [], ◌∷◌, ◌++◌, length, map, get_or, drop, replicate, Option, Some, None, Result, Ok, Err, inl, inr, refl, sym, ap, ◌∙◌, subst, arith, length-append}
 use Rattle.std.proofs.lemmas.List.{length-replicate}
-use Rattle.std.specs.Prelude.{slice_get, IsErrAnd, IfErr, String}
-use Rattle.std.specs.declared.alloc.Global.{Global}
-use Rattle.serde_json.specs.Data.{Data, Items, no_items, item}
+use Rattle.std.specs.Prelude.{slice_get, IfErr}
+use Rattle.serde_json.specs.Data.{Data, string, Items, no_items, item}
 use Rattle.serde_json.specs.Find.{get_item}
 use Rattle.serde_json.specs.Events.{items_len}
 use Rattle.serde_json.specs.View.{view, items_view}
 use Rattle.serde_json.specs.declared.value.Value.{Value}
-use Rattle.serde_json.specs.declared.value.Value.TheVariants as V
+use Rattle.serde_json.proofs.Views.{get_item_within}
 use Rattle.sab_block.specs.declared.access.Access.TheVariants.{Load, Store, Rmw, CompareExchange}
 use Rattle.sab_plan.specs.declared.call.Call.{Call}
 use Rattle.sab_plan.specs.declared.call.Call.TheVariants.{Access as ToAccess, Wait, Notify}
@@ -24,31 +23,26 @@ use Rattle.sab_script.specs.Places.{argument_type, IsNamed, ElementIs, CallsFor,
 use Rattle.sab_script.specs.Known.{IsNumberAs, HasArguments}
 use Rattle.sab_script.specs.Arguments.{types_of, HasCall, TakesTimed, StandBehind}
 
--- at the exit of a `?`: what is told of the refusal of a part
-pub exit_told : {X : Type 0} (P : Located → Type 0) (r : Result X Located) (e : Located) → IsErrAnd r (λ y. y ≡ e)
-    → P e → IfErr r P
-exit_told P (Ok x) e h p = absurd h
-exit_told P (Err f) e h p = subst P (sym h) p
-
+-- what is told of the refusal of a part, where its result is the result
 pub err_told : {X : Type 0} (P Q : Located → Type 0) (r : Result X Located) → IfErr r P → ((e : Located) → P e → Q e)
     → IfErr r Q
 err_told P Q (Ok x) h more = tt
 err_told P Q (Err e) h more = more e h
 
 -- what isn't a string is an operand just where it is a number
-pub no_string : (t : Value) → ((s : String Global) → t ≡ V.String s → ⊥) → IsNumberAs wanted.Operand (view t)
-no_string t h = ?
+pub number_as_operand : (d : Data) → ((s : List ℕ) → d ≡ string s → ⊥) → IsNumberAs wanted.Operand d
+number_as_operand d other = (
+  λ o. elim o [
+  | inl n ↦ n
+  | inr t ↦ absurd (other t.0 t.1)
+  ],
+  λ n. inl n,
+)
 
--- there are as many items as values
-pub items_count : (ts : List Value) → items_len (items_view ts) ≡ length ts
-items_count [] = refl
-items_count (t ∷ ts) = ap (λ n. suc n) (items_count ts)
-
+-- a value of a list
 pub item_read : (ts : List Value) (k : ℕ) (t : Value) → k < length ts → t ≡ get_or ts k t
     → get_item k (items_view ts) ≡ Some (view t)
-item_read [] k t lt e = absurd (omega arith)
-item_read (s ∷ ts) zero t lt e = ap (λ (x : Value). Some (view x)) (sym e)
-item_read (s ∷ ts) (suc k) t lt e = item_read ts k t (omega arith) e
+item_read ts k t lt e = sym (get_item_within ts k t lt) ∙ ap (λ (x : Value). Some (view x)) (sym e)
 
 -- items behind so many of these
 pub behind_count : (n : ℕ) (ds rest : Items) → StandBehind n ds rest → items_len ds ≡ n + items_len rest
@@ -120,4 +114,4 @@ few_timed name n takes =
     let call = takes.longest in
     let most = two_at_most call.0 in
     let count = ap (λ (ts : List Wanted). length ts) call.2 in
-    omega (arith, most, count, length-append, length-replicate)
+    omega (arith, most, count, length-append (replicate n wanted.Operand) (wanted.Whole ∷ []), length-replicate n wanted.Operand)

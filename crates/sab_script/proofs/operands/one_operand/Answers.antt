@@ -6,17 +6,17 @@ use Rattle.sab_script.specs.Places.{CallsFor}
 use Rattle.sab_script.specs.Known.{HasArguments}
 use Rattle.sab_script.specs.Truth.{IsTrueOf, IsTrueWhere}
 use Rattle.sab_script.specs.Arguments.{TakesJust}
-use Rattle.sab_script.proofs.ToldArguments.{err_told, items_count, item_read, argument_stands, argument_called}
+use Rattle.serde_json.proofs.Views.{items_len-items_view}
+use Rattle.sab_script.proofs.ToldArguments.{err_told, item_read, argument_stands, argument_called}
 use Rattle.sab_script.proofs.operands.one_operand.Goals as goal
-use Rattle.sab_script.proofs.operands.one_operand.Goals.{in_default-via-then-trees-lt1, in_default-via-else-trees-lt1+else-trees-lt2}
 
 pub returns-in_default-clause-told : goal.returns-in_default-clause-told
 returns-in_default-clause-told c = λ root name h takes.
     let trees = c.args.trees.now in
+    let types = wanted.Operand ∷ [] in
     let fits : length trees < 2 ^ 63 = search rules in
-    let wrong : 1 ≤ length trees → 1 < length trees =
-    elim c.in_default.branch [ in_default-via-then-trees-lt1 w ↦ ? | in_default-via-else-trees-lt1+else-trees-lt2 w ↦ ? ] in
-    c.wrong_count.ensures.told root name _ _ h takes (items_count trees) refl wrong (omega (arith, fits))
+    let wrong : 1 ≤ length trees → 1 < length trees = search rules in
+    c.wrong_count.ensures.told root name _ types h takes (items_len-items_view trees) refl wrong (omega (arith, fits))
 
 pub returns-clause-told : goal.returns-clause-told
 returns-clause-told c =

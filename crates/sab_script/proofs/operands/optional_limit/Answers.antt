@@ -7,7 +7,9 @@ use Rattle.sab_refusal.specs.declared.why.Wanted.TheVariants as wanted
 use Rattle.sab_script.specs.Known.{HasArguments}
 use Rattle.sab_script.specs.Truth.{IsTrueOf}
 use Rattle.sab_script.specs.Arguments.{operands, TakesTimed, StandBehind}
-use Rattle.sab_script.proofs.ToldArguments.{exit_told, items_count, item_read, behind_count, behind_read, argument_stands, argument_called, limit_there, few_timed}
+use Rattle.sab_script.proofs.Telling.{exit_told}
+use Rattle.serde_json.proofs.Views.{items_len-items_view}
+use Rattle.sab_script.proofs.ToldArguments.{item_read, behind_count, behind_read, argument_stands, argument_called, limit_there, few_timed}
 use Rattle.sab_script.proofs.operands.optional_limit.Goals as goal
 
 pub returns-in_err-last-in-len1-clause-told : goal.returns-in_err-last-in-len1-clause-told
@@ -35,7 +37,7 @@ returns-in_default-clause-told c = λ root name ds h behind takes.
     let least = c.in_default.len_at_least in
     let count : c.saturating_add-count.result ≡ n + length trees = omega (arith, fits, few, c.saturating_add-count.ensures) in
     let most : c.saturating_add-in_default.result ≡ n + 1 = omega (arith, few, c.saturating_add-in_default.ensures) in
-    let same = behind_count n ds (items_view trees) behind ∙ ap (λ (k : ℕ). n + k) (items_count trees) in
+    let same = behind_count n ds (items_view trees) behind ∙ ap (λ (k : ℕ). n + k) (items_len-items_view trees) in
     c.wrong_count.ensures.told root name ds _ h takes (same ∙ sym count)
-    (omega (arith, most, length-append, length-replicate)) (λ _. omega (arith, count, most, least))
+    (omega (arith, most, length-append (operands n) (wanted.Whole ∷ []), length-replicate n wanted.Operand)) (λ _. omega (arith, count, most, least))
     (omega (arith, fits, few, count))
