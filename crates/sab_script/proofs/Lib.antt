@@ -20,6 +20,7 @@ pub mod OneCall
 pub mod OnlySetup
 pub mod Equality
 pub mod ToldArguments
+pub mod ToldCalls
 pub mod Ordered
 pub mod Standing
 pub mod Telling

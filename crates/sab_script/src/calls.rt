@@ -4,6 +4,7 @@ ghost use Rattle.std.specs.Prelude.{◌≡◌, ℕ, IfErr};
 ghost use Rattle.serde_json.specs.Data.{Data, array};
 ghost use Rattle.serde_json.specs.View.{view, items_view};
 ghost use Rattle.sab_block.specs.RmwOp.{function_of_op};
+ghost use Rattle.sab_refusal.specs.declared.location.Location.TheVariants as L;
 ghost use Rattle.sab_refusal.specs.declared.member.Member.TheVariants as M;
 ghost use Rattle.sab_script.specs.Reading.{Finds};
 ghost use Rattle.sab_script.specs.Views.{view_names};
@@ -145,7 +146,7 @@ impl Reader for CallReader<'_> {
 
     ghost Spells = { λ reader. SpellsCall (view_names reader.views.now) };
 
-    ghost Knows = { λ reader root at. ((i : ℕ) × (j : ℕ) × (at ≡ Location.Call M.Agents i M.Calls j))
+    ghost Knows = { λ reader root at. ((i : ℕ) × (j : ℕ) × (at ≡ L.Call M.Agents i M.Calls j))
         × HasNames root (view_names reader.views.now) };
 
     fn read(&self, at: Location, tree: &Value) -> Result<Call, Located> {

@@ -12,8 +12,8 @@ use Rattle.sab_script.proofs.Refusing.{exit_refuses}
 use Rattle.sab_script.proofs.WholeCall.{word_part, name_part, index_part, reads_call}
 use Rattle.sab_script.proofs.calls.read_call.Goals as goal
 
-pub returns-in_err-view : goal.returns-in_err-view
-returns-in_err-view c =
+pub returns-in_err-view-clause-found : goal.returns-in_err-view-clause-found
+returns-in_err-view-clause-found c =
     let names = view_names c.args.views.now in
     let d = view c.args.tree.now in
     let tree = c.in_ok-trees.ensures.reads ∙ ap array (three_items c.in_ok-trees.trees.now c.name_tree-item.result
@@ -24,14 +24,14 @@ returns-in_err-view c =
     c.in_err-view.ensures.read
     (name_part names d _ _ _ _ tree)
 
-pub returns-in_err-trees : goal.returns-in_err-trees
-returns-in_err-trees c =
+pub returns-in_err-trees-clause-found : goal.returns-in_err-trees-clause-found
+returns-in_err-trees-clause-found c =
     let d = view c.args.tree.now in
     exit_refuses (λ (x : Call). x) (λ (ds : Items). d ≡ array ds) (SpellsCall (view_names c.args.views.now) d)
     c.from_residual.result _ c.from_residual.ensures.1 c.in_err-trees.ensures.reads (λ call h. (_, h.tree))
 
-pub returns-in_err-name : goal.returns-in_err-name
-returns-in_err-name c =
+pub returns-in_err-name-clause-found : goal.returns-in_err-name-clause-found
+returns-in_err-name-clause-found c =
     let names = view_names c.args.views.now in
     let d = view c.args.tree.now in
     let tree = c.in_ok-trees.ensures.reads ∙ ap array (three_items c.in_ok-trees.trees.now c.name_tree-item.result
@@ -41,8 +41,8 @@ returns-in_err-name c =
     c.from_residual-in_err-name.result _ c.from_residual-in_err-name.ensures.1 c.in_err-name.ensures.reads
     (word_part names d _ _ _ _ tree)
 
-pub returns-in_err-index : goal.returns-in_err-index
-returns-in_err-index c =
+pub returns-in_err-index-clause-found : goal.returns-in_err-index-clause-found
+returns-in_err-index-clause-found c =
     let names = view_names c.args.views.now in
     let d = view c.args.tree.now in
     let tree = c.in_ok-trees.ensures.reads ∙ ap array (three_items c.in_ok-trees.trees.now c.name_tree-item.result
@@ -52,8 +52,8 @@ returns-in_err-index c =
     c.from_residual-in_err-index.result _ c.from_residual-in_err-index.ensures.1 c.in_err-index.ensures.reads
     (index_part names d _ _ _ _ tree)
 
-pub returns-in_default : goal.returns-in_default
-returns-in_default c = λ call h.
+pub returns-in_default-clause-found : goal.returns-in_default-clause-found
+returns-in_default-clause-found c = λ call h.
     let s = spelling_of call in
     let same : array (items_view c.in_ok-trees.trees.now) ≡ call_tree s.name h.view_tree s.index h.argument_trees =
     sym c.in_ok-trees.ensures.reads ∙ h.tree in
@@ -62,8 +62,8 @@ returns-in_default c = λ call h.
     let long = three_long c.in_ok-trees.trees.now _ _ _ _ parts in
     let short = c.in_default.len_below in absurd (omega (arith, long, short))
 
-pub returns : goal.returns
-returns c =
+pub returns-clause-found : goal.returns-clause-found
+returns-clause-found c =
     let names = view_names c.args.views.now in
     let d = view c.args.tree.now in
     let rest = items_view (drop 3 c.in_ok-trees.trees.now) in
@@ -77,4 +77,4 @@ returns c =
     c.call_of.result c.in_ok-view.ensures.views.distinct
     (tree ∙ (λ k. array (item (word k) (item (view c.view_tree-item.result) (item (index.0 k) rest)))))
     c.in_ok-view.ensures.read index.1
-    (rw (to_z-of_z w64 c.in_ok-index.index fits, end_whole c.in_ok-trees.trees.now) at c.call_of.ensures)
+    (rw (to_z-of_z w64 c.in_ok-index.index fits, end_whole c.in_ok-trees.trees.now) at c.call_of.ensures.found)
