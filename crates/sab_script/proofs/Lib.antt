@@ -21,6 +21,8 @@ pub mod OnlySetup
 pub mod Equality
 pub mod KnownViews
 pub mod Unread
+pub mod ToldArguments
+pub mod ToldCalls
 pub mod Ordered
 pub mod Standing
 pub mod Telling
