@@ -23,3 +23,4 @@ pub mod KnownViews
 pub mod Unread
 pub mod Ordered
 pub mod Telling
+pub mod Misfits

@@ -9,4 +9,5 @@ pub mod Setup
 pub mod Places
 pub mod Truth
 pub mod Known
+pub mod ViewPlaces
 pub mod Script
