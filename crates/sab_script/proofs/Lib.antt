@@ -24,3 +24,4 @@ pub mod Unread
 pub mod Ordered
 pub mod Telling
 pub mod Misfits
+pub mod ViewParts
