@@ -29,3 +29,5 @@ pub mod Telling
 pub mod ToldAgents
 pub mod ToldMoves
 pub mod ToldScript
+pub mod Misfits
+pub mod ViewParts

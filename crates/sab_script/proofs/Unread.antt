@@ -14,6 +14,7 @@ use Rattle.sab_refusal.specs.declared.why.Why.TheVariants as why
 use Rattle.sab_refusal.specs.Location.{member_name}
 use Rattle.sab_script.specs.Places.{Stands, members_at, form_of}
 use Rattle.sab_script.specs.Truth.{IsTrueAt, IsStart}
+use Rattle.sab_script.proofs.Ordered.{order_behind}
 use Rattle.sab_script.specs.Known.{IsBefore, FollowInOrder, AreInOrder, IsFirst, LackMember}
 
 -- a name stands behind the last that was read, if one was
@@ -66,6 +67,10 @@ one_read ms last whole k d rest e h =
           ∙ ap (λ o. match_ordering o (get_member name rest) (Some d) (get_member name rest)) found;
       behind = then_behind last k d rest order;
     }
+
+pub rest_order : (ms : Members) (last : Option (List ℕ)) (rest : Members) → Unread ms last rest → AreInOrder rest
+rest_order ms None rest h = h.behind
+rest_order ms (Some k) rest h = order_behind k rest h.behind
 
 -- the member that is read next
 pub next_there : (ms : Members) (last : Option (List ℕ)) (whole : Members) (k : List ℕ) (d : Data) (rest : Members)

@@ -10,4 +10,5 @@ pub mod Places
 pub mod Truth
 pub mod Known
 pub mod Arguments
+pub mod ViewPlaces
 pub mod Script
