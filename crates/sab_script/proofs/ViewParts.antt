@@ -1,6 +1,6 @@
 -- The parts of a view where they stand in a script, and what is told of them.
-use Rattle.std.proofs.Common.{◌≡◌, ℕ, ◌<◌, pos, List, [], ◌∷◌, length, true, Option, Some, None, refl, sym, ap, ◌∙◌, subst, codes, arith}
-use Rattle.std.specs.Prelude.{Contains, slice_get}
+use Rattle.std.proofs.Common.{◌≡◌, ℕ, ◌<◌, pos, List, [], ◌∷◌, length, true, Option, Some, None, Result, Ok, Err, refl, sym, ap, ◌∙◌, subst, codes, arith}
+use Rattle.std.specs.Prelude.{Contains, IfErr, slice_get}
 use Rattle.serde_json.specs.Data.{Data, string, object, Members, no_members, member}
 use Rattle.serde_json.specs.Find.{get_member}
 use Rattle.sab_block.specs.Kind.{kind_name}
@@ -9,6 +9,7 @@ use Rattle.sab_refusal.specs.declared.location.Location.{Location}
 use Rattle.sab_refusal.specs.declared.location.Location.TheVariants as at
 use Rattle.sab_refusal.specs.declared.member.Member.{Member}
 use Rattle.sab_refusal.specs.declared.member.Member.TheVariants as M
+use Rattle.sab_refusal.specs.declared.why.Wanted.{Wanted}
 use Rattle.sab_refusal.specs.Location.{member_name, member_at}
 use Rattle.sab_script.specs.declared.form.Form.{Form}
 use Rattle.sab_script.specs.declared.form.Form.TheVariants.{Bytes, Blocks}
@@ -16,10 +17,10 @@ use Rattle.sab_script.specs.declared.view_spec.ViewSpec.{ViewSpec}
 use Rattle.sab_script.specs.Blocks.{with_block, IsBlockIn}
 use Rattle.sab_script.specs.Numbers.{whole, whole_or_null}
 use Rattle.sab_script.specs.Views.{description}
-use Rattle.sab_script.specs.Places.{Stands, part_of, item_of, form_of, members_at, view_members}
-use Rattle.sab_script.specs.Truth.{IsTrueAt, IsTrueOf, IsTrueWhere, IsOnLen, HasBlockLen}
+use Rattle.sab_script.specs.Places.{Stands, part_of, item_of, form_of, members_at, view_members, view_part_type, CallsFor}
+use Rattle.sab_script.specs.Truth.{IsTrueAt, IsTrueOf, IsTrueWhere, HasBlockLen}
 use Rattle.sab_script.specs.Known.{AreInOrder, IsFirst, LackMember, HasLens}
-use Rattle.sab_script.specs.ViewPlaces.{HasView, IsTrueOfView}
+use Rattle.sab_script.specs.ViewPlaces.{HasBlocks, HasView, IsTrueOfView}
 use Rattle.sab_script.proofs.Unread.{IsBehind, Unread, none_read, one_read, rest_order, none_between, none_behind, member_told, end_told}
 
 -- ---- parts
@@ -224,3 +225,48 @@ has_view root form lens i block len rest name v h has g stands e =
           subst (λ f. HasBlockLen f root i len) (sym (form_from root form lens h))
           (len_there root form lens i block len rest h has g stands);
     }
+
+-- what is told of a view that doesn't fit its block
+pub misfit_told : (place : Location) (form : Form) (lens : List ℕ) (block len : ℕ) (rest : Members) (name : List ℕ)
+    (v : ViewSpec) (e : Located)
+    → IsBlockIn form block → slice_get lens block ≡ Some len
+    → rest ≡ description (string (kind_name v.kind)) (whole_or_null v.length) (string name) (whole v.offset)
+    → ((root : Data) (i n : ℕ) → place ≡ at.Item M.Views i → slice_get lens block ≡ Some n → HasView root i n v
+        → IsTrueOf root e)
+    → IsTrueOfView place (with_block form block rest) (λ root. HasLens root form lens) e
+misfit_told place form lens block len rest name v e has g is told = λ order root stands known.
+    let here = subst (λ l. Stands root l (object (with_block form block rest))) known.0.1 stands in
+    told root known.0.0 len known.0.1 g (has_view root form lens known.0.0 block len rest name v known.1 has g here is)
+
+-- ---- the tree of a view
+
+pub blocks_from : (root : Data) (form : Form) (lens : List ℕ) → HasLens root form lens → HasBlocks root form (length lens)
+blocks_from root Bytes lens h = h.0
+blocks_from root Blocks lens h = (h.0, h.1)
+
+pub block_missing : (form : Form) (count : ℕ) (place : Location) (ms : Members) (e : Located) → form ≡ Blocks
+    → e.at ≡ place → (AreInOrder ms → LackMember M.Block ms e.why)
+    → IsTrueOfView place ms (λ root. HasBlocks root form count) e
+block_missing Bytes count place ms e is at_is lacks = absurd cc
+block_missing Blocks count place ms e is at_is lacks = λ order root stands known.
+    block_told place ms e at_is lacks order root stands (known.0, known.1.0)
+
+-- a value of its type is called for where a part of a view stands
+pub part_calls : (root : Data) (part : Location) (i : ℕ) (m : Member) (w : Wanted) → part ≡ at.Part M.Views i m
+    → view_part_type m ≡ Some w → CallsFor root part w
+part_calls root part i m w is e = subst (λ l. CallsFor root l w) (sym is) e
+
+abbrev pub IsViewTold : Location → Data → (Data → Type 0) → Located → Type 0
+IsViewTold place d Known e =
+    IsTrueWhere place d (λ root. ((i : ℕ) × (place ≡ at.Item M.Views i)) × Known root) e
+
+pub told_of_view : (place : Location) (d : Data) (ms : Members) (e : Located) (Known Given : Data → Type 0)
+    → d ≡ object ms → AreInOrder ms → ((root : Data) → Given root → Known root) → IsTrueOfView place ms Known e
+    → IsViewTold place d Given e
+told_of_view place d ms e Known Given is order known_from told = λ root stands given.
+    told order root (subst (λ x. Stands root place x) is stands) (given.0, known_from root given.1)
+
+pub if_err_more : {X : Type 0} (P Q : Located → Type 0) (r : Result X Located) → ((e : Located) → P e → Q e)
+    → IfErr r P → IfErr r Q
+if_err_more P Q (Ok x) more h = tt
+if_err_more P Q (Err e) more h = more e h
