@@ -1,5 +1,5 @@
 -- What is told of the arguments of a call is true.
-use Rattle.std.proofs.Common.{◌≡◌, ℕ, zero, suc, ◌+◌, ◌<◌, ◌≤◌, List, [], ◌∷◌, ◌++◌, length, map, get_or, drop, replicate, Option, Some, None, Result, Ok, Err, inl, inr, refl, sym, ap, ◌∙◌, subst, arith, length-append}
+use Rattle.std.proofs.Common.{◌≡◌, ℕ, zero, suc, ◌+◌, ◌<◌, ◌≤◌, List, [], ◌∷◌, ◌++◌, length, map, get_or, drop, Some, None, Result, Ok, Err, inl, inr, refl, sym, ap, ◌∙◌, subst, arith, length-append}
 use Rattle.std.proofs.lemmas.List.{length-replicate}
 use Rattle.std.specs.Prelude.{slice_get, IfErr}
 use Rattle.serde_json.specs.Data.{Data, string, Items, no_items, item}
@@ -13,15 +13,13 @@ use Rattle.sab_plan.specs.declared.call.Call.{Call}
 use Rattle.sab_plan.specs.declared.call.Call.TheVariants.{Access as ToAccess, Wait, Notify}
 use Rattle.sab_refusal.specs.Location.{item_at}
 use Rattle.sab_refusal.specs.declared.location.Location.{Location}
-use Rattle.sab_refusal.specs.declared.location.Location.TheVariants as at
 use Rattle.sab_refusal.specs.declared.located.Located.{Located}
-use Rattle.sab_refusal.specs.declared.member.Member.TheVariants as M
 use Rattle.sab_refusal.specs.declared.why.Wanted.{Wanted}
 use Rattle.sab_refusal.specs.declared.why.Wanted.TheVariants as wanted
 use Rattle.sab_script.specs.Calls.{Argument, spelling_of}
 use Rattle.sab_script.specs.Places.{argument_type, IsNamed, ElementIs, CallsFor, Stands}
 use Rattle.sab_script.specs.Known.{IsNumberAs, HasArguments}
-use Rattle.sab_script.specs.Arguments.{types_of, HasCall, TakesTimed, StandBehind}
+use Rattle.sab_script.specs.Arguments.{types_of, HasCall, operands, TakesTimed, StandBehind}
 
 -- what is told of the refusal of a part, where its result is the result
 pub err_told : {X : Type 0} (P Q : Located → Type 0) (r : Result X Located) → IfErr r P → ((e : Located) → P e → Q e)
@@ -33,8 +31,8 @@ err_told P Q (Err e) h more = more e h
 pub number_as_operand : (d : Data) → ((s : List ℕ) → d ≡ string s → ⊥) → IsNumberAs wanted.Operand d
 number_as_operand d other = (
   λ o. elim o [
-  | inl n ↦ n
-  | inr t ↦ absurd (other t.0 t.1)
+    | inl n ↦ n
+    | inr t ↦ absurd (other t.0 t.1)
   ],
   λ n. inl n,
 )
@@ -94,9 +92,14 @@ argument_called root place name ds types k w h call e =
     rw h.is_place (refl, refl, subst (λ (n : ℕ). ElementIs root h.i h.j n w) third here)
 
 -- behind so many operands a limit
-pub limit_there : (n : ℕ) → slice_get (replicate n wanted.Operand ++ wanted.Whole ∷ []) n ≡ Some wanted.Whole
+pub limit_there : (n : ℕ) → slice_get (operands n ++ wanted.Whole ∷ []) n ≡ Some wanted.Whole
 limit_there zero = refl
 limit_there (suc n) = limit_there n
+
+pub timed_count : (n : ℕ) → length (operands n ++ wanted.Whole ∷ []) ≡ n + 1
+timed_count n =
+    let one = length-replicate n wanted.Operand in
+    let both = length-append (operands n) (wanted.Whole ∷ []) in omega (arith, one, both)
 
 -- no call takes more than two arguments
 two_at_most : (call : Call) → length (types_of call) ≤ 2
@@ -114,4 +117,4 @@ few_timed name n takes =
     let call = takes.longest in
     let most = two_at_most call.0 in
     let count = ap (λ (ts : List Wanted). length ts) call.2 in
-    omega (arith, most, count, length-append (replicate n wanted.Operand) (wanted.Whole ∷ []), length-replicate n wanted.Operand)
+    omega (arith, most, count, timed_count n)

@@ -1,6 +1,6 @@
 -- Which arguments the calls of a name take.
-use Rattle.std.specs.Prelude.{◌≡◌, ℕ, zero, suc, ◌+◌, ◌≤◌, List, [], ◌∷◌, ◌++◌, length, map, take, replicate}
-use Rattle.serde_json.specs.Data.{Data, Items, no_items, item}
+use Rattle.std.specs.Prelude.{◌≡◌, ℕ, zero, suc, ◌≤◌, List, [], ◌∷◌, ◌++◌, length, map, take, replicate}
+use Rattle.serde_json.specs.Data.{Items, no_items, item}
 use Rattle.sab_block.specs.declared.rmw_op.RmwOp.{RmwOp}
 use Rattle.sab_block.specs.RmwOp.{function_of_op}
 use Rattle.sab_plan.specs.declared.call.Call.{Call}
@@ -17,15 +17,15 @@ types_of call = map argument_type (spelling_of call).arguments
 abbrev pub HasCall : List ℕ → List Wanted → Type 0
 HasCall name types = (call : Call) × (name ≡ (spelling_of call).name) × (types_of call ≡ types)
 
--- each call of this name has so many arguments at least, and no more than these types; one has just the first so many
--- types, and one has all
+-- each call of this name has so many arguments at least, and at most as many as there are types here: the arguments of
+-- one are of just the first so many of these types, and those of one are of all of them
 pub record TakesFrom (name : List ℕ) (least : ℕ) (types : List Wanted) : Type 0 where
   pub few : (call : Call) → name ≡ (spelling_of call).name → least ≤ length (types_of call)
   pub many : (call : Call) → name ≡ (spelling_of call).name → length (types_of call) ≤ length types
   pub shortest : HasCall name (take least types)
   pub longest : HasCall name types
 
--- each call of this name has arguments of just these types, and there is one
+-- each call of this name has as many arguments as there are types here, and those of one are of just these types
 abbrev pub TakesJust : List ℕ → List Wanted → Type 0
 TakesJust name types = TakesFrom name (length types) types
 
@@ -33,7 +33,7 @@ TakesJust name types = TakesFrom name (length types) types
 abbrev pub operands : ℕ → List Wanted
 operands n = replicate n wanted.Operand
 
--- so many operands, and behind them a timeout or a count that may be left out
+-- a call of this name takes so many operands, and behind them a timeout or a count that may be left out
 abbrev pub TakesTimed : List ℕ → ℕ → Type 0
 TakesTimed name n = TakesFrom name n (operands n ++ wanted.Whole ∷ [])
 

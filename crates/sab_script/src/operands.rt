@@ -11,7 +11,6 @@ ghost use Rattle.sab_script.specs.Places.{CallsFor};
 ghost use Rattle.sab_script.specs.Truth.{IsTrueWhere, IsTrueOf};
 ghost use Rattle.sab_script.specs.Known.{HasArguments};
 ghost use Rattle.sab_script.specs.Arguments.{TakesFrom, TakesJust, TakesTimed, StandBehind};
-ghost use Rattle.sab_refusal.specs.declared.why.Wanted.{Wanted as WantedType};
 ghost use Rattle.sab_refusal.specs.Why.{fault_of};
 
 use crate::tree::whole;
@@ -37,7 +36,7 @@ fn no_big(at: Location, digits: &str) -> Located
 fn wrong_count(at: Location, count: usize, least: usize, most: usize) -> Located
     ensures fault { fault_of result.why ≡ ReadFault.BadCall }
     ensures place { result.at ≡ at }
-    ensures told { (root : Data) (name : List ℕ) (ds : Items) (types : List WantedType) → HasArguments root at name ds
+    ensures told { (root : Data) (name : List ℕ) (ds : Items) (types : List Wanted) → HasArguments root at name ds
         → TakesFrom name least types → items_len ds ≡ count → length types ≡ most → (least ≤ count → most < count)
         → count + 3 < 2 ^ 64 → IsTrueOf root result }
 {

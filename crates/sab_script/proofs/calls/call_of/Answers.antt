@@ -1,12 +1,14 @@
-use Rattle.std.proofs.Common.{◌≡◌, ℤ, [], Option, ◌∷◌, codes, refl, sym}
+use Rattle.std.proofs.Common.{◌≡◌, ℕ, ℤ, List, [], Option, ◌∷◌, codes, refl, sym}
 use Rattle.std.specs.Int.{w64}
 use Rattle.std.proofs.lemmas.Int.{to_z-of_z}
-use Rattle.serde_json.specs.Data.{Data}
+use Rattle.serde_json.specs.Data.{Data, Items}
 use Rattle.serde_json.specs.View.{items_view}
 use Rattle.sab_block.specs.declared.operand.Operand.{Operand}
 use Rattle.sab_block.specs.declared.rmw_op.RmwOp.{RmwOp}
 use Rattle.sab_block.specs.RmwOp.{function_of_op}
 use Rattle.sab_plan.specs.declared.call.Call.{Call}
+use Rattle.sab_refusal.specs.declared.located.Located.{Located}
+use Rattle.sab_refusal.specs.declared.location.Location.{Location}
 use Rattle.sab_script.specs.Calls.{value, optional, spelling_of, SpellsArguments, SpellsParts}
 use Rattle.sab_script.proofs.CallParts.{named_call, op_named}
 use Rattle.sab_script.specs.Known.{HasArguments}
@@ -25,7 +27,8 @@ returns-in_err-no_operand-in-load-clause-found c =
     c.from_residual.ensures.1 c.in_err-no_operand-in-load.ensures.found
     (λ call h. (tt, (named_call (codes "load") a.view a.index rest call (rw c.in-load.is at h)).0))
 
-pub returns-in_err-expected-in-compareExchange-clause-found : goal.returns-in_err-expected-in-compareExchange-clause-found
+pub returns-in_err-expected-in-compareExchange-clause-found :
+    goal.returns-in_err-expected-in-compareExchange-clause-found
 returns-in_err-expected-in-compareExchange-clause-found c =
     let a = c.args in
     let rest = items_view a.operands.now in
@@ -84,8 +87,8 @@ returns-in_err-rmw_op-in_default-clause-found c =
     (λ call. SpellsParts a.name.now a.view a.index (items_view a.operands.now) (spelling_of call))
     c.from_residual-in_err-rmw_op-in_default.result _
     c.from_residual-in_err-rmw_op-in_default.ensures.1 c.in_err-rmw_op-in_default.ensures.found
-    (λ call h. op_named a.name.now other.not-load other.not-store other.not-compareExchange other.not-wait other.not-notify
-    call h.name)
+    (λ call h. op_named a.name.now other.not-load other.not-store other.not-compareExchange other.not-wait
+    other.not-notify call h.name)
 
 pub returns-in_ok-no_operand-in-load-clause-found : goal.returns-in_ok-no_operand-in-load-clause-found
 returns-in_ok-no_operand-in-load-clause-found c =
@@ -113,38 +116,43 @@ returns-in_ok-count-in-notify-clause-found c =
     let index = sym (to_z-of_z w64 c.args.index c.ranges.index) in
     record { name = c.in-notify.is; view = refl; index = index; arguments = c.in_ok-count-in-notify.ensures.found }
 
+-- what is told of a refusal where the name and the arguments of a call are known
+abbrev Told : Location → List ℕ → Items → Located → Type 0
+Told place name ds e = (root : Data) → HasArguments root place name ds → IsTrueOf root e
+
 pub returns-in_err-no_operand-in-load-clause-told : goal.returns-in_err-no_operand-in-load-clause-told
 returns-in_err-no_operand-in-load-clause-told c =
     let a = c.args in
-    exit_told (λ e. (root : Data) → HasArguments root a.at a.name.now (items_view a.operands.now) → IsTrueOf root e)
+    exit_told (Told a.at a.name.now (items_view a.operands.now))
     c.from_residual.result _ c.from_residual.ensures.1
     (λ root h. c.in_err-no_operand-in-load.ensures.told root a.name.now h (rw c.in-load.is takes_load))
 
 pub returns-in_err-value-in-store-clause-told : goal.returns-in_err-value-in-store-clause-told
 returns-in_err-value-in-store-clause-told c =
     let a = c.args in
-    exit_told (λ e. (root : Data) → HasArguments root a.at a.name.now (items_view a.operands.now) → IsTrueOf root e)
+    exit_told (Told a.at a.name.now (items_view a.operands.now))
     c.from_residual-in_err-value-in-store.result _ c.from_residual-in_err-value-in-store.ensures.1
     (λ root h. c.in_err-value-in-store.ensures.told root a.name.now h (rw c.in-store.is takes_store))
 
-pub returns-in_err-expected-in-compareExchange-clause-told : goal.returns-in_err-expected-in-compareExchange-clause-told
+pub returns-in_err-expected-in-compareExchange-clause-told :
+    goal.returns-in_err-expected-in-compareExchange-clause-told
 returns-in_err-expected-in-compareExchange-clause-told c =
     let a = c.args in
-    exit_told (λ e. (root : Data) → HasArguments root a.at a.name.now (items_view a.operands.now) → IsTrueOf root e)
+    exit_told (Told a.at a.name.now (items_view a.operands.now))
     c.from_residual-in_err-expected-in-compareExchange.result _ c.from_residual-in_err-expected-in-compareExchange.ensures.1
     (λ root h. c.in_err-expected-in-compareExchange.ensures.told root a.name.now h (rw c.in-compareExchange.is takes_compare_exchange))
 
 pub returns-in_err-value-in-wait-clause-told : goal.returns-in_err-value-in-wait-clause-told
 returns-in_err-value-in-wait-clause-told c =
     let a = c.args in
-    exit_told (λ e. (root : Data) → HasArguments root a.at a.name.now (items_view a.operands.now) → IsTrueOf root e)
+    exit_told (Told a.at a.name.now (items_view a.operands.now))
     c.from_residual-in_err-value-in-wait.result _ c.from_residual-in_err-value-in-wait.ensures.1
     (λ root h. c.in_err-value-in-wait.ensures.told root a.name.now h (rw c.in-wait.is takes_wait))
 
 pub returns-in_err-count-in-notify-clause-told : goal.returns-in_err-count-in-notify-clause-told
 returns-in_err-count-in-notify-clause-told c =
     let a = c.args in
-    exit_told (λ e. (root : Data) → HasArguments root a.at a.name.now (items_view a.operands.now) → IsTrueOf root e)
+    exit_told (Told a.at a.name.now (items_view a.operands.now))
     c.from_residual-in_err-count-in-notify.result _ c.from_residual-in_err-count-in-notify.ensures.1
     (λ root h. c.in_err-count-in-notify.ensures.told root a.name.now _ h refl (rw c.in-notify.is takes_notify))
 
@@ -152,7 +160,7 @@ pub returns-in_err-rmw_op-in_default-clause-told : goal.returns-in_err-rmw_op-in
 returns-in_err-rmw_op-in_default-clause-told c =
     let a = c.args in
     let other = c.in_default in
-    exit_told (λ e. (root : Data) → HasArguments root a.at a.name.now (items_view a.operands.now) → IsTrueOf root e)
+    exit_told (Told a.at a.name.now (items_view a.operands.now))
     c.from_residual-in_err-rmw_op-in_default.result _ c.from_residual-in_err-rmw_op-in_default.ensures.1
     (λ root h. c.in_err-rmw_op-in_default.ensures.told root h.i h.j h.is_place h.named
     (op_named a.name.now other.not-load other.not-store other.not-compareExchange other.not-wait other.not-notify))

@@ -105,8 +105,8 @@ pub returns-in_err-name-clause-told : goal.returns-in_err-name-clause-told
 returns-in_err-name-clause-told c =
     let a = c.args in
     let trees = c.in_ok-trees.trees.now in
-    exit_told (IsTrueWhere a.at (view a.tree.now) (Knows a.at (view_names a.views.now))) c.from_residual-in_err-name.result _
-    c.from_residual-in_err-name.ensures.1 (λ root stands known.
+    exit_told (IsTrueWhere a.at (view a.tree.now) (Knows a.at (view_names a.views.now)))
+    c.from_residual-in_err-name.result _ c.from_residual-in_err-name.ensures.1 (λ root stands known.
     let here = stands ∙ ap (λ (x : Data). Some x) c.in_ok-trees.ensures.reads in
     let some = c.in-len3-up.len_at_least in
     let there = item_read trees 0 c.name_tree-item.result (omega (arith, some)) c.name_tree-item.is in
@@ -118,8 +118,8 @@ pub returns-in_err-view-clause-told : goal.returns-in_err-view-clause-told
 returns-in_err-view-clause-told c =
     let a = c.args in
     let trees = c.in_ok-trees.trees.now in
-    exit_told (IsTrueWhere a.at (view a.tree.now) (Knows a.at (view_names a.views.now))) c.from_residual-in_err-view.result _
-    c.from_residual-in_err-view.ensures.1 (λ root stands known.
+    exit_told (IsTrueWhere a.at (view a.tree.now) (Knows a.at (view_names a.views.now)))
+    c.from_residual-in_err-view.result _ c.from_residual-in_err-view.ensures.1 (λ root stands known.
     let here = stands ∙ ap (λ (x : Data). Some x) c.in_ok-trees.ensures.reads in
     let some = c.in-len3-up.len_at_least in
     let there = item_read trees 1 c.view_tree-item.result (omega (arith, some)) c.view_tree-item.is in
@@ -131,8 +131,8 @@ pub returns-in_err-index-clause-told : goal.returns-in_err-index-clause-told
 returns-in_err-index-clause-told c =
     let a = c.args in
     let trees = c.in_ok-trees.trees.now in
-    exit_told (IsTrueWhere a.at (view a.tree.now) (Knows a.at (view_names a.views.now))) c.from_residual-in_err-index.result _
-    c.from_residual-in_err-index.ensures.1 (λ root stands known.
+    exit_told (IsTrueWhere a.at (view a.tree.now) (Knows a.at (view_names a.views.now)))
+    c.from_residual-in_err-index.result _ c.from_residual-in_err-index.ensures.1 (λ root stands known.
     let here = stands ∙ ap (λ (x : Data). Some x) c.in_ok-trees.ensures.reads in
     let some = c.in-len3-up.len_at_least in
     let there = item_read trees 2 c.index_tree-item.result (omega (arith, some)) c.index_tree-item.is in

@@ -1,5 +1,5 @@
-use Rattle.std.proofs.Common.{◌≡◌, ℕ, refl, ap, ◌∙◌}
-use Rattle.serde_json.specs.Data.{Data, array}
+use Rattle.std.proofs.Common.{◌≡◌, ℕ, refl, ap}
+use Rattle.serde_json.specs.Data.{array}
 use Rattle.serde_json.specs.View.{items_view}
 use Rattle.sab_plan.specs.declared.plan.TheConstants.Plan.{MAX_CALLS}
 use Rattle.sab_refusal.specs.Location.{item_at}
@@ -20,6 +20,6 @@ returns-clause-told c =
     let names = view_names a.views.now in
     err_told (IsTrueWhere a.at d (λ root. IsListOf unit.Calls a.at × (MAX_CALLS ≡ limit_of unit.Calls)
     × ((k : ℕ) → ((i : ℕ) × (j : ℕ) × (item_at a.at k ≡ at.Call M.Agents i M.Calls j)) × HasNames root names)))
-    (IsTrueWhere a.at d (λ root. ((i : ℕ) × (a.at ≡ at.Part M.Agents i M.Calls)) × HasNames root names)) c.read_each.result
-    c.read_each.ensures.told (λ e told root stands known. told root stands
+    (IsTrueWhere a.at d (λ root. ((i : ℕ) × (a.at ≡ at.Part M.Agents i M.Calls)) × HasNames root names))
+    c.read_each.result c.read_each.ensures.told (λ e told root stands known. told root stands
     (known.0, refl, λ k. ((known.0.0, k, ap (λ (p : Location). item_at p k) known.0.1), known.1)))

@@ -27,6 +27,7 @@ returns-in_err-value-clause-found c =
 pub returns-in_err-value-clause-told : goal.returns-in_err-value-clause-told
 returns-in_err-value-clause-told c =
     let a = c.args in
-    exit_told (λ e. (root : Data) → HasArguments root a.at (function_of_op a.op) (items_view a.operands.now) → IsTrueOf root e)
+    let rest = items_view a.operands.now in
+    exit_told (λ e. (root : Data) → HasArguments root a.at (function_of_op a.op) rest → IsTrueOf root e)
     c.from_residual.result _ c.from_residual.ensures.1
     (λ root h. c.in_err-value.ensures.told root (function_of_op a.op) h (takes_rmw a.op))

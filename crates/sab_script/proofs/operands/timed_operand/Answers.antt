@@ -1,8 +1,10 @@
 use Rattle.std.proofs.Common.{◌<◌, ◌^◌, ℕ, ℤ, List, Option, [], ◌∷◌, drop, length, refl, arith, rules}
-use Rattle.serde_json.specs.Data.{Data}
+use Rattle.serde_json.specs.Data.{Data, Items}
 use Rattle.serde_json.specs.View.{view, items_view}
 use Rattle.sab_block.specs.declared.operand.Operand.{Operand}
 use Rattle.serde_json.proofs.Views.{items_len-items_view}
+use Rattle.sab_refusal.specs.declared.located.Located.{Located}
+use Rattle.sab_refusal.specs.declared.location.Location.{Location}
 use Rattle.sab_refusal.specs.declared.why.Wanted.TheVariants as wanted
 use Rattle.sab_script.specs.Numbers.{SpellsOperand}
 use Rattle.sab_script.specs.Calls.{value, optional, SpellsArguments}
@@ -41,21 +43,24 @@ returns-clause-found c =
     argument_then c.args.trees.now c.value-item.result _ _ c.in-len1-up.len_at_least c.value-item.is
     c.in_ok-value.ensures.found (rw rest_whole at c.in_ok-timeout.ensures.found)
 
+-- what is told of a refusal where the arguments of a call are known
+abbrev Told : Location → Items → Located → Type 0
+Told place ds e = (root : Data) (name : List ℕ) → HasArguments root place name ds → TakesTimed name 1 → IsTrueOf root e
+
 pub returns-in_default-clause-told : goal.returns-in_default-clause-told
 returns-in_default-clause-told c = λ root name h takes.
     let trees = c.args.trees.now in
     let types = wanted.Operand ∷ wanted.Whole ∷ [] in
     let fits : length trees < 2 ^ 63 = search rules in
     let few = c.in_default.len_below in
-    c.wrong_count.ensures.told root name _ types h takes (items_len-items_view trees) refl (λ some. omega (arith, few, some))
-    (omega (arith, fits))
+    c.wrong_count.ensures.told root name _ types h takes (items_len-items_view trees) refl
+    (λ some. omega (arith, few, some)) (omega (arith, fits))
 
 pub returns-in_err-value-clause-told : goal.returns-in_err-value-clause-told
 returns-in_err-value-clause-told c =
     let a = c.args in
     let types = wanted.Operand ∷ wanted.Whole ∷ [] in
-    exit_told (λ e. (root : Data) (name : List ℕ) → HasArguments root a.at name (items_view a.trees.now)
-    → TakesTimed name 1 → IsTrueOf root e) c.from_residual.result _ c.from_residual.ensures.1
+    exit_told (Told a.at (items_view a.trees.now)) c.from_residual.result _ c.from_residual.ensures.1
     (λ root name h takes.
     let there = item_read a.trees.now 0 c.value-item.result c.in-len1-up.len_at_least c.value-item.is in
     c.in_err-value.ensures.told root (rw c.item.ensures (argument_stands root a.at name _ 0 _ h there))
@@ -64,8 +69,7 @@ returns-in_err-value-clause-told c =
 pub returns-in_err-timeout-clause-told : goal.returns-in_err-timeout-clause-told
 returns-in_err-timeout-clause-told c =
     let a = c.args in
-    exit_told (λ e. (root : Data) (name : List ℕ) → HasArguments root a.at name (items_view a.trees.now)
-    → TakesTimed name 1 → IsTrueOf root e) c.from_residual-in_err-timeout.result _
+    exit_told (Told a.at (items_view a.trees.now)) c.from_residual-in_err-timeout.result _
     c.from_residual-in_err-timeout.ensures.1
     (λ root name h takes. c.in_err-timeout.ensures.told root name _ h
     (rw rest_whole (behind_first a.trees.now c.in-len1-up.len_at_least)) takes)

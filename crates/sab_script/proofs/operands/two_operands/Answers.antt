@@ -1,8 +1,11 @@
 use Rattle.std.proofs.Common.{◌<◌, ◌≤◌, ◌^◌, ℕ, List, [], ◌∷◌, length, refl, arith, rules}
-use Rattle.serde_json.specs.Data.{Data}
+use Rattle.serde_json.specs.Data.{Data, Items}
 use Rattle.serde_json.specs.View.{view, items_view}
 use Rattle.sab_block.specs.declared.operand.Operand.{Operand}
 use Rattle.serde_json.proofs.Views.{items_len-items_view}
+use Rattle.sab_refusal.specs.declared.located.Located.{Located}
+use Rattle.sab_refusal.specs.declared.location.Location.{Location}
+use Rattle.sab_refusal.specs.declared.why.Wanted.{Wanted}
 use Rattle.sab_refusal.specs.declared.why.Wanted.TheVariants as wanted
 use Rattle.sab_script.specs.Numbers.{SpellsOperand}
 use Rattle.sab_script.specs.Calls.{value, SpellsArguments}
@@ -37,10 +40,16 @@ returns-clause-found c =
     (omega (arith, c.in-len2.len_at_least, c.in-len2.len_below)) c.expected-item.is c.replacement-item.is
     c.in_ok-expected.ensures.found c.in_ok-replacement.ensures.found
 
+abbrev types : List Wanted
+types = wanted.Operand ∷ wanted.Operand ∷ []
+
+-- what is told of a refusal where the arguments of a call are known
+abbrev Told : Location → Items → Located → Type 0
+Told place ds e = (root : Data) (name : List ℕ) → HasArguments root place name ds → TakesJust name types → IsTrueOf root e
+
 pub returns-in_default-clause-told : goal.returns-in_default-clause-told
 returns-in_default-clause-told c = λ root name h takes.
     let trees = c.args.trees.now in
-    let types = wanted.Operand ∷ wanted.Operand ∷ [] in
     let fits : length trees < 2 ^ 63 = search rules in
     let wrong : 2 ≤ length trees → 2 < length trees = search rules in
     c.wrong_count.ensures.told root name _ types h takes (items_len-items_view trees) refl wrong (omega (arith, fits))
@@ -48,9 +57,7 @@ returns-in_default-clause-told c = λ root name h takes.
 pub returns-in_err-expected-clause-told : goal.returns-in_err-expected-clause-told
 returns-in_err-expected-clause-told c =
     let a = c.args in
-    let types = wanted.Operand ∷ wanted.Operand ∷ [] in
-    exit_told (λ e. (root : Data) (name : List ℕ) → HasArguments root a.at name (items_view a.trees.now)
-    → TakesJust name types → IsTrueOf root e) c.from_residual.result _ c.from_residual.ensures.1
+    exit_told (Told a.at (items_view a.trees.now)) c.from_residual.result _ c.from_residual.ensures.1
     (λ root name h takes.
     let many = c.in-len2.len_at_least in
     let there = item_read a.trees.now 0 c.expected-item.result (omega (arith, many)) c.expected-item.is in
@@ -60,9 +67,7 @@ returns-in_err-expected-clause-told c =
 pub returns-in_err-replacement-clause-told : goal.returns-in_err-replacement-clause-told
 returns-in_err-replacement-clause-told c =
     let a = c.args in
-    let types = wanted.Operand ∷ wanted.Operand ∷ [] in
-    exit_told (λ e. (root : Data) (name : List ℕ) → HasArguments root a.at name (items_view a.trees.now)
-    → TakesJust name types → IsTrueOf root e) c.from_residual-in_err-replacement.result _
+    exit_told (Told a.at (items_view a.trees.now)) c.from_residual-in_err-replacement.result _
     c.from_residual-in_err-replacement.ensures.1
     (λ root name h takes.
     let many = c.in-len2.len_at_least in
