@@ -139,8 +139,10 @@ pub returns-in_err-expected-in-compareExchange-clause-told :
 returns-in_err-expected-in-compareExchange-clause-told c =
     let a = c.args in
     exit_told (Told a.at a.name.now (items_view a.operands.now))
-    c.from_residual-in_err-expected-in-compareExchange.result _ c.from_residual-in_err-expected-in-compareExchange.ensures.1
-    (λ root h. c.in_err-expected-in-compareExchange.ensures.told root a.name.now h (rw c.in-compareExchange.is takes_compare_exchange))
+    c.from_residual-in_err-expected-in-compareExchange.result _
+    c.from_residual-in_err-expected-in-compareExchange.ensures.1
+    (λ root h. c.in_err-expected-in-compareExchange.ensures.told root a.name.now h
+    (rw c.in-compareExchange.is takes_compare_exchange))
 
 pub returns-in_err-value-in-wait-clause-told : goal.returns-in_err-value-in-wait-clause-told
 returns-in_err-value-in-wait-clause-told c =

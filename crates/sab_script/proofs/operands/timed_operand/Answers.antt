@@ -33,7 +33,8 @@ returns-in_err-value-clause-found c =
 pub returns-in_err-timeout-clause-found : goal.returns-in_err-timeout-clause-found
 returns-in_err-timeout-clause-found c =
     let trees = c.args.trees.now in
-    exit_refuses (λ (p : Operand × Option ℤ). p) (λ (o : Option ℤ). SpellsArguments (items_view (drop 1 trees)) (optional o))
+    let rest = items_view (drop 1 trees) in
+    exit_refuses (λ (p : Operand × Option ℤ). p) (λ (o : Option ℤ). SpellsArguments rest (optional o))
     (λ p. SpellsArguments (items_view trees) (value p.0 ∷ optional p.1)) c.from_residual-in_err-timeout.result _
     c.from_residual-in_err-timeout.ensures.1 (rw rest_whole at c.in_err-timeout.ensures.found)
     (λ p h. (p.1, (first_argument trees c.value-item.result (value p.0) (optional p.1) c.value-item.is h).1))

@@ -45,7 +45,8 @@ types = wanted.Operand ∷ wanted.Operand ∷ []
 
 -- what is told of a refusal where the arguments of a call are known
 abbrev Told : Location → Items → Located → Type 0
-Told place ds e = (root : Data) (name : List ℕ) → HasArguments root place name ds → TakesJust name types → IsTrueOf root e
+Told place ds e =
+    (root : Data) (name : List ℕ) → HasArguments root place name ds → TakesJust name types → IsTrueOf root e
 
 pub returns-in_default-clause-told : goal.returns-in_default-clause-told
 returns-in_default-clause-told c = λ root name h takes.
