@@ -238,6 +238,11 @@ misfit_told place form lens block len rest name v e has g is told = λ order roo
     let here = subst (λ l. Stands root l (object (with_block form block rest))) known.0.1 stands in
     told root known.0.0 len known.0.1 g (has_view root form lens known.0.0 block len rest name v known.1 has g here is)
 
+-- what a description tells, behind the block
+abbrev pub IsDescriptionTold : Location → List ℕ → ℕ → Members → Located → Type 0
+IsDescriptionTold place lens block rest e =
+    (form : Form) → IsBlockIn form block → IsTrueOfView place (with_block form block rest) (λ root. HasLens root form lens) e
+
 -- ---- the tree of a view
 
 pub blocks_from : (root : Data) (form : Form) (lens : List ℕ) → HasLens root form lens → HasBlocks root form (length lens)
