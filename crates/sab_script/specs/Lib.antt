@@ -6,4 +6,9 @@ pub mod Calls
 pub mod Agents
 pub mod Schedule
 pub mod Setup
+pub mod Places
+pub mod Truth
+pub mod Known
+pub mod Arguments
+pub mod ViewPlaces
 pub mod Script

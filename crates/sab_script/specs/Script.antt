@@ -8,6 +8,7 @@ use Rattle.sab_refusal.specs.declared.refusal.Refusal.{Refusal}
 use Rattle.sab_refusal.specs.declared.refusal.Refusal.TheVariants.{NotJson, Tree}
 use Rattle.sab_refusal.specs.Why.{fault_of}
 use Rattle.sab_script.specs.Setup.{SetupParts, Spells, IsOnlySetup}
+use Rattle.sab_script.specs.Truth.{IsTrueOf}
 
 -- the bytes are a JSON text in UTF-8, which reads as the tree
 abbrev pub ReadsAs : List ℕ → Data → Type 0
@@ -35,3 +36,8 @@ IsTreeFault script _ = SpellsNone script
 abbrev pub IsRefusedBy : List ℕ → Refusal → Type 0
 IsRefusedBy script (NotJson line column is_cut) = (tree : Data) → ReadsAs script tree → ⊥
 IsRefusedBy script (Tree e) = IsTreeFault script (fault_of e.why)
+
+-- what a refusal says is true of the tree that the script reads as; of a text that isn't JSON nothing is told of a tree
+abbrev pub IsTrueRefusal : List ℕ → Refusal → Type 0
+IsTrueRefusal script (NotJson line column is_cut) = Unit {0}
+IsTrueRefusal script (Tree e) = (tree : Data) → ReadsAs script tree → IsTrueOf tree e

@@ -1,12 +1,16 @@
 //! Agents.
 
-ghost use Rattle.std.specs.Prelude.{◌≡◌, IfErr, IfOk, OnErr};
-ghost use Rattle.serde_json.specs.Data.{Data};
+ghost use Rattle.std.specs.Prelude.{◌≡◌, ℕ, IfErr, IfOk, OnErr};
+ghost use Rattle.serde_json.specs.Data.{Data, array};
 ghost use Rattle.serde_json.specs.View.{view, items_view};
+ghost use Rattle.sab_refusal.specs.declared.location.Location.TheVariants as L;
+ghost use Rattle.sab_refusal.specs.declared.member.Member.TheVariants as M;
 ghost use Rattle.sab_script.specs.Reading.{Finds};
 ghost use Rattle.sab_script.specs.Views.{view_names};
 ghost use Rattle.sab_script.specs.Agents.{agent_object, SpellsScript, SpellsScripts};
 ghost use Rattle.sab_refusal.specs.Why.{fault_of};
+ghost use Rattle.sab_script.specs.Truth.{IsTrueWhere};
+ghost use Rattle.sab_script.specs.Known.{HasNames};
 
 use crate::calls::read_calls;
 use crate::elements::{Reader, read_each};
@@ -23,6 +27,8 @@ fn agent_members(at: Location, tree: &Value) -> Result<(&Value, &Value), Located
     ensures err { OnErr result ((block calls : Data) → view tree.now ≡ agent_object block calls → ⊥) }
     ensures fault { IfErr result (λ e. fault_of e.why ≡ ReadFault.BadShape) }
     ensures place { IfErr result (λ e. e.at ≡ at) }
+    ensures told { IfErr result (IsTrueWhere at (view tree.now)
+        (λ root. (i : ℕ) × (at ≡ Location.Item Member.Agents i))) }
 {
     let mut rest = members(at, tree)?;
     let block = member(at, &mut rest, Member::Block)?;
@@ -43,6 +49,9 @@ impl Reader for AgentReader<'_> {
 
     ghost Spells = { λ reader. SpellsScript (view_names reader.views.now) };
 
+    ghost Knows = { λ reader root at. ((i : ℕ) × (at ≡ L.Item M.Agents i))
+        × HasNames root (view_names reader.views.now) };
+
     fn read(&self, at: Location, tree: &Value) -> Result<Script, Located> {
         let (block_tree, calls_tree) = agent_members(at, tree)?;
         let can_block = flag(at.member(Member::Block), block_tree)?;
@@ -60,7 +69,9 @@ pub(crate) fn read_agents(
     views: &Views,
     trees: &[Value],
 ) -> Result<Vec<Script>, Located>
-    ensures { Finds (λ scripts. scripts.items) (SpellsScripts (view_names views.now) (items_view trees.now)) result }
+    ensures found { Finds (λ scripts. scripts.items) (SpellsScripts (view_names views.now) (items_view trees.now)) result }
+    ensures told { IfErr result (IsTrueWhere at (array (items_view trees.now))
+        (λ root. (at ≡ Location.Member Member.Agents) × HasNames root (view_names views.now))) }
 {
     let reader = AgentReader { alloc, views };
     read_each(alloc, at, &reader, Unit::Agents, Plan::MAX_AGENTS, trees)

@@ -1,9 +1,11 @@
 //! Blocks.
 
-ghost use Rattle.std.specs.Prelude.{◌≡◌, ◌≤◌};
+ghost use Rattle.std.specs.Prelude.{◌≡◌, ◌≤◌, IfErr};
 ghost use Rattle.serde_json.specs.View.{view};
 ghost use Rattle.sab_script.specs.Reading.{Finds};
 ghost use Rattle.sab_script.specs.Blocks.{SpellsLen, SpellsLens};
+ghost use Rattle.sab_script.specs.Places.{lens_member};
+ghost use Rattle.sab_script.specs.Truth.{IsTrueWhere, IsLenPlace};
 
 use crate::elements::{Reader, read_each};
 use crate::form::Form;
@@ -15,7 +17,8 @@ use std::alloc::Global;
 
 /// The length of a block.
 fn read_len(at: Location, tree: &Value) -> Result<u32, Located>
-    ensures { Finds (λ len. len) (SpellsLen (view tree.now)) result }
+    ensures found { Finds (λ len. len) (SpellsLen (view tree.now)) result }
+    ensures told { IfErr result (IsTrueWhere at (view tree.now) (λ root. IsLenPlace at)) }
 {
     let len = whole(at, Wanted::Whole, tree)?;
     if len < 0 {
@@ -38,6 +41,8 @@ impl Reader for LenReader {
 
     ghost Spells = { λ _. SpellsLen };
 
+    ghost Knows = { λ _ root at. IsLenPlace at };
+
     fn read(&self, at: Location, tree: &Value) -> Result<u32, Located> {
         read_len(at, tree)
     }
@@ -50,7 +55,8 @@ pub(crate) fn read_lens(
     form: Form,
     tree: &Value,
 ) -> Result<Vec<u32>, Located>
-    ensures { Finds (λ lens. lens.items) (SpellsLens form (view tree.now)) result }
+    ensures found { Finds (λ lens. lens.items) (SpellsLens form (view tree.now)) result }
+    ensures told { IfErr result (IsTrueWhere at (view tree.now) (λ root. at ≡ Location.Member (lens_member form))) }
 {
     match form {
         Form::Bytes => {

@@ -1,10 +1,17 @@
 //! Calls.
 
-ghost use Rattle.std.specs.Prelude.{◌≡◌};
+ghost use Rattle.std.specs.Prelude.{◌≡◌, ℕ, IfErr};
+ghost use Rattle.serde_json.specs.Data.{Data, array};
 ghost use Rattle.serde_json.specs.View.{view, items_view};
 ghost use Rattle.sab_block.specs.RmwOp.{function_of_op};
+ghost use Rattle.sab_refusal.specs.declared.location.Location.TheVariants as L;
+ghost use Rattle.sab_refusal.specs.declared.member.Member.TheVariants as M;
 ghost use Rattle.sab_script.specs.Reading.{Finds};
 ghost use Rattle.sab_script.specs.Views.{view_names};
+ghost use Rattle.sab_script.specs.Places.{IsNamed};
+ghost use Rattle.sab_script.specs.Truth.{IsTrueWhere, IsTrueOf};
+ghost use Rattle.sab_script.specs.Known.{HasNames, HasArguments};
+ghost use Rattle.sab_script.specs.Arguments.{IsNameOfRmw};
 ghost use Rattle.sab_script.specs.Calls.{spelling_of, SpellsParts, SpellsCall, SpellsCalls};
 
 use crate::elements::{Reader, read_each};
@@ -19,7 +26,9 @@ use std::alloc::Global;
 
 /// The read-modify-write operation of a call's name.
 fn rmw_op(at: Location, name: &str) -> Result<RmwOp, Located>
-    ensures { Finds (λ op. op) (λ op. name.now ≡ function_of_op op) result }
+    ensures found { Finds (λ op. op) (λ op. name.now ≡ function_of_op op) result }
+    ensures told { IfErr result (λ e. (root : Data) (i j : ℕ) → at ≡ Location.Call M.Agents i M.Calls j
+        → IsNamed root i j name.now → IsNameOfRmw name.now → IsTrueOf root e) }
 {
     match name {
         "exchange" => Ok(RmwOp::Exchange),
@@ -44,8 +53,10 @@ fn rmw_of(
     index: i64,
     operands: &[Value],
 ) -> Result<Call, Located>
-    ensures { Finds (λ c. c)
+    ensures found { Finds (λ c. c)
         (λ c. SpellsParts (function_of_op op) view index (items_view operands.now) (spelling_of c)) result }
+    ensures told { IfErr result (λ e. (root : Data) → HasArguments root at (function_of_op op) (items_view operands.now)
+        → IsTrueOf root e) }
 {
     let value = one_operand(at, operands)?;
     let access = Access::Rmw { op, index, value };
@@ -60,8 +71,10 @@ fn call_of(
     index: i64,
     operands: &[Value],
 ) -> Result<Call, Located>
-    ensures { Finds (λ c. c)
+    ensures found { Finds (λ c. c)
         (λ c. SpellsParts name.now view index (items_view operands.now) (spelling_of c)) result }
+    ensures told { IfErr result (λ e. (root : Data) → HasArguments root at name.now (items_view operands.now)
+        → IsTrueOf root e) }
 {
     match name {
         "load" => {
@@ -102,7 +115,10 @@ fn call_of(
 
 /// A call.
 fn read_call(at: Location, views: &Views, tree: &Value) -> Result<Call, Located>
-    ensures { Finds (λ c. c) (SpellsCall (view_names views.now) (view tree.now)) result }
+    ensures found { Finds (λ c. c) (SpellsCall (view_names views.now) (view tree.now)) result }
+    ensures told { IfErr result (IsTrueWhere at (view tree.now)
+        (λ root. ((i : ℕ) × (j : ℕ) × (at ≡ Location.Call M.Agents i M.Calls j))
+        × HasNames root (view_names views.now))) }
 {
     let trees = items(at, tree)?;
     if trees.is_empty() {
@@ -130,6 +146,9 @@ impl Reader for CallReader<'_> {
 
     ghost Spells = { λ reader. SpellsCall (view_names reader.views.now) };
 
+    ghost Knows = { λ reader root at. ((i : ℕ) × (j : ℕ) × (at ≡ L.Call M.Agents i M.Calls j))
+        × HasNames root (view_names reader.views.now) };
+
     fn read(&self, at: Location, tree: &Value) -> Result<Call, Located> {
         read_call(at, self.views, tree)
     }
@@ -142,7 +161,10 @@ pub(crate) fn read_calls(
     views: &Views,
     trees: &[Value],
 ) -> Result<Vec<Call>, Located>
-    ensures { Finds (λ calls. calls.items) (SpellsCalls (view_names views.now) (items_view trees.now)) result }
+    ensures found { Finds (λ calls. calls.items) (SpellsCalls (view_names views.now) (items_view trees.now)) result }
+    ensures told { IfErr result (IsTrueWhere at (array (items_view trees.now))
+        (λ root. ((i : ℕ) × (at ≡ Location.Part M.Agents i M.Calls))
+        × HasNames root (view_names views.now))) }
 {
     let reader = CallReader { views };
     read_each(alloc, at, &reader, Unit::Calls, Plan::MAX_CALLS, trees)

@@ -1,8 +1,12 @@
 //! Items of an array, one after another.
 
-ghost use Rattle.serde_json.specs.Data.{Data};
+ghost use Rattle.std.specs.Prelude.{◌≡◌, ℕ, IfErr};
+ghost use Rattle.serde_json.specs.Data.{Data, array};
 ghost use Rattle.serde_json.specs.View.{view, items_view};
+ghost use Rattle.sab_refusal.specs.declared.location.Location.{Location as Place};
+ghost use Rattle.sab_refusal.specs.Location.{item_at};
 ghost use Rattle.sab_script.specs.Reading.{Finds, SpellsUpTo};
+ghost use Rattle.sab_script.specs.Truth.{IsTrueWhere, IsListOf, limit_of};
 
 use sab_refusal::{Located, Location, Unit, Why};
 use serde_json::Value;
@@ -16,9 +20,13 @@ pub(crate) trait Reader {
     /// What it is to spell an element.
     ghost Spells: { Self → Data → Self.Element → Type 0 };
 
+    /// What has to be known of the script where an element stands.
+    ghost Knows: { Self → Data → Place → Type 0 };
+
     /// The element that a value spells, which stands there.
     fn read(&self, at: Location, tree: &Value) -> Result<Self::Element, Located>
-        ensures { Finds (λ x. x) (Spells self.now (view tree.now)) result };
+        ensures found { Finds (λ x. x) (Spells self.now (view tree.now)) result }
+        ensures told { IfErr result (IsTrueWhere at (view tree.now) (λ root. Knows self.now root at)) };
 }
 
 /// The elements that the items of an array spell, in order, of which there may be `most`.
@@ -31,7 +39,9 @@ pub(crate) fn read_each<R: Reader>(
     most: usize,
     trees: &[Value],
 ) -> Result<Vec<R::Element>, Located>
-    ensures { Finds (λ elements. elements.items) (SpellsUpTo most (R.Spells reader.now) (items_view trees.now)) result }
+    ensures found { Finds (λ elements. elements.items) (SpellsUpTo most (R.Spells reader.now) (items_view trees.now)) result }
+    ensures told { IfErr result (IsTrueWhere at (array (items_view trees.now))
+        (λ root. IsListOf unit at × (most ≡ limit_of unit) × ((i : ℕ) → R.Knows reader.now root (item_at at i)))) }
 {
     if trees.len() > most {
         let why = Why::TooMany(unit, trees.len() as u64, most as u64);

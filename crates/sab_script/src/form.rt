@@ -15,10 +15,12 @@ impl Form {
     ghost use Rattle.std.specs.Prelude.{◌≡◌};
     ghost use Rattle.sab_script.specs.Blocks.{lens_name};
     ghost use Rattle.sab_refusal.specs.Location.{member_name};
+    ghost use Rattle.sab_script.specs.Places.{lens_member};
 
     /// The member of a script that tells of its blocks.
     pub(crate) fn lens_member(self) -> Member
-        ensures { member_name result ≡ lens_name self }
+        ensures member { result ≡ lens_member self }
+        ensures name { member_name result ≡ lens_name self }
     {
         match self {
             Form::Bytes => Member::Bytes,

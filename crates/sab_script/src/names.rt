@@ -1,10 +1,13 @@
 //! The names of views and of kinds.
 
-ghost use Rattle.std.specs.Prelude.{◌≡◌, IfErr, ◌↔◌, ◌<◌, ◌≤◌, IsTrue};
+ghost use Rattle.std.specs.Prelude.{◌≡◌, ℕ, IfErr, ◌↔◌, ◌<◌, ◌≤◌, IsTrue};
 ghost use Rattle.sab_block.specs.Kind.{kind_name};
 ghost use Rattle.sab_refusal.specs.Why.{fault_of};
 ghost use Rattle.sab_script.specs.Reading.{Finds};
 ghost use Rattle.sab_script.specs.Views.{IsName};
+ghost use Rattle.sab_refusal.specs.declared.member.Member.TheVariants as M;
+ghost use Rattle.serde_json.specs.Data.{string};
+ghost use Rattle.sab_script.specs.Truth.{IsTrueWhere};
 
 use sab_block::Kind;
 use sab_refusal::{Excerpt, Located, Location, ReadFault, Why};
@@ -14,6 +17,8 @@ pub(crate) fn kind(at: Location, name: &str) -> Result<Kind, Located>
     ensures reads { Finds (λ k. k) (λ k. name.now ≡ kind_name k) result }
     ensures fault { IfErr result (λ e. fault_of e.why ≡ ReadFault.BadView) }
     ensures place { IfErr result (λ e. e.at ≡ at) }
+    ensures told { IfErr result (IsTrueWhere at (string name.now)
+        (λ root. (i : ℕ) × (at ≡ Location.Part M.Views i M.Kind))) }
 {
     match name {
         "Int8" => Ok(Kind::Int8),

@@ -1,9 +1,13 @@
 //! Schedules.
 
-ghost use Rattle.std.specs.Prelude.{◌≡◌, ◌≤◌};
+ghost use Rattle.std.specs.Prelude.{◌≡◌, ◌≤◌, ◌⊎◌, ℕ, IfErr};
+ghost use Rattle.serde_json.specs.Data.{array};
 ghost use Rattle.serde_json.specs.View.{view, items_view};
+ghost use Rattle.sab_refusal.specs.declared.location.Location.TheVariants as L;
+ghost use Rattle.sab_refusal.specs.declared.member.Member.TheVariants as M;
 ghost use Rattle.sab_script.specs.Reading.{Finds};
 ghost use Rattle.sab_script.specs.Schedule.{SpellsMove, SpellsSchedule};
+ghost use Rattle.sab_script.specs.Truth.{IsTrueWhere, HasItems};
 
 use crate::elements::{Reader, read_each};
 use crate::tree::{end, member, members, position};
@@ -20,7 +24,9 @@ const _: () = prove!(MAX_MOVES == 100_000);
 
 /// A move of an agent, of which there are so many.
 fn read_move(at: Location, agents: u32, tree: &Value) -> Result<Move, Located>
-    ensures { Finds (λ m. m) (SpellsMove agents (view tree.now)) result }
+    ensures found { Finds (λ m. m) (SpellsMove agents (view tree.now)) result }
+    ensures told { IfErr result (IsTrueWhere at (view tree.now)
+        (λ root. ((k : ℕ) × (at ≡ Location.Item Member.Schedule k)) × HasItems root (Location.Member Member.Agents) agents)) }
 {
     if let Value::Object(_) = tree {
         let mut rest = members(at, tree)?;
@@ -45,6 +51,9 @@ impl Reader for MoveReader {
 
     ghost Spells = { λ reader. SpellsMove reader.agents };
 
+    ghost Knows = { λ reader root at. ((k : ℕ) × (at ≡ L.Item M.Schedule k))
+        × HasItems root (L.Member M.Agents) reader.agents };
+
     fn read(&self, at: Location, tree: &Value) -> Result<Move, Located> {
         read_move(at, self.agents, tree)
     }
@@ -57,7 +66,9 @@ pub(crate) fn read_schedule(
     agents: u32,
     trees: &[Value],
 ) -> Result<Vec<Move>, Located>
-    ensures { Finds (λ moves. moves.items) (SpellsSchedule agents (items_view trees.now)) result }
+    ensures found { Finds (λ moves. moves.items) (SpellsSchedule agents (items_view trees.now)) result }
+    ensures told { IfErr result (IsTrueWhere at (array (items_view trees.now))
+        (λ root. (at ≡ Location.Member Member.Schedule) × HasItems root (Location.Member Member.Agents) agents)) }
 {
     let reader = MoveReader { agents };
     read_each(alloc, at, &reader, Unit::Moves, MAX_MOVES, trees)

@@ -1,7 +1,7 @@
 //! Scripts as bytes.
 
 ghost use Rattle.std.specs.Prelude.{IfOk, IfErr};
-ghost use Rattle.sab_script.specs.Script.{IsScriptOf, IsRefusedBy};
+ghost use Rattle.sab_script.specs.Script.{IsScriptOf, IsRefusedBy, IsTrueRefusal};
 
 use crate::setup::{Setup, locate_setup};
 use sab_refusal::{Located, Location, Refusal, Why};
@@ -15,6 +15,7 @@ use std::alloc::Global;
 pub fn read_script(alloc: Global, script: &[u8]) -> Result<Setup, Refusal>
     ensures ok { IfOk result (IsScriptOf script.now) }
     ensures err { IfErr result (IsRefusedBy script.now) }
+    ensures told { IfErr result (IsTrueRefusal script.now) }
 {
     let tree = match Value::from_slice(alloc, script) {
         Ok(tree) => tree,

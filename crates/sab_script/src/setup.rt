@@ -9,6 +9,8 @@ ghost use Rattle.sab_refusal.specs.Why.{fault_of};
 ghost use Rattle.sab_script.specs.Reading.{Refuses, Reads, Finds};
 ghost use Rattle.sab_script.specs.Views.{named_views};
 ghost use Rattle.sab_script.specs.Setup.{IsSetup, Spells, IsOnlySetup, script_object};
+ghost use Rattle.sab_script.specs.Places.{form_of};
+ghost use Rattle.sab_script.specs.Truth.{IsTrueOf, IsTrueFault};
 
 use crate::agents::read_agents;
 use crate::blocks::read_lens;
@@ -83,6 +85,8 @@ fn script_members(tree: &Value) -> Result<(Form, (&Value, &Value, &Value, &Value
     ensures ok { IfOk result (λ p. view tree.now
         ≡ script_object p.0 (view p.1.0.now) (view p.1.1.now) (view p.1.2.now) (view p.1.3.now)) }
     ensures err { OnErr result ((form : Form) (a l s v : Data) → view tree.now ≡ script_object form a l s v → ⊥) }
+    ensures form { IfOk result (λ p. form_of (view tree.now) ≡ p.0) }
+    ensures told { IfErr result (IsTrueOf (view tree.now)) }
 {
     match members_in(tree, Form::Blocks) {
         Ok(found) => Ok((Form::Blocks, found)),
@@ -103,6 +107,7 @@ fn members_in(tree: &Value, form: Form) -> Result<(&Value, &Value, &Value, &Valu
     ensures ok { IfOk result (λ p. view tree.now
         ≡ script_object form (view p.0.now) (view p.1.now) (view p.2.now) (view p.3.now)) }
     ensures err { OnErr result ((a l s v : Data) → view tree.now ≡ script_object form a l s v → ⊥) }
+    ensures told { IfErr result (λ e. form_of (view tree.now) ≡ form → IsTrueOf (view tree.now) e) }
 {
     let at = Location::Script;
     let mut rest = members(at, tree)?;
@@ -119,6 +124,8 @@ fn script_parts(tree: &Value) -> Result<(Form, (&[Value], &Value, &[Value], &[Va
     ensures ok { IfOk result (λ p. view tree.now ≡ script_object p.0 (array (items_view p.1.0.now)) (view p.1.1.now)
         (array (items_view p.1.2.now)) (array (items_view p.1.3.now))) }
     ensures err { IfErr result (λ e. Refuses (Spells (view tree.now)) (fault_of e.why)) }
+    ensures form { IfOk result (λ p. form_of (view tree.now) ≡ p.0) }
+    ensures told { IfErr result (IsTrueOf (view tree.now)) }
 {
     let (form, (agents, lens, schedule, views)) = script_members(tree)?;
     let agents = items(Location::Member(Member::Agents), agents)?;
@@ -144,6 +151,7 @@ fn plan_of(lens: Vec<u32>, views: Vec<PlanView>, scripts: Vec<Script>) -> Plan
 pub fn locate_setup(alloc: Global, tree: &Value) -> Result<Setup, Located>
     ensures spelled { Finds (λ setup. setup) (Spells (view tree.now)) result }
     ensures only { IfOk result (IsOnlySetup (view tree.now)) }
+    ensures told { IfErr result (IsTrueOf (view tree.now)) }
 {
     let (form, (agent_trees, lens_tree, move_trees, view_trees)) = script_parts(tree)?;
     let at_agents = Location::Member(Member::Agents);
@@ -167,6 +175,7 @@ pub fn locate_setup(alloc: Global, tree: &Value) -> Result<Setup, Located>
 pub fn read_setup(alloc: Global, tree: &Value) -> Result<Setup, ReadFault>
     ensures spelled { Reads (λ setup. setup) (Spells (view tree.now)) result }
     ensures only { IfOk result (IsOnlySetup (view tree.now)) }
+    ensures told { IfErr result (IsTrueFault (view tree.now)) }
 {
     match locate_setup(alloc, tree) {
         Ok(setup) => Ok(setup),

@@ -7,6 +7,9 @@ ghost use Rattle.sab_script.specs.Reading.{Finds};
 ghost use Rattle.sab_refusal.specs.Location.{member_name};
 ghost use Rattle.sab_script.specs.Numbers.{SpellsWhole, SpellsOptional, SpellsPosition};
 ghost use Rattle.sab_refusal.specs.Why.{fault_of, fault_beyond};
+ghost use Rattle.sab_script.specs.Places.{CallsFor};
+ghost use Rattle.sab_script.specs.Truth.{IsTrueWhere, IsCountedAt};
+ghost use Rattle.sab_script.specs.Known.{AreInOrder, IsFirst, LackMember, IsNumberAs};
 
 use sab_block::Operand;
 use sab_refusal::{Counted, Excerpt, Located, Location, Member, ReadFault, Wanted, Why};
@@ -21,6 +24,8 @@ pub(crate) fn whole(at: Location, wanted: Wanted, tree: &Value) -> Result<i64, L
     ensures reads { Finds (λ z. z) (SpellsWhole (view tree.now)) result }
     ensures fault { IfErr result (λ e. (fault_of e.why ≡ ReadFault.BadShape) ⊎ (fault_of e.why ≡ ReadFault.BadNumber)) }
     ensures place { IfErr result (λ e. e.at ≡ at) }
+    ensures told { IfErr result (IsTrueWhere at (view tree.now)
+        (λ root. CallsFor root at wanted × IsNumberAs wanted (view tree.now))) }
 {
     let Value::Number(number) = tree else {
         let why = Why::Type(wanted);
@@ -47,6 +52,8 @@ pub(crate) fn position(
     ensures fault { IfErr result (λ e. (fault_of e.why ≡ fault_beyond counted)
         ⊎ ((fault_of e.why ≡ ReadFault.BadShape) ⊎ (fault_of e.why ≡ ReadFault.BadNumber))) }
     ensures place { IfErr result (λ e. e.at ≡ at) }
+    ensures told { IfErr result (IsTrueWhere at (view tree.now)
+        (λ root. CallsFor root at wanted × IsNumberAs wanted (view tree.now) × IsCountedAt root at counted count)) }
 {
     let n = whole(at, wanted, tree)?;
     if n < 0 || n >= i64::from(count) {
@@ -61,6 +68,7 @@ pub(crate) fn whole_or_null(at: Location, tree: &Value) -> Result<Option<i64>, L
     ensures reads { Finds (λ z. z) (SpellsOptional (view tree.now)) result }
     ensures fault { IfErr result (λ e. (fault_of e.why ≡ ReadFault.BadShape) ⊎ (fault_of e.why ≡ ReadFault.BadNumber)) }
     ensures place { IfErr result (λ e. e.at ≡ at) }
+    ensures told { IfErr result (IsTrueWhere at (view tree.now) (λ root. CallsFor root at Wanted.WholeOrNull)) }
 {
     if let Value::Null = tree {
         return Ok(None);
@@ -73,6 +81,7 @@ pub(crate) fn text(at: Location, tree: &Value) -> Result<&str, Located>
     ensures reads { Finds (λ s. s.now) (λ s. view tree.now ≡ string s) result }
     ensures fault { IfErr result (λ e. fault_of e.why ≡ ReadFault.BadShape) }
     ensures place { IfErr result (λ e. e.at ≡ at) }
+    ensures told { IfErr result (IsTrueWhere at (view tree.now) (λ root. CallsFor root at Wanted.Text)) }
 {
     let why = Why::Type(Wanted::Text);
     tree.as_str().ok_or(Located { at, why })
@@ -83,6 +92,7 @@ pub(crate) fn flag(at: Location, tree: &Value) -> Result<bool, Located>
     ensures reads { Finds (λ b. b) (λ b. view tree.now ≡ boolean b) result }
     ensures fault { IfErr result (λ e. fault_of e.why ≡ ReadFault.BadShape) }
     ensures place { IfErr result (λ e. e.at ≡ at) }
+    ensures told { IfErr result (IsTrueWhere at (view tree.now) (λ root. CallsFor root at Wanted.Flag)) }
 {
     let why = Why::Type(Wanted::Flag);
     tree.as_bool().ok_or(Located { at, why })
@@ -93,6 +103,7 @@ pub(crate) fn items(at: Location, tree: &Value) -> Result<&[Value], Located>
     ensures reads { Finds (λ trees. items_view trees.now) (λ trees. view tree.now ≡ array trees) result }
     ensures fault { IfErr result (λ e. fault_of e.why ≡ ReadFault.BadShape) }
     ensures place { IfErr result (λ e. e.at ≡ at) }
+    ensures told { IfErr result (IsTrueWhere at (view tree.now) (λ root. CallsFor root at Wanted.Array)) }
 {
     match tree.as_array() {
         Some(items) => Ok(items.as_slice()),
@@ -109,6 +120,8 @@ pub(crate) fn members(at: Location, tree: &Value) -> Result<Members<'_>, Located
     ensures err { OnErr result ((rest : MemberList) → view tree.now ≡ object rest → ⊥) }
     ensures fault { IfErr result (λ e. fault_of e.why ≡ ReadFault.BadShape) }
     ensures place { IfErr result (λ e. e.at ≡ at) }
+    ensures told { IfErr result (IsTrueWhere at (view tree.now) (λ root. CallsFor root at Wanted.Object)) }
+    ensures order { IfOk result (λ rest. AreInOrder (members_view rest)) }
 {
     match tree.as_object() {
         Some(members) => Ok(members.iter()),
@@ -131,6 +144,8 @@ pub(crate) fn member<'a>(
         → members_view members.old ≡ member_then (member_name name) d rest → ⊥) }
     ensures fault { IfErr result (λ e. fault_of e.why ≡ ReadFault.BadShape) }
     ensures place { IfErr result (λ e. e.at ≡ at) }
+    ensures lacks { IfErr result (λ e. AreInOrder (members_view members.old)
+        → LackMember name (members_view members.old) e.why) }
 {
     match members.next() {
         Some((found, tree)) if found.as_str() == name.name() => Ok(tree),
@@ -152,6 +167,7 @@ pub(crate) fn end(at: Location, members: &mut Members<'_>) -> Result<(), Located
     ensures err { OnErr result (members_view members.old ≡ no_members → ⊥) }
     ensures fault { IfErr result (λ e. fault_of e.why ≡ ReadFault.BadShape) }
     ensures place { IfErr result (λ e. e.at ≡ at) }
+    ensures first { IfErr result (λ e. IsFirst (members_view members.old) e.why) }
 {
     match members.next() {
         None => Ok(()),

@@ -1,10 +1,14 @@
 //! The views of a script, as its array has them.
 
-ghost use Rattle.std.specs.Prelude.{◌≡◌, ◌<◌, ◌≤◌, ℕ, length, IfOk, IfErr, OnErr, None};
-ghost use Rattle.serde_json.specs.Data.{Data, Members as MemberList};
+ghost use Rattle.std.specs.Prelude.{◌≡◌, ◌<◌, ◌≤◌, ℕ, length, slice_get, IfOk, IfErr, OnErr, Some, None};
+ghost use Rattle.serde_json.specs.Data.{Data, Members as MemberList, array};
 ghost use Rattle.serde_json.specs.View.{view, items_view, members_view};
 ghost use Rattle.sab_script.specs.Reading.{Refuses, Finds};
 ghost use Rattle.sab_script.specs.Blocks.{with_block, IsBlockIn};
+ghost use Rattle.sab_script.specs.Places.{form_of};
+ghost use Rattle.sab_script.specs.Truth.{IsTrueOf, IsTrueWhere};
+ghost use Rattle.sab_script.specs.Known.{HasLens};
+ghost use Rattle.sab_script.specs.ViewPlaces.{HasBlocks, HasView, IsTrueOfView};
 ghost use Rattle.sab_script.specs.Views.{description, count_on, SpellsDescription, SpellsView, SpellsViews, IsDescribed, AreDescribed};
 ghost use Rattle.sab_refusal.specs.Why.{fault_of};
 
@@ -23,11 +27,12 @@ use std::alloc::Global;
 /// The block that the members of a view tell first; or the first of all, where none is told.
 fn read_block(at: Location, form: Form, blocks: u32, rest: &mut Members<'_>) -> Result<u32, Located>
     requires { 0 < blocks }
-    ensures told { IfOk result (λ block. members_view rest.old ≡ with_block form block (members_view rest.new)) }
+    ensures parts { IfOk result (λ block. members_view rest.old ≡ with_block form block (members_view rest.new)) }
     ensures form { IfOk result (IsBlockIn form) }
     ensures there { IfOk result (λ block. block < blocks) }
     ensures err { IfErr result (λ e. Refuses
         (λ (p : ℕ × MemberList). (members_view rest.old ≡ with_block form p.0 p.1) × (p.0 < blocks)) (fault_of e.why)) }
+    ensures told { IfErr result (IsTrueOfView at (members_view rest.old) (λ root. HasBlocks root form blocks)) }
 {
     match form {
         Form::Bytes => Ok(0),
@@ -47,6 +52,8 @@ fn description_members<'a>(
     ensures ok { IfOk result (λ p. members_view rest.entry
         ≡ description (view p.0.now) (view p.1.now) (view p.2.now) (view p.3.now)) }
     ensures err { OnErr result ((k l n o : Data) → members_view rest.entry ≡ description k l n o → ⊥) }
+    ensures told { IfErr result (λ e. (form : Form) (block : ℕ) → IsTrueOfView at
+        (with_block form block (members_view rest.entry)) (λ root. form_of root ≡ form) e) }
 {
     let kind = member(at, &mut rest, Member::Kind)?;
     let length = member(at, &mut rest, Member::Length)?;
@@ -61,6 +68,8 @@ fn plan_view(at: Location, lens: &[u32], spec: ViewSpec) -> Result<PlanView, Loc
     requires { spec.block < length lens.now }
     ensures made { IfOk result (IsDescribed lens.now spec) }
     ensures err { OnErr result (count_on lens.now spec ≡ None) }
+    ensures told { IfErr result (λ e. (root : Data) (i len : ℕ) → at ≡ Location.Item Member.Views i
+        → slice_get lens.now spec.block ≡ Some len → HasView root i len spec → IsTrueOf root e) }
 {
     let block = spec.block;
     let len = lens[block as usize];
@@ -81,6 +90,8 @@ fn read_description<'a>(
     ensures read { Finds (λ p. (p.0.now, p.1))
         (λ v. SpellsDescription lens.now (members_view rest.entry) v × (v.1.block ≡ block)) result }
     ensures made { IfOk result (λ p. IsDescribed lens.now p.1 p.2) }
+    ensures told { IfErr result (λ e. (form : Form) → IsBlockIn form block → IsTrueOfView at
+        (with_block form block (members_view rest.entry)) (λ root. HasLens root form lens.now) e) }
 {
     let (kind_tree, length_tree, name_tree, offset_tree) = description_members(at, rest)?;
     let at_kind = at.member(Member::Kind);
@@ -115,6 +126,8 @@ fn read_view<'a>(
     requires few { length lens.now ≤ Plan.MAX_BLOCKS }
     ensures read { Finds (λ p. (p.0.now, p.1)) (SpellsView form lens.now (view tree.now)) result }
     ensures made { IfOk result (λ p. IsDescribed lens.now p.1 p.2) }
+    ensures told { IfErr result (IsTrueWhere at (view tree.now)
+        (λ root. ((i : ℕ) × (at ≡ Location.Item Member.Views i)) × HasLens root form lens.now)) }
 {
     let mut rest = members(at, tree)?;
     let block = read_block(at, form, lens.len() as u32, &mut rest)?;
@@ -122,7 +135,7 @@ fn read_view<'a>(
 }
 
 /// The views by name, and as a plan's on blocks of these lengths, in order.
-#[tactic(auto, using(crate::proofs::Each::each_none, crate::proofs::Each::each_more, crate::proofs::Each::each_all, crate::proofs::ViewNames::none_are_views))]
+#[tactic(auto, using(crate::proofs::Each::each_none, crate::proofs::Each::each_more, crate::proofs::Each::each_all, crate::proofs::ViewNames::none_are_views, crate::proofs::KnownViews::stand_none))]
 pub(crate) fn read_views(
     alloc: Global,
     at: Location,
@@ -134,6 +147,8 @@ pub(crate) fn read_views(
     requires few { length lens.now ≤ Plan.MAX_BLOCKS }
     ensures read { Finds (λ p. p.0) (SpellsViews form lens.now (items_view trees.now)) result }
     ensures made { IfOk result (λ p. AreDescribed lens.now p.0 p.1.items) }
+    ensures told { IfErr result (IsTrueWhere at (array (items_view trees.now))
+        (λ root. (at ≡ Location.Member Member.Views) × HasLens root form lens.now)) }
 {
     if trees.len() > Plan::MAX_VIEWS {
         let why = Why::TooMany(Unit::Views, trees.len() as u64, Plan::MAX_VIEWS as u64);

@@ -1,6 +1,9 @@
 //! Views by name.
 
-ghost use Rattle.std.specs.Prelude.{◌≡◌, ◌<◌, ℕ, [], ◌∷◌, ◌++◌, length, slice_get, Some, IfSome, IfNone, IfOk, OnOk};
+ghost use Rattle.std.specs.Prelude.{◌≡◌, ◌<◌, ℕ, [], ◌∷◌, ◌++◌, length, slice_get, Some, IfSome, IfNone, IfOk, IfErr, OnOk};
+ghost use Rattle.sab_refusal.specs.declared.member.Member.TheVariants as M;
+ghost use Rattle.sab_script.specs.Truth.{IsTrueWhere};
+ghost use Rattle.sab_script.specs.Known.{HasNames};
 ghost use Rattle.serde_json.specs.View.{view};
 ghost use Rattle.sab_script.specs.Reading.{Finds};
 ghost use Rattle.sab_script.specs.Views.{named_views, view_names, AreViews, SpellsName};
@@ -81,6 +84,9 @@ impl Views {
 pub(crate) fn view_of(at: Location, views: &Views, tree: &Value) -> Result<u32, Located>
     ensures read { Finds (λ v. v) (SpellsName (view_names views.now) (view tree.now)) result }
     ensures views { IfOk result (λ _. AreViews views.now) }
+    ensures told { IfErr result (IsTrueWhere at (view tree.now)
+        (λ root. ((i : ℕ) × (j : ℕ) × (at ≡ Location.Element M.Agents i M.Calls j 1))
+        × HasNames root (view_names views.now))) }
 {
     let name = text(at, tree)?;
     match views.position(name) {

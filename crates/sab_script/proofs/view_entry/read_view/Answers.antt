@@ -1,5 +1,5 @@
-use Rattle.std.proofs.Common.{◌≡◌, ◌<◌, ℕ, List, Bor, length}
-use Rattle.serde_json.specs.Data.{Members}
+use Rattle.std.proofs.Common.{◌≡◌, ◌<◌, ℕ, List, Bor, length, ap, ◌∙◌}
+use Rattle.serde_json.specs.Data.{object, Members}
 use Rattle.serde_json.specs.View.{view, members_view}
 use Rattle.sab_plan.specs.declared.plan_view.PlanView.{PlanView}
 use Rattle.sab_script.specs.declared.view_spec.ViewSpec.{ViewSpec}
@@ -7,6 +7,10 @@ use Rattle.sab_script.specs.Blocks.{with_block}
 use Rattle.sab_script.specs.Views.{SpellsView}
 use Rattle.sab_script.proofs.OneView.{block_part}
 use Rattle.sab_script.proofs.Refusing.{exit_refuses}
+use Rattle.sab_script.specs.Known.{HasLens}
+use Rattle.sab_script.specs.ViewPlaces.{HasBlocks}
+use Rattle.sab_script.proofs.Telling.{exit_told}
+use Rattle.sab_script.proofs.ViewParts.{IsDescriptionTold, IsViewTold, told_of_view, blocks_from, if_err_more}
 use Rattle.sab_script.proofs.view_entry.read_view.Goals as goal
 
 pub returns-in_err-block-clause-read : goal.returns-in_err-block-clause-read
@@ -17,3 +21,27 @@ returns-in_err-block-clause-read c =
     c.from_residual-in_err-block.ensures.1 c.in_err-block.ensures.err
     (block_part c.args.form c.args.lens.now (view c.args.tree.now) (members_view c.in_ok-rest.rest)
     c.in_ok-rest.ensures.ok)
+
+pub returns-in_err-block-clause-told : goal.returns-in_err-block-clause-told
+returns-in_err-block-clause-told c =
+    let e = c.in_err-block.field-0.0 in
+    exit_told (IsViewTold c.args.at (view c.args.tree.now) (λ root. HasLens root c.args.form c.args.lens.now))
+    c.from_residual-in_err-block.result e c.from_residual-in_err-block.ensures.1
+    (told_of_view c.args.at (view c.args.tree.now) (members_view c.in_ok-rest.rest) e
+    (λ root. HasBlocks root c.args.form (length c.args.lens.now)) (λ root. HasLens root c.args.form c.args.lens.now)
+    c.in_ok-rest.ensures.ok c.in_ok-rest.ensures.order
+    (λ root h. blocks_from root c.args.form c.args.lens.now h) c.in_err-block.ensures.told)
+
+pub returns-clause-told : goal.returns-clause-told
+returns-clause-told c =
+    let form = c.args.form in
+    let lens = c.args.lens.now in
+    let block = c.in_ok-block.block in
+    let rest = members_view c.read_block.new.rest in
+    let parts = c.in_ok-block.ensures.parts in
+    if_err_more (IsDescriptionTold c.args.at lens block rest)
+    (IsViewTold c.args.at (view c.args.tree.now) (λ root. HasLens root form lens)) c.read_description.result
+    (λ e told. told_of_view c.args.at (view c.args.tree.now) (with_block form block rest) e
+    (λ root. HasLens root form lens) (λ root. HasLens root form lens) (c.in_ok-rest.ensures.ok ∙ ap object parts)
+    (rw parts at c.in_ok-rest.ensures.order) (λ root h. h) (told form c.in_ok-block.ensures.form))
+    c.read_description.ensures.told

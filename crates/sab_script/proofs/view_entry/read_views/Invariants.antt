@@ -1,11 +1,14 @@
 use Rattle.std.proofs.Common.{◌≡◌, ◌≤◌, length, vec_len, vec_capacity}
 use Rattle.sab_script.specs.Views.{SpellsView, AreViews, AreDescribed}
+use Rattle.serde_json.specs.View.{items_view}
 use Rattle.sab_script.proofs.Each.{EachSoFar}
+use Rattle.sab_script.proofs.KnownViews.{StandSoFar}
 use Rattle.sab_script.proofs.view_entry.read_views.Given as goal
 
 abbrev pub invariant-loop-tree : goal.invariant-loop-tree
 invariant-loop-tree l = record {
   read : EachSoFar (SpellsView l.form l.lens) l.trees l.tree-index l.views;
+  there : StandSoFar (SpellsView l.form l.lens) (items_view l.trees) l.views;
   count : length l.views ≡ l.tree-index;
   views : AreViews l.views;
   made : AreDescribed l.lens l.views l.plan_views.items;

@@ -1,0 +1,15 @@
+use Rattle.std.proofs.Common.{◌≡◌, sym, ap, ◌∙◌, None, cond}
+use Rattle.serde_json.specs.Find.{as_bool}
+use Rattle.serde_json.specs.View.{view}
+use Rattle.sab_refusal.specs.declared.why.Wanted.TheVariants.{Flag}
+use Rattle.sab_script.specs.Places.{CallsFor}
+use Rattle.sab_script.specs.Truth.{IsTrueWhere}
+use Rattle.sab_script.proofs.Telling.{none_told}
+use Rattle.sab_script.proofs.tree.flag.Goals as goal
+
+pub returns-clause-told : goal.returns-clause-told
+returns-clause-told c =
+    let d = view c.args.tree.now in
+    let told = none_told (IsTrueWhere c.args.at d (λ root. CallsFor root c.args.at Flag)) c.as_bool.result _
+    (λ none root stands calls. (d, stands, calls, λ is. let bad = sym none ∙ c.as_bool.ensures ∙ ap as_bool is.1 in cc)) in
+    rw c.ok_or.ensures.value told

@@ -1,0 +1,10 @@
+use Rattle.std.proofs.Common.{sym}
+use Rattle.std.specs.List.Sorted.{IsStrictlySortedBy}
+use Rattle.std.specs.Map.{keys_of}
+use Rattle.std.specs.String.{string_cmp}
+use Rattle.std.specs.BTreeMap.{IsOrdered}
+use Rattle.sab_script.proofs.Ordered.{are_in_order}
+use Rattle.sab_script.proofs.tree.members.Goals as goal
+
+pub returns-in-Some-clause-order : goal.returns-in-Some-clause-order
+returns-in-Some-clause-order c = are_in_order c.iter.result (rw c.iter.ensures.rest c.iter.ensures.ordered)
