@@ -11,6 +11,7 @@ use Rattle.sab_block.specs.RmwOp.{function_of_op}
 use Rattle.sab_plan.specs.declared.call.Call.{Call}
 use Rattle.sab_plan.specs.declared.call.Call.TheVariants.{Access as ToAccess, Wait, Notify}
 use Rattle.sab_plan.specs.Call.{view_of}
+use Rattle.sab_script.specs.Arguments.{IsNameOfRmw}
 use Rattle.sab_script.specs.Calls.{value, optional, spelling_of, SpellsArguments, SpellsParts}
 
 -- what a call does, as its name says
@@ -76,15 +77,14 @@ pub named_call : (word : List ℕ) (v : ℕ) (i : ℤ) (ds : Items) (c : Call) �
 named_call word v i ds c h = rw (h.name, h.view, h.index) (is_call ds c h.arguments)
 
 -- a call of no other name is a read-modify-write
-pub op_part : (word : List ℕ) (v : ℕ) (i : ℤ) (ds : Items) → (word ≡ codes "load" → ⊥) → (word ≡ codes "store" → ⊥)
-    → (word ≡ codes "compareExchange" → ⊥) → (word ≡ codes "wait" → ⊥) → (word ≡ codes "notify" → ⊥) → (c : Call)
-    → SpellsParts word v i ds (spelling_of c) → (op : RmwOp) × (word ≡ function_of_op op)
-op_part word v i ds l s e w n (ToAccess u (Load j)) h = absurd (l h.name)
-op_part word v i ds l s e w n (ToAccess u (Store j x)) h = absurd (s h.name)
-op_part word v i ds l s e w n (ToAccess u (Rmw op j x)) h = (op, h.name)
-op_part word v i ds l s e w n (ToAccess u (CompareExchange j x y)) h = absurd (e h.name)
-op_part word v i ds l s e w n (Wait u j x t) h = absurd (w h.name)
-op_part word v i ds l s e w n (Notify u j k) h = absurd (n h.name)
+pub op_named : (word : List ℕ) → (word ≡ codes "load" → ⊥) → (word ≡ codes "store" → ⊥)
+    → (word ≡ codes "compareExchange" → ⊥) → (word ≡ codes "wait" → ⊥) → (word ≡ codes "notify" → ⊥) → IsNameOfRmw word
+op_named word l s e w n (ToAccess u (Load j)) is = absurd (l is)
+op_named word l s e w n (ToAccess u (Store j x)) is = absurd (s is)
+op_named word l s e w n (ToAccess u (Rmw op j x)) is = (op, is)
+op_named word l s e w n (ToAccess u (CompareExchange j x y)) is = absurd (e is)
+op_named word l s e w n (Wait u j x t) is = absurd (w is)
+op_named word l s e w n (Notify u j k) is = absurd (n is)
 
 -- the view of the spelling is the one that the call names
 pub spelled_view : (c : Call) → (spelling_of c).view ≡ view_of c

@@ -21,7 +21,13 @@ pub mod OnlySetup
 pub mod Equality
 pub mod KnownViews
 pub mod Unread
+pub mod ToldArguments
+pub mod ToldCalls
 pub mod Ordered
+pub mod Standing
 pub mod Telling
+pub mod ToldAgents
+pub mod ToldMoves
+pub mod ToldScript
 pub mod Misfits
 pub mod ViewParts

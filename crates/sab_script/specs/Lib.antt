@@ -9,5 +9,6 @@ pub mod Setup
 pub mod Places
 pub mod Truth
 pub mod Known
+pub mod Arguments
 pub mod ViewPlaces
 pub mod Script

@@ -3,6 +3,8 @@
 ghost use Rattle.std.specs.Prelude.{◌≡◌, ℕ, IfErr, IfOk, OnErr};
 ghost use Rattle.serde_json.specs.Data.{Data, array};
 ghost use Rattle.serde_json.specs.View.{view, items_view};
+ghost use Rattle.sab_refusal.specs.declared.location.Location.TheVariants as L;
+ghost use Rattle.sab_refusal.specs.declared.member.Member.TheVariants as M;
 ghost use Rattle.sab_script.specs.Reading.{Finds};
 ghost use Rattle.sab_script.specs.Views.{view_names};
 ghost use Rattle.sab_script.specs.Agents.{agent_object, SpellsScript, SpellsScripts};
@@ -47,7 +49,7 @@ impl Reader for AgentReader<'_> {
 
     ghost Spells = { λ reader. SpellsScript (view_names reader.views.now) };
 
-    ghost Knows = { λ reader root at. ((i : ℕ) × (at ≡ Location.Item Member.Agents i))
+    ghost Knows = { λ reader root at. ((i : ℕ) × (at ≡ L.Item M.Agents i))
         × HasNames root (view_names reader.views.now) };
 
     fn read(&self, at: Location, tree: &Value) -> Result<Script, Located> {

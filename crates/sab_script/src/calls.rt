@@ -4,12 +4,14 @@ ghost use Rattle.std.specs.Prelude.{◌≡◌, ℕ, IfErr};
 ghost use Rattle.serde_json.specs.Data.{Data, array};
 ghost use Rattle.serde_json.specs.View.{view, items_view};
 ghost use Rattle.sab_block.specs.RmwOp.{function_of_op};
+ghost use Rattle.sab_refusal.specs.declared.location.Location.TheVariants as L;
 ghost use Rattle.sab_refusal.specs.declared.member.Member.TheVariants as M;
 ghost use Rattle.sab_script.specs.Reading.{Finds};
 ghost use Rattle.sab_script.specs.Views.{view_names};
 ghost use Rattle.sab_script.specs.Places.{IsNamed};
 ghost use Rattle.sab_script.specs.Truth.{IsTrueWhere, IsTrueOf};
 ghost use Rattle.sab_script.specs.Known.{HasNames, HasArguments};
+ghost use Rattle.sab_script.specs.Arguments.{IsNameOfRmw};
 ghost use Rattle.sab_script.specs.Calls.{spelling_of, SpellsParts, SpellsCall, SpellsCalls};
 
 use crate::elements::{Reader, read_each};
@@ -26,7 +28,7 @@ use std::alloc::Global;
 fn rmw_op(at: Location, name: &str) -> Result<RmwOp, Located>
     ensures found { Finds (λ op. op) (λ op. name.now ≡ function_of_op op) result }
     ensures told { IfErr result (λ e. (root : Data) (i j : ℕ) → at ≡ Location.Call M.Agents i M.Calls j
-        → IsNamed root i j name.now → IsTrueOf root e) }
+        → IsNamed root i j name.now → IsNameOfRmw name.now → IsTrueOf root e) }
 {
     match name {
         "exchange" => Ok(RmwOp::Exchange),
@@ -144,7 +146,7 @@ impl Reader for CallReader<'_> {
 
     ghost Spells = { λ reader. SpellsCall (view_names reader.views.now) };
 
-    ghost Knows = { λ reader root at. ((i : ℕ) × (j : ℕ) × (at ≡ Location.Call M.Agents i M.Calls j))
+    ghost Knows = { λ reader root at. ((i : ℕ) × (j : ℕ) × (at ≡ L.Call M.Agents i M.Calls j))
         × HasNames root (view_names reader.views.now) };
 
     fn read(&self, at: Location, tree: &Value) -> Result<Call, Located> {

@@ -3,6 +3,7 @@
 ghost use Rattle.std.specs.Prelude.{◌≡◌, ℕ, IfErr};
 ghost use Rattle.serde_json.specs.Data.{Data, array};
 ghost use Rattle.serde_json.specs.View.{view, items_view};
+ghost use Rattle.sab_refusal.specs.declared.location.Location.{Location as Place};
 ghost use Rattle.sab_refusal.specs.Location.{item_at};
 ghost use Rattle.sab_script.specs.Reading.{Finds, SpellsUpTo};
 ghost use Rattle.sab_script.specs.Truth.{IsTrueWhere, IsListOf, limit_of};
@@ -20,7 +21,7 @@ pub(crate) trait Reader {
     ghost Spells: { Self → Data → Self.Element → Type 0 };
 
     /// What has to be known of the script where an element stands.
-    ghost Knows: { Self → Data → Location → Type 0 };
+    ghost Knows: { Self → Data → Place → Type 0 };
 
     /// The element that a value spells, which stands there.
     fn read(&self, at: Location, tree: &Value) -> Result<Self::Element, Located>

@@ -1,10 +1,16 @@
 //! Operands, and what else stands behind the index of a call.
 
-ghost use Rattle.std.specs.Prelude.{◌≡◌, [], ◌∷◌};
+ghost use Rattle.std.specs.Prelude.{◌≡◌, ◌+◌, ◌^◌, ◌<◌, ◌≤◌, ℕ, ℤ, List, [], ◌∷◌, length, IfErr};
+ghost use Rattle.serde_json.specs.Data.{Data, Items, string};
+ghost use Rattle.serde_json.specs.Events.{items_len};
 ghost use Rattle.serde_json.specs.View.{view, items_view};
 ghost use Rattle.sab_script.specs.Reading.{Finds};
 ghost use Rattle.sab_script.specs.Numbers.{SpellsBig, SpellsOperand};
 ghost use Rattle.sab_script.specs.Calls.{value, optional, SpellsArguments};
+ghost use Rattle.sab_script.specs.Places.{CallsFor};
+ghost use Rattle.sab_script.specs.Truth.{IsTrueWhere, IsTrueOf};
+ghost use Rattle.sab_script.specs.Known.{HasArguments};
+ghost use Rattle.sab_script.specs.Arguments.{TakesFrom, TakesJust, TakesTimed, StandBehind};
 ghost use Rattle.sab_refusal.specs.Why.{fault_of};
 
 use crate::tree::whole;
@@ -19,6 +25,8 @@ const FIRST: usize = 3;
 fn no_big(at: Location, digits: &str) -> Located
     ensures fault { fault_of result.why ≡ ReadFault.BadNumber }
     ensures place { result.at ≡ at }
+    ensures told { IsTrueWhere at (string digits.now)
+        (λ root. CallsFor root at Wanted.Operand × ((z : ℤ) → SpellsBig digits.now z → ⊥)) result }
 {
     let why = Why::NoBigInt(Excerpt::of(digits));
     Located { at, why }
@@ -28,6 +36,9 @@ fn no_big(at: Location, digits: &str) -> Located
 fn wrong_count(at: Location, count: usize, least: usize, most: usize) -> Located
     ensures fault { fault_of result.why ≡ ReadFault.BadCall }
     ensures place { result.at ≡ at }
+    ensures told { (root : Data) (name : List ℕ) (ds : Items) (types : List Wanted) → HasArguments root at name ds
+        → TakesFrom name least types → items_len ds ≡ count → length types ≡ most → (least ≤ count → most < count)
+        → count + 3 < 2 ^ 64 → IsTrueOf root result }
 {
     let why = if count < least {
         Why::FewElements(count.saturating_add(FIRST), least.saturating_add(FIRST))
@@ -39,7 +50,8 @@ fn wrong_count(at: Location, count: usize, least: usize, most: usize) -> Located
 
 /// A BigInt of 128 bits, by its one spelling.
 fn big(at: Location, digits: &str) -> Result<i128, Located>
-    ensures { Finds (λ z. z) (SpellsBig digits.now) result }
+    ensures found { Finds (λ z. z) (SpellsBig digits.now) result }
+    ensures told { IfErr result (IsTrueWhere at (string digits.now) (λ root. CallsFor root at Wanted.Operand)) }
 {
     match digits.parse::<i128>() {
         Ok(n) => if itoa::Buffer::new().format(n) == digits {
@@ -53,7 +65,8 @@ fn big(at: Location, digits: &str) -> Result<i128, Located>
 
 /// An operand: a whole number is a Number, and a string is a BigInt.
 pub(crate) fn operand(at: Location, tree: &Value) -> Result<Operand, Located>
-    ensures { Finds (λ x. x) (SpellsOperand (view tree.now)) result }
+    ensures found { Finds (λ x. x) (SpellsOperand (view tree.now)) result }
+    ensures told { IfErr result (IsTrueWhere at (view tree.now) (λ root. CallsFor root at Wanted.Operand)) }
 {
     if let Value::String(digits) = tree {
         return Ok(Operand::big(big(at, digits.as_str())?));
@@ -66,7 +79,9 @@ pub(crate) fn operand(at: Location, tree: &Value) -> Result<Operand, Located>
 /// Nothing, where a call has no operand.
 #[tactic(auto, using(crate::proofs::Lengths::as_many))]
 pub(crate) fn no_operand(at: Location, trees: &[Value]) -> Result<(), Located>
-    ensures { Finds (λ u. u) (λ _. SpellsArguments (items_view trees.now) []) result }
+    ensures found { Finds (λ u. u) (λ _. SpellsArguments (items_view trees.now) []) result }
+    ensures told { IfErr result (λ e. (root : Data) (name : List ℕ) → HasArguments root at name (items_view trees.now)
+        → TakesJust name [] → IsTrueOf root e) }
 {
     let [] = trees else {
         return Err(wrong_count(at, trees.len(), 0, 0));
@@ -77,7 +92,9 @@ pub(crate) fn no_operand(at: Location, trees: &[Value]) -> Result<(), Located>
 /// The one operand of a call.
 #[tactic(auto, using(crate::proofs::Lengths::as_many))]
 pub(crate) fn one_operand(at: Location, trees: &[Value]) -> Result<Operand, Located>
-    ensures { Finds (λ x. x) (λ x. SpellsArguments (items_view trees.now) (value x ∷ [])) result }
+    ensures found { Finds (λ x. x) (λ x. SpellsArguments (items_view trees.now) (value x ∷ [])) result }
+    ensures told { IfErr result (λ e. (root : Data) (name : List ℕ) → HasArguments root at name (items_view trees.now)
+        → TakesJust name (Wanted.Operand ∷ []) → IsTrueOf root e) }
 {
     let [value] = trees else {
         return Err(wrong_count(at, trees.len(), 1, 1));
@@ -88,7 +105,9 @@ pub(crate) fn one_operand(at: Location, trees: &[Value]) -> Result<Operand, Loca
 /// The two operands of a call.
 #[tactic(auto, using(crate::proofs::Lengths::as_many))]
 pub(crate) fn two_operands(at: Location, trees: &[Value]) -> Result<(Operand, Operand), Located>
-    ensures { Finds (λ p. p) (λ p. SpellsArguments (items_view trees.now) (value p.0 ∷ value p.1 ∷ [])) result }
+    ensures found { Finds (λ p. p) (λ p. SpellsArguments (items_view trees.now) (value p.0 ∷ value p.1 ∷ [])) result }
+    ensures told { IfErr result (λ e. (root : Data) (name : List ℕ) → HasArguments root at name (items_view trees.now)
+        → TakesJust name (Wanted.Operand ∷ Wanted.Operand ∷ []) → IsTrueOf root e) }
 {
     let [expected, replacement] = trees else {
         return Err(wrong_count(at, trees.len(), 2, 2));
@@ -105,7 +124,9 @@ pub(crate) fn optional_limit(
     operands: usize,
     trees: &[Value],
 ) -> Result<Option<i64>, Located>
-    ensures { Finds (λ o. o) (λ o. SpellsArguments (items_view trees.now) (optional o)) result }
+    ensures found { Finds (λ o. o) (λ o. SpellsArguments (items_view trees.now) (optional o)) result }
+    ensures told { IfErr result (λ e. (root : Data) (name : List ℕ) (ds : Items) → HasArguments root at name ds
+        → StandBehind operands ds (items_view trees.now) → TakesTimed name operands → IsTrueOf root e) }
 {
     match trees {
         [] => Ok(None),
@@ -126,7 +147,9 @@ pub(crate) fn timed_operand(
     at: Location,
     trees: &[Value],
 ) -> Result<(Operand, Option<i64>), Located>
-    ensures { Finds (λ p. p) (λ p. SpellsArguments (items_view trees.now) (value p.0 ∷ optional p.1)) result }
+    ensures found { Finds (λ p. p) (λ p. SpellsArguments (items_view trees.now) (value p.0 ∷ optional p.1)) result }
+    ensures told { IfErr result (λ e. (root : Data) (name : List ℕ) → HasArguments root at name (items_view trees.now)
+        → TakesTimed name 1 → IsTrueOf root e) }
 {
     let [value, rest @ ..] = trees else {
         return Err(wrong_count(at, trees.len(), 1, 2));

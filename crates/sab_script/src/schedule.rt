@@ -3,6 +3,8 @@
 ghost use Rattle.std.specs.Prelude.{◌≡◌, ◌≤◌, ◌⊎◌, ℕ, IfErr};
 ghost use Rattle.serde_json.specs.Data.{array};
 ghost use Rattle.serde_json.specs.View.{view, items_view};
+ghost use Rattle.sab_refusal.specs.declared.location.Location.TheVariants as L;
+ghost use Rattle.sab_refusal.specs.declared.member.Member.TheVariants as M;
 ghost use Rattle.sab_script.specs.Reading.{Finds};
 ghost use Rattle.sab_script.specs.Schedule.{SpellsMove, SpellsSchedule};
 ghost use Rattle.sab_script.specs.Truth.{IsTrueWhere, HasItems};
@@ -49,8 +51,8 @@ impl Reader for MoveReader {
 
     ghost Spells = { λ reader. SpellsMove reader.agents };
 
-    ghost Knows = { λ reader root at. ((k : ℕ) × (at ≡ Location.Item Member.Schedule k))
-        × HasItems root (Location.Member Member.Agents) reader.agents };
+    ghost Knows = { λ reader root at. ((k : ℕ) × (at ≡ L.Item M.Schedule k))
+        × HasItems root (L.Member M.Agents) reader.agents };
 
     fn read(&self, at: Location, tree: &Value) -> Result<Move, Located> {
         read_move(at, self.agents, tree)

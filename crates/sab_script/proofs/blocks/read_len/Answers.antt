@@ -6,8 +6,8 @@ use Rattle.sab_script.specs.Blocks.{SpellsLen}
 use Rattle.sab_script.proofs.Refusing.{exit_refuses}
 use Rattle.sab_script.proofs.blocks.read_len.Goals as goal
 
-pub returns-in_err-len : goal.returns-in_err-len
-returns-in_err-len c =
+pub returns-in_err-len-clause-found : goal.returns-in_err-len-clause-found
+returns-in_err-len-clause-found c =
     let d = view c.args.tree.now in
     exit_refuses (λ (n : ℕ). n) (SpellsWhole d) (SpellsLen d) c.from_residual.result c.in_err-len.field-0.0
     c.from_residual.ensures.1 c.in_err-len.ensures.reads

@@ -1,27 +1,35 @@
-use Rattle.std.proofs.Common.{◌≡◌, ℤ, [], Option, ◌∷◌, codes, refl, sym}
+use Rattle.std.proofs.Common.{◌≡◌, ℕ, ℤ, List, [], Option, ◌∷◌, codes, refl, sym}
 use Rattle.std.specs.Int.{w64}
 use Rattle.std.proofs.lemmas.Int.{to_z-of_z}
+use Rattle.serde_json.specs.Data.{Data, Items}
 use Rattle.serde_json.specs.View.{items_view}
 use Rattle.sab_block.specs.declared.operand.Operand.{Operand}
 use Rattle.sab_block.specs.declared.rmw_op.RmwOp.{RmwOp}
 use Rattle.sab_block.specs.RmwOp.{function_of_op}
 use Rattle.sab_plan.specs.declared.call.Call.{Call}
+use Rattle.sab_refusal.specs.declared.located.Located.{Located}
+use Rattle.sab_refusal.specs.declared.location.Location.{Location}
 use Rattle.sab_script.specs.Calls.{value, optional, spelling_of, SpellsArguments, SpellsParts}
-use Rattle.sab_script.proofs.CallParts.{named_call, op_part}
+use Rattle.sab_script.proofs.CallParts.{named_call, op_named}
+use Rattle.sab_script.specs.Known.{HasArguments}
+use Rattle.sab_script.specs.Truth.{IsTrueOf}
 use Rattle.sab_script.proofs.Refusing.{exit_refuses}
+use Rattle.sab_script.proofs.Telling.{exit_told}
+use Rattle.sab_script.proofs.ToldCalls.{takes_load, takes_store, takes_compare_exchange, takes_wait, takes_notify}
 use Rattle.sab_script.proofs.calls.call_of.Goals as goal
 
-pub returns-in_err-no_operand-in-load : goal.returns-in_err-no_operand-in-load
-returns-in_err-no_operand-in-load c =
+pub returns-in_err-no_operand-in-load-clause-found : goal.returns-in_err-no_operand-in-load-clause-found
+returns-in_err-no_operand-in-load-clause-found c =
     let a = c.args in
     let rest = items_view a.operands.now in
     exit_refuses (λ (call : Call). call) (λ (u : Unit {0}). SpellsArguments rest [])
     (λ call. SpellsParts a.name.now a.view a.index rest (spelling_of call)) c.from_residual.result _
-    c.from_residual.ensures.1 c.in_err-no_operand-in-load.ensures
+    c.from_residual.ensures.1 c.in_err-no_operand-in-load.ensures.found
     (λ call h. (tt, (named_call (codes "load") a.view a.index rest call (rw c.in-load.is at h)).0))
 
-pub returns-in_err-expected-in-compareExchange : goal.returns-in_err-expected-in-compareExchange
-returns-in_err-expected-in-compareExchange c =
+pub returns-in_err-expected-in-compareExchange-clause-found :
+    goal.returns-in_err-expected-in-compareExchange-clause-found
+returns-in_err-expected-in-compareExchange-clause-found c =
     let a = c.args in
     let rest = items_view a.operands.now in
     exit_refuses (λ (call : Call). call)
@@ -29,81 +37,132 @@ returns-in_err-expected-in-compareExchange c =
     (λ call. SpellsParts a.name.now a.view a.index rest (spelling_of call))
     c.from_residual-in_err-expected-in-compareExchange.result _
     c.from_residual-in_err-expected-in-compareExchange.ensures.1
-    c.in_err-expected-in-compareExchange.ensures
+    c.in_err-expected-in-compareExchange.ensures.found
     (λ call h.
     let named = named_call (codes "compareExchange") a.view a.index rest call (rw c.in-compareExchange.is at h) in
     (named.0, named.1))
 
-pub returns-in_err-value-in-wait : goal.returns-in_err-value-in-wait
-returns-in_err-value-in-wait c =
+pub returns-in_err-value-in-wait-clause-found : goal.returns-in_err-value-in-wait-clause-found
+returns-in_err-value-in-wait-clause-found c =
     let a = c.args in
     let rest = items_view a.operands.now in
     exit_refuses (λ (call : Call). call)
     (λ (p : Operand × Option ℤ). SpellsArguments rest (value p.0 ∷ optional p.1))
     (λ call. SpellsParts a.name.now a.view a.index rest (spelling_of call))
     c.from_residual-in_err-value-in-wait.result _
-    c.from_residual-in_err-value-in-wait.ensures.1 c.in_err-value-in-wait.ensures
+    c.from_residual-in_err-value-in-wait.ensures.1 c.in_err-value-in-wait.ensures.found
     (λ call h.
     let named = named_call (codes "wait") a.view a.index rest call (rw c.in-wait.is at h) in
     (named.0, named.1))
 
-pub returns-in_err-value-in-store : goal.returns-in_err-value-in-store
-returns-in_err-value-in-store c =
+pub returns-in_err-value-in-store-clause-found : goal.returns-in_err-value-in-store-clause-found
+returns-in_err-value-in-store-clause-found c =
     let a = c.args in
     let rest = items_view a.operands.now in
     exit_refuses (λ (call : Call). call) (λ (x : Operand). SpellsArguments rest (value x ∷ []))
     (λ call. SpellsParts a.name.now a.view a.index rest (spelling_of call))
     c.from_residual-in_err-value-in-store.result _
-    c.from_residual-in_err-value-in-store.ensures.1 c.in_err-value-in-store.ensures
+    c.from_residual-in_err-value-in-store.ensures.1 c.in_err-value-in-store.ensures.found
     (λ call h.
     let named = named_call (codes "store") a.view a.index rest call (rw c.in-store.is at h) in
     (named.0, named.1))
 
-pub returns-in_err-count-in-notify : goal.returns-in_err-count-in-notify
-returns-in_err-count-in-notify c =
+pub returns-in_err-count-in-notify-clause-found : goal.returns-in_err-count-in-notify-clause-found
+returns-in_err-count-in-notify-clause-found c =
     let a = c.args in
     let rest = items_view a.operands.now in
     exit_refuses (λ (call : Call). call) (λ (n : Option ℤ). SpellsArguments rest (optional n))
     (λ call. SpellsParts a.name.now a.view a.index rest (spelling_of call))
     c.from_residual-in_err-count-in-notify.result _
-    c.from_residual-in_err-count-in-notify.ensures.1 c.in_err-count-in-notify.ensures
+    c.from_residual-in_err-count-in-notify.ensures.1 c.in_err-count-in-notify.ensures.found
     (λ call h.
     let named = named_call (codes "notify") a.view a.index rest call (rw c.in-notify.is at h) in
     (named.0, named.1))
 
-pub returns-in_err-rmw_op-in_default : goal.returns-in_err-rmw_op-in_default
-returns-in_err-rmw_op-in_default c =
+pub returns-in_err-rmw_op-in_default-clause-found : goal.returns-in_err-rmw_op-in_default-clause-found
+returns-in_err-rmw_op-in_default-clause-found c =
     let a = c.args in
     let other = c.in_default in
     exit_refuses (λ (call : Call). call) (λ (op : RmwOp). a.name.now ≡ function_of_op op)
     (λ call. SpellsParts a.name.now a.view a.index (items_view a.operands.now) (spelling_of call))
     c.from_residual-in_err-rmw_op-in_default.result _
-    c.from_residual-in_err-rmw_op-in_default.ensures.1 c.in_err-rmw_op-in_default.ensures
-    (op_part a.name.now a.view a.index (items_view a.operands.now) other.not-load other.not-store
-    other.not-compareExchange other.not-wait other.not-notify)
+    c.from_residual-in_err-rmw_op-in_default.ensures.1 c.in_err-rmw_op-in_default.ensures.found
+    (λ call h. op_named a.name.now other.not-load other.not-store other.not-compareExchange other.not-wait
+    other.not-notify call h.name)
 
-pub returns-in_ok-no_operand-in-load : goal.returns-in_ok-no_operand-in-load
-returns-in_ok-no_operand-in-load c =
+pub returns-in_ok-no_operand-in-load-clause-found : goal.returns-in_ok-no_operand-in-load-clause-found
+returns-in_ok-no_operand-in-load-clause-found c =
     let index = sym (to_z-of_z w64 c.args.index c.ranges.index) in
-    record { name = c.in-load.is; view = refl; index = index; arguments = c.in_ok-no_operand-in-load.ensures }
+    record { name = c.in-load.is; view = refl; index = index; arguments = c.in_ok-no_operand-in-load.ensures.found }
 
-pub returns-in_ok-value-in-store : goal.returns-in_ok-value-in-store
-returns-in_ok-value-in-store c =
+pub returns-in_ok-value-in-store-clause-found : goal.returns-in_ok-value-in-store-clause-found
+returns-in_ok-value-in-store-clause-found c =
     let index = sym (to_z-of_z w64 c.args.index c.ranges.index) in
-    record { name = c.in-store.is; view = refl; index = index; arguments = c.in_ok-value-in-store.ensures }
+    record { name = c.in-store.is; view = refl; index = index; arguments = c.in_ok-value-in-store.ensures.found }
 
-pub returns-in_ok-expected-in-compareExchange : goal.returns-in_ok-expected-in-compareExchange
-returns-in_ok-expected-in-compareExchange c =
+pub returns-in_ok-expected-in-compareExchange-clause-found : goal.returns-in_ok-expected-in-compareExchange-clause-found
+returns-in_ok-expected-in-compareExchange-clause-found c =
     let index = sym (to_z-of_z w64 c.args.index c.ranges.index) in
-    let arguments = c.in_ok-expected-in-compareExchange.ensures in
+    let arguments = c.in_ok-expected-in-compareExchange.ensures.found in
     record { name = c.in-compareExchange.is; view = refl; index = index; arguments = arguments }
 
-pub returns-in_ok-value-in-wait : goal.returns-in_ok-value-in-wait
-returns-in_ok-value-in-wait c =
+pub returns-in_ok-value-in-wait-clause-found : goal.returns-in_ok-value-in-wait-clause-found
+returns-in_ok-value-in-wait-clause-found c =
     let index = sym (to_z-of_z w64 c.args.index c.ranges.index) in
-    record { name = c.in-wait.is; view = refl; index = index; arguments = c.in_ok-value-in-wait.ensures }
+    record { name = c.in-wait.is; view = refl; index = index; arguments = c.in_ok-value-in-wait.ensures.found }
 
-pub returns-in_ok-count-in-notify : goal.returns-in_ok-count-in-notify
-returns-in_ok-count-in-notify c =
+pub returns-in_ok-count-in-notify-clause-found : goal.returns-in_ok-count-in-notify-clause-found
+returns-in_ok-count-in-notify-clause-found c =
     let index = sym (to_z-of_z w64 c.args.index c.ranges.index) in
-    record { name = c.in-notify.is; view = refl; index = index; arguments = c.in_ok-count-in-notify.ensures }
+    record { name = c.in-notify.is; view = refl; index = index; arguments = c.in_ok-count-in-notify.ensures.found }
+
+-- what is told of a refusal where the name and the arguments of a call are known
+abbrev Told : Location → List ℕ → Items → Located → Type 0
+Told place name ds e = (root : Data) → HasArguments root place name ds → IsTrueOf root e
+
+pub returns-in_err-no_operand-in-load-clause-told : goal.returns-in_err-no_operand-in-load-clause-told
+returns-in_err-no_operand-in-load-clause-told c =
+    let a = c.args in
+    exit_told (Told a.at a.name.now (items_view a.operands.now))
+    c.from_residual.result _ c.from_residual.ensures.1
+    (λ root h. c.in_err-no_operand-in-load.ensures.told root a.name.now h (rw c.in-load.is takes_load))
+
+pub returns-in_err-value-in-store-clause-told : goal.returns-in_err-value-in-store-clause-told
+returns-in_err-value-in-store-clause-told c =
+    let a = c.args in
+    exit_told (Told a.at a.name.now (items_view a.operands.now))
+    c.from_residual-in_err-value-in-store.result _ c.from_residual-in_err-value-in-store.ensures.1
+    (λ root h. c.in_err-value-in-store.ensures.told root a.name.now h (rw c.in-store.is takes_store))
+
+pub returns-in_err-expected-in-compareExchange-clause-told :
+    goal.returns-in_err-expected-in-compareExchange-clause-told
+returns-in_err-expected-in-compareExchange-clause-told c =
+    let a = c.args in
+    exit_told (Told a.at a.name.now (items_view a.operands.now))
+    c.from_residual-in_err-expected-in-compareExchange.result _
+    c.from_residual-in_err-expected-in-compareExchange.ensures.1
+    (λ root h. c.in_err-expected-in-compareExchange.ensures.told root a.name.now h
+    (rw c.in-compareExchange.is takes_compare_exchange))
+
+pub returns-in_err-value-in-wait-clause-told : goal.returns-in_err-value-in-wait-clause-told
+returns-in_err-value-in-wait-clause-told c =
+    let a = c.args in
+    exit_told (Told a.at a.name.now (items_view a.operands.now))
+    c.from_residual-in_err-value-in-wait.result _ c.from_residual-in_err-value-in-wait.ensures.1
+    (λ root h. c.in_err-value-in-wait.ensures.told root a.name.now h (rw c.in-wait.is takes_wait))
+
+pub returns-in_err-count-in-notify-clause-told : goal.returns-in_err-count-in-notify-clause-told
+returns-in_err-count-in-notify-clause-told c =
+    let a = c.args in
+    exit_told (Told a.at a.name.now (items_view a.operands.now))
+    c.from_residual-in_err-count-in-notify.result _ c.from_residual-in_err-count-in-notify.ensures.1
+    (λ root h. c.in_err-count-in-notify.ensures.told root a.name.now _ h refl (rw c.in-notify.is takes_notify))
+
+pub returns-in_err-rmw_op-in_default-clause-told : goal.returns-in_err-rmw_op-in_default-clause-told
+returns-in_err-rmw_op-in_default-clause-told c =
+    let a = c.args in
+    let other = c.in_default in
+    exit_told (Told a.at a.name.now (items_view a.operands.now))
+    c.from_residual-in_err-rmw_op-in_default.result _ c.from_residual-in_err-rmw_op-in_default.ensures.1
+    (λ root h. c.in_err-rmw_op-in_default.ensures.told root h.i h.j h.is_place h.named
+    (op_named a.name.now other.not-load other.not-store other.not-compareExchange other.not-wait other.not-notify))

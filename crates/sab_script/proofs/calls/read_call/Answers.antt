@@ -1,19 +1,29 @@
-use Rattle.std.proofs.Common.{◌≡◌, ℕ, List, arith, sym, ap, ◌∙◌, drop, FitsSigned, rules}
+use Rattle.std.proofs.Common.{◌≡◌, ℕ, List, length, Some, refl, arith, sym, ap, ◌∙◌, drop, FitsSigned, rules}
 use Rattle.std.specs.Int.{w64}
 use Rattle.std.proofs.lemmas.Int.{to_z-of_z}
-use Rattle.serde_json.specs.Data.{Items, array, item, string}
+use Rattle.serde_json.specs.Data.{Data, Items, array, item, string}
 use Rattle.serde_json.specs.View.{view, items_view}
+use Rattle.serde_json.proofs.Views.{items_len-items_view}
+use Rattle.sab_refusal.specs.Location.{item_at}
+use Rattle.sab_refusal.specs.declared.location.Location.{Location}
+use Rattle.sab_refusal.specs.declared.location.Location.TheVariants as at
+use Rattle.sab_refusal.specs.declared.member.Member.TheVariants as M
 use Rattle.sab_plan.specs.declared.call.Call.{Call}
 use Rattle.sab_script.specs.Numbers.{whole, SpellsWhole}
 use Rattle.sab_script.specs.Calls.{spelling_of, call_tree, SpellsCall}
 use Rattle.sab_script.specs.Views.{SpellsName, view_names}
+use Rattle.sab_script.specs.Known.{HasNames, HasArguments}
+use Rattle.sab_script.specs.Truth.{IsTrueOf, IsTrueWhere}
 use Rattle.sab_script.proofs.Lengths.{three_items, three_long, end_whole}
 use Rattle.sab_script.proofs.Refusing.{exit_refuses}
+use Rattle.sab_script.proofs.Telling.{exit_told}
+use Rattle.sab_script.proofs.ToldArguments.{err_told, item_read}
+use Rattle.sab_script.proofs.ToldCalls.{call_element, has_arguments, few_elements}
 use Rattle.sab_script.proofs.WholeCall.{word_part, name_part, index_part, reads_call}
 use Rattle.sab_script.proofs.calls.read_call.Goals as goal
 
-pub returns-in_err-view : goal.returns-in_err-view
-returns-in_err-view c =
+pub returns-in_err-view-clause-found : goal.returns-in_err-view-clause-found
+returns-in_err-view-clause-found c =
     let names = view_names c.args.views.now in
     let d = view c.args.tree.now in
     let tree = c.in_ok-trees.ensures.reads ∙ ap array (three_items c.in_ok-trees.trees.now c.name_tree-item.result
@@ -24,14 +34,14 @@ returns-in_err-view c =
     c.in_err-view.ensures.read
     (name_part names d _ _ _ _ tree)
 
-pub returns-in_err-trees : goal.returns-in_err-trees
-returns-in_err-trees c =
+pub returns-in_err-trees-clause-found : goal.returns-in_err-trees-clause-found
+returns-in_err-trees-clause-found c =
     let d = view c.args.tree.now in
     exit_refuses (λ (x : Call). x) (λ (ds : Items). d ≡ array ds) (SpellsCall (view_names c.args.views.now) d)
     c.from_residual.result _ c.from_residual.ensures.1 c.in_err-trees.ensures.reads (λ call h. (_, h.tree))
 
-pub returns-in_err-name : goal.returns-in_err-name
-returns-in_err-name c =
+pub returns-in_err-name-clause-found : goal.returns-in_err-name-clause-found
+returns-in_err-name-clause-found c =
     let names = view_names c.args.views.now in
     let d = view c.args.tree.now in
     let tree = c.in_ok-trees.ensures.reads ∙ ap array (three_items c.in_ok-trees.trees.now c.name_tree-item.result
@@ -41,8 +51,8 @@ returns-in_err-name c =
     c.from_residual-in_err-name.result _ c.from_residual-in_err-name.ensures.1 c.in_err-name.ensures.reads
     (word_part names d _ _ _ _ tree)
 
-pub returns-in_err-index : goal.returns-in_err-index
-returns-in_err-index c =
+pub returns-in_err-index-clause-found : goal.returns-in_err-index-clause-found
+returns-in_err-index-clause-found c =
     let names = view_names c.args.views.now in
     let d = view c.args.tree.now in
     let tree = c.in_ok-trees.ensures.reads ∙ ap array (three_items c.in_ok-trees.trees.now c.name_tree-item.result
@@ -52,8 +62,8 @@ returns-in_err-index c =
     c.from_residual-in_err-index.result _ c.from_residual-in_err-index.ensures.1 c.in_err-index.ensures.reads
     (index_part names d _ _ _ _ tree)
 
-pub returns-in_default : goal.returns-in_default
-returns-in_default c = λ call h.
+pub returns-in_default-clause-found : goal.returns-in_default-clause-found
+returns-in_default-clause-found c = λ call h.
     let s = spelling_of call in
     let same : array (items_view c.in_ok-trees.trees.now) ≡ call_tree s.name h.view_tree s.index h.argument_trees =
     sym c.in_ok-trees.ensures.reads ∙ h.tree in
@@ -62,8 +72,8 @@ returns-in_default c = λ call h.
     let long = three_long c.in_ok-trees.trees.now _ _ _ _ parts in
     let short = c.in_default.len_below in absurd (omega (arith, long, short))
 
-pub returns : goal.returns
-returns c =
+pub returns-clause-found : goal.returns-clause-found
+returns-clause-found c =
     let names = view_names c.args.views.now in
     let d = view c.args.tree.now in
     let rest = items_view (drop 3 c.in_ok-trees.trees.now) in
@@ -77,4 +87,69 @@ returns c =
     c.call_of.result c.in_ok-view.ensures.views.distinct
     (tree ∙ (λ k. array (item (word k) (item (view c.view_tree-item.result) (item (index.0 k) rest)))))
     c.in_ok-view.ensures.read index.1
-    (rw (to_z-of_z w64 c.in_ok-index.index fits, end_whole c.in_ok-trees.trees.now) at c.call_of.ensures)
+    (rw (to_z-of_z w64 c.in_ok-index.index fits, end_whole c.in_ok-trees.trees.now) at c.call_of.ensures.found)
+
+-- what is known of the script where a call is read
+abbrev Knows : Location → List (List ℕ) → Data → Type 0
+Knows place names root =
+    ((i : ℕ) × (j : ℕ) × (place ≡ at.Call M.Agents i M.Calls j)) × HasNames root names
+
+pub returns-in_default-clause-told : goal.returns-in_default-clause-told
+returns-in_default-clause-told c = λ root stands known.
+    let trees = c.in_ok-trees.trees.now in
+    let here = stands ∙ ap (λ (x : Data). Some x) c.in_ok-trees.ensures.reads in
+    few_elements root c.args.at known.0.0 known.0.1 (length trees) (items_view trees) known.0.2 here
+    (items_len-items_view trees) c.in_default.len_below
+
+pub returns-in_err-name-clause-told : goal.returns-in_err-name-clause-told
+returns-in_err-name-clause-told c =
+    let a = c.args in
+    let trees = c.in_ok-trees.trees.now in
+    exit_told (IsTrueWhere a.at (view a.tree.now) (Knows a.at (view_names a.views.now)))
+    c.from_residual-in_err-name.result _ c.from_residual-in_err-name.ensures.1 (λ root stands known.
+    let here = stands ∙ ap (λ (x : Data). Some x) c.in_ok-trees.ensures.reads in
+    let some = c.in-len3-up.len_at_least in
+    let there = item_read trees 0 c.name_tree-item.result (omega (arith, some)) c.name_tree-item.is in
+    c.in_err-name.ensures.told root
+    (rw c.item.ensures (call_element root a.at known.0.0 known.0.1 0 (items_view trees) _ known.0.2 here there))
+    (rw (c.item.ensures, known.0.2) (refl, refl, refl)))
+
+pub returns-in_err-view-clause-told : goal.returns-in_err-view-clause-told
+returns-in_err-view-clause-told c =
+    let a = c.args in
+    let trees = c.in_ok-trees.trees.now in
+    exit_told (IsTrueWhere a.at (view a.tree.now) (Knows a.at (view_names a.views.now)))
+    c.from_residual-in_err-view.result _ c.from_residual-in_err-view.ensures.1 (λ root stands known.
+    let here = stands ∙ ap (λ (x : Data). Some x) c.in_ok-trees.ensures.reads in
+    let some = c.in-len3-up.len_at_least in
+    let there = item_read trees 1 c.view_tree-item.result (omega (arith, some)) c.view_tree-item.is in
+    c.in_err-view.ensures.told root
+    (rw c.item-2.ensures (call_element root a.at known.0.0 known.0.1 1 (items_view trees) _ known.0.2 here there))
+    ((known.0.0, known.0.1, c.item-2.ensures ∙ ap (λ (p : Location). item_at p 1) known.0.2), known.1))
+
+pub returns-in_err-index-clause-told : goal.returns-in_err-index-clause-told
+returns-in_err-index-clause-told c =
+    let a = c.args in
+    let trees = c.in_ok-trees.trees.now in
+    exit_told (IsTrueWhere a.at (view a.tree.now) (Knows a.at (view_names a.views.now)))
+    c.from_residual-in_err-index.result _ c.from_residual-in_err-index.ensures.1 (λ root stands known.
+    let here = stands ∙ ap (λ (x : Data). Some x) c.in_ok-trees.ensures.reads in
+    let some = c.in-len3-up.len_at_least in
+    let there = item_read trees 2 c.index_tree-item.result (omega (arith, some)) c.index_tree-item.is in
+    c.in_err-index.ensures.told root
+    (rw c.item-3.ensures (call_element root a.at known.0.0 known.0.1 2 (items_view trees) _ known.0.2 here there))
+    (rw (c.item-3.ensures, known.0.2) (refl, refl, refl), ((λ x. x), (λ x. x))))
+
+pub returns-clause-told : goal.returns-clause-told
+returns-clause-told c =
+    let a = c.args in
+    let trees = c.in_ok-trees.trees.now in
+    let rest = items_view (drop 3 trees) in
+    let tree = c.in_ok-trees.ensures.reads ∙ ap array (three_items trees c.name_tree-item.result
+    c.view_tree-item.result c.index_tree-item.result c.in-len3-up.len_at_least c.name_tree-item.is
+    c.view_tree-item.is c.index_tree-item.is) in
+    err_told (λ e. (root : Data) → HasArguments root a.at c.in_ok-name.name.now rest → IsTrueOf root e)
+    (IsTrueWhere a.at (view a.tree.now) (Knows a.at (view_names a.views.now))) c.call_of.result
+    (rw end_whole at c.call_of.ensures.told) (λ e told root stands known. told root
+    (has_arguments root a.at known.0.0 known.0.1 c.in_ok-name.name.now _ _ _ rest known.0.2
+    (stands ∙ ap (λ (x : Data). Some x) tree) c.in_ok-name.ensures.reads))

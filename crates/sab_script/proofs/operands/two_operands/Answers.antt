@@ -1,30 +1,77 @@
-use Rattle.std.proofs.Common.{[], ◌∷◌, arith}
+use Rattle.std.proofs.Common.{◌<◌, ◌≤◌, ◌^◌, ℕ, List, [], ◌∷◌, length, refl, arith, rules}
+use Rattle.serde_json.specs.Data.{Data, Items}
 use Rattle.serde_json.specs.View.{view, items_view}
 use Rattle.sab_block.specs.declared.operand.Operand.{Operand}
+use Rattle.serde_json.proofs.Views.{items_len-items_view}
+use Rattle.sab_refusal.specs.declared.located.Located.{Located}
+use Rattle.sab_refusal.specs.declared.location.Location.{Location}
+use Rattle.sab_refusal.specs.declared.why.Wanted.{Wanted}
+use Rattle.sab_refusal.specs.declared.why.Wanted.TheVariants as wanted
 use Rattle.sab_script.specs.Numbers.{SpellsOperand}
 use Rattle.sab_script.specs.Calls.{value, SpellsArguments}
+use Rattle.sab_script.specs.Arguments.{TakesJust}
+use Rattle.sab_script.specs.Known.{HasArguments}
+use Rattle.sab_script.specs.Truth.{IsTrueOf}
 use Rattle.sab_script.proofs.Lengths.{first_argument, second_argument, two_arguments}
 use Rattle.sab_script.proofs.Refusing.{exit_refuses}
+use Rattle.sab_script.proofs.Telling.{exit_told}
+use Rattle.sab_script.proofs.ToldArguments.{item_read, argument_stands, argument_called}
 use Rattle.sab_script.proofs.operands.two_operands.Goals as goal
 
-pub returns-in_err-expected : goal.returns-in_err-expected
-returns-in_err-expected c =
+pub returns-in_err-expected-clause-found : goal.returns-in_err-expected-clause-found
+returns-in_err-expected-clause-found c =
     let trees = c.args.trees.now in
     exit_refuses (λ (p : Operand × Operand). p) (SpellsOperand (view c.expected-item.result))
     (λ p. SpellsArguments (items_view trees) (value p.0 ∷ value p.1 ∷ [])) c.from_residual.result _
-    c.from_residual.ensures.1 c.in_err-expected.ensures
+    c.from_residual.ensures.1 c.in_err-expected.ensures.found
     (λ p h. (p.0, (first_argument trees c.expected-item.result (value p.0) (value p.1 ∷ []) c.expected-item.is h).0))
 
-pub returns-in_err-replacement : goal.returns-in_err-replacement
-returns-in_err-replacement c =
+pub returns-in_err-replacement-clause-found : goal.returns-in_err-replacement-clause-found
+returns-in_err-replacement-clause-found c =
     let trees = c.args.trees.now in
     exit_refuses (λ (p : Operand × Operand). p) (SpellsOperand (view c.replacement-item.result))
     (λ p. SpellsArguments (items_view trees) (value p.0 ∷ value p.1 ∷ [])) c.from_residual-in_err-replacement.result _
-    c.from_residual-in_err-replacement.ensures.1 c.in_err-replacement.ensures
+    c.from_residual-in_err-replacement.ensures.1 c.in_err-replacement.ensures.found
     (λ p h. (p.1, second_argument trees c.replacement-item.result (value p.0) (value p.1) [] c.replacement-item.is h))
 
-pub returns : goal.returns
-returns c =
+pub returns-clause-found : goal.returns-clause-found
+returns-clause-found c =
     two_arguments c.args.trees.now c.expected-item.result c.replacement-item.result _ _
     (omega (arith, c.in-len2.len_at_least, c.in-len2.len_below)) c.expected-item.is c.replacement-item.is
-    c.in_ok-expected.ensures c.in_ok-replacement.ensures
+    c.in_ok-expected.ensures.found c.in_ok-replacement.ensures.found
+
+abbrev types : List Wanted
+types = wanted.Operand ∷ wanted.Operand ∷ []
+
+-- what is told of a refusal where the arguments of a call are known
+abbrev Told : Location → Items → Located → Type 0
+Told place ds e =
+    (root : Data) (name : List ℕ) → HasArguments root place name ds → TakesJust name types → IsTrueOf root e
+
+pub returns-in_default-clause-told : goal.returns-in_default-clause-told
+returns-in_default-clause-told c = λ root name h takes.
+    let trees = c.args.trees.now in
+    let fits : length trees < 2 ^ 63 = search rules in
+    let wrong : 2 ≤ length trees → 2 < length trees = search rules in
+    c.wrong_count.ensures.told root name _ types h takes (items_len-items_view trees) refl wrong (omega (arith, fits))
+
+pub returns-in_err-expected-clause-told : goal.returns-in_err-expected-clause-told
+returns-in_err-expected-clause-told c =
+    let a = c.args in
+    exit_told (Told a.at (items_view a.trees.now)) c.from_residual.result _ c.from_residual.ensures.1
+    (λ root name h takes.
+    let many = c.in-len2.len_at_least in
+    let there = item_read a.trees.now 0 c.expected-item.result (omega (arith, many)) c.expected-item.is in
+    c.in_err-expected.ensures.told root (rw c.item.ensures (argument_stands root a.at name _ 0 _ h there))
+    (rw c.item.ensures (argument_called root a.at name _ types 0 wanted.Operand h takes.longest refl)))
+
+pub returns-in_err-replacement-clause-told : goal.returns-in_err-replacement-clause-told
+returns-in_err-replacement-clause-told c =
+    let a = c.args in
+    exit_told (Told a.at (items_view a.trees.now)) c.from_residual-in_err-replacement.result _
+    c.from_residual-in_err-replacement.ensures.1
+    (λ root name h takes.
+    let many = c.in-len2.len_at_least in
+    let there = item_read a.trees.now 1 c.replacement-item.result (omega (arith, many)) c.replacement-item.is in
+    c.in_err-replacement.ensures.told root (rw c.item-2.ensures (argument_stands root a.at name _ 1 _ h there))
+    (rw c.item-2.ensures (argument_called root a.at name _ types 1 wanted.Operand h takes.longest refl)))

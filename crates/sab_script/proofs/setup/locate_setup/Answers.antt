@@ -1,4 +1,5 @@
-use Rattle.std.proofs.Common.{◌≡◌, length, arith, rules}
+use Rattle.std.proofs.Common.{◌≡◌, length, refl, ap, sym, ◌∙◌, arith, rules}
+use Rattle.sab_refusal.specs.declared.location.Location.TheVariants as at
 use Rattle.serde_json.specs.View.{view, items_view}
 use Rattle.sab_script.specs.Setup.{Spells, SetupParts}
 use Rattle.sab_script.specs.Blocks.{SpellsLens}
@@ -9,6 +10,11 @@ use Rattle.sab_script.proofs.WholeScript.{lens_part, views_part, agents_part, sc
 use Rattle.sab_script.proofs.WholePlan.{makes_plan}
 use Rattle.sab_script.proofs.OnlySetup.{only_setup}
 use Rattle.sab_script.proofs.Refusing.{exit_refuses}
+use Rattle.sab_script.specs.Agents.{SpellsScript}
+use Rattle.sab_script.specs.Truth.{IsTrueOf}
+use Rattle.sab_script.proofs.KnownViews.{has_lens, has_names, count_of}
+use Rattle.sab_script.proofs.Telling.{exit_told}
+use Rattle.sab_script.proofs.ToldScript.{agents_stand, lens_stand, schedule_stands, views_stand}
 use Rattle.sab_script.proofs.setup.locate_setup.Goals as goal
 
 pub returns-in_err-form-clause-spelled : goal.returns-in_err-form-clause-spelled
@@ -23,7 +29,7 @@ returns-in_err-lens-clause-spelled c =
     let tree = c.in_ok-form.ensures.ok in
     exit_refuses (λ (s : SetupParts). s) (SpellsLens c.in_ok-form.form (view c.in_ok-form.lens_tree.now)) (Spells d)
     c.from_residual-in_err-lens.result c.in_err-lens.field-0.0 c.from_residual-in_err-lens.ensures.1
-    c.in_err-lens.ensures
+    c.in_err-lens.ensures.found
     (lens_part d c.in_ok-form.form _ _ _ _ tree)
 
 pub returns-in_err-views-clause-spelled : goal.returns-in_err-views-clause-spelled
@@ -34,7 +40,7 @@ returns-in_err-views-clause-spelled c =
     (SpellsViews c.in_ok-form.form c.in_ok-lens.lens.items (items_view c.in_ok-form.view_trees.now))
     (Spells d) c.from_residual-in_err-views.result c.in_err-views.field-0.0 c.from_residual-in_err-views.ensures.1
     (rw c.deref.ensures.value at c.in_err-views.ensures.read)
-    (views_part d c.in_ok-form.form _ _ _ _ c.in_ok-lens.lens.items tree c.in_ok-lens.ensures)
+    (views_part d c.in_ok-form.form _ _ _ _ c.in_ok-lens.lens.items tree c.in_ok-lens.ensures.found)
 
 pub returns-in_err-scripts-clause-spelled : goal.returns-in_err-scripts-clause-spelled
 returns-in_err-scripts-clause-spelled c =
@@ -43,9 +49,9 @@ returns-in_err-scripts-clause-spelled c =
     exit_refuses (λ (s : SetupParts). s)
     (SpellsScripts (view_names c.in_ok-views.views) (items_view c.in_ok-form.agent_trees.now)) (Spells d)
     c.from_residual-in_err-scripts.result c.in_err-scripts.field-0.0 c.from_residual-in_err-scripts.ensures.1
-    c.in_err-scripts.ensures
+    c.in_err-scripts.ensures.found
     (agents_part d c.in_ok-form.form _ _ _ c.in_ok-form.view_trees.now c.in_ok-lens.lens.items c.in_ok-views.views
-    tree c.in_ok-lens.ensures (rw c.deref.ensures.value at c.in_ok-views.ensures.read))
+    tree c.in_ok-lens.ensures.found (rw c.deref.ensures.value at c.in_ok-views.ensures.read))
 
 pub returns-in_err-schedule-clause-spelled : goal.returns-in_err-schedule-clause-spelled
 returns-in_err-schedule-clause-spelled c =
@@ -55,16 +61,67 @@ returns-in_err-schedule-clause-spelled c =
     let count : length ss ≡ c.len.result = omega arith in
     exit_refuses (λ (s : SetupParts). s) (SpellsSchedule c.len.result (items_view c.in_ok-form.move_trees.now))
     (Spells d) c.from_residual-in_err-schedule.result c.in_err-schedule.field-0.0
-    c.from_residual-in_err-schedule.ensures.1 c.in_err-schedule.ensures
+    c.from_residual-in_err-schedule.ensures.1 c.in_err-schedule.ensures.found
     (λ p h. rw count at (schedule_part d c.in_ok-form.form c.in_ok-form.agent_trees.now _ _ _
-    (view_names c.in_ok-views.views) ss tree c.in_ok-scripts.ensures p h))
+    (view_names c.in_ok-views.views) ss tree c.in_ok-scripts.ensures.found p h))
 
 pub plan_of-plan-requires : goal.plan_of-plan-requires
 plan_of-plan-requires c =
     makes_plan c.in_ok-form.form (view c.in_ok-form.lens_tree.now) c.in_ok-lens.lens.items _ _ c.in_ok-views.views
     c.in_ok-views.plan_views.items c.in_ok-scripts.scripts.items
-    c.in_ok-lens.ensures (rw c.deref.ensures.value at c.in_ok-views.ensures.read)
-    (rw c.deref.ensures.value at c.in_ok-views.ensures.made) c.in_ok-scripts.ensures
+    c.in_ok-lens.ensures.found (rw c.deref.ensures.value at c.in_ok-views.ensures.read)
+    (rw c.deref.ensures.value at c.in_ok-views.ensures.made) c.in_ok-scripts.ensures.found
 
 pub returns-clause-only : goal.returns-clause-only
 returns-clause-only c = only_setup (view c.args.tree.now) _ (search rules)
+
+pub returns-in_err-form-clause-told : goal.returns-in_err-form-clause-told
+returns-in_err-form-clause-told c =
+    exit_told (IsTrueOf (view c.args.tree.now)) c.from_residual.result c.in_err-form.field-0.0 c.from_residual.ensures.1
+    c.in_err-form.ensures.told
+
+pub returns-in_err-lens-clause-told : goal.returns-in_err-lens-clause-told
+returns-in_err-lens-clause-told c =
+    let root = view c.args.tree.now in
+    let place = ap at.Member c.lens_member.ensures.member in
+    exit_told (IsTrueOf root) c.from_residual-in_err-lens.result c.in_err-lens.field-0.0
+    c.from_residual-in_err-lens.ensures.1
+    (c.in_err-lens.ensures.told root
+    (rw c.lens_member.ensures.member (lens_stand c.in_ok-form.form root _ _ _ _ c.in_ok-form.ensures.ok)) place)
+
+pub returns-in_err-views-clause-told : goal.returns-in_err-views-clause-told
+returns-in_err-views-clause-told c =
+    let root = view c.args.tree.now in
+    let form = c.in_ok-form.form in
+    let tree = c.in_ok-form.ensures.ok in
+    let known = has_lens root form _ c.in_ok-lens.lens.items (lens_stand form root _ _ _ _ tree)
+    c.in_ok-form.ensures.form c.in_ok-lens.ensures.found in
+    exit_told (IsTrueOf root) c.from_residual-in_err-views.result c.in_err-views.field-0.0
+    c.from_residual-in_err-views.ensures.1
+    (c.in_err-views.ensures.told root (views_stand form root _ _ _ _ tree) (refl, rw c.deref.ensures.value known))
+
+pub returns-in_err-scripts-clause-told : goal.returns-in_err-scripts-clause-told
+returns-in_err-scripts-clause-told c =
+    let root = view c.args.tree.now in
+    let form = c.in_ok-form.form in
+    let tree = c.in_ok-form.ensures.ok in
+    let known = has_names root form c.in_ok-lens.lens.items (items_view c.in_ok-form.view_trees.now) c.in_ok-views.views
+    (views_stand form root _ _ _ _ tree) (rw c.deref.ensures.value at c.in_ok-views.ensures.read) in
+    exit_told (IsTrueOf root) c.from_residual-in_err-scripts.result c.in_err-scripts.field-0.0
+    c.from_residual-in_err-scripts.ensures.1
+    (c.in_err-scripts.ensures.told root (agents_stand form root _ _ _ _ tree) (refl, known))
+
+pub returns-in_err-schedule-clause-told : goal.returns-in_err-schedule-clause-told
+returns-in_err-schedule-clause-told c =
+    let root = view c.args.tree.now in
+    let form = c.in_ok-form.form in
+    let tree = c.in_ok-form.ensures.ok in
+    let agents = items_view c.in_ok-form.agent_trees.now in
+    let ss = c.in_ok-scripts.scripts.items in
+    let each = c.in_ok-scripts.ensures.found.0 in
+    let count : length ss ≡ c.len.result = omega arith in
+    let many = count_of (SpellsScript (view_names c.in_ok-views.views)) agents ss each ∙ count in
+    exit_told (IsTrueOf root) c.from_residual-in_err-schedule.result c.in_err-schedule.field-0.0
+    c.from_residual-in_err-schedule.ensures.1
+    (c.in_err-schedule.ensures.told root (schedule_stands form root _ _ _ _ tree)
+    (refl, (agents, agents_stand form root _ _ _ _ tree, many)))
