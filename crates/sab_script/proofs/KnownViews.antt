@@ -64,10 +64,13 @@ pub has_lens : (root : Data) (form : Form) (d : Data) (lens : List ℕ) → Stan
 has_lens root Bytes d lens there is h = (is, (h.0, there ∙ ap Some h.1.0, h.2))
 has_lens root Blocks d lens there is h =
     let trees : Stands root (at.Member M.Blocks) (array h.0) = there ∙ ap Some h.1 in
-    let each = h.2.0 in
-    (is, (h.0, trees, count_of SpellsLen h.0 lens each), (λ b len g.
-    let found = item_there SpellsLen h.0 lens b len each g in
-    item_stands root M.Blocks b h.0 (whole (pos len)) trees (found.1 ∙ ap Some found.2.0)))
+    let each = h.2.0 in (
+      is,
+      (h.0, trees, count_of SpellsLen h.0 lens each),
+      (λ b len g.
+          let found = item_there SpellsLen h.0 lens b len each g in
+          item_stands root M.Blocks b h.0 (whole (pos len)) trees (found.1 ∙ ap Some found.2.0)),
+    )
 
 -- the name of a view that is spelled
 pub name_of : (form : Form) (lens : List ℕ) (d : Data) (v : List ℕ × ViewSpec) → SpellsView form lens d v
@@ -118,7 +121,7 @@ push_cases (z ∷ xs) x zero y g = inl g
 push_cases (z ∷ xs) x (suc k) y g = elim (push_cases xs x k y g) [
   | inl before ↦ inl before
   | inr last ↦ inr (ap (λ n. suc n) last.0, last.1)
-  ]
+]
 
 -- the item at a place
 pub tree_there : (ts : List Value) (i : ℕ) (t : Value) → i < length ts → t ≡ get_or ts i t
@@ -131,11 +134,11 @@ pub stand_more : {X : Type 0} (S : Data → X → Type 0) (ts : List Value) (i :
 stand_more S ts i xs t x lt e count before s = λ k y g. elim (push_cases xs x k y g) [
   | inl earlier ↦ before k y earlier
   | inr last ↦ (
-      view t,
-      ap (λ n. get_item n (items_view ts)) (last.0 ∙ count) ∙ tree_there ts i t lt e,
-      subst (λ z. S (view t) z) last.1 s,
-    )
-  ]
+    view t,
+    ap (λ n. get_item n (items_view ts)) (last.0 ∙ count) ∙ tree_there ts i t lt e,
+    subst (λ z. S (view t) z) last.1 s,
+  )
+]
 
 pub items_count : (ts : List Value) → items_len (items_view ts) ≡ length ts
 items_count [] = refl
@@ -202,8 +205,7 @@ twice_told form lens place part name_place ts i n t name spec vs v told part_is 
     let views = subst (λ l. Stands root l (array (items_view ts))) known.0 stands in
     let item = item_stands root M.Views v (items_view ts) other.0 views other.1 in
     let same : Stands root (at.Part M.Views v M.Name) (string name) =
-    ap (part_of M.Name) item ∙ name_of form lens other.0 found.0 other.2 ∙ ap (λ x. Some (string x)) found.2 in
-    (
+    ap (part_of M.Name) item ∙ name_of form lens other.0 found.0 other.2 ∙ ap (λ x. Some (string x)) found.2 in (
       i,
       name_there,
       omega (arith, found.3, length_is),

@@ -1,5 +1,5 @@
 -- Why a view can't be made on its block.
-use Rattle.std.proofs.Common.{◌≡◌, ℕ, zero, suc, ◌+◌, ◌-◌, ◌*◌, ◌/◌, ◌%◌, ◌<◌, ◌≤◌, ℤ, pos, negsuc, List, Bool, true, false, Option, Some, None, refl, sym, ap, ◌∙◌, subst, arith, inl, inr, true≢false}
+use Rattle.std.proofs.Common.{◌≡◌, ℕ, ◌+◌, ◌-◌, ◌*◌, ◌/◌, ◌%◌, ◌<◌, ◌≤◌, ℤ, pos, negsuc, Bool, true, false, Option, Some, None, refl, sym, ap, ◌∙◌, subst, arith, inl, inr}
 use Rattle.std.specs.Prelude.{◌<ℤ◌, ◌==◌, nat_le, nat_abs, FitsSigned}
 use Rattle.std.specs.Int.{w64, FitsUnsignedBits}
 use Rattle.std.proofs.lemmas.Int.{ints}
@@ -93,14 +93,13 @@ pub uneven_block : (root : Data) (i len : ℕ) (v : ViewSpec) (n size : ℕ) →
 uneven_block root i len v n size e size_is even within no_length none there =
     let counted : count v.kind len (pos n) v.length ≡ None = ap (λ z. count v.kind len z v.length) (sym e) ∙ none in
     let divides = subst (λ s. n % s ≡ 0) size_is even in
-    let rest = even_rest v.kind len n v.length divides counted no_length in
-    (
+    let rest = even_rest v.kind len n v.length divides counted no_length in (
       i,
       refl,
       there.length ∙ ap (λ x. Some (whole_or_null x)) no_length,
       there.on,
       λ k. odd_block (element_size v.kind) len n rest within
-      (subst (λ s. len % s ≡ 0) size_is (no_rest size len k)),
+          (subst (λ s. len % s ≡ 0) size_is (no_rest size len k)),
       (v.kind, there.kind, sym size_is),
     )
 

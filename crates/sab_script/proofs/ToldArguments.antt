@@ -1,5 +1,5 @@
 -- What is told of the arguments of a call is true.
-use Rattle.std.proofs.Common.{◌≡◌, ℕ, zero, suc, ◌+◌, ◌<◌, ◌≤◌, List, [], ◌∷◌, ◌++◌, length, map, get_or, drop, replicate, Option, Some, None, Result, Ok, Err, inl, inr, refl, sym, ap, ◌∙◌, subst, arith, length-append}
+use Rattle.std.proofs.Common.{◌≡◌, ℕ, zero, suc, ◌+◌, ◌<◌, ◌≤◌, List, [], ◌∷◌, ◌++◌, length, map, get_or, drop, replicate, Some, None, Result, Ok, Err, inl, inr, refl, sym, ap, ◌∙◌, subst, arith, length-append}
 use Rattle.std.proofs.lemmas.List.{length-replicate}
 use Rattle.std.specs.Prelude.{slice_get, IfErr}
 use Rattle.serde_json.specs.Data.{Data, string, Items, no_items, item}
@@ -13,9 +13,7 @@ use Rattle.sab_plan.specs.declared.call.Call.{Call}
 use Rattle.sab_plan.specs.declared.call.Call.TheVariants.{Access as ToAccess, Wait, Notify}
 use Rattle.sab_refusal.specs.Location.{item_at}
 use Rattle.sab_refusal.specs.declared.location.Location.{Location}
-use Rattle.sab_refusal.specs.declared.location.Location.TheVariants as at
 use Rattle.sab_refusal.specs.declared.located.Located.{Located}
-use Rattle.sab_refusal.specs.declared.member.Member.TheVariants as M
 use Rattle.sab_refusal.specs.declared.why.Wanted.{Wanted}
 use Rattle.sab_refusal.specs.declared.why.Wanted.TheVariants as wanted
 use Rattle.sab_script.specs.Calls.{Argument, spelling_of}
@@ -33,8 +31,8 @@ err_told P Q (Err e) h more = more e h
 pub number_as_operand : (d : Data) → ((s : List ℕ) → d ≡ string s → ⊥) → IsNumberAs wanted.Operand d
 number_as_operand d other = (
   λ o. elim o [
-  | inl n ↦ n
-  | inr t ↦ absurd (other t.0 t.1)
+    | inl n ↦ n
+    | inr t ↦ absurd (other t.0 t.1)
   ],
   λ n. inl n,
 )

@@ -1,12 +1,11 @@
 -- What is told of a call is true.
-use Rattle.std.proofs.Common.{◌≡◌, ℕ, suc, ◌+◌, ◌<◌, ◌≤◌, pos, List, [], ◌∷◌, length, take, codes, Bool, true, false, Some, None, inr, refl, sym, ap, ◌∙◌, subst, arith}
-use Rattle.serde_json.specs.Data.{Data, string, array, Items, no_items, item}
+use Rattle.std.proofs.Common.{◌≡◌, ℕ, suc, ◌+◌, ◌<◌, ◌≤◌, pos, List, [], ◌∷◌, length, take, codes, false, Some, None, inr, refl, sym, ap, ◌∙◌, subst, arith}
+use Rattle.serde_json.specs.Data.{Data, string, array, Items, item}
 use Rattle.serde_json.specs.Find.{get_item}
 use Rattle.serde_json.specs.Events.{items_len}
 use Rattle.sab_block.specs.declared.access.Access.TheVariants.{Load, Store, Rmw, CompareExchange}
 use Rattle.sab_block.specs.declared.operand.Operand.{Operand}
 use Rattle.sab_block.specs.declared.rmw_op.RmwOp.{RmwOp}
-use Rattle.sab_block.specs.declared.rmw_op.RmwOp.TheVariants.{Exchange, Add, Sub, And, Or, Xor}
 use Rattle.sab_block.specs.Operand.{operand_of}
 use Rattle.sab_block.specs.RmwOp.{function_of_op}
 use Rattle.sab_plan.specs.declared.call.Call.{Call}
@@ -125,18 +124,24 @@ has_arguments root place i j name a b d rest is stands first =
       named = ap (item_of 0) here ∙ ap (λ (x : Data). Some x) first;
       count = (ds, stands, omega arith);
       each = λ k.
-        let third : suc (suc (suc k)) ≡ 3 + k = omega arith in
-        subst (λ (n : ℕ). value_at root (at.Element M.Agents i M.Calls j n) ≡ get_item k rest) third
-        (ap (item_of (suc (suc (suc k)))) here);
+          let third : suc (suc (suc k)) ≡ 3 + k = omega arith in
+          subst (λ (n : ℕ). value_at root (at.Element M.Agents i M.Calls j n) ≡ get_item k rest) third
+          (ap (item_of (suc (suc (suc k)))) here);
     }
 
 -- fewer elements than a name, a view and an index
 pub few_elements : (root : Data) (place : Location) (i j count : ℕ) (ds : Items) → place ≡ at.Call M.Agents i M.Calls j
     → Stands root place (array ds) → items_len ds ≡ count → count < 3 → HasFew root place count 3
-few_elements root place i j count ds is stands length few =
-    (i, j, is, (ds, stands, length), few, record {
-      each = λ call named. omega arith;
-      call = ToAccess 0 (Load (pos 0));
-      just = refl;
-      named = inr few;
-    })
+few_elements root place i j count ds is stands length few = (
+  i,
+  j,
+  is,
+  (ds, stands, length),
+  few,
+  record {
+    each = λ call named. omega arith;
+    call = ToAccess 0 (Load (pos 0));
+    just = refl;
+    named = inr few;
+  },
+)

@@ -1,11 +1,11 @@
 -- An object's members that are read one after another: what is told where one is missing, or isn't called for.
-use Rattle.std.proofs.Common.{◌≡◌, ℕ, zero, suc, ◌<◌, List, [], ◌∷◌, length, Bool, true, false, not, ◌&&◌, Option, Some, None, refl, sym, ap, ◌∙◌, subst, arith, true≢false}
+use Rattle.std.proofs.Common.{◌≡◌, ℕ, zero, suc, List, [], ◌∷◌, Bool, true, false, not, ◌&&◌, Option, Some, None, refl, sym, ap, ◌∙◌, subst, arith, true≢false}
 use Rattle.std.specs.Prelude.{Contains}
 use Rattle.std.specs.Ordering.{nat_cmp, ordering_reverse, match_ordering, is_lt}
-use Rattle.std.specs.declared.cmp.Ordering.TheVariants.{Less, Equal, Greater}
+use Rattle.std.specs.declared.cmp.Ordering.TheVariants.{Equal, Greater}
 use Rattle.std.specs.Cmp.Lexicographic.{slice_cmp}
 use Rattle.std.proofs.lemmas.Cmp.{nat_list_cmp_total, tied_itself}
-use Rattle.serde_json.specs.Data.{Data, object, Members, no_members, member}
+use Rattle.serde_json.specs.Data.{Data, object, Members, member}
 use Rattle.serde_json.specs.Find.{get_member}
 use Rattle.sab_refusal.specs.declared.location.Location.{Location}
 use Rattle.sab_refusal.specs.declared.member.Member.{Member}
@@ -13,7 +13,7 @@ use Rattle.sab_refusal.specs.declared.why.Why.{Why}
 use Rattle.sab_refusal.specs.declared.why.Why.TheVariants as why
 use Rattle.sab_refusal.specs.Location.{member_name}
 use Rattle.sab_script.specs.Places.{Stands, members_at, form_of}
-use Rattle.sab_script.specs.Truth.{IsTrueAt, IsStart}
+use Rattle.sab_script.specs.Truth.{IsTrueAt}
 use Rattle.sab_script.proofs.Ordered.{order_behind}
 use Rattle.sab_script.specs.Known.{IsBefore, FollowInOrder, AreInOrder, IsFirst, LackMember}
 

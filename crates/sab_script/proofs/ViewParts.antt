@@ -1,7 +1,7 @@
 -- The parts of a view where they stand in a script, and what is told of them.
-use Rattle.std.proofs.Common.{◌≡◌, ℕ, ◌<◌, pos, List, [], ◌∷◌, length, true, Option, Some, None, Result, Ok, Err, refl, sym, ap, ◌∙◌, subst, codes, arith}
+use Rattle.std.proofs.Common.{◌≡◌, ℕ, pos, List, [], ◌∷◌, length, true, Option, Some, None, Result, Ok, Err, refl, sym, ap, ◌∙◌, subst, codes, arith}
 use Rattle.std.specs.Prelude.{Contains, IfErr, slice_get}
-use Rattle.serde_json.specs.Data.{Data, string, object, Members, no_members, member}
+use Rattle.serde_json.specs.Data.{Data, string, object, Members, member}
 use Rattle.serde_json.specs.Find.{get_member}
 use Rattle.sab_block.specs.Kind.{kind_name}
 use Rattle.sab_refusal.specs.declared.located.Located.{Located}
@@ -17,7 +17,7 @@ use Rattle.sab_script.specs.declared.view_spec.ViewSpec.{ViewSpec}
 use Rattle.sab_script.specs.Blocks.{with_block, IsBlockIn}
 use Rattle.sab_script.specs.Numbers.{whole, whole_or_null}
 use Rattle.sab_script.specs.Views.{description}
-use Rattle.sab_script.specs.Places.{Stands, part_of, item_of, form_of, members_at, view_members, view_part_type, CallsFor}
+use Rattle.sab_script.specs.Places.{Stands, part_of, form_of, members_at, view_members, view_part_type, CallsFor}
 use Rattle.sab_script.specs.Truth.{IsTrueAt, IsTrueOf, IsTrueWhere, HasBlockLen}
 use Rattle.sab_script.specs.Known.{AreInOrder, IsFirst, LackMember, HasLens}
 use Rattle.sab_script.specs.ViewPlaces.{HasBlocks, HasView, IsTrueOfView}
@@ -232,7 +232,7 @@ pub misfit_told : (place : Location) (form : Form) (lens : List ℕ) (block len 
     → IsBlockIn form block → slice_get lens block ≡ Some len
     → rest ≡ description (string (kind_name v.kind)) (whole_or_null v.length) (string name) (whole v.offset)
     → ((root : Data) (i n : ℕ) → place ≡ at.Item M.Views i → slice_get lens block ≡ Some n → HasView root i n v
-        → IsTrueOf root e)
+    → IsTrueOf root e)
     → IsTrueOfView place (with_block form block rest) (λ root. HasLens root form lens) e
 misfit_told place form lens block len rest name v e has g is told = λ order root stands known.
     let here = subst (λ l. Stands root l (object (with_block form block rest))) known.0.1 stands in

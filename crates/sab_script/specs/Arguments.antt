@@ -1,6 +1,6 @@
 -- Which arguments the calls of a name take.
-use Rattle.std.specs.Prelude.{◌≡◌, ℕ, zero, suc, ◌+◌, ◌≤◌, List, [], ◌∷◌, ◌++◌, length, map, take, replicate}
-use Rattle.serde_json.specs.Data.{Data, Items, no_items, item}
+use Rattle.std.specs.Prelude.{◌≡◌, ℕ, zero, suc, ◌≤◌, List, [], ◌∷◌, ◌++◌, length, map, take, replicate}
+use Rattle.serde_json.specs.Data.{Items, no_items, item}
 use Rattle.sab_block.specs.declared.rmw_op.RmwOp.{RmwOp}
 use Rattle.sab_block.specs.RmwOp.{function_of_op}
 use Rattle.sab_plan.specs.declared.call.Call.{Call}

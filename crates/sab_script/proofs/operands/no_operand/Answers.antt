@@ -1,6 +1,5 @@
 use Rattle.std.proofs.Common.{[], ◌<◌, ◌^◌, length, refl, arith, rules}
 use Rattle.serde_json.proofs.Views.{items_len-items_view}
-use Rattle.sab_script.proofs.ToldArguments.{item_read, behind_count, behind_read, argument_stands, argument_called, limit_there}
 use Rattle.sab_script.proofs.operands.no_operand.Goals as goal
 
 pub returns-in_default-clause-told : goal.returns-in_default-clause-told

@@ -1,4 +1,4 @@
-use Rattle.std.proofs.Common.{◌≡◌, ◌∙◌, ℕ, List, ap, sym, rules}
+use Rattle.std.proofs.Common.{◌≡◌, ℕ, List, rules}
 use Rattle.serde_json.specs.Data.{string}
 use Rattle.serde_json.specs.declared.value.Value.{the_lemmas}
 use Rattle.serde_json.specs.View.{view}

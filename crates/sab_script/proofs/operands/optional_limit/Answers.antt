@@ -1,7 +1,7 @@
-use Rattle.std.proofs.Common.{◌≡◌, ◌+◌, ◌<◌, ◌^◌, ℕ, List, [], ◌∷◌, ◌++◌, length, refl, sym, ap, ◌∙◌, arith, rules, length-append}
+use Rattle.std.proofs.Common.{◌≡◌, ◌+◌, ◌<◌, ◌^◌, ℕ, List, [], ◌∷◌, ◌++◌, length, sym, ap, ◌∙◌, arith, rules, length-append}
 use Rattle.std.proofs.lemmas.List.{length-replicate}
 use Rattle.serde_json.specs.Data.{Data, Items}
-use Rattle.serde_json.specs.View.{view, items_view}
+use Rattle.serde_json.specs.View.{items_view}
 use Rattle.sab_refusal.specs.Location.{item_at}
 use Rattle.sab_refusal.specs.declared.why.Wanted.TheVariants as wanted
 use Rattle.sab_script.specs.Known.{HasArguments}
@@ -24,9 +24,11 @@ returns-in_err-last-in-len1-clause-told c =
     let place : c.item.result ≡ item_at a.at (3 + a.operands) = c.item.ensures ∙ ap (λ (k : ℕ). item_at a.at k) count in
     let there = behind_read a.operands ds rest _ behind
     (item_read a.trees.now 0 c.last-item.result (omega (arith, c.in-len1.len_at_least)) c.last-item.is) in
-    c.in_err-last-in-len1.ensures.told root (rw place (argument_stands root a.at name ds a.operands _ h there))
-    (rw place (argument_called root a.at name ds (operands a.operands ++ wanted.Whole ∷ []) a.operands wanted.Whole h
-    takes.longest (limit_there a.operands)), ((λ x. x), (λ x. x))))
+    c.in_err-last-in-len1.ensures.told root (rw place (argument_stands root a.at name ds a.operands _ h there)) (
+      rw place (argument_called root a.at name ds (operands a.operands ++ wanted.Whole ∷ []) a.operands wanted.Whole h
+          takes.longest (limit_there a.operands)),
+      ((λ x. x), (λ x. x)),
+    ))
 
 pub returns-in_default-clause-told : goal.returns-in_default-clause-told
 returns-in_default-clause-told c = λ root name ds h behind takes.

@@ -1,5 +1,4 @@
-use Rattle.std.proofs.Common.{sym, ◌∙◌, ap, Some}
-use Rattle.serde_json.specs.Data.{string}
+use Rattle.std.proofs.Common.{◌∙◌, ap, Some}
 use Rattle.sab_script.specs.Truth.{IsStart}
 use Rattle.sab_script.proofs.views.view_of.Goals as goal
 
@@ -7,8 +6,7 @@ pub returns-in-None-clause-told : goal.returns-in-None-clause-told
 returns-in-None-clause-told c = λ root stands known.
     let text = c.in_ok-name.ensures.reads in
     let start : IsStart c.of.result c.in_ok-name.name.now =
-    record { bytes = c.of.ensures.bytes; cut = c.of.ensures.cut } in
-    (
+    record { bytes = c.of.ensures.bytes; cut = c.of.ensures.cut } in (
       known.0.0,
       known.0.1,
       known.0.2,
