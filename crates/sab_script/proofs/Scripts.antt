@@ -1,13 +1,15 @@
 -- Scripts that are refused.
-use Rattle.std.proofs.Common.{◌≡◌, ℕ, List, None}
+use Rattle.std.proofs.Common.{◌≡◌, ℕ, List, Some, None, subst}
 use Rattle.std.specs.Prelude.{IsUtf8}
 use Rattle.serde_json.specs.Data.{Data}
 use Rattle.serde_json.specs.Read.{read}
+use Rattle.sab_refusal.specs.declared.located.Located.{Located}
 use Rattle.sab_refusal.specs.declared.read_fault.ReadFault.{ReadFault}
 use Rattle.sab_refusal.specs.declared.read_fault.ReadFault.TheVariants.{TooMany, OutOfMemory, BadShape, BadName, BadNumber, BadCall, BadView, BadAgent, NoBlock}
 use Rattle.sab_script.specs.Reading.{Refuses}
 use Rattle.sab_script.specs.Setup.{Spells}
 use Rattle.sab_script.specs.Script.{ReadsAs, IsTreeFault}
+use Rattle.sab_script.specs.Truth.{IsTrueOf}
 
 -- bytes without a reading
 pub no_reading : (script : List ℕ) (tree : Data) → (IsUtf8 script → read script ≡ None) → ReadsAs script tree → ⊥
@@ -25,3 +27,11 @@ refused_tree script d BadCall r h = record { tree = d; reading = r; unspelled = 
 refused_tree script d BadView r h = record { tree = d; reading = r; unspelled = h }
 refused_tree script d BadAgent r h = record { tree = d; reading = r; unspelled = h }
 refused_tree script d NoBlock r h = record { tree = d; reading = r; unspelled = h }
+
+-- what is true of the tree that a script was read as is true of each that it reads as
+pub told_tree : (script : List ℕ) (d : Data) (e : Located) → read script ≡ Some d → IsTrueOf d e → (tree : Data)
+    → ReadsAs script tree → IsTrueOf tree e
+told_tree script d e was told tree reads =
+    let is = reads.1 in
+    let same : d ≡ tree = cc in
+    subst (λ t. IsTrueOf t e) same told

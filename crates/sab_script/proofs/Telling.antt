@@ -32,8 +32,8 @@ none_told P None e told = told refl
 pub number_as_optional : (d : Data) → (d ≡ null → ⊥) → IsNumberAs wanted.WholeOrNull d
 number_as_optional d some = (
   λ o. elim o [
-  | inl n ↦ n
-  | inr e ↦ absurd (some e)
+    | inl n ↦ n
+    | inr e ↦ absurd (some e)
   ],
   λ n. inl n,
 )

@@ -39,8 +39,8 @@ step_known root k agents place d is none many = (
   rw is refl,
   (
     λ o. elim o [
-    | inl n ↦ n
-    | inr e ↦ absurd (none e.0 e.1)
+      | inl n ↦ n
+      | inr e ↦ absurd (none e.0 e.1)
     ],
     λ n. inl n,
   ),

@@ -1,5 +1,5 @@
 -- What is told of the members of a script.
-use Rattle.std.proofs.Common.{◌≡◌, [], ◌∷◌, List, true, false, option_map, Option, Some, None, is_some, true≢false, codes, refl, sym, ap, ◌∙◌, arith}
+use Rattle.std.proofs.Common.{◌≡◌, [], ◌∷◌, List, true, false, option_map, Option, Some, None, is_some, true≢false, codes, refl, sym, ap, arith}
 use Rattle.serde_json.specs.Data.{Data, object, Members, member}
 use Rattle.sab_refusal.specs.declared.location.Location.TheVariants as at
 use Rattle.sab_refusal.specs.declared.member.Member.{Member}

@@ -1,5 +1,5 @@
 -- When what a refusal says is true of the script.
-use Rattle.std.specs.Prelude.{◌≡◌, ◌⊎◌, ◌↔◌, ℕ, ◌+◌, ◌-◌, ◌*◌, ◌/◌, ◌<◌, ◌≤◌, ℤ, pos, ◌<ℤ◌, List, [], ◌∷◌, length, map, take, Bool, Option, Some, None, IsTrue, Contains}
+use Rattle.std.specs.Prelude.{◌≡◌, ◌⊎◌, ◌↔◌, ℕ, ◌+◌, ◌-◌, ◌*◌, ◌/◌, ◌<◌, ◌≤◌, ℤ, pos, ◌<ℤ◌, List, length, take, Bool, Some, None, IsTrue, Contains}
 use Rattle.serde_json.specs.Data.{Num, Data, null, boolean, number, string, array, object, Items, no_items, Members}
 use Rattle.serde_json.specs.Find.{get_member}
 use Rattle.serde_json.specs.Events.{items_len}

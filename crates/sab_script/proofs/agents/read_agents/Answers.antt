@@ -19,7 +19,7 @@ returns-clause-told c =
     let d = array (items_view c.args.trees.now) in
     IfErr-weaker c.read_each.result
     (IsTrueWhere place d (λ root. IsListOf unit.Agents place × (MAX_AGENTS ≡ limit_of unit.Agents)
-        × ((i : ℕ) → ((k : ℕ) × (item_at place i ≡ at.Item M.Agents k)) × HasNames root names)))
+    × ((i : ℕ) → ((k : ℕ) × (item_at place i ≡ at.Item M.Agents k)) × HasNames root names)))
     (IsTrueWhere place d (λ root. (place ≡ at.Member M.Agents) × HasNames root names))
     (λ e told root stands known. told root stands
     (known.0, refl, λ i. ((i, ap (λ p. item_at p i) known.0), known.1)))

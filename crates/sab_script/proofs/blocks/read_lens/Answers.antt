@@ -24,7 +24,7 @@ returns-else-is_empty-clause-told c =
     let ds = items_view c.in_ok-trees-in-Blocks.trees.now in
     IfErr-weaker c.read_each.result
     (IsTrueWhere place (array ds) (λ root. IsListOf unit.Blocks place × (MAX_BLOCKS ≡ limit_of unit.Blocks)
-        × ((i : ℕ) → IsLenPlace (item_at place i))))
+    × ((i : ℕ) → IsLenPlace (item_at place i))))
     (IsTrueWhere place (view c.args.tree.now) (λ root. place ≡ at.Member (lens_member c.args.form)))
     (λ e told root stands known.
     let list : place ≡ at.Member M.Blocks = rw c.in-Blocks.is at known in

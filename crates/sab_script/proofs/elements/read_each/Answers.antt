@@ -1,5 +1,5 @@
 use Rattle.std.proofs.Common.{◌≡◌, ℕ, arith}
-use Rattle.serde_json.specs.Data.{Data, array}
+use Rattle.serde_json.specs.Data.{array}
 use Rattle.sab_refusal.specs.Location.{item_at}
 use Rattle.sab_script.specs.Truth.{IsTrueWhere, IsListOf, limit_of}
 use Rattle.sab_script.proofs.Standing.{has_many, item_of_list, item_seen}
@@ -57,8 +57,8 @@ returns-in_err-read-clause-told g c =
     let t = c.tree-item.result in
     let there : c.item.result ≡ item_at place i = cc in
     exit_told (IsTrueWhere place (array (items_view ts)) (λ root. IsListOf c.args.unit place
-        × (c.args.most ≡ limit_of c.args.unit)
-        × ((n : ℕ) → g.R.Reader.Knows c.args.reader.now root (item_at place n))))
+    × (c.args.most ≡ limit_of c.args.unit)
+    × ((n : ℕ) → g.R.Reader.Knows c.args.reader.now root (item_at place n))))
     c.from_residual-in_err-read.result c.in_err-read.field-0.0 c.from_residual-in_err-read.ensures.1
     (λ root stands known. c.in_err-read.ensures.told root
     (rw there (item_of_list c.args.unit root place (items_view ts) i (view t) known.0 stands

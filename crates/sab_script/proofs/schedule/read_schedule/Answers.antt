@@ -17,7 +17,7 @@ returns-clause-told c =
     let d = array (items_view c.args.trees.now) in
     IfErr-weaker c.read_each.result
     (IsTrueWhere place d (λ root. IsListOf unit.Moves place × (MAX_MOVES ≡ limit_of unit.Moves)
-        × ((i : ℕ) → ((k : ℕ) × (item_at place i ≡ at.Item M.Schedule k)) × HasItems root (at.Member M.Agents) agents)))
+    × ((i : ℕ) → ((k : ℕ) × (item_at place i ≡ at.Item M.Schedule k)) × HasItems root (at.Member M.Agents) agents)))
     (IsTrueWhere place d (λ root. (place ≡ at.Member M.Schedule) × HasItems root (at.Member M.Agents) agents))
     (λ e told root stands known. told root stands
     (known.0, refl, λ i. ((i, ap (λ p. item_at p i) known.0), known.1)))

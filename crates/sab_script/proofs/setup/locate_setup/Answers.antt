@@ -1,4 +1,4 @@
-use Rattle.std.proofs.Common.{◌≡◌, length, refl, ap, sym, ◌∙◌, arith, rules}
+use Rattle.std.proofs.Common.{◌≡◌, length, refl, ap, ◌∙◌, arith, rules}
 use Rattle.sab_refusal.specs.declared.location.Location.TheVariants as at
 use Rattle.serde_json.specs.View.{view, items_view}
 use Rattle.sab_script.specs.Setup.{Spells, SetupParts}

@@ -1,4 +1,4 @@
-use Rattle.std.proofs.Common.{◌≡◌, Bor, codes, sym, ◌∙◌}
+use Rattle.std.proofs.Common.{Bor, codes, sym, ◌∙◌}
 use Rattle.serde_json.specs.Find.{get}
 use Rattle.serde_json.specs.View.{view}
 use Rattle.serde_json.specs.declared.value.Value.{Value}
@@ -10,12 +10,12 @@ pub returns-after-is_some-clause-told : goal.returns-after-is_some-clause-told
 returns-after-is_some-clause-told c =
     let bytes = get (codes "bytes") (view c.args.tree.now) in
     elim c.if-is_some.branch [
-    | then-is_some w ↦
-        rw w.result-is (c.in-Err-members_in.ensures.told
-        (form_bytes (λ (v : Bor Value). view v.now) c.get.result bytes c.get.ensures
-        (sym c.is_some.ensures ∙ w.if-is_some.true)))
-    | else-is_some w ↦
-        rw w.result-is (c.in-Err.ensures.told
-        (form_blocks (λ (v : Bor Value). view v.now) c.get.result bytes c.get.ensures
-        (sym c.is_some.ensures ∙ w.if-is_some.false)))
+      | then-is_some w ↦
+          rw w.result-is (c.in-Err-members_in.ensures.told
+          (form_bytes (λ (v : Bor Value). view v.now) c.get.result bytes c.get.ensures
+          (sym c.is_some.ensures ∙ w.if-is_some.true)))
+      | else-is_some w ↦
+          rw w.result-is (c.in-Err.ensures.told
+          (form_blocks (λ (v : Bor Value). view v.now) c.get.result bytes c.get.ensures
+          (sym c.is_some.ensures ∙ w.if-is_some.false)))
     ]

@@ -1,4 +1,4 @@
-use Rattle.std.proofs.Common.{◌≡◌, sym, ap, ◌∙◌, None, cond}
+use Rattle.std.proofs.Common.{sym, ap, ◌∙◌}
 use Rattle.serde_json.specs.Find.{as_bool}
 use Rattle.serde_json.specs.View.{view}
 use Rattle.sab_refusal.specs.declared.why.Wanted.TheVariants.{Flag}

@@ -1,7 +1,7 @@
-use Rattle.std.proofs.Common.{◌≡◌, false, bytes_eq, is_lt, nat_cmp, refl, ap, sym, ◌∙◌}
+use Rattle.std.proofs.Common.{◌≡◌, false, bytes_eq, is_lt, nat_cmp, refl, ap}
 use Rattle.std.specs.Prelude.{string_bytes}
 use Rattle.std.specs.Cmp.Lexicographic.{slice_cmp}
-use Rattle.serde_json.specs.View.{view, members_view}
+use Rattle.serde_json.specs.View.{members_view}
 use Rattle.sab_refusal.specs.Location.{member_name}
 use Rattle.sab_script.proofs.Ordered.{none_from_first, before_from_tests}
 use Rattle.sab_script.proofs.tree.member.Goals as goal
@@ -17,4 +17,4 @@ returns-in_default-clause-lacks c = elim c.in_default.branch [
       let late : is_lt (slice_cmp nat_cmp found name) ≡ false = cc in
       (refl, rw first (none_from_first name found _ _ (before_from_tests found name other late) (rw first at order))))
   | in_default-via-in_default w ↦ (λ order. (refl, rw w.in_default.ensures.steps.0 refl))
-  ]
+]

@@ -1,8 +1,3 @@
-use Rattle.std.proofs.Common.{sym}
-use Rattle.std.specs.List.Sorted.{IsStrictlySortedBy}
-use Rattle.std.specs.Map.{keys_of}
-use Rattle.std.specs.String.{string_cmp}
-use Rattle.std.specs.BTreeMap.{IsOrdered}
 use Rattle.sab_script.proofs.Ordered.{are_in_order}
 use Rattle.sab_script.proofs.tree.members.Goals as goal
 

@@ -1,4 +1,4 @@
-use Rattle.std.proofs.Common.{◌≡◌, ℕ, List, Bor, option_map, sym, ap, ◌∙◌}
+use Rattle.std.proofs.Common.{ℕ, List, Bor, option_map, sym, ap, ◌∙◌}
 use Rattle.serde_json.specs.Find.{as_str}
 use Rattle.serde_json.specs.View.{view}
 use Rattle.sab_refusal.specs.declared.why.Wanted.TheVariants.{Text}
@@ -11,6 +11,11 @@ pub returns-clause-told : goal.returns-clause-told
 returns-clause-told c =
     let d = view c.args.tree.now in
     let told = none_told (IsTrueWhere c.args.at d (λ root. CallsFor root c.args.at Text)) c.as_str.result _
-    (λ none root stands calls. (d, stands, calls, λ is.
-    let bad = sym (ap (option_map (λ (s : Bor (List ℕ)). s.now)) none) ∙ c.as_str.ensures ∙ ap as_str is.1 in cc)) in
+    (λ none root stands calls. (
+      d,
+      stands,
+      calls,
+      λ is.
+          let bad = sym (ap (option_map (λ (s : Bor (List ℕ)). s.now)) none) ∙ c.as_str.ensures ∙ ap as_str is.1 in cc,
+    )) in
     rw c.ok_or.ensures.value told
