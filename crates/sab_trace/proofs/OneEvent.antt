@@ -166,8 +166,8 @@ tree_fault position tree BadBytes e h of s =
     let values = same_values tree found.values s.values found.shaped s.shaped in
     let whole : AreWhole position found.values s.numbers = rw values s.whole in
     let numbers = same_numbers position found.values found.numbers s.numbers found.whole whole in
-    let needed : IsTrue (needs_bytes s.values) = rw (← values) h.1 in
-    h.2 s.place s.len (rw numbers (s.bytes needed))
+    let needed : IsTrue (needs_bytes s.values) = rw (← values) h.3 in
+    h.4 s.place s.len (rw numbers (s.bytes needed))
 tree_fault position tree OutOfMemory e h of s = h
 tree_fault position tree TooMany e h of s = h
 tree_fault position tree NotJson e h of s = h

@@ -36,8 +36,8 @@ IsTreeFault position tree BadNumber =
 IsTreeFault position tree BadAgent =
     (found : HasNumbers position tree) × ((agent : ℕ) → ¬ IsAgent found.numbers agent)
 IsTreeFault position tree BadBytes =
-    (found : HasNumbers position tree) × IsTrue (needs_bytes found.values)
-    × ((place : Place) (len : ℕ) → ¬ AreBytes found.numbers place len)
+    (found : HasNumbers position tree) × (agent : ℕ) × IsAgent found.numbers agent
+    × IsTrue (needs_bytes found.values) × ((place : Place) (len : ℕ) → ¬ AreBytes found.numbers place len)
 IsTreeFault position tree _ = ⊥
 
 -- the first thing that is amiss with a line of at most 1,024 bytes, of which there can be so many

@@ -37,6 +37,8 @@ returns-in_default-bytes-clause-err c =
         numbers = c.in-Some-read_numbers.numbers;
         whole = c.in-Some-read_numbers.ensures.some;
       },
+      c.in-Some-agent.agent,
+      c.in-Some-agent.ensures.some,
       needed,
       c.in_default-bytes.ensures.none,
     )
