@@ -1,6 +1,13 @@
 pub mod Pieces
 pub mod Plain
 pub mod Texts
-pub mod Telling
+pub mod ShortNumbers
 pub mod ReadingBack
 pub mod TreesRead
+pub mod ShortCalls
+pub mod ShortElements
+pub mod RunStates
+pub mod ShortAnswers
+pub mod ShortFacts
+pub mod LinesRead
+pub mod Telling

@@ -16,7 +16,7 @@ use Rattle.serde_json.specs.Read.{of_json, of_items, of_members, read, max_depth
 use Rattle.serde_json.specs.Written.{outline, items_outline, members_outline, compact_text}
 use Rattle.serde_json.proofs.Numbers.{number_of-decimal, number_of-negative}
 use Rattle.serde_json.proofs.Texts.{print-outline}
-use Rattle.sab_fact_json.specs.ReadsBack.{HasShortNumbers, ItemsHaveShortNumbers, MembersHaveShortNumbers}
+use Rattle.sab_fact_json.proofs.ShortNumbers.{HasShortNumbers, ItemsHaveShortNumbers, MembersHaveShortNumbers}
 
 abbrev pub IsBefore : List ℕ → List ℕ → Type 0
 IsBefore k l = slice_cmp nat_cmp k l ≡ Less

@@ -19,7 +19,7 @@ use Rattle.sab_fact_json.specs.FactData.{entry_data}
 use Rattle.sab_fact_json.specs.StandingData.{agent_data}
 use Rattle.sab_fact_json.specs.Lines.{line, entry_lines, block_data, block_lines, agent_lines, json_text}
 use Rattle.sab_fact_json.specs.FactJson.{TellsAsJson, ExplainsAsJson}
-use Rattle.sab_fact_json.proofs.TreesRead.{lines_read_back}
+use Rattle.sab_fact_json.proofs.LinesRead.{lines_read_back}
 
 -- the line of entry k, if it has one
 abbrev pub entry_line : List (List ℕ) → Lines → ℕ → Entry → Fact → List ℕ
@@ -115,5 +115,5 @@ explains names lines plan moves sim report standings a y c chunk empty p m t s f
       (rw (journal, append_assoc) (appends_both (append_known a chunk) y c
       (entry_lines names lines 0 sim.journal t.facts)
       (block_lines 0 report.blocks ++ agent_lines names standings 0 report.agents) t.written w));
-  read_back = lines_read_back names;
+  read_back = lines_read_back names plan report (rw (← p) fits);
 }

@@ -1,4 +1,4 @@
--- The trees of the lines have each key once and in order, so the lines read back.
+-- The trees of the lines have each key once and in order.
 use Rattle.std.proofs.Common.{ℕ, suc, ℤ, Bool, true, false, List, [], ◌∷◌, Option, Some, None, IfSome, refl}
 use Rattle.std.specs.Prelude.{codes, option_map}
 use Rattle.std.specs.Cmp.Lexicographic.{nat_list_cmp_total}
@@ -27,8 +27,7 @@ use Rattle.sab_fact_json.specs.CallData.{natural, whole_data, operand_data, limi
 use Rattle.sab_fact_json.specs.FactData.{answer_data, answer_in, why_in, place_data, agent_items, found_data, entry_data}
 use Rattle.sab_fact_json.specs.StandingData.{notified_in, waker_in, standing_data, agent_data}
 use Rattle.sab_fact_json.specs.Lines.{block_data}
-use Rattle.sab_fact_json.specs.ReadsBack.{LinesReadBack}
-use Rattle.sab_fact_json.proofs.ReadingBack.{IsBefore, IsInOrder, AreInOrder, FollowInOrder, reads_back}
+use Rattle.sab_fact_json.proofs.ReadingBack.{IsBefore, IsInOrder, AreInOrder, FollowInOrder}
 
 -- ---- members that may be left out
 
@@ -129,7 +128,7 @@ found_in_order n (F.WokenBy k) = (tt, tt)
 found_in_order n (F.Failed check) = (tt, tt)
 found_in_order n F.Waited = (tt, tt)
 
-entry_in_order : (n : ℕ) (names : List (List ℕ)) (k : ℕ) (e : Entry) (fact : Fact)
+pub entry_in_order : (n : ℕ) (names : List (List ℕ)) (k : ℕ) (e : Entry) (fact : Fact)
     → IsInOrder (suc (suc (suc n))) (entry_data names k e fact)
 unfolding entry_data
 entry_in_order n names k e fact =
@@ -162,7 +161,7 @@ entry_in_order n names k e fact =
 
 -- ---- blocks and agents
 
-block_in_order : (n b : ℕ) (bytes : List ℕ) → IsInOrder (suc n) (block_data b bytes)
+pub block_in_order : (n b : ℕ) (bytes : List ℕ) → IsInOrder (suc n) (block_data b bytes)
 unfolding block_data
 block_in_order n b bytes = (tt, (refl, (tt, tt)))
 
@@ -207,7 +206,7 @@ standings_in_order : (n : ℕ) (names : List (List ℕ)) (o : Option Standing)
 standings_in_order n names None = tt
 standings_in_order n names (Some s) = standing_in_order n names s
 
-agent_in_order : (n : ℕ) (names : List (List ℕ)) (a : ℕ) (p : Progress) (s : Option Standing)
+pub agent_in_order : (n : ℕ) (names : List (List ℕ)) (a : ℕ) (p : Progress) (s : Option Standing)
     → IsInOrder (suc (suc (suc n))) (agent_data names a p s)
 unfolding agent_data
 agent_in_order n names a p s = (
@@ -227,10 +226,3 @@ agent_in_order n names a p s = (
     ),
   ),
 )
-
-pub lines_read_back : (names : List (List ℕ)) → LinesReadBack names
-lines_read_back names = record {
-  entries = λ k e fact. reads_back (entry_data names k e fact) (entry_in_order 124 names k e fact);
-  blocks = λ b bytes. reads_back (block_data b bytes) (block_in_order 126 b bytes);
-  agents = λ a p s. reads_back (agent_data names a p s) (agent_in_order 124 names a p s);
-}

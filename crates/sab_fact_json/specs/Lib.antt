@@ -3,5 +3,6 @@ pub mod CallData
 pub mod FactData
 pub mod StandingData
 pub mod Lines
+pub mod SafeNumbers
 pub mod ReadsBack
 pub mod FactJson

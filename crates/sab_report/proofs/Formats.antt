@@ -2,13 +2,14 @@
 use Rattle.std.proofs.Common.{◌≡◌, ◌∙◌, ℕ, List, Option, refl, subst, sym}
 use Rattle.std.specs.Io.KnownBytes.{Appends}
 use Rattle.sab_plan.specs.declared.schedule.Move.{Move}
-use Rattle.sab_plan.specs.Plan.{PlanParts}
+use Rattle.sab_plan.specs.Plan.{PlanParts, IsPlan}
 use Rattle.sab_sim.specs.Report.{ReportParts}
 use Rattle.sab_text.specs.declared.lines.Lines.{Lines}
 use Rattle.sab_text.specs.Text.{text_by}
 use Rattle.sab_fact_text.specs.Column.{column_of}
 use Rattle.sab_fact_text.specs.Explained.{Explains, explained_text}
 use Rattle.sab_fact_text.proofs.Measuring.{has_room}
+use Rattle.sab_fact_json.specs.SafeNumbers.{HasSafeNumbers}
 use Rattle.sab_fact_json.specs.FactJson.{ExplainsAsJson}
 use Rattle.sab_fact_json.specs.Lines.{json_text}
 use Rattle.sab_fact_svg.specs.Picture.{Draws, svg_text}
@@ -78,9 +79,9 @@ told_explained telling names plan moves report old new is x = record {
 }
 
 pub told_as_json : (telling : Telling) (names : List (List ℕ)) (plan : PlanParts) (moves : List Move)
-    (report : ReportParts) (old new : Option (List ℕ)) → telling.format ≡ Json
+    (report : ReportParts) (old new : Option (List ℕ)) → telling.format ≡ Json → IsPlan plan → HasSafeNumbers plan
     → ExplainsAsJson names telling.lines plan moves old new report → TellsMoves telling names plan moves old new report
-told_as_json telling names plan moves report old new is x = record {
+told_as_json telling names plan moves report old new is is_plan safe x = record {
   is_its = record { fits = x.fits; schedule = x.schedule; one = x.one };
   told = record {
     text = json_text names telling.lines report x.facts x.standings;
@@ -92,7 +93,7 @@ told_as_json telling names plan moves report old new is x = record {
         standings_are = x.standings_are;
         is_its = refl;
       },
-      x.read_back,
+      x.read_back is_plan safe,
     );
     written = x.written;
   };

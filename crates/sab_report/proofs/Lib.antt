@@ -1,3 +1,4 @@
+pub mod SpelledNumbers
 pub mod Formats
 pub mod ViewNames
 pub mod Equality

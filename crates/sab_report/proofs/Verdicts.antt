@@ -11,6 +11,8 @@ use Rattle.sab_judge.specs.Race.{HaveNoRace}
 use Rattle.sab_judge.specs.Verdict.{IsVerdict}
 use Rattle.sab_events.specs.Events.{events_of}
 use Rattle.sab_text.specs.declared.format.VerdictFormat.{VerdictFormat}
+use Rattle.sab_verdict.specs.Json.{call_side}
+use Rattle.sab_verdict.specs.ReadsBack.{LinesReadBack}
 use Rattle.sab_verdict.specs.Verdict.{run_verdict_text}
 use Rattle.sab_report.specs.declared.judging.TheConstants.{MAX_TOLD}
 use Rattle.sab_report.specs.Judging.{TellsVerdict}
@@ -26,8 +28,9 @@ pub verdict_told : (format : VerdictFormat) (names : List (List ℕ)) (plan : Pl
     → journal ≡ report.journal → trace ≡ events_of plan journal → IsVerdict trace MAX_TOLD races rest
     → (IsTrue clean ↔ HaveNoRace trace)
     → Appends old new (run_verdict_text names plan journal trace format races rest)
+    → LinesReadBack (call_side names plan journal) trace races rest
     → TellsVerdict format names plan report old new (not clean)
-verdict_told format names plan report journal trace races rest clean old new same made verdict none written =
+verdict_told format names plan report journal trace races rest clean old new same made verdict none written read =
     let is : trace ≡ events_of plan report.journal = made ∙ ap (λ (j : List Entry). events_of plan j) same in
     record {
       races = races;
@@ -37,4 +40,6 @@ verdict_told format names plan report journal trace races rest clean old new sam
       written = subst (λ (t : List Event). Appends old new (run_verdict_text names plan report.journal t format races rest))
           is (subst (λ (j : List Entry). Appends old new (run_verdict_text names plan j trace format races rest))
           same written);
+      read_back = subst (λ (t : List Event). LinesReadBack (call_side names plan report.journal) t races rest) is
+          (subst (λ (j : List Entry). LinesReadBack (call_side names plan j) trace races rest) same read);
     }

@@ -11,14 +11,16 @@ use Rattle.sab_judge.specs.Race.{HaveNoRace}
 use Rattle.sab_judge.specs.Verdict.{IsVerdict}
 use Rattle.sab_events.specs.Events.{events_of}
 use Rattle.sab_text.specs.declared.format.VerdictFormat.{VerdictFormat}
+use Rattle.sab_verdict.specs.Json.{call_side}
+use Rattle.sab_verdict.specs.ReadsBack.{LinesReadBack}
 use Rattle.sab_verdict.specs.Verdict.{run_verdict_text}
 use Rattle.sab_tool.specs.Replay.{IsReportOf}
 use Rattle.sab_tool.specs.Ended.{ended_of}
 use Rattle.sab_report.specs.declared.judging.TheConstants.{MAX_TOLD}
 use Rattle.sab_report.specs.declared.judging.Judged.{Judged}
 
--- just the verdict on the events of the run came behind what the writer held, and it is said truly whether two of them
--- race
+-- just the verdict on the events of the run came behind what the writer held, its lines as JSON are read as their trees,
+-- and it is said truly whether two of them race
 pub record TellsVerdict (format : VerdictFormat) (names : List (List ℕ)) (plan : PlanParts) (report : ReportParts)
     (old new : Option (List ℕ)) (is_racy : Bool) : Type 0 where
   pub races : List Race
@@ -27,6 +29,8 @@ pub record TellsVerdict (format : VerdictFormat) (names : List (List ℕ)) (plan
   pub racy : (is_racy ≡ false) ↔ HaveNoRace (events_of plan report.journal)
   pub written : Appends old new
       (run_verdict_text names plan report.journal (events_of plan report.journal) format races rest)
+  pub read_back :
+      LinesReadBack (call_side names plan report.journal) (events_of plan report.journal) races rest
 
 -- the script spells a setup, the run of its one report was judged, and so it ended
 pub record JudgesAs (format : VerdictFormat) (old new : Option (List ℕ)) (script : List ℕ) (judged : Judged) :

@@ -38,7 +38,7 @@ IsTextIn Explained lines names plan report text =
     IsByFacts (explained_text (column_of report) names plan lines report) plan report text
     × HasRoom report (column_of report)
 IsTextIn Json lines names plan report text =
-    IsByFacts (json_text names lines report) plan report text × LinesReadBack names
+    IsByFacts (json_text names lines report) plan report text × LinesReadBack names plan report
 IsTextIn Svg lines names plan report text = IsByFacts (svg_text names plan report) plan report text × IsDocument text
 
 -- just the text of the report came behind what the writer held

@@ -4,6 +4,7 @@ ghost use Rattle.std.specs.Prelude.{IfOk, IfErr};
 ghost use Rattle.sab_plan.specs.Plan.{IsPlan};
 ghost use Rattle.sab_sim.specs.Report.{Fits};
 ghost use Rattle.sab_fact_json.specs.CallData.{AreNames};
+ghost use Rattle.sab_fact_json.specs.SafeNumbers.{HasSafeNumbers};
 ghost use Rattle.sab_tool.specs.Replay.{IsReplayFault};
 ghost use Rattle.sab_report.specs.Telling.{IsTellingFault};
 ghost use Rattle.sab_report.specs.Judging.{JudgesAs, TellsVerdict};
@@ -70,6 +71,7 @@ fn judge_report<W: Write>(
     w: &mut W,
 ) -> Result<bool, ToolFault>
     requires plan { IsPlan plan.now }
+    requires numbers { HasSafeNumbers plan.now }
     requires fits { Fits plan.now report.now }
     requires names { AreNames names.now }
     ensures ok { IfOk result

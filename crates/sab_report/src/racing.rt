@@ -3,7 +3,9 @@
 ghost use Rattle.std.specs.Prelude.{◌≤◌, IfOk, IfErr};
 ghost use Rattle.std.specs.Io.KnownBytes.{Appends};
 ghost use Rattle.sab_text.specs.Text.{text_by};
+ghost use Rattle.sab_plan.specs.Plan.{IsPlan};
 ghost use Rattle.sab_fact_json.specs.CallData.{AreNames};
+ghost use Rattle.sab_fact_json.specs.SafeNumbers.{HasSafeNumbers};
 ghost use Rattle.sab_tool.specs.Racing.{IsRaceOf, IsRaceFault};
 ghost use Rattle.sab_report.specs.Racing.{TellsRace, IsTellingRaceFault};
 ghost use Rattle.sab_report.specs.Reporting.{RacesAs};
@@ -69,6 +71,8 @@ fn tell_race<R: Threads + Wait + Sync, W: Write>(
     w: &mut W,
 ) -> Result<Report, ToolFault>
     requires spins { race.spins ≤ MAX_SPINS }
+    requires plan { IsPlan plan }
+    requires numbers { HasSafeNumbers plan }
     requires names { AreNames names.now }
     ensures ok { IfOk result (TellsRace telling names.now plan race.spins (W.contents w.old) (W.contents w.new)) }
     ensures err { IfErr result (IsTellingRaceFault plan race.spins (W.contents w.old) (W.contents w.new)) }
@@ -115,6 +119,8 @@ fn race_and_replay<R: Threads + Wait + Sync, W: Write>(
     w: &mut W,
 ) -> Result<Report, ToolFault>
     requires spins { race.spins ≤ MAX_SPINS }
+    requires plan { IsPlan plan }
+    requires numbers { HasSafeNumbers plan }
     requires names { AreNames names.now }
     ensures ok { IfOk result (TellsRace telling names.now plan race.spins (W.contents w.old) (W.contents w.new)) }
     ensures err { IfErr result (IsTellingRaceFault plan race.spins (W.contents w.old) (W.contents w.new)) }

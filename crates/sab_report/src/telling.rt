@@ -4,7 +4,9 @@ ghost use Rattle.std.specs.Prelude.{◌^◌, ◌<◌, ◌≤◌, length, All, If
 ghost use Rattle.std.specs.Io.KnownBytes.{Appends};
 ghost use Rattle.sab_plan.specs.Schedule.{agent_of};
 ghost use Rattle.sab_text.specs.Text.{text_by};
+ghost use Rattle.sab_plan.specs.Plan.{IsPlan};
 ghost use Rattle.sab_fact_json.specs.CallData.{AreNames};
+ghost use Rattle.sab_fact_json.specs.SafeNumbers.{HasSafeNumbers};
 ghost use Rattle.sab_tool.specs.Replay.{IsReplayOf};
 ghost use Rattle.sab_report.specs.Telling.{TellsMoves, IsTellingFault};
 
@@ -26,6 +28,8 @@ pub(crate) fn tell_moves<W: Write>(
     telling: Telling,
     w: &mut W,
 ) -> Result<Report, ToolFault>
+    requires plan { IsPlan plan }
+    requires numbers { HasSafeNumbers plan }
     requires names { AreNames names.now }
     requires few { length schedule.now ≤ 2 ^ 20 }
     requires named { All (λ m. agent_of m < length plan.scripts) schedule.now }

@@ -3,3 +3,4 @@ pub mod Counting
 pub mod Texts
 pub mod Telling
 pub mod TreesRead
+pub mod LinesRead

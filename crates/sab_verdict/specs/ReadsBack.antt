@@ -1,13 +1,19 @@
 -- What a reader of JSON makes of the lines.
-use Rattle.std.specs.Prelude.{ℕ, List}
+use Rattle.std.specs.Prelude.{ℕ, List, length, All}
 use Rattle.serde_json.specs.Data.{Data}
 use Rattle.sab_judge.specs.declared.event.Event.{Event}
 use Rattle.sab_judge.specs.declared.race.Race.{Race}
 use Rattle.sab_fact_json.specs.ReadsBack.{ReadsBack}
 use Rattle.sab_verdict.specs.declared.side.Side.{Side}
+use Rattle.sab_verdict.specs.Events.{side_at}
 use Rattle.sab_verdict.specs.Json.{race_data, count_data}
 
--- each line but for its line feed is read as its tree
-pub record LinesReadBack (tell : Side → Data) : Type 0 where
-  pub races : (race : Race) (first second : Side) → ReadsBack (race_data tell race first second)
-  pub count : (trace : List Event) (told rest : ℕ) → ReadsBack (count_data trace told rest)
+-- the line of a race but for its line feed is read as its tree
+abbrev pub RaceReadsBack : (Side → Data) → List Event → Race → Type 0
+RaceReadsBack tell trace race =
+    ReadsBack (race_data tell race (side_at trace race.first) (side_at trace race.second))
+
+-- so is each line of a verdict: of each race that is told, and the last
+pub record LinesReadBack (tell : Side → Data) (trace : List Event) (told : List Race) (rest : ℕ) : Type 0 where
+  pub races : All (RaceReadsBack tell trace) told
+  pub count : ReadsBack (count_data trace (length told) rest)

@@ -1,10 +1,12 @@
 //! From a verdict to its text.
 
-ghost use Rattle.std.specs.Prelude.{◌≡◌, ◌+◌, ◌<◌, ◌≤◌, ◌++◌, length, All, OnOk, flat_map};
+ghost use Rattle.std.specs.Prelude.{◌≡◌, ◌+◌, ◌^◌, ◌<◌, ◌≤◌, ◌++◌, length, All, OnOk, flat_map};
 ghost use Rattle.std.specs.Io.KnownBytes.{Appends, append_known};
 ghost use Rattle.sab_judge.specs.declared.event.Event.{Event};
+ghost use Rattle.sab_judge.specs.Trace.{IsTrace};
 ghost use Rattle.sab_judge.specs.Verdict.{IsTold};
 ghost use Rattle.sab_fact_json.specs.CallData.{AreNames};
+ghost use Rattle.sab_fact_json.specs.SafeNumbers.{HasSafeNumbers};
 ghost use Rattle.sab_verdict.specs.Json.{call_side, access_side};
 ghost use Rattle.sab_verdict.specs.ReadsBack.{LinesReadBack};
 ghost use Rattle.sab_verdict.specs.Verdict.{line_of, last_line, verdict_text, run_verdict_text, trace_verdict_text};
@@ -23,11 +25,10 @@ use std::io::Write;
 /// Writes what a judge says of a script's run, whose trace has an event for each entry of the journal: a line for each
 /// race that is told, with the calls of its two events, and what stands behind them.
 ///
-/// Each line of JSON is read as its tree, if the tree's numbers fit 64 bits.
+/// Each line of JSON is read as its tree, if the plan's Numbers are safe integers.
 ///
 /// `names` has the names of the plan's views, of letters, digits and `_`. It takes no memory, and doesn't flush. Where
 /// a write failed nothing is said of how much was written.
-#[tactic(auto, using(crate::proofs::TreesRead::run_lines_read_back))]
 pub fn write_run_verdict<W: Write>(
     names: &[Name],
     plan: &Plan,
@@ -41,7 +42,8 @@ pub fn write_run_verdict<W: Write>(
     requires told { All (IsTold trace.now) verdict.now.races.items }
     ensures written { OnOk result (Appends (W.contents w.old) (W.contents w.new) (run_verdict_text names.now plan.now
         journal.now trace.now format verdict.now.races.items verdict.now.rest)) }
-    ensures read_back { LinesReadBack (call_side names.now plan.now journal.now) }
+    ensures read_back { HasSafeNumbers plan.now → LinesReadBack (call_side names.now plan.now journal.now) trace.now
+        verdict.now.races.items verdict.now.rest }
 {
     let run = Run {
         names,
@@ -54,10 +56,9 @@ pub fn write_run_verdict<W: Write>(
 /// Writes what a judge says of a trace: a line for each race that is told, with the accesses of its two events, and
 /// what stands behind them.
 ///
-/// Each line of JSON is read as its tree, if the tree's numbers fit 64 bits.
+/// Each line of JSON is read as its tree.
 ///
 /// It takes no memory, and doesn't flush. Where a write failed nothing is said of how much was written.
-#[tactic(auto, using(crate::proofs::TreesRead::trace_lines_read_back))]
 pub fn write_trace_verdict<W: Write>(
     trace: &Trace,
     verdict: &Verdict,
@@ -67,7 +68,7 @@ pub fn write_trace_verdict<W: Write>(
     requires { All (IsTold trace.now) verdict.now.races.items }
     ensures written { OnOk result (Appends (W.contents w.old) (W.contents w.new)
         (trace_verdict_text trace.now format verdict.now.races.items verdict.now.rest)) }
-    ensures read_back { LinesReadBack access_side }
+    ensures read_back { LinesReadBack access_side trace.now verdict.now.races.items verdict.now.rest }
 {
     write_verdict(&Sides::Accesses, trace, verdict, format, w)
 }
@@ -83,19 +84,18 @@ fn write_verdict<W: Write>(
 ) -> io::Result<()>
     requires names { HaveNames sides.now }
     requires told { All (IsTold trace.now) verdict.now.races.items }
-    ensures { OnOk result (Appends (W.contents w.old) (W.contents w.new) (verdict_text format (words_of sides.now)
-        (data_of sides.now) trace.now verdict.now.races.items verdict.now.rest)) }
+    ensures written { OnOk result (Appends (W.contents w.old) (W.contents w.new) (verdict_text format
+        (words_of sides.now) (data_of sides.now) trace.now verdict.now.races.items verdict.now.rest)) }
+    ensures valid { IsTrace trace.now }
+    ensures few { length verdict.now.races.items < 2 ^ 64 }
+    ensures rest { verdict.now.rest < 2 ^ 64 }
 {
     let events = trace.events();
+    let told = verdict.races.len();
+    let rest = verdict.rest;
     let mut chunk = Chunk::new();
     write_races(sides, events, &verdict.races, format, &mut chunk, w)?;
-    push_last(
-        events,
-        verdict.races.len(),
-        verdict.rest,
-        format,
-        &mut chunk,
-    );
+    push_last(events, told, rest, format, &mut chunk);
     chunk.write(w)
 }
 

@@ -1,5 +1,7 @@
--- The names that a script spells are short, of letters, digits and `_`, and its moves are its agents'.
+-- The names that a script spells are short, of letters, digits and `_`, its Numbers are safe integers, and its moves are
+-- its agents'.
 use Rattle.sab_tool.proofs.ReplaySteps.{spelled_moves}
+use Rattle.sab_report.proofs.SpelledNumbers.{spelled_safe}
 use Rattle.sab_report.proofs.ViewNames.{spelled_short, spelled_plain}
 use Rattle.sab_report.proofs.judging.judge_as.Goals as goal
 
@@ -15,3 +17,7 @@ replay_moves-requires-clause-named g c =
 pub judge_report-requires-clause-names : goal.judge_report-requires-clause-names
 judge_report-requires-clause-names g c =
     rw (c.deref.ensures.value, c.in_ok-names.ensures) (spelled_plain _ _ c.in_ok-setup.ensures.ok.spelled)
+
+pub judge_report-requires-clause-numbers : goal.judge_report-requires-clause-numbers
+judge_report-requires-clause-numbers g c =
+    rw c.into_parts-plan.ensures.plan (spelled_safe _ _ c.in_ok-setup.ensures.ok.spelled)

@@ -22,3 +22,4 @@ returns-in-Ok-clause-ok g c =
     (g.W.Write.contents c.args.w.now) (g.W.Write.contents c.write_run_verdict.new.w)
     journal c.in_ok-trace.ensures c.in_ok-verdict.ensures
     (c.has_no_race.ensures c.in_ok-trace.trace _ c.in_ok-verdict.ensures) c.in-Ok.ensures.written
+    (c.in-Ok.ensures.read_back c.requires.numbers)

@@ -1,4 +1,5 @@
--- The names that a script spells are short, of letters, digits and `_`.
+-- The names that a script spells are short, of letters, digits and `_`, and its Numbers are safe integers.
+use Rattle.sab_report.proofs.SpelledNumbers.{spelled_plan, spelled_safe}
 use Rattle.sab_report.proofs.ViewNames.{spelled_short, spelled_plain}
 use Rattle.sab_report.proofs.racing.race_as.Goals as goal
 
@@ -8,3 +9,11 @@ names_of-requires g c = spelled_short _ _ c.in_ok-setup.ensures.ok.spelled
 pub tell_race-requires-clause-names : goal.tell_race-requires-clause-names
 tell_race-requires-clause-names g c = λ _ _.
     rw (c.deref.ensures.value, c.in_ok-names.ensures) (spelled_plain _ _ c.in_ok-setup.ensures.ok.spelled)
+
+pub tell_race-requires-clause-plan : goal.tell_race-requires-clause-plan
+tell_race-requires-clause-plan g c = λ _ _.
+    rw c.into_parts-plan.ensures.plan (spelled_plan _ _ c.in_ok-setup.ensures.ok.spelled)
+
+pub tell_race-requires-clause-numbers : goal.tell_race-requires-clause-numbers
+tell_race-requires-clause-numbers g c = λ _ _.
+    rw c.into_parts-plan.ensures.plan (spelled_safe _ _ c.in_ok-setup.ensures.ok.spelled)

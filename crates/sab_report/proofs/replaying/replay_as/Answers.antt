@@ -1,10 +1,19 @@
--- The names that a script spells are short, and its moves are its agents'.
+-- The names that a script spells are short, its Numbers are safe integers, and its moves are its agents'.
 use Rattle.sab_tool.proofs.ReplaySteps.{spelled_moves}
+use Rattle.sab_report.proofs.SpelledNumbers.{spelled_plan, spelled_safe}
 use Rattle.sab_report.proofs.ViewNames.{spelled_short, spelled_plain}
 use Rattle.sab_report.proofs.replaying.replay_as.Goals as goal
 
 pub names_of-requires : goal.names_of-requires
 names_of-requires g c = spelled_short _ _ c.in_ok-setup.ensures.ok.spelled
+
+pub tell_moves-requires-clause-plan : goal.tell_moves-requires-clause-plan
+tell_moves-requires-clause-plan g c =
+    rw c.into_parts-plan.ensures.plan (spelled_plan _ _ c.in_ok-setup.ensures.ok.spelled)
+
+pub tell_moves-requires-clause-numbers : goal.tell_moves-requires-clause-numbers
+tell_moves-requires-clause-numbers g c =
+    rw c.into_parts-plan.ensures.plan (spelled_safe _ _ c.in_ok-setup.ensures.ok.spelled)
 
 pub tell_moves-requires-clause-names : goal.tell_moves-requires-clause-names
 tell_moves-requires-clause-names g c =

@@ -1,0 +1,8 @@
+-- The lines of the verdict on a trace read back, since it is within its limits.
+use Rattle.sab_verdict.proofs.LinesRead.{trace_lines_read_back}
+use Rattle.sab_verdict.proofs.writing.write_trace_verdict.Goals as goal
+
+pub returns-clause-read_back : goal.returns-clause-read_back
+returns-clause-read_back g c =
+    trace_lines_read_back c.args.trace.now c.args.verdict.now.races.items c.args.verdict.now.rest
+    c.write_verdict.ensures.valid c.requires c.write_verdict.ensures.few c.write_verdict.ensures.rest
