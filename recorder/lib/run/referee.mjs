@@ -374,7 +374,8 @@ const asideOf = ({ waiting, stray }) => ({ waiting, stray });
 async function outcomeOf(wanted) {
   let hasSources = tellsNext;
   let found = await made(wanted, hasSources);
-  const pairs = meetings?.add(log, sources);
+  /** @type {import("./group.mjs").Covering} */
+  const covering = meetings === undefined ? {} : { meetings: meetings.add(log, sources), unplaced: meetings.unplaced };
   const isCut = hasSources && !log.hasRoom();
   if (isCut) {
     // Not all accesses have told their lines: this is judged by a run that keeps each of them once.
@@ -389,8 +390,6 @@ async function outcomeOf(wanted) {
   const judgement = judgementOf(outcome, found);
   await replaced(options.fresh ? agents : found.gone);
   await addSources(wanted, outcome, found, hasSources);
-  /** @type {import("./group.mjs").Covering} */
-  const covering = pairs === undefined ? {} : { meetings: pairs };
   Object.assign(outcome, covering);
   if (outcome.ending === "race") outcome.detail = outcome.races.map(({ text }) => text).join("\n");
   tellsNext = tellsAlways || (found.racy && !isCut);
