@@ -11,6 +11,7 @@ import { Sources } from "../agent/sources.mjs";
 import { reportText } from "../../script/report.mjs";
 import { racesTold } from "./findings.mjs";
 import { fitted } from "./fitting.mjs";
+import { onceMore } from "./garbage.mjs";
 import { initialStores } from "./initial.mjs";
 import { Log } from "./log.mjs";
 import { Meetings } from "./meetings.mjs";
@@ -435,6 +436,7 @@ async function record({ seeds = [], learns = false }) {
   for (const wanted of seeds) {
     if (wanted.isFresh) await replaced(agents);
     port.postMessage(await (wanted.isTrial ? triedOf(wanted) : outcomeOf(wanted)));
+    onceMore();
   }
   port.once("message", record);
   port.postMessage({ finished: true });
