@@ -13,7 +13,7 @@ const FLAG = "--expose-gc";
 const ASKED = /--expose[-_]gc/;
 
 /** @type {{ gc?: () => void }} */
-const realm = globalThis;
+const realm = /** @type {any} */ (globalThis);
 
 /** @type {(() => void) | undefined} undefined: it is left to the engine */
 let collect = realm.gc;
