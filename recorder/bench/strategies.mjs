@@ -43,7 +43,7 @@ export const COLUMNS = Object.freeze([
  */
 export async function measured(name, options, { seeds, jobs }) {
   const given = { module: fileURLToPath(new URL(`${name}.mjs`, FOLDER)), ...options };
-  const many = { first: 1, last: seeds, jobs, checkEvery: 0, fresh: false, sabsim: undefined };
+  const many = { first: 1, last: seeds, jobs, checkEvery: 0, fresh: false, sabsim: undefined, trials: true };
   const begun = performance.now();
   let failed = 0;
   let first = Infinity;

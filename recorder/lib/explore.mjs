@@ -66,7 +66,11 @@ async function* outcomesOf({ failFast, ...options }, asking, signal) {
   // Each job makes a batch while the one before is taken.
   const delivery = new Delivery(options, options.jobs * BATCH, options.checkEvery > 0);
   const end = new AbortController();
-  const stop = () => delivery.fail(signal?.reason);
+  // All is ended at once, though nobody may ask for more.
+  const stop = () => {
+    delivery.fail(signal?.reason);
+    end.abort();
+  };
   signal?.addEventListener("abort", stop);
   const recording = recorded(options, delivery, end.signal);
   try {

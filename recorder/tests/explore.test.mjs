@@ -216,6 +216,27 @@ for (const [what, code] of Object.entries(WAYS_OUT)) {
   });
 }
 
+test("where a signal is aborted while nobody takes, all is ended all the same", onLinux, async (context) => {
+  const folder = temporaryFolder(context);
+  await Promise.all([1, 2].map(async (jobs) => {
+    const mark = randomUUID();
+    const file = join(folder, `${jobs}.mjs`);
+    writeFileSync(file, `
+      import { explore } from "${LIBRARY}";
+      const controller = new AbortController();
+      const options = ${JSON.stringify({ module: agentsPath("naive-mutex"), sabsim: SABSIM, seeds: 1_000_000, jobs })};
+      await explore({ ...options, signal: controller.signal }).next();
+      controller.abort();
+    `);
+    const child = spawn(process.execPath, [file], { env: { ...process.env, RECORDER_TEST: mark }, timeout: 60_000 });
+    // It ends by itself, though nobody has asked the iterator for more.
+    const status = await new Promise((done) => {
+      child.on("close", done);
+    });
+    assert.deepEqual([status, processesWith(mark)], [0, []]);
+  }));
+});
+
 test("a delivery hands out in order, each when its check is done, and tells how far runs may go", async () => {
   const delivery = new Delivery({ first: 5, last: 7 }, 2, true);
   const { pace } = delivery;

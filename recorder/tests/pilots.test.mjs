@@ -86,3 +86,21 @@ test("--until-covered ends when 500 seeds have shown nothing new, whatever the n
   const cut = run([...words, "--seeds", "1..30"]).stdout;
   assert.match(cut, /^ {2}the last new one in seed \d+, none in \d+ seeds since: not covered$/m);
 });
+
+test("where lines aren't known nothing is called covered", (context) => {
+  const module = agentsOf(temporaryFolder(context), `
+    const words = new Int32Array(buffers[0]);
+    Object.freeze(Error);
+    Atomics.add(words, 0, 1);
+    Atomics.store(words, 1, agent);
+  `);
+  const { stdout, status } = run([module, "--agents", "2", "--buffers", "8", "--until-covered", "--seeds", "1..900"]);
+  assert.equal(status, 0);
+  // It ends all the same.
+  const [, runs] = /^(\d+) runs: /.exec(stdout);
+  assert.ok(Number(runs) > 500 && Number(runs) < 900, stdout);
+  const told = / {2}of ([\d,]+) accesses the line isn't known, so pairs may be missing\n {2}.*: not covered\n/;
+  const [, accesses] = told.exec(stdout) ?? assert.fail(stdout);
+  // Two agents make two each.
+  assert.equal(accesses.replace(",", ""), String(4 * Number(runs)));
+});

@@ -337,11 +337,13 @@ declare module "node:v8" {
     onSettled(hook: (promise: Promise<unknown>) => void): void;
   }
   export const promiseHooks: PromiseHooks;
+  export function setFlagsFromString(flags: string): void;
   const all: { Serializer: { prototype: object }; Deserializer: Function; DefaultDeserializer: Function };
   export default all;
 }
 
 declare module "node:vm" {
+  export function runInNewContext(code: string): any;
   const vm: {
     runInContext(code: string, context: object, options?: unknown): any;
     isContext(object: object): boolean;

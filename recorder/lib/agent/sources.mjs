@@ -14,7 +14,8 @@ const decode = uncurried(Buffer.prototype.toString);
 const bufferFrom = Buffer.from;
 const encoder = new TextEncoder();
 
-const BYTES = 65_536;
+// Room for thousands of positions; what isn't written to takes no memory.
+const BYTES = 2 ** 20;
 const UNKNOWN = 0;
 
 // How many frames are looked at: each costs time, and few of the recorder's own stand above the agent's as a rule.

@@ -11,6 +11,7 @@ import { Writable } from "node:stream";
 import { workerData } from "node:worker_threads";
 import { Board } from "../board/board.mjs";
 import { ORDER, WORD } from "../board/layout.mjs";
+import { onceMore } from "../run/garbage.mjs";
 import { Log } from "../run/log.mjs";
 import { Memory } from "../run/memory.mjs";
 import { Records } from "../run/records.mjs";
@@ -329,6 +330,7 @@ function serve(module, agents) {
     return list;
   };
   for (;;) {
+    onceMore();
     const order = player.awaitOrder();
     const own = { agents, args: words() };
     const play = () => module.default({ buffers: buffers(), agent: number, agents, args: words() });

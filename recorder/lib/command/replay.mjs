@@ -110,7 +110,10 @@ export class Replay {
     const { kept: { draws }, options, place, seed } = this;
     const long = { seconds: DEBUGGED_SECONDS, loadSeconds: DEBUGGED_SECONDS };
     const limits = await isDebugged() ? long : { seconds: options.seconds };
-    const group = await Group.open({ ...options, ...place, ...limits, fresh: false });
+    // A debugger would stop in each further run of the agents. So there are no pilots, from which nothing is to be
+    // learnt, since the row says who moves; and the lines of code are told at once.
+    const only = { fresh: false, everywhere: true, trace: true };
+    const group = await Group.open({ ...options, ...place, ...limits, ...only });
     try {
       const row = draws.map(({ agent }) => agent);
       return await group.one({ seed, whole: true, row, isExact: true, calls: callNumbers(this.kept) });

@@ -2,6 +2,7 @@
 
 import { resolve } from "node:path";
 import { Difference, sabsimFor, sabsimPlaces, versionOf } from "../check/sabsim.mjs";
+import { collectGarbage, onceMore } from "../run/garbage.mjs";
 import { Coverage } from "../seeds/coverage.mjs";
 import { preloads } from "../seeds/node-words.mjs";
 import { recordSeeds } from "../seeds/seeds.mjs";
@@ -73,11 +74,13 @@ export class Session {
   }
 
   async #record() {
+    collectGarbage();
     /** @param {Outcome} outcome */
     const onOutcome = (outcome) => {
       this.summary.add(outcome);
       this.progress.show(this.summary);
       if (outcome.fails) this.keeper?.keepLowest(outcome);
+      onceMore();
     };
     const onCheck = () => this.summary.addCheck();
     const { coverage, interruption: { signal } } = this;

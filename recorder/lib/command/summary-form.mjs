@@ -79,7 +79,9 @@ const MEMBERS = object({
     missing: orNull(object({ places: texts, runs: whole })),
   }),
   scripts: object({ parts: whole, none: listed({ why: text }) }),
-  coverage: orNull(object({ pairs: texts, last: orNull(whole), row: orNull(whole), covered: flag })),
+  coverage: orNull(object({
+    pairs: texts, last: orNull(whole), row: orNull(whole), unplaced: whole, covered: flag,
+  })),
   calls: whole,
   accesses: orNull(whole),
   unseen: texts,

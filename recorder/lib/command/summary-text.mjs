@@ -80,11 +80,14 @@ function stateLines({ states: { failing, passing } }) {
 /** @param {Told} summary */
 function coverageLines({ coverage }) {
   if (coverage === null) return [];
-  const { pairs, last, row, covered } = coverage;
+  const { pairs, last, row, unplaced, covered } = coverage;
   const seen = `${counted(pairs.length, "pair")} of lines came one after the other at a place, by different agents`;
   const newest = last === null ? "" : `the last new one in seed ${last}, `;
   const since = row === null ? "" : `none in ${counted(row, "seed")} since: `;
-  return [seen, indented(`${newest}${since}${covered ? "" : "not "}covered`)];
+  const enough = indented(`${newest}${since}${covered ? "" : "not "}covered`);
+  if (unplaced === 0) return [seen, enough];
+  const accesses = unplaced === 1 ? "1 access" : `${digits(unplaced)} accesses`;
+  return [seen, indented(`of ${accesses} the line isn't known, so pairs may be missing`), enough];
 }
 
 /** @param {Told} summary */

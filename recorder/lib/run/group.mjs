@@ -43,6 +43,7 @@ import { Thread } from "./thread.mjs";
  * @typedef {object} Covering what an outcome tells besides, where coverage is looked for
  * @property {string[]} [meetings] pairs of lines that came one after the other at a place, by different agents; those
  * that this group's runs before haven't shown
+ * @property {number} [unplaced] how many accesses have told no line
  */
 
 /**

@@ -13,6 +13,9 @@ const POSITIONS = 2 ** 24;
 /** Where an access stands in the code, where that isn't known. */
 const UNKNOWN = "?";
 
+/** What the log has in place of the number of a position, where an agent could tell none. */
+const NO_SOURCE = 0;
+
 export class Meetings {
   /** @param {SourceNames} sourceNames */
   constructor(sourceNames) {
@@ -30,6 +33,8 @@ export class Meetings {
     this.own = [];
     /** @type {Set<number>} the pairs that were seen */
     this.pairs = new Set();
+    /** How many accesses of the run that was added last have told no position. */
+    this.unplaced = 0;
   }
 
   /**
@@ -42,6 +47,7 @@ export class Meetings {
     /** @type {string[]} */
     const found = [];
     this.run += 1;
+    this.unplaced = 0;
     for (let event = 0; event < log.length; event += 1) this.#meet(log, event, sources, found);
     return found;
   }
@@ -55,7 +61,9 @@ export class Meetings {
   #meet(log, event, sources, found) {
     if (log.flagsAt(event) === 0) return;
     const agent = log.agentAt(event);
-    const position = this.#position(agent, log.sourceAt(event), sources[agent]);
+    const source = log.sourceAt(event);
+    if (source === NO_SOURCE) this.unplaced += 1;
+    const position = this.#position(agent, source, sources[agent]);
     const first = placeNumber(log.blockAt(event), log.fromAt(event));
     const last = first + log.toAt(event) - log.fromAt(event);
     let before = -1;

@@ -11,6 +11,7 @@ import { Sources } from "../agent/sources.mjs";
 import { reportText } from "../../script/report.mjs";
 import { racesTold } from "./findings.mjs";
 import { fitted } from "./fitting.mjs";
+import { onceMore } from "./garbage.mjs";
 import { initialStores } from "./initial.mjs";
 import { Log } from "./log.mjs";
 import { Meetings } from "./meetings.mjs";
@@ -374,7 +375,8 @@ const asideOf = ({ waiting, stray }) => ({ waiting, stray });
 async function outcomeOf(wanted) {
   let hasSources = tellsNext;
   let found = await made(wanted, hasSources);
-  const pairs = meetings?.add(log, sources);
+  /** @type {import("./group.mjs").Covering} */
+  const covering = meetings === undefined ? {} : { meetings: meetings.add(log, sources), unplaced: meetings.unplaced };
   const isCut = hasSources && !log.hasRoom();
   if (isCut) {
     // Not all accesses have told their lines: this is judged by a run that keeps each of them once.
@@ -389,8 +391,6 @@ async function outcomeOf(wanted) {
   const judgement = judgementOf(outcome, found);
   await replaced(options.fresh ? agents : found.gone);
   await addSources(wanted, outcome, found, hasSources);
-  /** @type {import("./group.mjs").Covering} */
-  const covering = pairs === undefined ? {} : { meetings: pairs };
   Object.assign(outcome, covering);
   if (outcome.ending === "race") outcome.detail = outcome.races.map(({ text }) => text).join("\n");
   tellsNext = tellsAlways || (found.racy && !isCut);
@@ -436,6 +436,7 @@ async function record({ seeds = [], learns = false }) {
   for (const wanted of seeds) {
     if (wanted.isFresh) await replaced(agents);
     port.postMessage(await (wanted.isTrial ? triedOf(wanted) : outcomeOf(wanted)));
+    onceMore();
   }
   port.once("message", record);
   port.postMessage({ finished: true });

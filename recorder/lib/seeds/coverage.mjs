@@ -11,7 +11,8 @@ const ENOUGH = 500;
  * @property {string[]} pairs of lines, in order
  * @property {number | null} last the last seed that has shown a new pair; null: none has, or nobody knows
  * @property {number | null} row how many seeds in a row have shown none since; null: nobody knows
- * @property {boolean} covered whether that is enough
+ * @property {number} unplaced of how many accesses the line isn't known, so that pairs may be missing
+ * @property {boolean} covered whether that is enough, and each access has told its line
  */
 
 export class Coverage {
@@ -21,9 +22,10 @@ export class Coverage {
    * @param {Covered} told
    * @returns {Coverage}
    */
-  static joined(before, { pairs, covered }) {
+  static joined(before, { pairs, unplaced, covered }) {
     const all = new Coverage();
     for (const pair of [...(before?.pairs ?? []), ...pairs]) all.pairs.add(pair);
+    all.unplaced = (before?.unplaced ?? 0) + unplaced;
     all.each = { covered: covered && (before?.each?.covered ?? true) };
     return all;
   }
@@ -35,28 +37,32 @@ export class Coverage {
     this.last = undefined;
     /** How many seeds in a row have shown none since. */
     this.row = 0;
+    /** How many accesses have told no line. */
+    this.unplaced = 0;
     /** @type {{ covered: boolean } | undefined} of one that was joined, whether each part has enough */
     this.each = undefined;
   }
 
   /** @returns {Covered} */
   told() {
-    const { each, last = null, row, isCovered } = this;
+    const { each, last = null, row, unplaced, isEnough } = this;
     const pairs = [...this.pairs].sort();
-    return each === undefined ? { pairs, last, row, covered: isCovered } : { pairs, last: null, row: null, ...each };
+    if (each !== undefined) return { pairs, last: null, row: null, unplaced, ...each };
+    return { pairs, last, row, unplaced, covered: isEnough && unplaced === 0 };
   }
 
   /** @param {Outcome & import("../run/group.mjs").Covering} outcome @returns {boolean} whether it is enough */
-  add({ seed, meetings = [] }) {
+  add({ seed, meetings = [], unplaced = 0 }) {
     const { size } = this.pairs;
     for (const pair of meetings) this.pairs.add(pair);
+    this.unplaced += unplaced;
     this.row = this.pairs.size > size ? 0 : this.row + 1;
     if (this.row === 0) this.last = seed;
-    return this.isCovered;
+    return this.isEnough;
   }
 
   /** @returns {boolean} */
-  get isCovered() {
+  get isEnough() {
     return this.row >= ENOUGH;
   }
 }

@@ -1,8 +1,11 @@
 // The process of a job. It ends with the process that has started it, however that one ends.
 
+import { collectGarbage, onceMore } from "../run/garbage.mjs";
 import { endGroup } from "./group-end.mjs";
 import { Job } from "./job.mjs";
 import { packed } from "./remote-job.mjs";
+
+collectGarbage();
 
 /** @type {Job | undefined} */
 let job;
@@ -13,10 +16,16 @@ function send(message) {
   process.send?.(message);
 }
 
+/** @param {import("../run/group.mjs").Outcome} outcome */
+function tell(outcome) {
+  send({ outcome });
+  onceMore();
+}
+
 /** @param {import("./remote-job.mjs").Request} request @returns {Promise<unknown>} */
 async function answerTo(request) {
   if (request.open !== undefined) job = await Job.open(request.open, (seed) => send({ checked: seed }));
-  if (request.run !== undefined) await job?.run(request.run, (outcome) => send({ outcome }));
+  if (request.run !== undefined) await job?.run(request.run, tell);
   if (request.shorten !== undefined) return job?.shorten(request.shorten, (tried) => send({ tried }));
   return request.finish === undefined ? undefined : job?.finish();
 }

@@ -18,6 +18,7 @@ export { LostJob } from "./remote-job.mjs";
  * @property {string} [sabsim] the program's path; it isn't needed where nothing is checked
  * @property {number} [origin] the seed from which one in so many is counted; the first if it isn't given
  * @property {boolean} [failFast] whether the first failing run is the last
+ * @property {boolean} [trials] whether only their endings are wanted, which takes less time: no script is told
  * @property {boolean} [here] whether the jobs' workers are of this process, and not of one for each job
  */
 
@@ -58,8 +59,10 @@ class Row {
    * @param {number} every one in how many outcomes is wanted whole; 0: none
    * @param {number} origin the seed from which they are counted
    * @param {number} batch
+   * @param {boolean} isTrial whether only the endings are wanted
    */
-  constructor(first, last, every, origin, batch) {
+  constructor(first, last, every, origin, batch, isTrial) {
+    this.isTrial = isTrial;
     this.origin = origin;
     this.next = first;
     this.last = last;
@@ -72,7 +75,7 @@ class Row {
     const seeds = [];
     while (this.next <= this.last && seeds.length < this.batch) {
       const whole = this.every > 0 && (this.next - this.origin) % this.every === 0;
-      seeds.push({ seed: this.next, whole });
+      seeds.push({ seed: this.next, whole, isTrial: this.isTrial });
       this.next += 1;
     }
     return seeds;
@@ -100,12 +103,12 @@ class Row {
  */
 export async function recordSeeds(options, onOutcome, listening = {}) {
   const { onCheck = () => {}, signal, pace = UNHINDERED, coverage } = listening;
-  const { first, last, checkEvery, sabsim, origin = first, failFast = false } = options;
+  const { first, last, checkEvery, sabsim, origin = first, failFast = false, trials = false } = options;
   if (checkEvery > 0) foundSabsim(sabsim);
   let checked = 0;
   const count = last - first + 1;
   const batch = failFast ? 1 : Math.max(1, Math.min(BATCH, Math.ceil(count / options.jobs)));
-  const row = new Row(first, last, checkEvery, origin, batch);
+  const row = new Row(first, last, checkEvery, origin, batch, trials);
   const told = listener({ first, failFast, coverage }, row, onOutcome, (seed) => {
     checked += 1;
     onCheck(seed);

@@ -1,0 +1,52 @@
+// Garbage is collected in the recorder's own processes, and agents see nothing of it.
+
+import assert from "node:assert/strict";
+import { spawnSync } from "node:child_process";
+import { test } from "node:test";
+import { RECORD, agentsOf, temporaryFolder } from "./common.mjs";
+
+const GARBAGE = new URL("../lib/run/garbage.mjs", import.meta.url).href;
+
+/** Code that says of an object that nobody has any more whether it is there after so many runs. */
+const WATCHING = `
+  const { setImmediate: turn } = await import("node:timers/promises");
+  const watched = new WeakRef({});
+  await turn();
+  for (let time = 1; time < 4_096; time += 1) onceMore();
+  const before = watched.deref() !== undefined;
+  await turn();
+  onceMore();
+  await turn();
+  console.log(before, watched.deref() !== undefined);
+`;
+
+/** What a process prints. @param {string} code */
+function printed(code) {
+  const words = ["--input-type=module", "--eval", `import { collectGarbage, onceMore } from "${GARBAGE}";\n${code}`];
+  const { stdout, stderr } = spawnSync(process.execPath, words, { encoding: "utf8" });
+  assert.equal(stderr, "");
+  return stdout;
+}
+
+test("a process that asks for it collects its garbage once in 4,096 times, and so do its threads", () => {
+  assert.equal(printed(`collectGarbage();\n${WATCHING}`), "true false\n");
+  assert.equal(printed(WATCHING), "true true\n");
+  const inThread = `import("${GARBAGE}").then(async ({ onceMore }) => {${WATCHING}});`;
+  const starting = `
+    const { Worker } = await import("node:worker_threads");
+    new Worker(${JSON.stringify(inThread)}, { eval: true });
+  `;
+  assert.equal(printed(`collectGarbage();\n${starting}`), "true false\n");
+  assert.equal(printed(starting), "true true\n");
+});
+
+test("agents find the engine's own way to collect only where node was started with it", (context) => {
+  const module = agentsOf(temporaryFolder(context), `
+    Atomics.add(new Int32Array(buffers[0]), 0, 1);
+    console.log(typeof globalThis.gc);
+  `);
+  const words = [RECORD, module, "--agents", "1", "--buffers", "4", "--seeds", "1", "--check", "0"];
+  const seen = (...nodes) => spawnSync(process.execPath, [...nodes, ...words], { encoding: "utf8" }).stderr;
+  assert.equal(seen(), "undefined\n");
+  assert.equal(seen("--expose-gc"), "function\n");
+});
