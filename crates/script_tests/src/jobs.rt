@@ -2,7 +2,7 @@
 
 ghost use Rattle.sab_command.specs.Job.{IsWithinLimits};
 
-use crate::scripts::{STORED_AND_LOADED, STORE_AND_LOAD};
+use crate::scripts::{STORE_AND_LOAD, STORED_AND_LOADED};
 use sab_command::{Job, Source};
 use sab_ending::Outcome;
 use sab_report::{Format, Lines, Telling, VerdictFormat};
