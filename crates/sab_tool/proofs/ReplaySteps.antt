@@ -3,7 +3,7 @@ use Rattle.std.proofs.Common.{◌≡◌, inl, inr, ℕ, suc, ◌+◌, ◌<◌, �
 use Rattle.std.proofs.lemmas.Bool.{lt-leb}
 use Rattle.std.proofs.lemmas.List.Elements.{All-nil, All-cons, All-head, All-tail}
 use Rattle.std.specs.Io.KnownBytes.{Keeps}
-use Rattle.serde_json.specs.Data.{Items, no_items, item}
+use Rattle.serde_json.specs.Data.{Data, Items, no_items, item}
 use Rattle.sab_plan.specs.declared.schedule.Move.{Move}
 use Rattle.sab_sim.specs.declared.sim_fault.SimFault.{SimFault}
 use Rattle.sab_sim.specs.declared.sim_fault.SimFault.TheVariants as F
@@ -16,30 +16,38 @@ use Rattle.sab_refusal.specs.declared.refusal.Refusal.{Refusal}
 use Rattle.sab_refusal.specs.declared.refusal.Refusal.TheVariants.{NotJson, Tree}
 use Rattle.sab_script.specs.Reading.{SpellsEach}
 use Rattle.sab_script.specs.Schedule.{SpellsMove}
-use Rattle.sab_script.specs.Script.{IsTreeFault, IsRefusedBy}
+use Rattle.sab_script.specs.Script.{ReadsAs, SpellsNone, IsTreeFault, IsRefusedBy, IsTrueRefusal}
+use Rattle.sab_script.specs.Truth.{IsTrueFault}
 use Rattle.sab_refusal.specs.Why.{fault_of}
-use Rattle.sab_tool.specs.Replay.{IsRefused, as_tool_fault, script_as_tool_fault}
+use Rattle.sab_tool.specs.Replay.{IsRefused, IsRefusedFor, as_tool_fault, script_as_tool_fault}
 
 pub keeps_same : (o : Option (List ℕ)) → Keeps o o
 keeps_same None = tt
 keeps_same (Some x) = refl
 
 -- a tree that is refused
-refused_tree : (script : List ℕ) (e : ReadFault) → IsTreeFault script e → IsRefused script (as_tool_fault e)
-refused_tree script OutOfMemory h = tt
-refused_tree script TooMany h = h
-refused_tree script BadShape h = h
-refused_tree script BadName h = h
-refused_tree script BadNumber h = h
-refused_tree script BadCall h = h
-refused_tree script BadView h = h
-refused_tree script BadAgent h = h
-refused_tree script NoBlock h = h
+refused_for : (script : List ℕ) (e : ReadFault) → SpellsNone script
+    → ((tree : Data) → ReadsAs script tree → IsTrueFault tree e) → IsRefusedFor e script
+refused_for script e h t =
+    record { tree = h.tree; reading = h.reading; unspelled = h.unspelled; is_true = t h.tree h.reading }
+
+refused_tree : (script : List ℕ) (e : ReadFault) → IsTreeFault script e
+    → ((tree : Data) → ReadsAs script tree → IsTrueFault tree e) → IsRefused script (as_tool_fault e)
+refused_tree script OutOfMemory h t = tt
+refused_tree script TooMany h t = refused_for script TooMany h t
+refused_tree script BadShape h t = refused_for script BadShape h t
+refused_tree script BadName h t = refused_for script BadName h t
+refused_tree script BadNumber h t = refused_for script BadNumber h t
+refused_tree script BadCall h t = refused_for script BadCall h t
+refused_tree script BadView h t = refused_for script BadView h t
+refused_tree script BadAgent h t = refused_for script BadAgent h t
+refused_tree script NoBlock h t = refused_for script NoBlock h t
 
 -- a script that is refused
-pub refused_script : (script : List ℕ) (r : Refusal) → IsRefusedBy script r → IsRefused script (script_as_tool_fault r)
-refused_script script (NotJson line column is_cut) h = h
-refused_script script (Tree e) h = refused_tree script (fault_of e.why) h
+pub refused_script : (script : List ℕ) (r : Refusal) → IsRefusedBy script r → IsTrueRefusal script r
+    → IsRefused script (script_as_tool_fault r)
+refused_script script (NotJson line column is_cut) h t = h
+refused_script script (Tree e) h t = refused_tree script (fault_of e.why) h (λ tree reading. (e, refl, t tree reading))
 
 -- the moves that are spelled are the agents'
 pub spelled_moves : (agents : ℕ) (ds : Items) (ms : List Move) → SpellsEach (SpellsMove agents) ds ms

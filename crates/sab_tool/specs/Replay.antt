@@ -12,9 +12,10 @@ use Rattle.sab_refusal.specs.declared.refusal.Refusal.TheVariants as S
 use Rattle.sab_refusal.specs.Why.{fault_of}
 use Rattle.sab_tool.specs.declared.tool_fault.ToolFault.{ToolFault}
 use Rattle.sab_tool.specs.declared.tool_fault.ToolFault.TheVariants.{TooMany, OutOfMemory, BadShape, BadName, BadNumber, BadCall, BadView, BadAgent, NoBlock, NotJson, WriteFailed}
-use Rattle.sab_script.specs.Setup.{SetupParts}
+use Rattle.sab_script.specs.Setup.{SetupParts, Spells}
+use Rattle.sab_script.specs.Truth.{IsTrueFault}
 -- scripts as bytes, for the crates above
-pub use Rattle.sab_script.specs.Script.{ReadsAs, IsScriptOf, SpellsNone}
+pub use Rattle.sab_script.specs.Script.{ReadsAs, IsScriptOf}
 use Rattle.sab_text.specs.Text.{text}
 
 -- the fault of a tree as a tool's
@@ -34,18 +35,25 @@ abbrev pub script_as_tool_fault : Refusal → ToolFault
 script_as_tool_fault (S.NotJson line column is_cut) = NotJson
 script_as_tool_fault (S.Tree e) = as_tool_fault (fault_of e.why)
 
+-- the script reads as a tree that spells no setup, and the fault is that of a refusal which is true of the tree
+pub record IsRefusedFor (fault : ReadFault) (script : List ℕ) : Type 0 where
+  pub tree : Data
+  pub reading : ReadsAs script tree
+  pub unspelled : (setup : SetupParts) → Spells tree setup → ⊥
+  pub is_true : IsTrueFault tree fault
+
 -- what a script is refused for before anything is written
 abbrev pub IsRefused : List ℕ → ToolFault → Type 0
 IsRefused script OutOfMemory = Unit {0}
 IsRefused script NotJson = (tree : Data) → ReadsAs script tree → ⊥
-IsRefused script TooMany = SpellsNone script
-IsRefused script BadShape = SpellsNone script
-IsRefused script BadName = SpellsNone script
-IsRefused script BadNumber = SpellsNone script
-IsRefused script BadCall = SpellsNone script
-IsRefused script BadView = SpellsNone script
-IsRefused script BadAgent = SpellsNone script
-IsRefused script NoBlock = SpellsNone script
+IsRefused script TooMany = IsRefusedFor R.TooMany script
+IsRefused script BadShape = IsRefusedFor R.BadShape script
+IsRefused script BadName = IsRefusedFor R.BadName script
+IsRefused script BadNumber = IsRefusedFor R.BadNumber script
+IsRefused script BadCall = IsRefusedFor R.BadCall script
+IsRefused script BadView = IsRefusedFor R.BadView script
+IsRefused script BadAgent = IsRefusedFor R.BadAgent script
+IsRefused script NoBlock = IsRefusedFor R.NoBlock script
 IsRefused script _ = ⊥
 
 -- the one report that fits the plan and has these moves
