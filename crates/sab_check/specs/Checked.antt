@@ -4,7 +4,7 @@ use Rattle.sab_refusal.specs.declared.refusal.Refusal.{Refusal}
 use Rattle.sab_refusal.specs.declared.refusal.Refusal.TheVariants.{NotJson, Tree}
 use Rattle.sab_script.specs.Setup.{SetupParts}
 use Rattle.sab_refusal.specs.Refusal.{IsMemory, refusal_text}
-use Rattle.sab_script.specs.Script.{IsScriptOf, IsRefusedBy}
+use Rattle.sab_script.specs.Script.{IsScriptOf, IsRefusedBy, IsTrueRefusal}
 use Rattle.sab_check.specs.declared.check.Checked.{Checked}
 use Rattle.sab_check.specs.declared.check.Checked.TheVariants.{Accepted, Refused}
 use Rattle.sab_check.specs.declared.scanning.Found.{Found}
@@ -38,10 +38,11 @@ Says script (NotJson line column is_cut) text =
     × (text ≡ said_of script (NotJson line column is_cut) found ++ codes "\n")
 Says script (Tree e) text = text ≡ refusal_text (Tree e) ++ codes "\n"
 
--- the script spells none, and the text says where and why
+-- the script spells none, and the text says where and why, which is true of the script
 pub record IsRefused (script text : List ℕ) : Type 0 where
   pub refusal : Refusal
   pub refused : IsRefusedBy script refusal
+  pub told : IsTrueRefusal script refusal
   pub known : IsMemory refusal → ⊥
   pub said : Says script refusal text
 
