@@ -1,6 +1,6 @@
 // Garbage. Each thread has a heap of its own, and the engine lets lie there what has outlived a first while, up to some
-// hundred megabytes. So that memory doesn't grow with the seeds, a process that is the recorder's own collects it itself,
-// in each of its threads, whenever that has done something often enough.
+// hundred megabytes. So that memory doesn't grow with the seeds, a process that is the recorder's own collects it
+// itself, in each of its threads, whenever that has done something often enough.
 
 import { setFlagsFromString } from "node:v8";
 import { runInNewContext } from "node:vm";
