@@ -20,6 +20,8 @@ use std::io::Write;
 /// Makes all moves of a schedule, for which the room is reserved, and writes their report as JSON: a line for each
 /// entry that has one by `lines`, with its fact, then one for each block, and one for each agent.
 ///
+/// Each line is read as its tree, if the plan's Numbers are safe integers.
+///
 /// `names` has the names of the plan's views, of letters, digits and `_`. It takes no memory, and doesn't flush. Where
 /// a write failed nothing is said of how much was written.
 pub fn write_json<W: Write>(
