@@ -50,6 +50,7 @@ flushed_verdict format old mid new script judged j k = record {
     verdict = j.told.verdict;
     racy = j.told.racy;
     written = appends_kept old mid new _ j.told.written k;
+    read_back = j.told.read_back;
   };
   ended_is = j.ended_is;
 }

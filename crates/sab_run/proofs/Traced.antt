@@ -8,6 +8,8 @@ use Rattle.sab_judge.specs.Race.{HaveNoRace}
 use Rattle.sab_judge.specs.Verdict.{IsVerdict}
 use Rattle.sab_trace.specs.Reading.{SpellsTrace}
 use Rattle.sab_text.specs.declared.format.VerdictFormat.{VerdictFormat}
+use Rattle.sab_verdict.specs.Json.{access_side}
+use Rattle.sab_verdict.specs.ReadsBack.{LinesReadBack}
 use Rattle.sab_verdict.specs.Verdict.{trace_verdict_text}
 use Rattle.sab_report.specs.declared.judging.TheConstants.{MAX_TOLD}
 use Rattle.sab_ending.specs.declared.outcome.Outcome.{Outcome}
@@ -26,14 +28,15 @@ racy_outcome events clean same is = inr (refl, λ none. false≢true (sym is ∙
 pub judged : (known old new : Option (List ℕ)) (format : VerdictFormat) (outcome : Outcome) (events : List Event)
     (races : List Race) (rest : ℕ) → IfSome known (λ bytes. SpellsTrace bytes events)
     → IsVerdict events MAX_TOLD races rest → Appends old new (trace_verdict_text events format races rest)
-    → IsOutcomeOf events outcome → IfSome known (JudgesTrace format outcome old new)
-judged None old new format outcome events races rest spelled verdict written is = tt
-judged (Some bytes) old new format outcome events races rest spelled verdict written is = record {
+    → LinesReadBack access_side events races rest → IsOutcomeOf events outcome → IfSome known (JudgesTrace format outcome old new)
+judged None old new format outcome events races rest spelled verdict written read is = tt
+judged (Some bytes) old new format outcome events races rest spelled verdict written read is = record {
   events = events;
   spelled = spelled;
   races = races;
   rest = rest;
   verdict = verdict;
   written = written;
+  read_back = read;
   outcome_is = is;
 }

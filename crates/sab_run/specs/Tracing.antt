@@ -10,6 +10,8 @@ use Rattle.sab_trace.specs.declared.line_fault.LineFault.{LineFault}
 use Rattle.sab_trace.specs.declared.line_fault.LineFault.TheVariants as L
 use Rattle.sab_trace.specs.Reading.{SpellsTrace, IsRefusedBy}
 use Rattle.sab_text.specs.declared.format.VerdictFormat.{VerdictFormat}
+use Rattle.sab_verdict.specs.Json.{access_side}
+use Rattle.sab_verdict.specs.ReadsBack.{LinesReadBack}
 use Rattle.sab_verdict.specs.Verdict.{trace_verdict_text}
 use Rattle.sab_tool.specs.declared.tool_fault.ToolFault.TheVariants.{TooMany, OutOfMemory, BadShape, BadNumber, BadAgent, NotJson, WriteFailed, TooLong, ReadFailed}
 use Rattle.sab_report.specs.declared.judging.TheConstants.{MAX_TOLD}
@@ -24,7 +26,8 @@ abbrev pub IsOutcomeOf : List Event → Outcome → Type 0
 IsOutcomeOf events outcome =
     ((outcome ≡ Done) × HaveNoRace events) ⊎ ((outcome ≡ Racy) × (¬ HaveNoRace events))
 
--- the bytes spell a trace, and just the verdict on it came behind what the writer held
+-- the bytes spell a trace, just the verdict on it came behind what the writer held, and its lines as JSON are read as
+-- their trees
 pub record JudgesTrace (format : VerdictFormat) (outcome : Outcome) (old new : Option (List ℕ)) (bytes : List ℕ) :
     Type 0 where
   pub events : List Event
@@ -33,6 +36,7 @@ pub record JudgesTrace (format : VerdictFormat) (outcome : Outcome) (old new : O
   pub rest : ℕ
   pub verdict : IsVerdict events MAX_TOLD races rest
   pub written : Appends old new (trace_verdict_text events format races rest)
+  pub read_back : LinesReadBack access_side events races rest
   pub outcome_is : IsOutcomeOf events outcome
 
 -- what the program tells of a trace that is refused: the fault, and at which line
