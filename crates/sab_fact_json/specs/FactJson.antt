@@ -21,7 +21,7 @@ pub record TellsAsJson (names : List (List ℕ)) (lines : Lines) (plan : PlanPar
   pub written : Appends old new (entry_lines names lines 0 journal facts)
 
 -- the one report of the moves fits, its text as JSON came behind what the writer held, and its lines are read as their
--- trees, if the parts make a plan and its Numbers are safe integers
+-- trees, if the plan's Numbers are safe integers
 pub record ExplainsAsJson (names : List (List ℕ)) (lines : Lines) (plan : PlanParts) (moves : List Move)
     (old new : Option (List ℕ)) (report : ReportParts) : Type 0 where
   pub fits : Fits plan report
