@@ -5,9 +5,9 @@
  * REFUSE_ALLOCATIONS_FROM=N the Nth allocation is refused, and each one after it
  * REFUSE_THREAD=N           the start of the Nth thread is refused
  * REFUSE_TOLD=FILE          at the end this file gets one line,
- *                           "allocations A threads T started S joined J refused R":
+ *                           "allocations A threads T started S joined J bytes B refused R":
  *                           how many allocations and threads were asked for, how many threads were started and
- *                           joined, and how often something was refused
+ *                           joined, how many bytes were asked for in all, and how often something was refused
  *
  * Allocations and threads are counted from the start of the program's own code on, those of the C library among them,
  * and in all threads. A program that hasn't ended after a minute is ended by a signal.
@@ -23,7 +23,7 @@
 #include <string.h>
 #include <unistd.h>
 
-static atomic_ulong allocations, threads, started, joined, refused;
+static atomic_ulong allocations, threads, started, joined, bytes, refused;
 static unsigned long one_allocation, first_allocation, one_thread;
 static atomic_int counts;
 
@@ -55,18 +55,20 @@ __attribute__((constructor)) static void begin(void)
 __attribute__((destructor)) static void tell(void)
 {
     const char *file = getenv("REFUSE_TOLD");
-    char line[160];
+    char line[192];
     if (!atomic_exchange(&counts, 0) || !file) return;
-    int length = snprintf(line, sizeof line, "allocations %lu threads %lu started %lu joined %lu refused %lu\n",
-                          allocations, threads, started, joined, refused);
+    int length = snprintf(line, sizeof line,
+                          "allocations %lu threads %lu started %lu joined %lu bytes %lu refused %lu\n",
+                          allocations, threads, started, joined, bytes, refused);
     int to = open(file, O_WRONLY | O_CREAT | O_TRUNC, 0600);
     if (to < 0 || write(to, line, length) != length) abort();
     close(to);
 }
 
-static int is_refused(void)
+static int is_refused(size_t size)
 {
     if (!counts) return 0;
+    bytes += size;
     unsigned long n = ++allocations;
     if (n != one_allocation && (!first_allocation || n < first_allocation)) return 0;
     refused++;
@@ -77,7 +79,7 @@ static int is_refused(void)
 void *malloc(size_t size)
 {
     NEXT(malloc);
-    return is_refused() ? NULL : next(size);
+    return is_refused(size) ? NULL : next(size);
 }
 
 void *calloc(size_t count, size_t size)
@@ -93,7 +95,7 @@ void *calloc(size_t count, size_t size)
         next = (__typeof__(&calloc))dlsym(RTLD_NEXT, "calloc");
         asks = 0;
     }
-    return is_refused() ? NULL : next(count, size);
+    return is_refused(count * size) ? NULL : next(count, size);
 }
 
 void free(void *room)
@@ -105,19 +107,19 @@ void free(void *room)
 void *realloc(void *room, size_t size)
 {
     NEXT(realloc);
-    return is_refused() ? NULL : next(room, size);
+    return is_refused(size) ? NULL : next(room, size);
 }
 
 void *aligned_alloc(size_t alignment, size_t size)
 {
     NEXT(aligned_alloc);
-    return is_refused() ? NULL : next(alignment, size);
+    return is_refused(size) ? NULL : next(alignment, size);
 }
 
 int posix_memalign(void **room, size_t alignment, size_t size)
 {
     NEXT(posix_memalign);
-    return is_refused() ? ENOMEM : next(room, alignment, size);
+    return is_refused(size) ? ENOMEM : next(room, alignment, size);
 }
 
 int pthread_create(pthread_t *thread, const pthread_attr_t *how, void *(*run)(void *), void *with)
