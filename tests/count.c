@@ -2,18 +2,20 @@
  * A library for LD_PRELOAD that counts how often each thread of a program yields, and can tell threads when to run. It
  * doesn't let them yield: how often they do doesn't depend on that, and on a busy machine each yield takes long.
  *
- * COUNT_TOLD=FILE   at the end this file gets one line, "N N N.. apart A": how often the program's first thread yielded,
- *                   then each other one, in the order in which they were started; and how many of these ended before
- *                   the next one was started, where that was asked for
- * COUNT_APART=1     who starts a thread waits until that thread has ended: so all that it sends is there before anybody
- *                   looks. Where it hasn't ended after some seconds, it waits for others, and no start waits any more
+ * COUNT_TOLD=FILE   at the end this file gets one line, "N N N.. apart A": how often the program's first thread
+ *                   yielded, then each other one, in the order in which they were started; and how many of these ended
+ *                   before the next one was started, where that was asked for
+ * COUNT_APART=1     who starts a thread waits until that thread has ended: so all that it sends is there before
+ *                   anybody looks. Where it hasn't ended after some seconds, it waits for others, and no start waits
+ *                   any more
  * COUNT_LATE=1      a thread begins only when the first thread waits for one to end
- * COUNT_TURNS=N     the first thread and the one other thread take turns: each time the other one yields, it waits until
- *                   the first one has yielded N times, and this waits then until the other one yields again or has ended
+ * COUNT_TURNS=N     the first thread and the one other thread take turns: each time the other one yields, it waits
+ *                   until the first one has yielded N times, and this waits then until the other one yields again or
+ *                   has ended
  * COUNT_RANDOM=HEX  the system's random bytes are these, two digits each, again and again; with `none` it has none
  *
- * Yields are counted from the start of the program's own code on. A program that hasn't ended after a minute is ended by
- * a signal.
+ * Yields are counted from the start of the program's own code on. A program that hasn't ended after a minute is ended
+ * by a signal.
  */
 #define _GNU_SOURCE
 #include <dlfcn.h>
