@@ -10,6 +10,7 @@ import { fileURLToPath } from "node:url";
 import { merged, partsOf } from "../lib/command/merging.mjs";
 import { optionsOf } from "../lib/command/options.mjs";
 import { Refused } from "../lib/run/plan.mjs";
+import { Coverage } from "../lib/seeds/coverage.mjs";
 import { shardOf, united, without } from "../lib/seeds/ranges.mjs";
 import { RECORD, SABSIM, agentsOf, agentsPath, temporaryFolder, withSabsim } from "./common.mjs";
 
@@ -248,6 +249,14 @@ test("GNU parallel runs the shards, as recorder/README.md shows it", withParalle
   assert.equal(status, 1, stderr);
   const words = [RECORD, agentsPath("naive-mutex"), "--seeds", "1..200", "--sabsim", SABSIM];
   assert.equal(stdout, spawnSync(process.execPath, words, { encoding: "utf8" }).stdout);
+});
+
+test("what shards have covered is joined, and with it of how many accesses the line isn't known", () => {
+  const told = (pairs, unplaced, covered) => ({ pairs, last: 3, row: 500, unplaced, covered });
+  const one = Coverage.joined(undefined, told(["a > b"], 0, true));
+  assert.deepEqual(one.told(), { pairs: ["a > b"], last: null, row: null, unplaced: 0, covered: true });
+  const both = Coverage.joined(one, told(["b > a", "a > b"], 7, false));
+  assert.deepEqual(both.told(), { pairs: ["a > b", "b > a"], last: null, row: null, unplaced: 7, covered: false });
 });
 
 test("each part of a file is named by its line", (context) => {
