@@ -9,6 +9,7 @@ use Rattle.sab_refusal.specs.declared.read_fault.ReadFault.TheVariants.{TooMany,
 use Rattle.sab_script.specs.Reading.{Refuses}
 use Rattle.sab_script.specs.Setup.{SetupParts, Spells}
 use Rattle.sab_script.specs.Script.{ReadsAs, IsScriptOf}
+use Rattle.sab_script.specs.Truth.{IsTrueFault}
 use Rattle.sab_script.proofs.OnlySetup.{only_setup}
 use Rattle.sab_tool.specs.declared.tool_fault.ToolFault.{ToolFault}
 use Rattle.sab_tool.specs.Replay.{IsRefused, as_tool_fault}
@@ -19,16 +20,16 @@ use Rattle.sab_kept.proofs.TellingLaw.{journal_tells}
 
 -- a tree that is refused
 pub refused_tree : (script : List ℕ) (tree : Data) (e : ReadFault) → ReadsAs script tree → Refuses (Spells tree) e
-    → IsRefused script (as_tool_fault e)
-refused_tree script tree OutOfMemory r h = tt
-refused_tree script tree TooMany r h = record { tree = tree; reading = r; unspelled = h }
-refused_tree script tree BadShape r h = record { tree = tree; reading = r; unspelled = h }
-refused_tree script tree BadName r h = record { tree = tree; reading = r; unspelled = h }
-refused_tree script tree BadNumber r h = record { tree = tree; reading = r; unspelled = h }
-refused_tree script tree BadCall r h = record { tree = tree; reading = r; unspelled = h }
-refused_tree script tree BadView r h = record { tree = tree; reading = r; unspelled = h }
-refused_tree script tree BadAgent r h = record { tree = tree; reading = r; unspelled = h }
-refused_tree script tree NoBlock r h = record { tree = tree; reading = r; unspelled = h }
+    → IsTrueFault tree e → IsRefused script (as_tool_fault e)
+refused_tree script tree OutOfMemory r h t = tt
+refused_tree script tree TooMany r h t = record { tree = tree; reading = r; unspelled = h; is_true = t }
+refused_tree script tree BadShape r h t = record { tree = tree; reading = r; unspelled = h; is_true = t }
+refused_tree script tree BadName r h t = record { tree = tree; reading = r; unspelled = h; is_true = t }
+refused_tree script tree BadNumber r h t = record { tree = tree; reading = r; unspelled = h; is_true = t }
+refused_tree script tree BadCall r h t = record { tree = tree; reading = r; unspelled = h; is_true = t }
+refused_tree script tree BadView r h t = record { tree = tree; reading = r; unspelled = h; is_true = t }
+refused_tree script tree BadAgent r h t = record { tree = tree; reading = r; unspelled = h; is_true = t }
+refused_tree script tree NoBlock r h t = record { tree = tree; reading = r; unspelled = h; is_true = t }
 
 -- a script that was read
 abbrev pub script_of : (script : List ℕ) (tree : Data) (setup : SetupParts) → IsParsed script tree setup
