@@ -1,5 +1,5 @@
 -- How many numbers are such.
-use Rattle.std.proofs.Common.{◌≡◌, ◌⊎◌, inl, inr, ℕ, zero, suc, ◌+◌, ◌≤◌, ◌<◌, refl, sym, subst, arith}
+use Rattle.std.proofs.Common.{◌≡◌, ◌⊎◌, inl, inr, ℕ, zero, suc, ◌+◌, ◌-◌, ◌≤◌, ◌<◌, refl, sym, subst, arith}
 use Rattle.std.proofs.lemmas.Bool.{cases_lt}
 use Rattle.sab_judge.specs.Race.{Counts, below_none, one_more, no_more}
 
@@ -63,3 +63,97 @@ both_below {P} {Q} (no_more {n = n} h p) (no_more {n = m} k q) e apart =
 pub counts_both : {P Q : ℕ → Type 0} {n a b : ℕ} → Counts P n a → Counts Q n b → ((i : ℕ) → P i → Q i → ⊥)
     → Counts (λ i. P i ⊎ Q i) n (a + b)
 counts_both h k apart = both_below h k refl apart
+
+-- as many, where none is such further on
+pub counts_longer : {P : ℕ → Type 0} {m count : ℕ} (n : ℕ) → Counts P m count → m ≤ n
+    → ((k : ℕ) → m ≤ k → k < n → ¬ P k) → Counts P n count
+counts_longer {P} {m} {count} zero h le none =
+    subst (λ (x : ℕ). Counts P x count) (let same : m ≡ zero = omega (arith, le) in same) h
+counts_longer {P} {m} {count} (suc n) h le none = elim (cases_lt m (suc n)) [
+  | inl lt ↦ subst (λ (x : ℕ). Counts P x count) (let next : n + 1 ≡ suc n = omega arith in next)
+      (no_more (counts_longer n h (omega (arith, lt)) (λ k from below. none k from (omega (arith, below))))
+      (none n (omega (arith, lt)) (omega arith)))
+  | inr ge ↦ subst (λ (x : ℕ). Counts P x count) (let same : m ≡ suc n = omega (arith, le, ge) in same) h
+]
+
+-- there is one count
+unique_below : {P : ℕ → Type 0} {n m a b : ℕ} → Counts P n a → Counts P m b → n ≡ m → a ≡ b
+unique_below below_none below_none e = refl
+unique_below below_none (one_more k q) e = absurd (omega (arith, e))
+unique_below below_none (no_more k q) e = absurd (omega (arith, e))
+unique_below (one_more h p) below_none e = absurd (omega (arith, e))
+unique_below (no_more h p) below_none e = absurd (omega (arith, e))
+unique_below (one_more h p) (one_more k q) e = let both = unique_below h k (omega (arith, e)) in omega (arith, both)
+unique_below {P} (one_more {n = n} h p) (no_more {n = m} k q) e =
+    let same : n ≡ m = omega (arith, e) in absurd (q (subst P same p))
+unique_below {P} (no_more {n = n} h p) (one_more {n = m} k q) e =
+    let same : m ≡ n = omega (arith, e) in absurd (p (subst P same q))
+unique_below (no_more h p) (no_more k q) e = unique_below h k (omega (arith, e))
+
+pub counts_unique : {P : ℕ → Type 0} {n a b : ℕ} → Counts P n a → Counts P n b → a ≡ b
+counts_unique h k = unique_below h k refl
+
+-- those below a number, and those from it on
+record IsCutAt (P : ℕ → Type 0) (n m count : ℕ) : Type 0 where
+  before : ℕ
+  behind : ℕ
+  counts_before : Counts P m before
+  counts_behind : Counts (λ i. P i × (m ≤ i)) n behind
+  sum : count ≡ before + behind
+
+cut : {P : ℕ → Type 0} {n count : ℕ} (m : ℕ) → Counts P n count → m ≤ n → IsCutAt P n m count
+cut {P} m below_none le = record {
+  before = 0;
+  behind = 0;
+  counts_before = subst (λ (x : ℕ). Counts P x 0) (let same : 0 ≡ m = omega (arith, le) in same) below_none;
+  counts_behind = below_none;
+  sum = omega arith;
+}
+cut {P} m (one_more {n = n} {count = c} h p) le = elim (cases_lt n m) [
+  | inl lt ↦ (let all : n + 1 ≡ m = omega (arith, le, lt) in record {
+    before = c + 1;
+    behind = 0;
+    counts_before = subst (λ (x : ℕ). Counts P x (c + 1)) all (one_more h p);
+    counts_behind = counts_none (n + 1) (λ i below q. omega (arith, below, q.1, all));
+    sum = omega arith;
+  })
+  | inr ge ↦ (let less = cut m h ge in record {
+    before = less.before;
+    behind = less.behind + 1;
+    counts_before = less.counts_before;
+    counts_behind = one_more less.counts_behind (p, ge);
+    sum = omega (arith, less.sum);
+  })
+]
+cut {P} m (no_more {n = n} {count = c} h p) le = elim (cases_lt n m) [
+  | inl lt ↦ (let all : n + 1 ≡ m = omega (arith, le, lt) in record {
+    before = c;
+    behind = 0;
+    counts_before = subst (λ (x : ℕ). Counts P x c) all (no_more h p);
+    counts_behind = counts_none (n + 1) (λ i below q. omega (arith, below, q.1, all));
+    sum = omega arith;
+  })
+  | inr ge ↦ (let less = cut m h ge in record {
+    before = less.before;
+    behind = less.behind;
+    counts_before = less.counts_before;
+    counts_behind = no_more less.counts_behind (λ q. p q.0);
+    sum = less.sum;
+  })
+]
+
+-- so many of them are below a number, and as many as are left from it on
+pub counts_cut : {P : ℕ → Type 0} {n m count before : ℕ} → Counts P n count → Counts P m before → m ≤ n
+    → Counts (λ i. P i × (m ≤ i)) n (count - before)
+counts_cut {P} {n} {m} {count} {before} h k le =
+    let parts = cut m h le in
+    let same : parts.before ≡ before = counts_unique parts.counts_before k in
+    subst (λ (x : ℕ). Counts (λ i. P i × (m ≤ i)) n x)
+    (let rest : parts.behind ≡ count - before = omega (arith, parts.sum, same) in rest) parts.counts_behind
+
+-- there are not fewer below a greater number
+pub counts_grow : {P : ℕ → Type 0} {n m count before : ℕ} → Counts P n count → Counts P m before → m ≤ n
+    → before ≤ count
+counts_grow {P} {n} {m} {count} {before} h k le =
+    let parts = cut m h le in
+    let same : parts.before ≡ before = counts_unique parts.counts_before k in omega (arith, parts.sum, same)

@@ -6,6 +6,7 @@ use Rattle.std.specs.Option.{option_eq}
 use Rattle.std.proofs.Math.Dec.{eqb}
 use Rattle.std.proofs.lemmas.Bool.{false≢true, and_parts, eqb-true}
 use Rattle.sab_judge.specs.declared.place.Place.{Place}
+use Rattle.sab_judge.proofs.Lists.{some_is_some}
 use Rattle.sab_judge.specs.declared.order.Order.{Order}
 use Rattle.sab_judge.specs.declared.order.Order.TheVariants.{Unordered, SeqCst}
 use Rattle.sab_judge.specs.declared.access.Access.{Access}
@@ -49,11 +50,17 @@ same_access a b e =
 pub access_itself : (a b : Access) → a ≡ b → (access.ghosts).eq a b ≡ true
 access_itself a b e = subst (λ (x : Access). (access.ghosts).eq a x ≡ true) e (access_laws.laws-law.refl a)
 
-same_option_access : (x y : Option Access) → option_eq (access.ghosts).eq x y ≡ true → x ≡ y
+pub same_option_access : (x y : Option Access) → option_eq (access.ghosts).eq x y ≡ true → x ≡ y
 same_option_access None None e = refl
 same_option_access None (Some b) e = absurd (false≢true e)
 same_option_access (Some a) None e = absurd (false≢true e)
 same_option_access (Some a) (Some b) e = ap Some (same_access a b e)
+
+pub option_access_itself : (x y : Option Access) → x ≡ y → option_eq (access.ghosts).eq x y ≡ true
+option_access_itself None None e = refl
+option_access_itself None (Some b) e = absurd (cc)
+option_access_itself (Some a) None e = absurd (cc)
+option_access_itself (Some a) (Some b) e = access_itself a b (some_is_some a b e)
 
 same_option_place : (x y : Option Place) → option_eq (place.ghosts).eq x y ≡ true → x ≡ y
 same_option_place None None e = refl

@@ -8,11 +8,11 @@ pub mod Noted
 pub mod DataRaces
 pub mod Counting
 pub mod Lists
-pub mod Tracking
-pub mod KeptTracks
-pub mod Racing
+pub mod Linking
 pub mod Telling
 pub mod Reading
-pub mod KeptPlaces
 pub mod Seeing
 pub mod NoRace
+pub mod KeptLatest
+pub mod Racing
+pub mod Cells

@@ -10,7 +10,8 @@ pub mod Sought
 pub mod Lookups
 pub mod Past
 pub mod Telling
-pub mod Tracks
+pub mod Link
+pub mod Cell
 pub mod Seen
 pub mod Trace
 pub mod TraceFault

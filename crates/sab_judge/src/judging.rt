@@ -41,7 +41,7 @@ fn judge_events(alloc: Global, trace: &[Event], most: usize) -> Result<Verdict, 
 {
     let mut clocks = Vec::with_capacity(alloc, trace.len())?;
     let mut past = Past::new(alloc);
-    let mut seen = Seen::new(alloc);
+    let mut seen = Seen::new(alloc, trace.len())?;
     let mut verdict = Verdict {
         races: Vec::new(alloc),
         rest: 0,

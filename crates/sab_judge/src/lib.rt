@@ -2,12 +2,15 @@
 #![tactic(auto)]
 
 mod access;
+mod cell;
 mod clock;
 mod clocks;
 mod data_race;
 mod event;
 mod judging;
+mod latest;
 mod laws;
+mod link;
 mod order;
 mod past;
 mod place;
@@ -16,8 +19,6 @@ mod reads;
 mod seen;
 mod trace;
 mod trace_fault;
-mod track;
-mod tracks;
 mod verdict;
 
 pub use access::Access;

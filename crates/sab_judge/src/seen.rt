@@ -1,42 +1,46 @@
 //! What of the events so far a later one may race with.
 
-ghost use Rattle.std.specs.Prelude.{◌+◌, ◌<◌, ◌≤◌, All, IfOk, List, None, Some, length};
+ghost use Rattle.std.specs.Prelude.{◌≡◌, ◌+◌, ◌<◌, ◌≤◌, ◌^◌, IfOk, List, Some, length};
 ghost use Rattle.sab_judge.specs.declared.event.Event.{Event};
 ghost use Rattle.sab_judge.specs.Clock.{HasClock};
+ghost use Rattle.sab_judge.specs.Event.{event_at};
 ghost use Rattle.sab_judge.specs.Race.{Counts, IsRace};
-ghost use Rattle.sab_judge.specs.Tracks.{AreKept, ComesHome, IsOn, IsShort};
+ghost use Rattle.sab_judge.specs.Link.{AreLinks, IsLink};
+ghost use Rattle.sab_judge.specs.Cell.{AreKept, BeginsIn, IsOfClass};
 ghost use Rattle.sab_judge.specs.Seen.{IsSeen};
 
 use crate::access::Access;
+use crate::cell::{CLASSES, Cell};
 use crate::clock::Clock;
 use crate::event::Event;
-use crate::place::Place;
-use crate::tracks::Tracks;
+use crate::latest::{Latest, count_latest, note_latest};
+use crate::link::Link;
 use std::alloc::{AllocError, Global};
 use std::collections::HashMap;
 
-/// The tracks of accesses of at most 8 bytes, by the place where they begin.
-type Places = HashMap<(u32, u64), Tracks>;
+/// For each cell the last events, each of those that are alike.
+type Cells = HashMap<(u32, u64), Vec<Latest>>;
 
-/// The most bytes of an access that is found by the place where it begins.
-const SHORT: u32 = 8;
-
-/// The tracks of all accesses.
+/// The accesses of all events so far.
 #[derive(Drop)]
 pub(crate) struct Seen {
-    places: Places,
-    long: Tracks,
+    cells: Cells,
+    // Whether some access is of the size class. Most traces have accesses of few sizes.
+    used: [bool; 32],
+    // Of each event its link.
+    links: Vec<Link>,
 }
 
 impl Seen {
-    /// Nothing yet.
-    pub(crate) fn new(alloc: Global) -> Seen
-        ensures { (trace : List Event) → IsSeen trace 0 result }
+    /// Nothing yet, with room for the links of so many events.
+    pub(crate) fn new(alloc: Global, events: usize) -> Result<Seen, AllocError>
+        ensures { IfOk result (λ seen. (trace : List Event) → IsSeen trace 0 seen) }
     {
-        Seen {
-            places: HashMap::new(alloc),
-            long: Tracks::new(alloc, None),
-        }
+        Ok(Seen {
+            cells: HashMap::new(alloc),
+            used: [false; 32],
+            links: Vec::with_capacity(alloc, events)?,
+        })
     }
 
     /// Keeps the access of the `j`-th event, which is the next.
@@ -47,18 +51,38 @@ impl Seen {
         j: usize,
     ) -> Result<(), AllocError>
         requires within { j < length trace.now }
-        requires agents { All (λ (e : Event). e.agent < 16) trace.now }
+        requires short { length trace.now ≤ 2 ^ 20 }
         requires seen { IsSeen trace.now j self.old }
         ensures { IfOk result (λ _. IsSeen trace.now (j + 1) self.new) }
     {
-        let agent = trace[j].agent;
         match trace[j].access {
-            Some(access) if access.len <= SHORT => {
-                note_short(alloc, &mut self.places, trace, j, agent, access)
+            Some(access) => self.keep_access(alloc, trace, j, access),
+            None => {
+                self.links.push(Link::first())?;
+                Ok(())
             }
-            Some(access) => self.long.note(alloc, trace, j, agent, access),
-            None => Ok(()),
         }
+    }
+
+    /// Keeps this access of the `j`-th event, which is the next.
+    fn keep_access(
+        &mut self,
+        alloc: Global,
+        trace: &[Event],
+        j: usize,
+        access: Access,
+    ) -> Result<(), AllocError>
+        requires within { j < length trace.now }
+        requires short { length trace.now ≤ 2 ^ 20 }
+        requires makes { (event_at trace.now j).access ≡ Some access }
+        requires seen { IsSeen trace.now j self.old }
+        ensures { IfOk result (λ _. IsSeen trace.now (j + 1) self.new) }
+    {
+        let cell = Cell::of(access);
+        self.used[cell.class as usize] = true;
+        let link = note(alloc, &mut self.cells, &self.links, trace, j, cell)?;
+        self.links.push(link)?;
+        Ok(())
     }
 
     /// How many events race with the `j`-th, by its clock.
@@ -67,80 +91,96 @@ impl Seen {
         requires seen { IsSeen trace.now j self.now }
         ensures { Counts (λ i. IsRace trace.now i j) j result }
     {
-        let agent = trace[j].agent;
         match trace[j].access {
-            Some(access) => {
-                count_short(&self.places, trace, clock, j, agent, access)
-                    + self.long.count_races(trace, clock, j, agent, access)
+            Some(access) => self.count_all(trace, clock, j, access),
+            None => 0,
+        }
+    }
+
+    /// How many events race with the `j`-th, which makes this access.
+    fn count_all(&self, trace: &[Event], clock: &Clock, j: usize, access: Access) -> u64
+        requires event_clock { HasClock trace.now j clock.now }
+        requires seen { IsSeen trace.now j self.now }
+        requires makes { (event_at trace.now j).access ≡ Some access }
+        ensures { Counts (λ i. IsRace trace.now i j) j result }
+    {
+        let mut count = 0;
+        for class in 0..CLASSES {
+            if self.used[class as usize] {
+                count += self.count_of_class(trace, clock, j, access, class);
             }
+        }
+        count
+    }
+
+    /// How many events with accesses of a size class race with the `j`-th, which makes this access. Those that overlap
+    /// it begin less than two cells before it.
+    fn count_of_class(
+        &self,
+        trace: &[Event],
+        clock: &Clock,
+        j: usize,
+        access: Access,
+        class: u32,
+    ) -> u64
+        requires event_clock { HasClock trace.now j clock.now }
+        requires seen { IsSeen trace.now j self.now }
+        requires makes { (event_at trace.now j).access ≡ Some access }
+        requires class { class < CLASSES }
+        ensures { Counts (λ i. IsRace trace.now i j × IsOfClass trace.now class i) j result }
+    {
+        let block = access.place.block;
+        let low = (access.start() >> class).saturating_sub(2);
+        let last = access.end().saturating_sub(1) >> class;
+        let mut count = 0;
+        for index in low..last + 1 {
+            let cell = Cell {
+                block,
+                class,
+                index,
+            };
+            count += self.count_in(trace, clock, j, cell);
+        }
+        count
+    }
+
+    /// How many events with accesses that begin in a cell race with the `j`-th.
+    fn count_in(&self, trace: &[Event], clock: &Clock, j: usize, cell: Cell) -> u64
+        requires event_clock { HasClock trace.now j clock.now }
+        requires seen { IsSeen trace.now j self.now }
+        requires few { cell.class < CLASSES }
+        requires small { cell.index < 2 ^ 40 }
+        ensures { Counts (λ i. IsRace trace.now i j × BeginsIn trace.now cell i) j result }
+    {
+        match self.cells.get(&cell.key()) {
+            Some(list) => count_latest(list, &self.links, trace, clock, j, cell),
             None => 0,
         }
     }
 }
 
-/// Takes in the `j`-th event, whose access has at most 8 bytes.
-fn note_short(
+/// Takes the `j`-th event, which is the next and whose access begins in the cell, into the cells; answers its link.
+fn note(
     alloc: Global,
-    places: &mut Places,
+    cells: &mut Cells,
+    links: &[Link],
     trace: &[Event],
     j: usize,
-    agent: u32,
-    access: Access,
-) -> Result<(), AllocError>
-    requires agent { agent < 16 }
-    requires event { IsOn trace.now agent access j }
-    requires short { access.len ≤ 8 }
-    requires places { AreKept trace.now j places.old }
-    ensures { IfOk result (λ _. AreKept trace.now (j + 1) places.new) }
+    cell: Cell,
+) -> Result<Link, AllocError>
+    requires within { j < length trace.now }
+    requires short { length trace.now ≤ 2 ^ 20 }
+    requires begins { BeginsIn trace.now cell j }
+    requires few { cell.class < CLASSES }
+    requires small { cell.index < 2 ^ 40 }
+    requires links { AreLinks trace.now j links.now }
+    requires cells { AreKept trace.now j cells.old }
+    ensures cells { IfOk result (λ _. AreKept trace.now (j + 1) cells.new) }
+    ensures link { IfOk result (IsLink trace.now j) }
 {
-    let key = (access.place.block, access.start());
-    let none = Tracks::new(alloc, Some(access.place));
-    let mut tracks = places.remove(&key).unwrap_or(none);
-    tracks.note(alloc, trace, j, agent, access)?;
-    places.insert(key, tracks)?;
-    Ok(())
-}
-
-/// How many events with accesses of at most 8 bytes race with the `j`-th: these begin less than 8 bytes before it.
-fn count_short(
-    places: &Places,
-    trace: &[Event],
-    clock: &Clock,
-    j: usize,
-    agent: u32,
-    access: Access,
-) -> u64
-    requires event_clock { HasClock trace.now j clock.now }
-    requires event { IsOn trace.now agent access j }
-    requires places { AreKept trace.now j places.now }
-    ensures { Counts (λ i. IsRace trace.now i j × IsShort trace.now i) j result }
-{
-    let low = access.start().saturating_sub(7);
-    let mut count = 0;
-    for k in 0..access.end() - low {
-        count += count_at(places, trace, clock, j, agent, access, low + k);
-    }
-    count
-}
-
-/// How many events with accesses of at most 8 bytes that begin at a byte of its block race with the `j`-th.
-fn count_at(
-    places: &Places,
-    trace: &[Event],
-    clock: &Clock,
-    j: usize,
-    agent: u32,
-    access: Access,
-    byte: u64,
-) -> u64
-    requires event_clock { HasClock trace.now j clock.now }
-    requires event { IsOn trace.now agent access j }
-    requires places { AreKept trace.now j places.now }
-    ensures { Counts (λ i. IsRace trace.now i j
-        × ComesHome trace.now (Some (record { block = access.place.block; byte = byte })) i) j result }
-{
-    match places.get(&(access.place.block, byte)) {
-        Some(tracks) => tracks.count_races(trace, clock, j, agent, access),
-        None => 0,
-    }
+    let key = cell.key();
+    let mut list = cells.remove(&key).unwrap_or(Vec::new(alloc));
+    let link = note_latest(&mut list, links, trace, j, cell)?;
+    cells.insert(key, list)?;
+    Ok(link)
 }

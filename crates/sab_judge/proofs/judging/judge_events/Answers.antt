@@ -9,7 +9,7 @@ loop-j-init c = record {
   room = c.in_ok-clocks.ensures.capacity;
   clocked = no_clocks c.args.trace.now c.in_ok-clocks.clocks.items c.in_ok-clocks.ensures.items;
   past = c.new-past.ensures c.args.trace.now;
-  seen = c.new-seen.ensures c.args.trace.now;
+  seen = c.in_ok-seen.ensures c.args.trace.now;
   told = nothing_told c.args.trace.now c.args.most c.new.result.items c.new.ensures.items;
 }
 

@@ -1,5 +1,5 @@
 -- No race is told, and none is left, exactly where there is none.
-use Rattle.std.proofs.Common.{◌≡◌, ℕ, ◌+◌, length, vec_len, sym, ◌∙◌, arith}
+use Rattle.std.proofs.Common.{◌≡◌, vec_len, sym, ◌∙◌, arith}
 use Rattle.std.proofs.lemmas.Bool.{false≢true, eq-eqb, eqb-true}
 use Rattle.sab_judge.proofs.NoRace.{none_left, no_race}
 use Rattle.sab_judge.proofs.verdict.Verdict.has_no_race.Goals as goal

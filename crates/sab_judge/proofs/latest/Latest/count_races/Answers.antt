@@ -1,0 +1,22 @@
+-- As many race as aren't known, or none.
+use Rattle.std.proofs.Common.{◌∙◌, ℕ, sym, subst, arith}
+use Rattle.sab_judge.specs.Race.{Counts, IsRace}
+use Rattle.sab_judge.specs.Link.{IsLike}
+use Rattle.sab_judge.proofs.Racing.{none_unknown, none_of_agent, none_conflicts, unknown_race}
+use Rattle.sab_judge.proofs.latest.Latest.count_races.Goals as goal
+use Rattle.sab_judge.proofs.latest.Latest.count_races.Goals.{then-self-bound-via-then-self-bound, then-self-bound-via-else-self-bound+then-self-trace, then-self-bound-via-else-self-bound+else-self-trace+then-not-conflicts}
+
+pub returns-then-self-bound : goal.returns-then-self-bound
+returns-then-self-bound c = elim c.then-self-bound.branch [
+  | then-self-bound-via-then-self-bound w ↦ none_unknown c.requires.event_clock.known c.requires.latest
+      (omega (arith, w.if-self-bound.true, c.bound-bound.ensures))
+  | then-self-bound-via-else-self-bound+then-self-trace w ↦ none_of_agent c.requires.latest w.if-self-trace.true
+  | then-self-bound-via-else-self-bound+else-self-trace+then-not-conflicts w ↦
+      none_conflicts (sym w.conflicts.ensures ∙ w.if-not-conflicts.true)
+]
+
+pub returns : goal.returns
+returns c = subst (λ (n : ℕ). Counts (λ i. IsRace c.args.trace.now i c.args.j × IsLike c.args.trace.now c.args.self.position i)
+    c.args.j n) (sym c.from.ensures)
+    (unknown_race c.requires.event_clock.known c.requires.event_clock.within c.requires.latest c.if-self-trace.false
+    (sym c.conflicts.ensures ∙ c.if-not-conflicts.false) (rw c.bound-bound.ensures at c.count_from.ensures))
