@@ -58,10 +58,11 @@ impl Latest {
         ensures { Counts (λ i. IsRace trace.now i j × IsLike trace.now self.position i) j result }
     {
         let bound = clock.bound(self.agent);
-        let event = trace[self.position as usize];
-        if (self.position as usize) < bound
+        let position = self.position as usize;
+        // What is known needs no look at the trace.
+        if position < bound
             || self.agent == trace[j].agent
-            || !event.conflicts(trace[j])
+            || !trace[position].conflicts(trace[j])
         {
             return 0;
         }

@@ -10,7 +10,7 @@ loop-j-init c = record {
   clocked = no_clocks c.args.trace.now c.in_ok-clocks.clocks.items c.in_ok-clocks.ensures.items;
   past = c.new-past.ensures c.args.trace.now;
   seen = c.in_ok-seen.ensures c.args.trace.now;
-  told = nothing_told c.args.trace.now c.args.most c.new.result.items c.new.ensures.items;
+  told = nothing_told c.args.trace.now c.args.most c.new-2.result.items c.new-2.ensures.items;
 }
 
 pub loop-j-preserved : goal.loop-j-preserved

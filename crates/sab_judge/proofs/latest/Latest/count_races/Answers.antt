@@ -4,14 +4,14 @@ use Rattle.sab_judge.specs.Race.{Counts, IsRace}
 use Rattle.sab_judge.specs.Link.{IsLike}
 use Rattle.sab_judge.proofs.Racing.{none_unknown, none_of_agent, none_conflicts, unknown_race}
 use Rattle.sab_judge.proofs.latest.Latest.count_races.Goals as goal
-use Rattle.sab_judge.proofs.latest.Latest.count_races.Goals.{then-self-bound-via-then-self-bound, then-self-bound-via-else-self-bound+then-self-trace, then-self-bound-via-else-self-bound+else-self-trace+then-not-conflicts}
+use Rattle.sab_judge.proofs.latest.Latest.count_races.Goals.{then-position-bound-via-then-position-bound, then-position-bound-via-else-position-bound+then-self-trace, then-position-bound-via-else-position-bound+else-self-trace+then-not-conflicts}
 
-pub returns-then-self-bound : goal.returns-then-self-bound
-returns-then-self-bound c = elim c.then-self-bound.branch [
-  | then-self-bound-via-then-self-bound w ↦ none_unknown c.requires.event_clock.known c.requires.latest
-      (omega (arith, w.if-self-bound.true, c.bound-bound.ensures))
-  | then-self-bound-via-else-self-bound+then-self-trace w ↦ none_of_agent c.requires.latest w.if-self-trace.true
-  | then-self-bound-via-else-self-bound+else-self-trace+then-not-conflicts w ↦
+pub returns-then-position-bound : goal.returns-then-position-bound
+returns-then-position-bound c = elim c.then-position-bound.branch [
+  | then-position-bound-via-then-position-bound w ↦ none_unknown c.requires.event_clock.known c.requires.latest
+      (omega (arith, w.if-position-bound.true, c.bound-bound.ensures))
+  | then-position-bound-via-else-position-bound+then-self-trace w ↦ none_of_agent c.requires.latest w.if-self-trace.true
+  | then-position-bound-via-else-position-bound+else-self-trace+then-not-conflicts w ↦
       none_conflicts (sym w.conflicts.ensures ∙ w.if-not-conflicts.true)
 ]
 
