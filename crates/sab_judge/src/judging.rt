@@ -24,9 +24,11 @@ use std::alloc::{AllocError, Global};
 /// Judges the events of a run, which stand in the order in which they took effect (Races, Data Races).
 ///
 /// Told are its first races, at most `most`, by their later events, and those of one later event by their earlier ones;
-/// the others are counted. So where none is told although one could be, no two events race. The time goes by the
-/// events, and once more by the events for each later event whose races are told. Where memory is refused, that is the
-/// answer.
+/// the others are counted. So where none is told although one could be, no two events race.
+///
+/// An event takes time by the bytes of its access and by how many different accesses agents make near it, and not by how
+/// often they make them; and once more by the events, where its races are told. Some 90 bytes are kept for each event,
+/// and some for each byte. Where memory is refused, that is the answer.
 pub fn judge(alloc: Global, trace: &Trace, most: usize) -> Result<Verdict, AllocError>
     ensures { IfOk result (λ verdict. IsVerdict trace.now most verdict.races.items verdict.rest) }
 {
