@@ -1,4 +1,4 @@
--- Equality of jobs: those that the derived `==` finds equal are the same.
+-- Equality of forms and jobs: those that the derived `==` finds equal are the same.
 use Rattle.std.proofs.Common.{◌≡◌, ℕ, Option, Some, None, true, nat_eq, refl, ap}
 use Rattle.std.specs.Cmp.{booleans_Decides}
 use Rattle.std.specs.Option.{option_eq}
@@ -6,9 +6,12 @@ use borrow.Author.Tests.{eqb-true}
 use Rattle.std.proofs.lemmas.Bool.{and_parts, false≢true}
 use Rattle.sab_race.proofs.Equality.{same_share}
 use Rattle.sab_text.proofs.Equality.{same_telling, same_verdict_format}
-use Rattle.sab_command.specs.declared.command_line.Job.{Job}
-use Rattle.sab_command.specs.declared.command_line.Job.TheVariants.{Replay, ReplayAsScript, Check, Judge, Race, RaceAsScript}
-use Rattle.sab_command.specs.contracts.command_line.JobPartialEq.TheImpl as job
+use Rattle.sab_command.specs.declared.job.Form.{Form}
+use Rattle.sab_command.specs.declared.job.Form.TheVariants.{Report, Script}
+use Rattle.sab_command.specs.contracts.job.FormPartialEq.TheImpl as form
+use Rattle.sab_command.specs.declared.job.Job.{Job}
+use Rattle.sab_command.specs.declared.job.Job.TheVariants.{Replay, Check, Judge, Race}
+use Rattle.sab_command.specs.contracts.job.JobPartialEq.TheImpl as job
 use Rattle.sab_command.specs.declared.request.Task.{Task}
 use Rattle.sab_command.specs.declared.request.Task.TheVariants.{OfScript, OfTrace}
 use Rattle.sab_command.specs.contracts.request.TaskPartialEq.TheImpl as task
@@ -19,14 +22,17 @@ same_seed None (Some m) e = absurd (false≢true e)
 same_seed (Some n) None e = absurd (false≢true e)
 same_seed (Some n) (Some m) e = ap Some (eqb-true n m e)
 
+same_form : (x y : Form) → (form.ghosts).eq x y ≡ true → x ≡ y
+same_form (Report t) (Report u) e = ap Report (same_telling t u e)
+same_form Script Script e = refl
+same_form _ _ e = absurd (false≢true e)
+
 same_job : (x y : Job) → (job.ghosts).eq x y ≡ true → x ≡ y
 same_job (Replay t f) (Replay u g) e =
     let parts = and_parts _ _ e in
-    let telling = same_telling t u parts.0 in
+    let form = same_form t u parts.0 in
     let finish = (booleans_Decides f g).0 parts.1 in
-    λ i. Replay (telling i) (finish i)
-same_job (ReplayAsScript f) (ReplayAsScript g) e =
-    let finish = (booleans_Decides f g).0 e in λ i. ReplayAsScript (finish i)
+    λ i. Replay (form i) (finish i)
 same_job Check Check e = refl
 same_job (Judge f m) (Judge g n) e =
     let parts = and_parts _ _ e in
@@ -37,22 +43,13 @@ same_job (Race s n x t f) (Race r k y u g) e =
     let shares = and_parts _ _ e in
     let counts = and_parts _ _ shares.1 in
     let mixes = and_parts _ _ counts.1 in
-    let tellings = and_parts _ _ mixes.1 in
+    let forms = and_parts _ _ mixes.1 in
     let share = same_share s r shares.0 in
     let spins = eqb-true n k counts.0 in
     let mix = same_seed x y mixes.0 in
-    let telling = same_telling t u tellings.0 in
-    let finish = (booleans_Decides f g).0 tellings.1 in
-    λ i. Race (share i) (spins i) (mix i) (telling i) (finish i)
-same_job (RaceAsScript s n x f) (RaceAsScript r k y g) e =
-    let shares = and_parts _ _ e in
-    let counts = and_parts _ _ shares.1 in
-    let mixes = and_parts _ _ counts.1 in
-    let share = same_share s r shares.0 in
-    let spins = eqb-true n k counts.0 in
-    let mix = same_seed x y mixes.0 in
-    let finish = (booleans_Decides f g).0 mixes.1 in
-    λ i. RaceAsScript (share i) (spins i) (mix i) (finish i)
+    let form = same_form t u forms.0 in
+    let finish = (booleans_Decides f g).0 forms.1 in
+    λ i. Race (share i) (spins i) (mix i) (form i) (finish i)
 same_job _ _ e = absurd (false≢true e)
 
 same_task : (x y : Task) → (task.ghosts).eq x y ≡ true → x ≡ y

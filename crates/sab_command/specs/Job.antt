@@ -1,19 +1,17 @@
 -- What the program is asked for.
 use Rattle.std.specs.Prelude.{◌≤◌, ⊤}
-use Rattle.sab_command.specs.declared.command_line.Job.{Job}
-use Rattle.sab_command.specs.declared.command_line.Job.TheVariants.{Replay, ReplayAsScript, Check, Judge, Race, RaceAsScript}
+use Rattle.sab_command.specs.declared.job.Job.{Job}
+use Rattle.sab_command.specs.declared.job.Job.TheVariants.{Replay, Check, Judge, Race}
 use Rattle.sab_command.specs.declared.request.Task.{Task}
 use Rattle.sab_command.specs.declared.request.Task.TheVariants.{OfScript, OfTrace}
 use Rattle.sab_race.specs.declared.script_moves.TheConstants.{MAX_SPINS}
 
 -- a race is asked for with at most so many steps at a wait
 abbrev pub IsWithinLimits : Job → Type 0
-IsWithinLimits (Replay telling finish) = ⊤
-IsWithinLimits (ReplayAsScript finish) = ⊤
+IsWithinLimits (Replay form finish) = ⊤
 IsWithinLimits Check = ⊤
 IsWithinLimits (Judge format finish) = ⊤
-IsWithinLimits (Race share spins mix telling finish) = spins ≤ MAX_SPINS
-IsWithinLimits (RaceAsScript share spins mix finish) = spins ≤ MAX_SPINS
+IsWithinLimits (Race share spins mix form finish) = spins ≤ MAX_SPINS
 
 -- a job of a script is within its limits; a trace has none
 abbrev pub IsTaskWithinLimits : Task → Type 0

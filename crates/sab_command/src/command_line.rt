@@ -6,6 +6,7 @@ ghost use Rattle.sab_command.specs.Job.{IsOfTrace, IsTaskWithinLimits, IsWithinL
 ghost use Rattle.sab_command.specs.Source.{Names};
 
 use crate::help;
+use crate::job::{Form, Job};
 use crate::request::{Request, Source, Task};
 use clap::{Arg, ArgAction, ArgMatches, Command, Error, value_parser};
 use sab_race::{MAX_SPINS, Share};
@@ -21,56 +22,6 @@ static FORMATS: [&str; 5] = ["plain", "explained", "json", "svg", "script"];
 
 /// What `--format` of a judge takes.
 static VERDICT_FORMATS: [&str; 2] = ["plain", "json"];
-
-/// What the program is asked to do with a script.
-#[derive(Clone, Copy, Debug, PartialEq, Eq)]
-pub enum Job {
-    /// To replay the script.
-    Replay {
-        /// How the report is told.
-        telling: Telling,
-        /// Whether it is an answer of its own that some calls haven't returned.
-        finish: bool,
-    },
-    /// To replay it, and to write it as a script.
-    ReplayAsScript {
-        /// Whether it is an answer of its own that some calls haven't returned.
-        finish: bool,
-    },
-    /// To check the script.
-    Check,
-    /// To replay it, and to judge the run for data races.
-    Judge {
-        /// How the verdict is told.
-        format: VerdictFormat,
-        /// Whether it is an answer of its own that some calls haven't returned.
-        finish: bool,
-    },
-    /// To run the agents of the script in threads.
-    Race {
-        /// How they share the simulator.
-        share: Share,
-        /// How often an agent steps at a wait before its time is up, at most [`MAX_SPINS`].
-        spins: u32,
-        /// The seed that the threads are mixed by, or none where each run takes another one.
-        mix: Option<u64>,
-        /// How the report is told.
-        telling: Telling,
-        /// Whether it is an answer of its own that some calls haven't returned.
-        finish: bool,
-    },
-    /// To run them in threads, and to write the script with the schedule that came about.
-    RaceAsScript {
-        /// How they share the simulator.
-        share: Share,
-        /// How often an agent steps at a wait before its time is up, at most [`MAX_SPINS`].
-        spins: u32,
-        /// The seed that the threads are mixed by, or none where each run takes another one.
-        mix: Option<u64>,
-        /// Whether it is an answer of its own that some calls haven't returned.
-        finish: bool,
-    },
-}
 
 /// The argument that names the input's file.
 fn file_argument<'a>(alloc: Global) -> Arg<'a> {
@@ -282,12 +233,17 @@ fn lines_of(matches: &ArgMatches<'_>) -> Lines
     }
 }
 
-/// How a report is to be told.
-fn telling_of(matches: &ArgMatches<'_>) -> Telling {
-    Telling {
+/// In which form a run is to be written.
+fn form_of(matches: &ArgMatches<'_>) -> Form
+    ensures script { first_value (found_of matches.now) (codes "format") ≡ Some (codes "script") → result ≡ Form.Script }
+{
+    if matches.get_str("format") == Some("script") {
+        return Form::Script;
+    }
+    Form::Report(Telling {
         format: format_of(matches),
         lines: lines_of(matches),
-    }
+    })
 }
 
 /// Whether all calls are to return.
@@ -298,48 +254,26 @@ fn finish_of(matches: &ArgMatches<'_>) -> bool
     matches.get_flag("finish")
 }
 
-/// Whether a script is to be written, and not a report.
-fn is_script(matches: &ArgMatches<'_>) -> bool
-    ensures yes { first_value (found_of matches.now) (codes "format") ≡ Some (codes "script") → result ≡ true }
-{
-    matches.get_str("format") == Some("script")
-}
-
 /// The replay that is asked for.
 fn replay_job(matches: &ArgMatches<'_>) -> Job
     ensures { IsWithinLimits result }
 {
-    let finish = finish_of(matches);
-    if is_script(matches) {
-        return Job::ReplayAsScript { finish };
+    Job::Replay {
+        form: form_of(matches),
+        finish: finish_of(matches),
     }
-    let telling = telling_of(matches);
-    Job::Replay { telling, finish }
 }
 
 /// The race that is asked for.
 fn race_job(matches: &ArgMatches<'_>) -> Job
     ensures { IsWithinLimits result }
 {
-    let share = share_of(matches);
-    let spins = spins_of(matches);
-    let mix = mix_of(matches);
-    let finish = finish_of(matches);
-    if is_script(matches) {
-        return Job::RaceAsScript {
-            share,
-            spins,
-            mix,
-            finish,
-        };
-    }
-    let telling = telling_of(matches);
     Job::Race {
-        share,
-        spins,
-        mix,
-        telling,
-        finish,
+        share: share_of(matches),
+        spins: spins_of(matches),
+        mix: mix_of(matches),
+        form: form_of(matches),
+        finish: finish_of(matches),
     }
 }
 

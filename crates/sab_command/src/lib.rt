@@ -3,7 +3,9 @@
 
 mod command_line;
 mod help;
+mod job;
 mod request;
 
-pub use command_line::{Job, request_of};
+pub use command_line::request_of;
+pub use job::{Form, Job};
 pub use request::{Request, Source, Task};

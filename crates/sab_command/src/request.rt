@@ -1,6 +1,6 @@
 //! What the program is asked for, and of which input.
 
-use crate::command_line::Job;
+use crate::job::Job;
 use sab_text::VerdictFormat;
 
 /// What is to be done with the input.

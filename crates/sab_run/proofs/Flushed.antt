@@ -1,10 +1,15 @@
--- A flush after a replay, and after a race.
-use Rattle.std.proofs.Common.{ℕ, List, Option, Some, None, ◌∙◌}
+-- A flush after what was written.
+use Rattle.std.proofs.Common.{ℕ, List, Option, Some, None, inr, refl, ◌∙◌}
 use Rattle.std.specs.Io.KnownBytes.{Appends, Keeps}
 use Rattle.sab_plan.specs.Plan.{PlanParts}
 use Rattle.sab_sim.specs.Report.{ReportParts}
 use Rattle.sab_script.specs.Setup.{SetupParts}
-use Rattle.sab_kept.specs.Keeping.{KeepsRun}
+use Rattle.sab_kept.specs.Keeping.{KeepsRun, IsRaceIn}
+use Rattle.sab_tool.specs.Replay.{IsReportOf}
+use Rattle.sab_command.specs.declared.job.Form.{Form}
+use Rattle.sab_command.specs.declared.job.Form.TheVariants.{Report, Script}
+use Rattle.sab_tool.specs.declared.tool_fault.ToolFault.TheVariants.{WriteFailed}
+use Rattle.sab_run.specs.Running.{ReplaysIn, RacesIn, IsFaultOfReplay, IsFaultOfRace}
 use Rattle.sab_tool.specs.declared.ended.Ended.{Ended}
 use Rattle.sab_text.specs.declared.format.Telling.{Telling}
 use Rattle.sab_text.specs.declared.format.VerdictFormat.{VerdictFormat}
@@ -26,7 +31,7 @@ told_kept : (telling : Telling) (names : List (List ℕ)) (plan : PlanParts) (re
 told_kept telling names plan report old mid new t k =
     record { text = t.text; text_is = t.text_is; written = appends_kept old mid new t.text t.written k }
 
-pub flushed : (telling : Telling) (old mid new : Option (List ℕ)) (script : List ℕ) (ended : Ended)
+flushed : (telling : Telling) (old mid new : Option (List ℕ)) (script : List ℕ) (ended : Ended)
     → ReplaysAs telling old mid script ended → Keeps mid new → ReplaysAs telling old new script ended
 flushed telling old mid new script ended r k = record {
   setup = r.setup;
@@ -55,9 +60,9 @@ flushed_verdict format old mid new script judged j k = record {
   ended_is = j.ended_is;
 }
 
-pub flushed_race : (telling : Telling) (old mid new : Option (List ℕ)) (script : List ℕ) (spins : ℕ) (ended : Ended)
+flushed_report : (telling : Telling) (old mid new : Option (List ℕ)) (script : List ℕ) (spins : ℕ) (ended : Ended)
     → RacesAs telling old mid script spins ended → Keeps mid new → RacesAs telling old new script spins ended
-flushed_race telling old mid new script spins ended r k = record {
+flushed_report telling old mid new script spins ended r k = record {
   setup = r.setup;
   spelled = r.spelled;
   report = r.report;
@@ -66,6 +71,30 @@ flushed_race telling old mid new script spins ended r k = record {
   ended_is = r.ended_is;
 }
 
-pub flushed_kept : (IsRun : SetupParts → ReportParts → Type 0) (old mid new : Option (List ℕ)) (script : List ℕ)
+flushed_kept : (IsRun : SetupParts → ReportParts → Type 0) (old mid new : Option (List ℕ)) (script : List ℕ)
     (report : ReportParts) → KeepsRun IsRun old mid script report → Keeps mid new → KeepsRun IsRun old new script report
 flushed_kept IsRun old mid new script report r k = (r.0, r.1, appends_kept old mid new (r.0) (r.2) k)
+
+pub flushed_replay : (form : Form) (old mid new : Option (List ℕ)) (script : List ℕ) (ended : Ended)
+    → ReplaysIn form old mid script ended → Keeps mid new → ReplaysIn form old new script ended
+flushed_replay (Report telling) old mid new script ended r k = flushed telling old mid new script ended r k
+flushed_replay Script old mid new script ended r k =
+    (r.0, flushed_kept IsReportOf old mid new script r.0 r.1 k, r.2)
+
+pub flushed_race : (form : Form) (old mid new : Option (List ℕ)) (script : List ℕ) (spins : ℕ) (ended : Ended)
+    → RacesIn form spins old mid script ended → Keeps mid new → RacesIn form spins old new script ended
+flushed_race (Report telling) old mid new script spins ended r k =
+    flushed_report telling old mid new script spins ended r k
+flushed_race Script old mid new script spins ended r k =
+    (r.0, flushed_kept (IsRaceIn spins) old mid new script r.0 r.1 k, r.2)
+
+-- where the flush fails, the script spells a setup all the same
+pub unflushed_replay : (form : Form) (old mid new : Option (List ℕ)) (script : List ℕ) (ended : Ended)
+    → ReplaysIn form old mid script ended → IsFaultOfReplay form old new script WriteFailed
+unflushed_replay (Report telling) old mid new script ended r = inr (refl, (r.setup, r.spelled))
+unflushed_replay Script old mid new script ended r = inr (refl, (r.1.1.setup, r.1.1.spelled))
+
+pub unflushed_race : (form : Form) (old mid new : Option (List ℕ)) (script : List ℕ) (spins : ℕ) (ended : Ended)
+    → RacesIn form spins old mid script ended → IsFaultOfRace form spins old new script WriteFailed
+unflushed_race (Report telling) old mid new script spins ended r = inr (refl, (r.setup, r.spelled))
+unflushed_race Script old mid new script spins ended r = inr (refl, (r.1.1.setup, r.1.1.spelled))

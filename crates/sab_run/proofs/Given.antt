@@ -4,7 +4,7 @@ use Rattle.sab_tool.specs.declared.input.TheConstants.{MAX_INPUT}
 use Rattle.sab_tool.specs.declared.tool_fault.ToolFault.{ToolFault}
 use Rattle.sab_tool.specs.declared.tool_fault.ToolFault.TheVariants.{OutOfMemory, TooLong, ReadFailed}
 use Rattle.sab_tool.specs.Input.{IsInputFault}
-use Rattle.sab_command.specs.declared.command_line.Job.{Job}
+use Rattle.sab_command.specs.declared.job.Job.{Job}
 use Rattle.sab_ending.specs.declared.outcome.Outcome.{Outcome}
 use Rattle.sab_run.specs.declared.failure.Explanation.{Explanation}
 use Rattle.sab_run.specs.declared.failure.Explanation.TheVariants.{Untold}

@@ -1,4 +1,3 @@
 pub mod Flushed
-pub mod KeptRaces
 pub mod Given
 pub mod Traced

@@ -16,8 +16,10 @@ use Rattle.sab_report.specs.declared.judging.Judged.{Judged}
 use Rattle.sab_report.specs.Judging.{JudgesAs}
 use Rattle.sab_kept.specs.Keeping.{KeepsRun, IsRaceIn, IsReplayUnkept, IsRaceUnkept, IsKeepFault}
 use Rattle.sab_check.specs.Checked.{IsAccepted, IsRefused}
-use Rattle.sab_command.specs.declared.command_line.Job.{Job}
-use Rattle.sab_command.specs.declared.command_line.Job.TheVariants.{Replay, ReplayAsScript, Check, Judge, Race, RaceAsScript}
+use Rattle.sab_command.specs.declared.job.Form.{Form}
+use Rattle.sab_command.specs.declared.job.Form.TheVariants.{Report, Script}
+use Rattle.sab_command.specs.declared.job.Job.{Job}
+use Rattle.sab_command.specs.declared.job.Job.TheVariants.{Replay, Check, Judge, Race}
 use Rattle.sab_ending.specs.declared.outcome.Outcome.{Outcome}
 use Rattle.sab_ending.specs.declared.outcome.Outcome.TheVariants.{Done, Refused, Unfinished, Racy}
 use Rattle.sab_ending.specs.Outcome.{outcome_of, judged_outcome}
@@ -34,35 +36,48 @@ abbrev pub KeepsAs : (SetupParts → ReportParts → Type 0) → Option (List �
 KeepsAs IsRun old new script ended =
     (report : ReportParts) × KeepsRun IsRun old new script report × (ended ≡ ended_of report)
 
--- just the job's report, or the script that keeps the run, came behind what the writer held, of a replay, or of a race
--- with the job's steps, and the outcome is by how it ended; or what a check or a judge says
+-- just the report of the script's replay, or the script that keeps the replay, came behind what the writer held
+abbrev pub ReplaysIn : Form → Option (List ℕ) → Option (List ℕ) → List ℕ → Ended → Type 0
+ReplaysIn (Report telling) old new script ended = ReplaysAs telling old new script ended
+ReplaysIn Script old new script ended = KeepsAs IsReportOf old new script ended
+
+-- the same of a race of the script with so many steps at a wait
+abbrev pub RacesIn : Form → ℕ → Option (List ℕ) → Option (List ℕ) → List ℕ → Ended → Type 0
+RacesIn (Report telling) spins old new script ended = RacesAs telling old new script spins ended
+RacesIn Script spins old new script ended = KeepsAs (IsRaceIn spins) old new script ended
+
+-- the run came behind what the writer held in its form, and the outcome is by how it ended; or what a check or a judge
+-- says did
 abbrev pub Runs : Job → Outcome → Option (List ℕ) → Option (List ℕ) → List ℕ → Type 0
 Runs Check outcome old new script = Checks outcome old new script
 Runs (Judge format finish) outcome old new script =
     (judged : Judged) × JudgesAs format old new script judged
     × (outcome ≡ judged_outcome judged.is_racy judged.ended finish)
-Runs (Replay telling finish) outcome old new script =
-    (ended : Ended) × ReplaysAs telling old new script ended × (outcome ≡ outcome_of ended finish)
-Runs (Race share spins mix telling finish) outcome old new script =
-    (ended : Ended) × RacesAs telling old new script spins ended × (outcome ≡ outcome_of ended finish)
-Runs (ReplayAsScript finish) outcome old new script =
-    (ended : Ended) × KeepsAs IsReportOf old new script ended × (outcome ≡ outcome_of ended finish)
-Runs (RaceAsScript share spins mix finish) outcome old new script =
-    (ended : Ended) × KeepsAs (IsRaceIn spins) old new script ended × (outcome ≡ outcome_of ended finish)
+Runs (Replay form finish) outcome old new script =
+    (ended : Ended) × ReplaysIn form old new script ended × (outcome ≡ outcome_of ended finish)
+Runs (Race share spins mix form finish) outcome old new script =
+    (ended : Ended) × RacesIn form spins old new script ended × (outcome ≡ outcome_of ended finish)
 
 -- want of memory, before anything was written, or a write that failed
 abbrev pub IsCheckFault : Option (List ℕ) → Option (List ℕ) → ToolFault → Type 0
 IsCheckFault old new fault = (Keeps old new × (fault ≡ OutOfMemory)) ⊎ (fault ≡ WriteFailed)
 
+-- what a replay is refused for that is written in this form
+abbrev pub IsFaultOfReplay : Form → Option (List ℕ) → Option (List ℕ) → List ℕ → ToolFault → Type 0
+IsFaultOfReplay (Report telling) old new script fault = IsReplayFault old new script fault
+IsFaultOfReplay Script old new script fault = IsKeepFault IsReplayUnkept old new script fault
+
+-- what a race is refused for
+abbrev pub IsFaultOfRace : Form → ℕ → Option (List ℕ) → Option (List ℕ) → List ℕ → ToolFault → Type 0
+IsFaultOfRace (Report telling) spins old new script fault = IsRaceFault old new script spins fault
+IsFaultOfRace Script spins old new script fault = IsKeepFault (IsRaceUnkept spins) old new script fault
+
 -- what a job of a script is refused for
 abbrev pub IsFaultOf : Job → Option (List ℕ) → Option (List ℕ) → List ℕ → ToolFault → Type 0
-IsFaultOf (Replay telling finish) old new script fault = IsReplayFault old new script fault
+IsFaultOf (Replay form finish) old new script fault = IsFaultOfReplay form old new script fault
 IsFaultOf Check old new script fault = IsCheckFault old new fault
 IsFaultOf (Judge format finish) old new script fault = IsReplayFault old new script fault
-IsFaultOf (Race share spins mix telling finish) old new script fault = IsRaceFault old new script spins fault
-IsFaultOf (ReplayAsScript finish) old new script fault = IsKeepFault IsReplayUnkept old new script fault
-IsFaultOf (RaceAsScript share spins mix finish) old new script fault =
-    IsKeepFault (IsRaceUnkept spins) old new script fault
+IsFaultOf (Race share spins mix form finish) old new script fault = IsFaultOfRace form spins old new script fault
 
 -- the script isn't too long, and the job came to this
 abbrev pub RunsGiven : Job → Outcome → Option (List ℕ) → Option (List ℕ) → List ℕ → Type 0

@@ -1,18 +1,18 @@
 //! From a job to its report.
 
-ghost use Rattle.std.specs.Prelude.{◌≡◌, ◌≤◌, Some, IfOk, IfErr, IfSome, OnOk};
-ghost use Rattle.std.specs.Io.KnownBytes.{Appends, IsAtEnd};
+ghost use Rattle.std.specs.Prelude.{◌≡◌, ◌≤◌, IfOk, IfErr, IfSome, OnOk};
+ghost use Rattle.std.specs.Io.KnownBytes.{Appends, IsAtEnd, Keeps};
 ghost use Rattle.sab_command.specs.Job.{IsWithinLimits};
 ghost use Rattle.sab_run.specs.Explaining.{IsExplanation};
-ghost use Rattle.sab_run.specs.Running.{Runs, RunsGiven, IsFaultOf, IsRunFault, IsUnwritten};
+ghost use Rattle.sab_run.specs.Running.{ReplaysIn, RacesIn, Runs, RunsGiven, IsFaultOfReplay, IsFaultOfRace, IsFaultOf, IsRunFault, IsUnwritten};
 
 use crate::explaining::explanation_of;
 use crate::failure::Failure;
 use sab_check::{Checked, check_script};
-use sab_command::Job;
+use sab_command::{Form, Job};
 use sab_ending::Outcome;
 use sab_kept::{keep_race, keep_replay};
-use sab_report::{Ended, Race, Telling, VerdictFormat, judge_as, race_as, replay_as};
+use sab_report::{Ended, Race, VerdictFormat, judge_as, race_as, replay_as};
 use sab_tool::{MAX_SPINS, ToolFault, read_input};
 use std::alloc::Global;
 use std::io::{Read, Write};
@@ -59,6 +59,7 @@ pub fn run<T: Threads + Wait + Sync + AllocGlobal + RandomSource, R: Read, W: Wr
 }
 
 /// Does it with a script, which isn't too long.
+#[tactic(auto, using(crate::proofs::Flushed::flushed_replay, crate::proofs::Flushed::flushed_race, crate::proofs::Flushed::unflushed_replay, crate::proofs::Flushed::unflushed_race))]
 fn run_script<T: Threads + Wait + Sync + AllocGlobal + RandomSource, W: Write>(
     rt: &T,
     job: Job,
@@ -71,70 +72,54 @@ fn run_script<T: Threads + Wait + Sync + AllocGlobal + RandomSource, W: Write>(
     ensures unwritten { IfErr result (IsUnwritten (W.contents output.old) (W.contents output.new)) }
 {
     match job {
-        Job::Replay { telling, finish } => replay(rt.alloc(), telling, finish, script, output),
-        Job::ReplayAsScript { finish } => keep(rt.alloc(), finish, script, output),
         Job::Check => check(rt.alloc(), script, output),
         Job::Judge { format, finish } => judge(rt.alloc(), format, finish, script, output),
+        Job::Replay { form, finish } => {
+            let ended = replay(rt.alloc(), form, script, output)?;
+            flush(output)?;
+            Ok(Outcome::of_run(ended, finish))
+        }
         Job::Race {
             share,
             spins,
             mix,
-            telling,
+            form,
             finish,
         } => {
             let seed = seed_of(rt, mix);
-            let how = Race { share, spins, seed };
-            race(rt, how, telling, finish, script, output)
-        }
-        Job::RaceAsScript {
-            share,
-            spins,
-            mix,
-            finish,
-        } => {
-            let seed = seed_of(rt, mix);
-            keep_raced(rt, Race { share, spins, seed }, finish, script, output)
+            let ended = race(rt, Race { share, spins, seed }, form, script, output)?;
+            flush(output)?;
+            Ok(Outcome::of_run(ended, finish))
         }
     }
 }
 
-/// Replays a script.
-#[tactic(auto, using(crate::proofs::Flushed::flushed))]
-fn replay<W: Write>(
-    alloc: Global,
-    telling: Telling,
-    finish: bool,
-    script: &[u8],
-    output: &mut W,
-) -> Result<Outcome, ToolFault>
-    ensures ok { IfOk result (λ outcome. Runs (Job.Replay telling finish) outcome
-        (W.contents output.old) (W.contents output.new) script.now) }
-    ensures err { IfErr result (IsFaultOf (Job.Replay telling finish)
-        (W.contents output.old) (W.contents output.new) script.now) }
-    ensures unwritten { IfErr result (IsUnwritten (W.contents output.old) (W.contents output.new)) }
+/// Writes what a writer still holds back.
+fn flush<W: Write>(output: &mut W) -> Result<(), ToolFault>
+    ensures ok { OnOk result (Keeps (W.contents output.old) (W.contents output.new)) }
+    ensures err { IfErr result (λ fault. fault ≡ ToolFault.WriteFailed) }
 {
-    let ended = replay_as(alloc, script, telling, output)?;
-    output.flush().map_err(|_| ToolFault::WriteFailed)?;
-    Ok(Outcome::of_run(ended, finish))
+    output.flush().map_err(|_| ToolFault::WriteFailed)
 }
 
-/// Replays it, and writes it as a script.
-#[tactic(auto, using(crate::proofs::Flushed::flushed_kept))]
-fn keep<W: Write>(
+/// Replays a script, writes the run in its form, and answers how it ended.
+fn replay<W: Write>(
     alloc: Global,
-    finish: bool,
+    form: Form,
     script: &[u8],
     output: &mut W,
-) -> Result<Outcome, ToolFault>
-    ensures ok { IfOk result (λ outcome. Runs (Job.ReplayAsScript finish) outcome
-        (W.contents output.old) (W.contents output.new) script.now) }
-    ensures err { IfErr result (IsFaultOf (Job.ReplayAsScript finish)
-        (W.contents output.old) (W.contents output.new) script.now) }
+) -> Result<Ended, ToolFault>
+    ensures ok { IfOk result (ReplaysIn form (W.contents output.old) (W.contents output.new) script.now) }
+    ensures err { IfErr result (IsFaultOfReplay form (W.contents output.old) (W.contents output.new) script.now) }
     ensures unwritten { IfErr result (IsUnwritten (W.contents output.old) (W.contents output.new)) }
 {
-    let report = keep_replay(alloc, script, output)?;
-    output.flush().map_err(|_| ToolFault::WriteFailed)?;
-    Ok(Outcome::of_run(Ended::of(&report), finish))
+    match form {
+        Form::Report(telling) => replay_as(alloc, script, telling, output),
+        Form::Script => {
+            let report = keep_replay(alloc, script, output)?;
+            Ok(Ended::of(&report))
+        }
+    }
 }
 
 /// Replays it, and judges the run for data races.
@@ -153,7 +138,7 @@ fn judge<W: Write>(
     ensures unwritten { IfErr result (IsUnwritten (W.contents output.old) (W.contents output.new)) }
 {
     let judged = judge_as(alloc, script, format, output)?;
-    output.flush().map_err(|_| ToolFault::WriteFailed)?;
+    flush(output)?;
     Ok(Outcome::of_judged(judged.is_racy, judged.ended, finish))
 }
 
@@ -187,7 +172,7 @@ fn tell<W: Write>(text: &str, output: &mut W) -> Result<(), ToolFault>
     output
         .write_all(text.as_bytes())
         .map_err(|_| ToolFault::WriteFailed)?;
-    output.flush().map_err(|_| ToolFault::WriteFailed)
+    flush(output)
 }
 
 /// The seed that is given, or else one of the system's random numbers: 1 where it has none.
@@ -204,46 +189,27 @@ fn seed_of(rt: &impl RandomSource, mix: Option<u64>) -> u64
     }
 }
 
-/// Runs the agents of a script in threads.
-#[tactic(auto, using(crate::proofs::Flushed::flushed_race))]
+/// Runs the agents of a script in threads, writes the run in its form, and answers how it ended.
 fn race<T: Threads + Wait + Sync + AllocGlobal, W: Write>(
     rt: &T,
     how: Race,
-    telling: Telling,
-    finish: bool,
+    form: Form,
     script: &[u8],
     output: &mut W,
-) -> Result<Outcome, ToolFault>
+) -> Result<Ended, ToolFault>
     requires { how.spins ≤ MAX_SPINS }
-    ensures ok { IfOk result (λ outcome. Runs (Job.Race how.share how.spins (Some how.seed) telling finish) outcome
-        (W.contents output.old) (W.contents output.new) script.now) }
-    ensures err { IfErr result (IsFaultOf (Job.Race how.share how.spins (Some how.seed) telling finish)
-        (W.contents output.old) (W.contents output.new) script.now) }
+    ensures ok { IfOk result (RacesIn form how.spins (W.contents output.old) (W.contents output.new) script.now) }
+    ensures err { IfErr result
+        (IsFaultOfRace form how.spins (W.contents output.old) (W.contents output.new) script.now) }
     ensures unwritten { IfErr result (IsUnwritten (W.contents output.old) (W.contents output.new)) }
 {
     let alloc = rt.alloc();
-    let ended = race_as(rt, alloc, script, how, telling, output)?;
-    output.flush().map_err(|_| ToolFault::WriteFailed)?;
-    Ok(Outcome::of_run(ended, finish))
-}
-
-/// Runs them, and writes the script with the schedule that came about.
-fn keep_raced<T: Threads + Wait + Sync + AllocGlobal, W: Write>(
-    rt: &T,
-    how: Race,
-    finish: bool,
-    script: &[u8],
-    output: &mut W,
-) -> Result<Outcome, ToolFault>
-    requires { how.spins ≤ MAX_SPINS }
-    ensures ok { IfOk result (λ outcome. Runs (Job.RaceAsScript how.share how.spins (Some how.seed) finish) outcome
-        (W.contents output.old) (W.contents output.new) script.now) }
-    ensures err { IfErr result (IsFaultOf (Job.RaceAsScript how.share how.spins (Some how.seed) finish)
-        (W.contents output.old) (W.contents output.new) script.now) }
-    ensures unwritten { IfErr result (IsUnwritten (W.contents output.old) (W.contents output.new)) }
-{
-    let alloc = rt.alloc();
-    let report = keep_race(rt, alloc, script, how.share, how.spins, how.seed, output)?;
-    output.flush().map_err(|_| ToolFault::WriteFailed)?;
-    Ok(Outcome::of_run(Ended::of(&report), finish))
+    match form {
+        Form::Report(telling) => race_as(rt, alloc, script, how, telling, output),
+        Form::Script => {
+            let Race { share, spins, seed } = how;
+            let report = keep_race(rt, alloc, script, share, spins, seed, output)?;
+            Ok(Ended::of(&report))
+        }
+    }
 }

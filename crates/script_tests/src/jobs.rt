@@ -3,7 +3,7 @@
 ghost use Rattle.sab_command.specs.Job.{IsWithinLimits};
 
 use crate::scripts::{STORE_AND_LOAD, STORED_AND_LOADED};
-use sab_command::{Job, Source};
+use sab_command::{Form, Job, Source};
 use sab_ending::Outcome;
 use sab_report::{Format, Lines, Telling, VerdictFormat};
 use sab_run::{Failure, judge_trace, run};
@@ -81,21 +81,21 @@ fn writes<R: AllocGlobal + Threads + Wait + Sync + RandomSource>(
 fn a_job_flushes_its_report(rt: HostRuntime) {
     let jobs = [
         Job::Replay {
-            telling: PLAIN,
+            form: Form::Report(PLAIN),
             finish: true,
         },
         Job::Race {
             share: Share::Lock,
             spins: 0,
             mix: None,
-            telling: PLAIN,
+            form: Form::Report(PLAIN),
             finish: false,
         },
         Job::Race {
             share: Share::Ring,
             spins: 0,
             mix: Some(7),
-            telling: PLAIN,
+            form: Form::Report(PLAIN),
             finish: true,
         },
     ];
@@ -107,14 +107,18 @@ fn a_job_flushes_its_report(rt: HostRuntime) {
 
 #[test]
 fn a_job_flushes_the_script_that_it_keeps(rt: HostRuntime) {
-    let race = |share, mix, finish| Job::RaceAsScript {
+    let race = |share, mix, finish| Job::Race {
         share,
         spins: 0,
         mix,
+        form: Form::Script,
         finish,
     };
     let jobs = [
-        Job::ReplayAsScript { finish: true },
+        Job::Replay {
+            form: Form::Script,
+            finish: true,
+        },
         race(Share::Lock, None, false),
         race(Share::Ring, Some(7), true),
     ];
@@ -256,7 +260,7 @@ fn complaint<R: AllocGlobal + Threads + Wait + Sync + RandomSource>(
     let mut input = script.as_bytes();
     let mut output = Vec::new(rt.alloc());
     let job = Job::Replay {
-        telling: PLAIN,
+        form: Form::Report(PLAIN),
         finish: false,
     };
     match run(rt, job, explain, &mut input, &mut output) {

@@ -1,0 +1,47 @@
+//! What is done with a script.
+
+use sab_race::Share;
+use sab_text::{Telling, VerdictFormat};
+
+/// In which form a run is written.
+#[derive(Clone, Copy, Debug, PartialEq, Eq)]
+pub enum Form {
+    /// Its report, which is told so.
+    Report(Telling),
+    /// A script that replays to that report.
+    Script,
+}
+
+/// What the program is asked to do with a script.
+#[derive(Clone, Copy, Debug, PartialEq, Eq)]
+pub enum Job {
+    /// To replay the script.
+    Replay {
+        /// In which form the run is written.
+        form: Form,
+        /// Whether it is an answer of its own that some calls haven't returned.
+        finish: bool,
+    },
+    /// To check the script.
+    Check,
+    /// To replay it, and to judge the run for data races.
+    Judge {
+        /// How the verdict is told.
+        format: VerdictFormat,
+        /// Whether it is an answer of its own that some calls haven't returned.
+        finish: bool,
+    },
+    /// To run the agents of the script in threads.
+    Race {
+        /// How they share the simulator.
+        share: Share,
+        /// How often an agent steps at a wait before its time is up, at most [`MAX_SPINS`](sab_race::MAX_SPINS).
+        spins: u32,
+        /// The seed that the threads are mixed by, or none where each run takes another one.
+        mix: Option<u64>,
+        /// In which form the run is written.
+        form: Form,
+        /// Whether it is an answer of its own that some calls haven't returned.
+        finish: bool,
+    },
+}
