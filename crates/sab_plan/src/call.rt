@@ -1,8 +1,11 @@
 //! Calls of an agent.
 
-ghost use Rattle.std.specs.Prelude.{◌≡◌, ◌≤◌, length};
-ghost use Rattle.sab_plan.specs.Call.{function_of, view_of, index_of};
+ghost use Rattle.std.specs.Prelude.{◌≡◌, ◌≤◌, length, map};
+ghost use Rattle.sab_block.specs.Access.{operands_of};
+ghost use Rattle.sab_plan.specs.declared.argument.Argument.TheVariants.{Value};
+ghost use Rattle.sab_plan.specs.Call.{function_of, view_of, index_of, arguments_of, items_of};
 
+use crate::argument::{Argument, Arguments};
 use sab_block::{Access, Operand};
 
 /// A call of an agent, on a view that is named by its position in the plan.
@@ -60,5 +63,46 @@ impl Call {
             Call::Access { access, .. } => access.index(),
             Call::Wait { index, .. } | Call::Notify { index, .. } => index,
         }
+    }
+
+    /// What it takes behind its index: its operands, then its timeout or its count.
+    pub fn arguments(self) -> Arguments
+        ensures { items_of result ≡ arguments_of self }
+    {
+        match self {
+            Call::Access { access, .. } => operands(access),
+            Call::Wait {
+                value,
+                timeout: None,
+                ..
+            } => Arguments::One([Argument::Value(value)]),
+            Call::Wait {
+                value,
+                timeout: Some(timeout),
+                ..
+            } => Arguments::Two([Argument::Value(value), Argument::Limit(timeout)]),
+            Call::Notify { count: None, .. } => Arguments::None,
+            Call::Notify {
+                count: Some(count),
+                ..
+            } => Arguments::One([Argument::Limit(count)]),
+        }
+    }
+}
+
+/// The operands of an access, from left to right.
+fn operands(access: Access) -> Arguments
+    ensures { items_of result ≡ map Value (operands_of access) }
+{
+    match access {
+        Access::Load { .. } => Arguments::None,
+        Access::Store { value, .. } | Access::Rmw { value, .. } => {
+            Arguments::One([Argument::Value(value)])
+        }
+        Access::CompareExchange {
+            expected,
+            replacement,
+            ..
+        } => Arguments::Two([Argument::Value(expected), Argument::Value(replacement)]),
     }
 }

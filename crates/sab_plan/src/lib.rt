@@ -1,6 +1,7 @@
 //! Plans: blocks, views on them, and the calls of each agent; and schedules of moves.
 #![tactic(auto)]
 
+mod argument;
 mod call;
 mod limits;
 mod plan;
@@ -9,6 +10,7 @@ mod plan_view;
 mod schedule;
 mod script;
 
+pub use argument::{Argument, Arguments};
 pub use call::Call;
 pub use plan::Plan;
 pub use plan_fault::PlanFault;
