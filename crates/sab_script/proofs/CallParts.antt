@@ -8,11 +8,12 @@ use Rattle.sab_block.specs.declared.rmw_op.RmwOp.{RmwOp}
 use Rattle.sab_block.specs.declared.rmw_op.RmwOp.TheVariants.{Exchange, Add, Sub, And, Or, Xor}
 use Rattle.sab_block.specs.declared.access.Access.TheVariants.{Load, Store, Rmw, CompareExchange}
 use Rattle.sab_block.specs.RmwOp.{function_of_op}
+use Rattle.sab_plan.specs.declared.argument.Argument.TheVariants.{Value}
 use Rattle.sab_plan.specs.declared.call.Call.{Call}
 use Rattle.sab_plan.specs.declared.call.Call.TheVariants.{Access as ToAccess, Wait, Notify}
-use Rattle.sab_plan.specs.Call.{view_of}
+use Rattle.sab_plan.specs.Call.{view_of, optional}
 use Rattle.sab_script.specs.Arguments.{IsNameOfRmw}
-use Rattle.sab_script.specs.Calls.{value, optional, spelling_of, SpellsArguments, SpellsParts}
+use Rattle.sab_script.specs.Calls.{spelling_of, SpellsArguments, SpellsParts}
 
 -- what a call does, as its name says
 pub data Verb : Type 0 where
@@ -52,13 +53,13 @@ op_verb Xor = refl
 -- a call of this verb, view and index, whose arguments are spelled by the items
 abbrev pub IsCallOf : Verb → ℕ → ℤ → Items → Call → Type 0
 IsCallOf load v i ds c = SpellsArguments ds [] × (c ≡ ToAccess v (Load i))
-IsCallOf store v i ds c = (x : Operand) × SpellsArguments ds (value x ∷ []) × (c ≡ ToAccess v (Store i x))
-IsCallOf (rmw op) v i ds c = (x : Operand) × SpellsArguments ds (value x ∷ []) × (c ≡ ToAccess v (Rmw op i x))
+IsCallOf store v i ds c = (x : Operand) × SpellsArguments ds (Value x ∷ []) × (c ≡ ToAccess v (Store i x))
+IsCallOf (rmw op) v i ds c = (x : Operand) × SpellsArguments ds (Value x ∷ []) × (c ≡ ToAccess v (Rmw op i x))
 IsCallOf compare_exchange v i ds c =
-    (p : Operand × Operand) × SpellsArguments ds (value p.0 ∷ value p.1 ∷ [])
+    (p : Operand × Operand) × SpellsArguments ds (Value p.0 ∷ Value p.1 ∷ [])
     × (c ≡ ToAccess v (CompareExchange i p.0 p.1))
 IsCallOf wait v i ds c =
-    (p : Operand × Option ℤ) × SpellsArguments ds (value p.0 ∷ optional p.1) × (c ≡ Wait v i p.0 p.1)
+    (p : Operand × Option ℤ) × SpellsArguments ds (Value p.0 ∷ optional p.1) × (c ≡ Wait v i p.0 p.1)
 IsCallOf notify v i ds c = (n : Option ℤ) × SpellsArguments ds (optional n) × (c ≡ Notify v i n)
 
 -- a call is one of its name's verb

@@ -4,7 +4,9 @@ use Rattle.std.proofs.lemmas.List.{take_all}
 use Rattle.serde_json.specs.Data.{Data, Items, item}
 use Rattle.serde_json.specs.View.{view, items_view}
 use Rattle.serde_json.specs.declared.value.Value.{Value}
-use Rattle.sab_script.specs.Calls.{Argument, optional, SpellsArgument, SpellsArguments}
+use Rattle.sab_plan.specs.declared.argument.Argument.{Argument}
+use Rattle.sab_plan.specs.Call.{optional}
+use Rattle.sab_script.specs.Calls.{SpellsArgument, SpellsArguments}
 use Rattle.sab_script.proofs.Each.{length-each}
 
 -- there are as many items as arguments

@@ -5,20 +5,22 @@ use Rattle.std.specs.Str.{bytes_eq}
 use Rattle.serde_json.specs.Data.{Data, Items, no_items, item}
 use Rattle.sab_block.specs.declared.operand.Operand.{Operand}
 use Rattle.sab_block.specs.declared.access.Access.TheVariants.{Store, Rmw, CompareExchange}
+use Rattle.sab_plan.specs.declared.argument.Argument.TheVariants.{Value}
 use Rattle.sab_plan.specs.declared.call.Call.{Call}
 use Rattle.sab_plan.specs.declared.call.Call.TheVariants.{Access as ToAccess, Wait, Notify}
-use Rattle.sab_script.specs.Calls.{value, optional, spelling_of, SpellsArguments, SpellsCall}
+use Rattle.sab_plan.specs.Call.{optional}
+use Rattle.sab_script.specs.Calls.{spelling_of, SpellsArguments, SpellsCall}
 use Rattle.sab_script.proofs.CallParts.{Verb, load, store, rmw, compare_exchange, wait, notify, verb_of, IsCallOf, named_call}
 use Rattle.sab_script.proofs.OneOperand.{same_operand}
 use Rattle.sab_script.proofs.WholeCall.{same_whole, parts_of_whole}
 
-same_one : (ds : Items) (x y : Operand) → SpellsArguments ds (value x ∷ []) → SpellsArguments ds (value y ∷ [])
+same_one : (ds : Items) (x y : Operand) → SpellsArguments ds (Value x ∷ []) → SpellsArguments ds (Value y ∷ [])
     → x ≡ y
 same_one no_items x y p q = absurd p
 same_one (item d ds) x y p q = same_operand d x y p.0 q.0
 
-same_two : (ds : Items) (x y : Operand × Operand) → SpellsArguments ds (value x.0 ∷ value x.1 ∷ [])
-    → SpellsArguments ds (value y.0 ∷ value y.1 ∷ []) → x ≡ y
+same_two : (ds : Items) (x y : Operand × Operand) → SpellsArguments ds (Value x.0 ∷ Value x.1 ∷ [])
+    → SpellsArguments ds (Value y.0 ∷ Value y.1 ∷ []) → x ≡ y
 same_two no_items x y p q = absurd p
 same_two (item d ds) x y p q =
     let first = same_operand d x.0 y.0 p.0 q.0 in
@@ -34,8 +36,8 @@ same_limit (item d ds) None t p q = absurd p
 same_limit (item d ds) (Some y) None p q = absurd q
 same_limit (item d ds) (Some y) (Some z) p q = ap (λ (x : ℤ). Some x) (same_whole y z (sym p.0.0 ∙ q.0.0))
 
-same_timed : (ds : Items) (x y : Operand × Option ℤ) → SpellsArguments ds (value x.0 ∷ optional x.1)
-    → SpellsArguments ds (value y.0 ∷ optional y.1) → x ≡ y
+same_timed : (ds : Items) (x y : Operand × Option ℤ) → SpellsArguments ds (Value x.0 ∷ optional x.1)
+    → SpellsArguments ds (Value y.0 ∷ optional y.1) → x ≡ y
 same_timed no_items x y p q = absurd p
 same_timed (item d ds) x y p q =
     let first = same_operand d x.0 y.0 p.0 q.0 in

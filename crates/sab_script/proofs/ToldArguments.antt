@@ -9,6 +9,7 @@ use Rattle.serde_json.specs.View.{view, items_view}
 use Rattle.serde_json.specs.declared.value.Value.{Value}
 use Rattle.serde_json.proofs.Views.{get_item_within}
 use Rattle.sab_block.specs.declared.access.Access.TheVariants.{Load, Store, Rmw, CompareExchange}
+use Rattle.sab_plan.specs.declared.argument.Argument.{Argument}
 use Rattle.sab_plan.specs.declared.call.Call.{Call}
 use Rattle.sab_plan.specs.declared.call.Call.TheVariants.{Access as ToAccess, Wait, Notify}
 use Rattle.sab_refusal.specs.Location.{item_at}
@@ -16,7 +17,7 @@ use Rattle.sab_refusal.specs.declared.location.Location.{Location}
 use Rattle.sab_refusal.specs.declared.located.Located.{Located}
 use Rattle.sab_refusal.specs.declared.why.Wanted.{Wanted}
 use Rattle.sab_refusal.specs.declared.why.Wanted.TheVariants as wanted
-use Rattle.sab_script.specs.Calls.{Argument, spelling_of}
+use Rattle.sab_script.specs.Calls.{spelling_of}
 use Rattle.sab_script.specs.Places.{argument_type, IsNamed, ElementIs, CallsFor, Stands}
 use Rattle.sab_script.specs.Known.{IsNumberAs, HasArguments}
 use Rattle.sab_script.specs.Arguments.{types_of, HasCall, operands, TakesTimed, StandBehind}

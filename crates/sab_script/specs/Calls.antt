@@ -1,26 +1,15 @@
 -- How calls are spelled.
-use Rattle.std.specs.Prelude.{◌≡◌, ℕ, ℤ, List, [], ◌∷◌, Option, Some, None, codes}
+use Rattle.std.specs.Prelude.{◌≡◌, ℕ, ℤ, List}
 use Rattle.serde_json.specs.Data.{Data, string, array, Items, item}
-use Rattle.sab_block.specs.declared.operand.Operand.{Operand}
-use Rattle.sab_block.specs.declared.access.Access.TheVariants.{Load, Store, Rmw, CompareExchange}
 use Rattle.sab_block.specs.Operand.{IsSafeInteger}
-use Rattle.sab_block.specs.RmwOp.{function_of_op}
+use Rattle.sab_plan.specs.declared.argument.Argument.{Argument}
+use Rattle.sab_plan.specs.declared.argument.Argument.TheVariants.{Value, Limit}
 use Rattle.sab_plan.specs.declared.call.Call.{Call}
-use Rattle.sab_plan.specs.declared.call.Call.TheVariants.{Access as ToAccess, Wait, Notify}
+use Rattle.sab_plan.specs.Call.{function_of, view_of, index_of, arguments_of}
 use Rattle.sab_plan.specs.declared.plan.TheConstants.Plan.{MAX_CALLS}
 use Rattle.sab_script.specs.Numbers.{whole, SpellsWhole, SpellsOperand}
 use Rattle.sab_script.specs.Reading.{SpellsEach, SpellsUpTo}
 use Rattle.sab_script.specs.Views.{SpellsName}
-
--- what stands behind a call's index: an operand, or a timeout or a count
-pub data Argument : Type 0 where
-  value : Operand → Argument
-  limit : ℤ → Argument
-
--- a timeout or a count that may be left out
-abbrev pub optional : Option ℤ → List Argument
-optional None = []
-optional (Some z) = limit z ∷ []
 
 -- how a call is spelled: its name, the position of its view, its index, and what stands behind that
 pub record Spelling : Type 0 where
@@ -33,19 +22,13 @@ pub record Spelling : Type 0 where
 abbrev pub spelling : List ℕ → ℕ → ℤ → List Argument → Spelling
 spelling name view index arguments = record { name = name; view = view; index = index; arguments = arguments }
 
--- the table of calls
 abbrev pub spelling_of : Call → Spelling
-spelling_of (ToAccess v (Load i)) = spelling (codes "load") v i []
-spelling_of (ToAccess v (Store i x)) = spelling (codes "store") v i (value x ∷ [])
-spelling_of (ToAccess v (Rmw op i x)) = spelling (function_of_op op) v i (value x ∷ [])
-spelling_of (ToAccess v (CompareExchange i x y)) = spelling (codes "compareExchange") v i (value x ∷ value y ∷ [])
-spelling_of (Wait v i x t) = spelling (codes "wait") v i (value x ∷ optional t)
-spelling_of (Notify v i n) = spelling (codes "notify") v i (optional n)
+spelling_of call = spelling (function_of call) (view_of call) (index_of call) (arguments_of call)
 
 -- a tree spells an operand, or a whole number
 abbrev pub SpellsArgument : Data → Argument → Type 0
-SpellsArgument d (value x) = SpellsOperand d x
-SpellsArgument d (limit z) = SpellsWhole d z
+SpellsArgument d (Value x) = SpellsOperand d x
+SpellsArgument d (Limit z) = SpellsWhole d z
 
 -- items spell the arguments, one by one
 abbrev pub SpellsArguments : Items → List Argument → Type 0

@@ -2,6 +2,8 @@
 use Rattle.std.specs.Prelude.{◌≡◌, ℕ, zero, suc, List, [], ◌∷◌, Option, Some, None, option_and_then, slice_get, codes}
 use Rattle.serde_json.specs.Data.{Data, string}
 use Rattle.serde_json.specs.Find.{get, at as nth}
+use Rattle.sab_plan.specs.declared.argument.Argument.{Argument}
+use Rattle.sab_plan.specs.declared.argument.Argument.TheVariants.{Value, Limit}
 use Rattle.sab_plan.specs.declared.call.Call.{Call}
 use Rattle.sab_refusal.specs.declared.location.Location.{Location}
 use Rattle.sab_refusal.specs.declared.location.Location.TheVariants as at
@@ -12,7 +14,7 @@ use Rattle.sab_refusal.specs.declared.why.Wanted.TheVariants as wanted
 use Rattle.sab_refusal.specs.Location.{member_name}
 use Rattle.sab_script.specs.declared.form.Form.{Form}
 use Rattle.sab_script.specs.declared.form.Form.TheVariants.{Bytes, Blocks}
-use Rattle.sab_script.specs.Calls.{Argument, value, limit, spelling_of}
+use Rattle.sab_script.specs.Calls.{spelling_of}
 
 -- a member of a value, if it is an object that has it
 abbrev pub part_of : Member → Option Data → Option Data
@@ -113,8 +115,8 @@ part_type list part = None
 
 -- what an argument of a call is
 abbrev pub argument_type : Argument → Wanted
-argument_type (value x) = wanted.Operand
-argument_type (limit z) = wanted.Whole
+argument_type (Value x) = wanted.Operand
+argument_type (Limit z) = wanted.Whole
 
 -- the name of a call, which stands first in it
 abbrev pub IsNamed : Data → ℕ → ℕ → List ℕ → Type 0

@@ -6,7 +6,9 @@ ghost use Rattle.serde_json.specs.Events.{items_len};
 ghost use Rattle.serde_json.specs.View.{view, items_view};
 ghost use Rattle.sab_script.specs.Reading.{Finds};
 ghost use Rattle.sab_script.specs.Numbers.{SpellsBig, SpellsOperand};
-ghost use Rattle.sab_script.specs.Calls.{value, optional, SpellsArguments};
+ghost use Rattle.sab_plan.specs.declared.argument.Argument.TheVariants as A;
+ghost use Rattle.sab_plan.specs.Call.{optional};
+ghost use Rattle.sab_script.specs.Calls.{SpellsArguments};
 ghost use Rattle.sab_script.specs.Places.{CallsFor};
 ghost use Rattle.sab_script.specs.Truth.{IsTrueWhere, IsTrueOf};
 ghost use Rattle.sab_script.specs.Known.{HasArguments};
@@ -92,7 +94,7 @@ pub(crate) fn no_operand(at: Location, trees: &[Value]) -> Result<(), Located>
 /// The one operand of a call.
 #[tactic(auto, using(crate::proofs::Lengths::as_many))]
 pub(crate) fn one_operand(at: Location, trees: &[Value]) -> Result<Operand, Located>
-    ensures found { Finds (λ x. x) (λ x. SpellsArguments (items_view trees.now) (value x ∷ [])) result }
+    ensures found { Finds (λ x. x) (λ x. SpellsArguments (items_view trees.now) (A.Value x ∷ [])) result }
     ensures told { IfErr result (λ e. (root : Data) (name : List ℕ) → HasArguments root at name (items_view trees.now)
         → TakesJust name (Wanted.Operand ∷ []) → IsTrueOf root e) }
 {
@@ -105,7 +107,7 @@ pub(crate) fn one_operand(at: Location, trees: &[Value]) -> Result<Operand, Loca
 /// The two operands of a call.
 #[tactic(auto, using(crate::proofs::Lengths::as_many))]
 pub(crate) fn two_operands(at: Location, trees: &[Value]) -> Result<(Operand, Operand), Located>
-    ensures found { Finds (λ p. p) (λ p. SpellsArguments (items_view trees.now) (value p.0 ∷ value p.1 ∷ [])) result }
+    ensures found { Finds (λ p. p) (λ p. SpellsArguments (items_view trees.now) (A.Value p.0 ∷ A.Value p.1 ∷ [])) result }
     ensures told { IfErr result (λ e. (root : Data) (name : List ℕ) → HasArguments root at name (items_view trees.now)
         → TakesJust name (Wanted.Operand ∷ Wanted.Operand ∷ []) → IsTrueOf root e) }
 {
@@ -147,7 +149,7 @@ pub(crate) fn timed_operand(
     at: Location,
     trees: &[Value],
 ) -> Result<(Operand, Option<i64>), Located>
-    ensures found { Finds (λ p. p) (λ p. SpellsArguments (items_view trees.now) (value p.0 ∷ optional p.1)) result }
+    ensures found { Finds (λ p. p) (λ p. SpellsArguments (items_view trees.now) (A.Value p.0 ∷ optional p.1)) result }
     ensures told { IfErr result (λ e. (root : Data) (name : List ℕ) → HasArguments root at name (items_view trees.now)
         → TakesTimed name 1 → IsTrueOf root e) }
 {

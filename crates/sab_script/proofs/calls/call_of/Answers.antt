@@ -6,10 +6,12 @@ use Rattle.serde_json.specs.View.{items_view}
 use Rattle.sab_block.specs.declared.operand.Operand.{Operand}
 use Rattle.sab_block.specs.declared.rmw_op.RmwOp.{RmwOp}
 use Rattle.sab_block.specs.RmwOp.{function_of_op}
+use Rattle.sab_plan.specs.declared.argument.Argument.TheVariants.{Value}
 use Rattle.sab_plan.specs.declared.call.Call.{Call}
 use Rattle.sab_refusal.specs.declared.located.Located.{Located}
 use Rattle.sab_refusal.specs.declared.location.Location.{Location}
-use Rattle.sab_script.specs.Calls.{value, optional, spelling_of, SpellsArguments, SpellsParts}
+use Rattle.sab_plan.specs.Call.{optional}
+use Rattle.sab_script.specs.Calls.{spelling_of, SpellsArguments, SpellsParts}
 use Rattle.sab_script.proofs.CallParts.{named_call, op_named}
 use Rattle.sab_script.specs.Known.{HasArguments}
 use Rattle.sab_script.specs.Truth.{IsTrueOf}
@@ -33,7 +35,7 @@ returns-in_err-expected-in-compareExchange-clause-found c =
     let a = c.args in
     let rest = items_view a.operands.now in
     exit_refuses (λ (call : Call). call)
-    (λ (p : Operand × Operand). SpellsArguments rest (value p.0 ∷ value p.1 ∷ []))
+    (λ (p : Operand × Operand). SpellsArguments rest (Value p.0 ∷ Value p.1 ∷ []))
     (λ call. SpellsParts a.name.now a.view a.index rest (spelling_of call))
     c.from_residual-in_err-expected-in-compareExchange.result _
     c.from_residual-in_err-expected-in-compareExchange.ensures.1
@@ -47,7 +49,7 @@ returns-in_err-value-in-wait-clause-found c =
     let a = c.args in
     let rest = items_view a.operands.now in
     exit_refuses (λ (call : Call). call)
-    (λ (p : Operand × Option ℤ). SpellsArguments rest (value p.0 ∷ optional p.1))
+    (λ (p : Operand × Option ℤ). SpellsArguments rest (Value p.0 ∷ optional p.1))
     (λ call. SpellsParts a.name.now a.view a.index rest (spelling_of call))
     c.from_residual-in_err-value-in-wait.result _
     c.from_residual-in_err-value-in-wait.ensures.1 c.in_err-value-in-wait.ensures.found
@@ -59,7 +61,7 @@ pub returns-in_err-value-in-store-clause-found : goal.returns-in_err-value-in-st
 returns-in_err-value-in-store-clause-found c =
     let a = c.args in
     let rest = items_view a.operands.now in
-    exit_refuses (λ (call : Call). call) (λ (x : Operand). SpellsArguments rest (value x ∷ []))
+    exit_refuses (λ (call : Call). call) (λ (x : Operand). SpellsArguments rest (Value x ∷ []))
     (λ call. SpellsParts a.name.now a.view a.index rest (spelling_of call))
     c.from_residual-in_err-value-in-store.result _
     c.from_residual-in_err-value-in-store.ensures.1 c.in_err-value-in-store.ensures.found

@@ -3,8 +3,9 @@ use Rattle.serde_json.specs.Data.{Data}
 use Rattle.serde_json.specs.View.{items_view}
 use Rattle.sab_block.specs.declared.operand.Operand.{Operand}
 use Rattle.sab_block.specs.RmwOp.{function_of_op}
+use Rattle.sab_plan.specs.declared.argument.Argument.TheVariants.{Value}
 use Rattle.sab_plan.specs.declared.call.Call.{Call}
-use Rattle.sab_script.specs.Calls.{value, spelling_of, SpellsArguments, SpellsParts}
+use Rattle.sab_script.specs.Calls.{spelling_of, SpellsArguments, SpellsParts}
 use Rattle.sab_script.specs.Known.{HasArguments}
 use Rattle.sab_script.specs.Truth.{IsTrueOf}
 use Rattle.sab_script.proofs.CallParts.{op_verb, named_call}
@@ -17,7 +18,7 @@ pub returns-in_err-value-clause-found : goal.returns-in_err-value-clause-found
 returns-in_err-value-clause-found c =
     let a = c.args in
     let rest = items_view a.operands.now in
-    exit_refuses (λ (call : Call). call) (λ (x : Operand). SpellsArguments rest (value x ∷ []))
+    exit_refuses (λ (call : Call). call) (λ (x : Operand). SpellsArguments rest (Value x ∷ []))
     (λ call. SpellsParts (function_of_op a.op) a.view a.index rest (spelling_of call)) c.from_residual.result _
     c.from_residual.ensures.1 c.in_err-value.ensures.found
     (λ call h.

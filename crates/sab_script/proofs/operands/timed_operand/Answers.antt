@@ -7,7 +7,9 @@ use Rattle.sab_refusal.specs.declared.located.Located.{Located}
 use Rattle.sab_refusal.specs.declared.location.Location.{Location}
 use Rattle.sab_refusal.specs.declared.why.Wanted.TheVariants as wanted
 use Rattle.sab_script.specs.Numbers.{SpellsOperand}
-use Rattle.sab_script.specs.Calls.{value, optional, SpellsArguments}
+use Rattle.sab_plan.specs.declared.argument.Argument.TheVariants.{Value}
+use Rattle.sab_plan.specs.Call.{optional}
+use Rattle.sab_script.specs.Calls.{SpellsArguments}
 use Rattle.sab_script.specs.Arguments.{TakesTimed}
 use Rattle.sab_script.specs.Known.{HasArguments}
 use Rattle.sab_script.specs.Truth.{IsTrueOf}
@@ -19,25 +21,25 @@ use Rattle.sab_script.proofs.operands.timed_operand.Goals as goal
 
 pub returns-in_default-clause-found : goal.returns-in_default-clause-found
 returns-in_default-clause-found c = rw c.wrong_count.ensures.fault (λ p h.
-    let count = as_many c.args.trees.now (value p.0 ∷ optional p.1) h in
+    let count = as_many c.args.trees.now (Value p.0 ∷ optional p.1) h in
     let few = c.in_default.len_below in absurd (omega (arith, count, few)))
 
 pub returns-in_err-value-clause-found : goal.returns-in_err-value-clause-found
 returns-in_err-value-clause-found c =
     let trees = c.args.trees.now in
     exit_refuses (λ (p : Operand × Option ℤ). p) (SpellsOperand (view c.value-item.result))
-    (λ p. SpellsArguments (items_view trees) (value p.0 ∷ optional p.1)) c.from_residual.result _
+    (λ p. SpellsArguments (items_view trees) (Value p.0 ∷ optional p.1)) c.from_residual.result _
     c.from_residual.ensures.1 c.in_err-value.ensures.found
-    (λ p h. (p.0, (first_argument trees c.value-item.result (value p.0) (optional p.1) c.value-item.is h).0))
+    (λ p h. (p.0, (first_argument trees c.value-item.result (Value p.0) (optional p.1) c.value-item.is h).0))
 
 pub returns-in_err-timeout-clause-found : goal.returns-in_err-timeout-clause-found
 returns-in_err-timeout-clause-found c =
     let trees = c.args.trees.now in
     let rest = items_view (drop 1 trees) in
     exit_refuses (λ (p : Operand × Option ℤ). p) (λ (o : Option ℤ). SpellsArguments rest (optional o))
-    (λ p. SpellsArguments (items_view trees) (value p.0 ∷ optional p.1)) c.from_residual-in_err-timeout.result _
+    (λ p. SpellsArguments (items_view trees) (Value p.0 ∷ optional p.1)) c.from_residual-in_err-timeout.result _
     c.from_residual-in_err-timeout.ensures.1 (rw rest_whole at c.in_err-timeout.ensures.found)
-    (λ p h. (p.1, (first_argument trees c.value-item.result (value p.0) (optional p.1) c.value-item.is h).1))
+    (λ p h. (p.1, (first_argument trees c.value-item.result (Value p.0) (optional p.1) c.value-item.is h).1))
 
 pub returns-clause-found : goal.returns-clause-found
 returns-clause-found c =

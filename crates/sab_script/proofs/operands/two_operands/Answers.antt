@@ -8,7 +8,8 @@ use Rattle.sab_refusal.specs.declared.location.Location.{Location}
 use Rattle.sab_refusal.specs.declared.why.Wanted.{Wanted}
 use Rattle.sab_refusal.specs.declared.why.Wanted.TheVariants as wanted
 use Rattle.sab_script.specs.Numbers.{SpellsOperand}
-use Rattle.sab_script.specs.Calls.{value, SpellsArguments}
+use Rattle.sab_plan.specs.declared.argument.Argument.TheVariants.{Value}
+use Rattle.sab_script.specs.Calls.{SpellsArguments}
 use Rattle.sab_script.specs.Arguments.{TakesJust}
 use Rattle.sab_script.specs.Known.{HasArguments}
 use Rattle.sab_script.specs.Truth.{IsTrueOf}
@@ -22,17 +23,17 @@ pub returns-in_err-expected-clause-found : goal.returns-in_err-expected-clause-f
 returns-in_err-expected-clause-found c =
     let trees = c.args.trees.now in
     exit_refuses (λ (p : Operand × Operand). p) (SpellsOperand (view c.expected-item.result))
-    (λ p. SpellsArguments (items_view trees) (value p.0 ∷ value p.1 ∷ [])) c.from_residual.result _
+    (λ p. SpellsArguments (items_view trees) (Value p.0 ∷ Value p.1 ∷ [])) c.from_residual.result _
     c.from_residual.ensures.1 c.in_err-expected.ensures.found
-    (λ p h. (p.0, (first_argument trees c.expected-item.result (value p.0) (value p.1 ∷ []) c.expected-item.is h).0))
+    (λ p h. (p.0, (first_argument trees c.expected-item.result (Value p.0) (Value p.1 ∷ []) c.expected-item.is h).0))
 
 pub returns-in_err-replacement-clause-found : goal.returns-in_err-replacement-clause-found
 returns-in_err-replacement-clause-found c =
     let trees = c.args.trees.now in
     exit_refuses (λ (p : Operand × Operand). p) (SpellsOperand (view c.replacement-item.result))
-    (λ p. SpellsArguments (items_view trees) (value p.0 ∷ value p.1 ∷ [])) c.from_residual-in_err-replacement.result _
+    (λ p. SpellsArguments (items_view trees) (Value p.0 ∷ Value p.1 ∷ [])) c.from_residual-in_err-replacement.result _
     c.from_residual-in_err-replacement.ensures.1 c.in_err-replacement.ensures.found
-    (λ p h. (p.1, second_argument trees c.replacement-item.result (value p.0) (value p.1) [] c.replacement-item.is h))
+    (λ p h. (p.1, second_argument trees c.replacement-item.result (Value p.0) (Value p.1) [] c.replacement-item.is h))
 
 pub returns-clause-found : goal.returns-clause-found
 returns-clause-found c =
