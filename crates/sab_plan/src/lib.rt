@@ -2,6 +2,7 @@
 #![tactic(auto)]
 
 mod call;
+mod check;
 mod limits;
 mod plan;
 mod plan_fault;
@@ -10,6 +11,7 @@ mod schedule;
 mod script;
 
 pub use call::Call;
+pub use check::{failing_check, notify_place, wait_place};
 pub use plan::Plan;
 pub use plan_fault::PlanFault;
 pub use plan_view::PlanView;
