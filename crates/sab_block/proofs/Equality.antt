@@ -1,4 +1,4 @@
--- Equality of kinds, operations, errors, operands, views and accesses: values that a derived `==` finds equal are the same.
+-- Equality of kinds, operations, errors, checks, operands, views and accesses: values that a derived `==` finds equal are the same.
 use Rattle.std.proofs.Common.{◌&&◌, ◌≡◌, ◌+◌, ◌*◌, ◌≤◌, ℤ, Bool, true, ap, rules}
 use Rattle.std.proofs.Props.{props}
 use Rattle.std.specs.Cmp.{signed_Decides}
@@ -11,6 +11,7 @@ use Rattle.sab_block.specs.Kind.{element_size}
 use Rattle.sab_block.specs.declared.kind.Kind.{Kind}
 use Rattle.sab_block.specs.declared.rmw_op.RmwOp.{RmwOp}
 use Rattle.sab_block.specs.declared.thrown.Thrown.{Thrown}
+use Rattle.sab_block.specs.declared.check.Check.{Check}
 use Rattle.sab_block.specs.declared.operand.Operand.{Operand}
 use Rattle.sab_block.specs.declared.view.View.{View}
 use Rattle.sab_block.specs.declared.access.Access.{Access}
@@ -20,6 +21,8 @@ use Rattle.sab_block.specs.contracts.kind.KindPartialEq.TheImpl as kind
 use Rattle.sab_block.specs.contracts.rmw_op.RmwOpPartialEq.TheImpl as rmw_op
 use Rattle.sab_block.specs.contracts.thrown.Thrown.{the_type as thrown_type}
 use Rattle.sab_block.specs.contracts.thrown.ThrownPartialEq.TheImpl as thrown
+use Rattle.sab_block.specs.contracts.check.Check.{the_type as check_type}
+use Rattle.sab_block.specs.contracts.check.CheckPartialEq.TheImpl as check
 use Rattle.sab_block.specs.contracts.operand.OperandPartialEq.TheImpl as operand
 use Rattle.sab_block.specs.contracts.view.ViewPartialEq.TheImpl as view
 use Rattle.sab_block.specs.contracts.access.AccessPartialEq.TheImpl as access
@@ -43,6 +46,9 @@ same_kind = same_true kind_type (search rules)
 
 pub same_thrown : (a b : Thrown) → (thrown.ghosts).eq a b ≡ true → a ≡ b
 same_thrown = same_true thrown_type (search rules)
+
+same_check : (a b : Check) → (check.ghosts).eq a b ≡ true → a ≡ b
+same_check = same_true check_type (search rules)
 
 pub same_view : (a b : View) → (view.ghosts).eq a b ≡ true → a ≡ b
 same_view a b e =

@@ -1,11 +1,12 @@
 -- Access calls: the checks that they make in order, and what they do.
-use Rattle.std.specs.Prelude.{◌≡◌, ◌≢◌, ℕ, ◌*◌, Bool, if◌then◌else◌, is_some, ℤ, List, [], ◌∷◌, map, Option, Some, None, codes}
+use Rattle.std.specs.Prelude.{◌≡◌, ◌≢◌, ℕ, ◌*◌, is_some, ℤ, List, [], ◌∷◌, map, Option, Some, codes}
 use Rattle.sab_block.specs.declared.thrown.Thrown.{Thrown}
-use Rattle.sab_block.specs.declared.thrown.Thrown.TheVariants.{TypeError, RangeError}
+use Rattle.sab_block.specs.declared.check.Check.TheVariants as K
 use Rattle.sab_block.specs.declared.operand.Operand.{Operand}
 use Rattle.sab_block.specs.declared.view.View.{View}
 use Rattle.sab_block.specs.declared.access.Access.{Access}
 use Rattle.sab_block.specs.declared.access.Access.TheVariants.{Load, Store, Rmw, CompareExchange}
+use Rattle.sab_block.specs.Check.{Checked, first_thrown}
 use Rattle.sab_block.specs.Kind.{element_size, is_atomic}
 use Rattle.sab_block.specs.Operand.{whole_of, agrees, raw, operand}
 use Rattle.sab_block.specs.View.{kind_of, place}
@@ -33,35 +34,25 @@ operands_of (Store index x) = x ∷ []
 operands_of (Rmw op index x) = x ∷ []
 operands_of (CompareExchange index x y) = x ∷ y ∷ []
 
--- a check, and what a call throws where it fails
-pub record Check : Type 0 where
-  pub passes : Bool
-  pub thrown : Thrown
-
--- what is thrown by the first check that fails
-abbrev pub first_failure : List Check → Option Thrown
-first_failure [] = None
-first_failure (check ∷ checks) = if check.passes then first_failure checks else Some check.thrown
-
 -- the kind is one that the functions of Atomics take (ValidateIntegerTypedArray)
-abbrev pub kind_check : View → Check
-kind_check view = record { passes = is_atomic (kind_of view); thrown = TypeError }
+abbrev pub kind_check : View → Checked
+kind_check view = record { check = K.AtomicKind; passes = is_atomic (kind_of view) }
 
 -- there is an element at the index (ValidateAtomicAccess)
-abbrev pub index_check : View → ℤ → Check
-index_check view index = record { passes = is_some (place view index); thrown = RangeError }
+abbrev pub index_check : View → ℤ → Checked
+index_check view index = record { check = K.Index; passes = is_some (place view index) }
 
 -- the operand is a BigInt exactly if the elements are (ToBigInt, ToIntegerOrInfinity)
-abbrev pub operand_check : View → Operand → Check
-operand_check view x = record { passes = agrees (kind_of view) x; thrown = TypeError }
+abbrev pub operand_check : View → Operand → Checked
+operand_check view x = record { check = K.Operand; passes = agrees (kind_of view) x }
 
-abbrev pub access_checks : View → Access → List Check
+abbrev pub access_checks : View → Access → List Checked
 access_checks view access =
     kind_check view ∷ index_check view (index_of access) ∷ map (operand_check view) (operands_of access)
 
 -- what an access throws, or none where all checks pass
 abbrev pub access_verdict : View → Access → Option Thrown
-access_verdict view access = first_failure (access_checks view access)
+access_verdict view access = first_thrown (access_checks view access)
 
 -- how many bits an element has
 abbrev pub bits_of : View → ℕ

@@ -1,5 +1,6 @@
 pub mod Kind
 pub mod Thrown
+pub mod Check
 pub mod Operand
 pub mod View
 pub mod Block

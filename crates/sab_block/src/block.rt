@@ -6,7 +6,8 @@ ghost use Rattle.sab_block.specs.View.{block_len_of};
 ghost use Rattle.sab_block.specs.Access.{access_verdict, Acts};
 
 use crate::access::Access;
-use crate::operand::{Operand, from_raw, to_raw};
+use crate::check::{Check, access_place};
+use crate::operand::{Operand, from_raw, wrapped};
 use crate::thrown::Thrown;
 use crate::view::View;
 use byteorder::{ByteOrder, LittleEndian};
@@ -104,20 +105,17 @@ impl Block {
         ensures unchanged { OnErr result (self.new ≡ self.old) }
         ensures len { length self.new ≡ length self.old }
     {
+        let place = access_place(view, access).map_err(Check::thrown)?;
         let kind = view.kind();
-        if !kind.is_atomic() {
-            return Err(Thrown::TypeError);
-        }
-        let place = view.place(access.index())?;
         let size = kind.size();
         match *access {
             Access::Load { .. } => Ok(from_raw(kind, self.read(place, size))),
             Access::Store { value, .. } => {
-                self.write(place, size, to_raw(kind, value)?);
+                self.write(place, size, wrapped(kind, value.whole()));
                 Ok(value)
             }
             Access::Rmw { op, value, .. } => {
-                let operand = to_raw(kind, value)?;
+                let operand = wrapped(kind, value.whole());
                 let old = self.read(place, size);
                 self.write(place, size, op.combine(kind, old, operand));
                 Ok(from_raw(kind, old))
@@ -127,11 +125,9 @@ impl Block {
                 replacement,
                 ..
             } => {
-                let expected = to_raw(kind, expected)?;
-                let replacement = to_raw(kind, replacement)?;
                 let old = self.read(place, size);
-                if old == expected {
-                    self.write(place, size, replacement);
+                if old == wrapped(kind, expected.whole()) {
+                    self.write(place, size, wrapped(kind, replacement.whole()));
                 }
                 Ok(from_raw(kind, old))
             }

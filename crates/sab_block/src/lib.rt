@@ -6,6 +6,7 @@
 
 mod access;
 mod block;
+mod check;
 mod kind;
 mod operand;
 mod rmw_op;
@@ -14,8 +15,9 @@ mod view;
 
 pub use access::Access;
 pub use block::Block;
+pub use check::{Check, access_place};
 pub use kind::Kind;
-pub use operand::{Operand, from_raw, to_raw, wrapped};
+pub use operand::{Operand, agrees, from_raw, to_raw, wrapped};
 pub use rmw_op::RmwOp;
 pub use thrown::Thrown;
 pub use view::View;

@@ -82,6 +82,13 @@ impl fmt::Debug for Operand {
     }
 }
 
+/// Whether `v` is a BigInt exactly if the elements of the kind are (ToBigInt, ToIntegerOrInfinity).
+pub fn agrees(kind: Kind, v: Operand) -> bool
+    ensures { result ≡ agrees kind v }
+{
+    v.big == kind.is_big()
+}
+
 /// The raw element that `v` is written as in an element of the kind: `v` modulo 2^(8 × size) (NumericToRawBytes).
 ///
 /// TypeError exactly where one of `v` and the kind is BigInt and the other isn't (ToBigInt, ToIntegerOrInfinity).

@@ -3,6 +3,7 @@
 
 mod argument;
 mod call;
+mod check;
 mod limits;
 mod plan;
 mod plan_fault;
@@ -12,6 +13,7 @@ mod script;
 
 pub use argument::{Argument, Arguments};
 pub use call::Call;
+pub use check::{failing_check, notify_place, wait_place};
 pub use plan::Plan;
 pub use plan_fault::PlanFault;
 pub use plan_view::PlanView;

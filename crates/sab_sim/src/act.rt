@@ -6,8 +6,8 @@ ghost use Rattle.sab_sim.specs.Finding.{AnswersAccess, FindsWait, FindsNotify};
 
 use crate::answer::Answer;
 use crate::place::Place;
-use sab_block::{Access, Block, Operand, Thrown, to_raw};
-use sab_plan::PlanView;
+use sab_block::{Access, Block, Check, Operand, Thrown, wrapped};
+use sab_plan::{PlanView, notify_place, wait_place};
 
 /// Makes an access on its view's block.
 pub fn act_access(blocks: &mut [Block], view: &PlanView, access: &Access) -> Answer
@@ -33,16 +33,10 @@ pub fn find_wait(
     requires { slice_get (map length blocks.now) view.now.block ≡ Some (block_len_of view.now.view) }
     ensures { FindsWait can_block view.now index value blocks.now result }
 {
+    let byte = wait_place(view.view, index, value, can_block).map_err(Check::thrown)?;
     let kind = view.view.kind();
-    if !kind.is_waitable() {
-        return Err(Thrown::TypeError);
-    }
-    let byte = view.view.place(index)?;
-    let raw = to_raw(kind, value)?;
-    if !can_block {
-        return Err(Thrown::TypeError);
-    }
-    if blocks[view.block as usize].read(byte, kind.size()) != raw {
+    let element = blocks[view.block as usize].read(byte, kind.size());
+    if element != wrapped(kind, value.whole()) {
         return Ok(None);
     }
     Ok(Some(Place {
@@ -55,10 +49,7 @@ pub fn find_wait(
 pub fn find_notify(view: &PlanView, index: i64) -> Result<Place, Thrown>
     ensures { FindsNotify view.now index result }
 {
-    if !view.view.kind().is_waitable() {
-        return Err(Thrown::TypeError);
-    }
-    let byte = view.view.place(index)?;
+    let byte = notify_place(view.view, index).map_err(Check::thrown)?;
     Ok(Place {
         block: view.block,
         byte,

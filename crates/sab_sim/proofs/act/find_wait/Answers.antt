@@ -1,41 +1,24 @@
 -- All checks of a wait passed, and the raw element was compared.
-use Rattle.std.proofs.Common.{◌≡◌, ℕ, zero, suc, ℤ, Bool, true, false, List, [], ◌∷◌, length, map, slice_get, get_or, Option, Some, None, Result, Ok, Err, refl, sym, ap, ◌∙◌, rules}
-use Rattle.std.specs.Prelude.{MatchOption, MatchBool}
+use Rattle.std.proofs.Common.{◌≡◌, ℕ, zero, suc, ℤ, Bool, List, [], ◌∷◌, length, map, slice_get, get_or, Option, Some, None, Result, Ok, Err, sym, ap, subst, ◌∙◌, rules}
+use Rattle.std.specs.Prelude.{option_map}
+use Rattle.std.specs.Result.{MatchResult}
 use Rattle.std.proofs.lemmas.Int.{to_z-of_z}
-use Rattle.std.specs.Int.{w64}
+use Rattle.std.specs.Int.{w64, w128}
+use Rattle.sab_block.specs.declared.check.Check.{Check}
 use Rattle.sab_block.specs.declared.thrown.Thrown.{Thrown}
-use Rattle.sab_block.specs.declared.thrown.Thrown.TheVariants.{TypeError, RangeError}
+use Rattle.sab_block.specs.declared.kind.Kind.{Kind}
 use Rattle.sab_block.specs.declared.operand.Operand.{Operand}
-use Rattle.sab_block.specs.Operand.{agrees, raw, whole_of}
-use Rattle.sab_block.specs.Kind.{is_waitable, element_size}
+use Rattle.sab_block.specs.Operand.{raw, whole_of}
+use Rattle.sab_block.specs.Kind.{element_size}
 use Rattle.sab_block.specs.View.{kind_of, place}
 use Rattle.sab_block.specs.Block.{number}
-use Rattle.sab_block.specs.Access.{first_failure}
+use Rattle.sab_block.specs.Check.{Checked, thrown_by, first_failed, first_thrown, Places}
 use Rattle.sab_plan.specs.declared.plan_view.PlanView.{PlanView}
 use Rattle.sab_plan.specs.Check.{wait_checks}
+use Rattle.sab_sim.specs.declared.place.Place.{Place}
 use Rattle.sab_sim.specs.Place.{place_of}
 use Rattle.sab_sim.specs.Object.{bytes_of, element_at}
-use Rattle.sab_block.specs.declared.kind.Kind.{Kind}
 use Rattle.sab_sim.proofs.act.find_wait.Goals as goal
-
--- a place that answers a byte
-abbrev AnswersByte : Option ℕ → ℕ → Type 0
-AnswersByte o byte =
-    MatchOption o (◌≡◌ {A = Result ℕ Thrown} (Ok byte) (Err RangeError))
-    (λ p. ◌≡◌ {A = Result ℕ Thrown} (Ok byte) (Ok p))
-
-its_byte : (o : Option ℕ) (byte : ℕ) → AnswersByte o byte → o ≡ Some byte
-its_byte None byte h = absurd (cc)
-its_byte (Some p) byte h = cc
-
--- an operand that answers a raw element, where it agrees with the kind
-abbrev AnswersRaw : Bool → ℕ → ℕ → Type 0
-AnswersRaw agrees r s =
-    MatchBool agrees (◌≡◌ {A = Result ℕ Thrown} (Ok r) (Ok s)) (◌≡◌ {A = Result ℕ Thrown} (Ok r) (Err TypeError))
-
-its_raw : (agrees : Bool) (r s : ℕ) → AnswersRaw agrees r s → (agrees ≡ true) × (r ≡ s)
-its_raw true r s h = (refl, cc)
-its_raw false r s h = absurd (cc)
 
 -- a block that is there has its bytes
 bytes_is : (mem : List (List ℕ)) (b len : ℕ) (bytes : List ℕ) → slice_get (map (length {A = ℕ}) mem) b ≡ Some len
@@ -44,67 +27,80 @@ bytes_is [] b len bytes there e = absurd (cc)
 bytes_is (first ∷ mem) zero len bytes there e = e
 bytes_is (first ∷ mem) (suc b) len bytes there e = bytes_is mem b len bytes there e
 
+-- the place of a byte of a view's block
+abbrev at_byte : PlanView → ℕ → Place
+at_byte v byte = record { block = v.block; byte = byte }
+
+-- this byte was answered
+abbrev AnswersByte : Result ℕ Check → ℕ → Type 0
+AnswersByte answer byte = MatchResult answer (λ p. ◌≡◌ {A = Result ℕ Thrown} (Ok byte) (Ok p)) (λ e. ⊥)
+
+-- all checks passed where a byte was answered
+passed_by : (checks : List Checked) (o : Option ℕ) (answer : Result ℕ Check) (byte : ℕ)
+    → AnswersByte answer byte → Places checks o answer
+    → (first_failed checks ≡ None) × (o ≡ Some byte)
+passed_by checks o (Ok p) byte is h = (h.0, rw h.1 (cc))
+passed_by checks o (Err check) byte is h = absurd is
+
 -- all checks pass, and the element at the index was read
 record HasRead (can_block : Bool) (v : PlanView) (index : ℤ) (x : Operand) (mem : List (List ℕ)) (byte r read : ℕ) :
     Type 0 where
-  pub checks : first_failure (wait_checks can_block v.view index x) ≡ None
+  pub checks : first_thrown (wait_checks can_block v.view index x) ≡ None
   pub place_is : place_of v index ≡ Some (record { block = v.block; byte = byte })
   pub raw_is : raw (kind_of v.view) (whole_of x) ≡ r
   pub element_is : element_at v mem (record { block = v.block; byte = byte }) ≡ read
 
-has_read : (can_block : Bool) (v : PlanView) (index z : ℤ) (x : Operand) (mem : List (List ℕ)) (kind : Kind)
+has_read : (can_block : Bool) (v : PlanView) (index z : ℤ) (x : Operand) (mem : List (List ℕ)) (kind : Kind) (w : ℤ)
     (byte r size read len : ℕ) (bytes : List ℕ)
-    → kind ≡ kind_of v.view → is_waitable kind ≡ true → z ≡ index → AnswersByte (place v.view z) byte
-    → AnswersRaw (agrees kind x) r (raw kind (whole_of x)) → can_block ≡ true
+    → kind ≡ kind_of v.view → z ≡ index
+    → (answer : Result ℕ Check) → AnswersByte answer byte
+    → Places (wait_checks can_block v.view z x) (place v.view z) answer
+    → w ≡ whole_of x → r ≡ raw kind w
     → slice_get (map (length {A = ℕ}) mem) v.block ≡ Some len → bytes ≡ get_or mem v.block bytes
     → size ≡ element_size kind → read ≡ number bytes byte size
     → HasRead can_block v index x mem byte r read
-has_read can_block v index z x mem kind byte r size read len bytes kind_is waitable same answers_byte answers_raw blocks
-    block_is bytes_are size_is read_is =
+has_read can_block v index z x mem kind w byte r size read len bytes kind_is same answer answers placed whole_is raw_is block_is bytes_are
+    size_is read_is =
+    let passed = passed_by (wait_checks can_block v.view z x) (place v.view z) answer byte answers placed in
     record {
-      checks = rw (waitable', there, agrees', blocks) refl;
-      place_is = rw there refl;
-      raw_is = ap (λ (k : Kind). raw k (whole_of x)) (sym kind_is) ∙ sym fits.1;
+      checks =
+          ap (option_map thrown_by)
+          (subst (λ (i : ℤ). first_failed (wait_checks can_block v.view i x) ≡ None) same passed.0);
+      place_is =
+          ap (option_map (at_byte v))
+          (subst (λ (i : ℤ). place v.view i ≡ Some byte) same passed.1);
+      raw_is =
+          ap (λ (k : Kind). raw k (whole_of x)) (sym kind_is) ∙ (ap (raw kind) (sym whole_is) ∙ sym raw_is);
       element_is =
           ap (λ (b : List ℕ). number b byte (element_size (kind_of v.view)))
           (sym (bytes_is mem v.block len bytes block_is bytes_are))
           ∙ (ap (λ (k : Kind). number bytes byte (element_size k)) (sym kind_is)
           ∙ (ap (number bytes byte) (sym size_is) ∙ sym read_is));
     }
-  where
-    there : place v.view index ≡ Some byte
-    there = ap (place v.view) (sym same) ∙ its_byte (place v.view z) byte answers_byte
 
-    fits : (agrees kind x ≡ true) × (r ≡ raw kind (whole_of x))
-    fits = its_raw (agrees kind x) r (raw kind (whole_of x)) answers_raw
-
-    waitable' : is_waitable (kind_of v.view) ≡ true
-    waitable' = ap is_waitable (sym kind_is) ∙ waitable
-
-    agrees' : agrees (kind_of v.view) x ≡ true
-    agrees' = ap (λ (k : Kind). agrees k x) (sym kind_is) ∙ fits.0
-
-pub returns-then-read-raw : goal.returns-then-read-raw
-returns-then-read-raw c =
+pub returns-then-element-wrapped : goal.returns-then-element-wrapped
+returns-then-element-wrapped c =
     let found = has_read c.args.can_block c.args.view.now c.args.index _ c.args.value c.args.blocks.now
-    c.kind-kind.result c.in_ok-byte.byte c.in_ok-raw.raw c.size.result c.read.result _ c.index-blocks-view.result
-    c.kind-kind.ensures (sym c.is_waitable.ensures ∙ c.if-not-is_waitable.false)
-    (to_z-of_z w64 c.args.index (search rules)) c.in_ok-byte.ensures.place c.in_ok-raw.ensures.value
-    c.if-not-can_block.false c.requires c.index-blocks-view.is c.size.ensures c.read.ensures.value in (
+    c.kind-kind.result _ c.in_ok-byte.byte c.wrapped.result c.size.result c.read-element.result _
+    c.index-blocks-view.result c.kind-kind.ensures (to_z-of_z w64 c.args.index (search rules))
+    c.wait_place.result c.in_ok-byte.ensures.cases c.wait_place.ensures.place
+    (to_z-of_z w128 c.whole.result (search rules) ∙ c.whole.ensures) c.wrapped.ensures.value c.requires
+    c.index-blocks-view.is c.size.ensures c.read-element.ensures.value in (
       found.checks,
       (
-        record { block = c.args.view.now.block; byte = c.in_ok-byte.byte },
+        at_byte c.args.view.now c.in_ok-byte.byte,
         found.place_is,
         λ same.
-            c.if-read-raw.true (sym found.element_is ∙ (sym same ∙ found.raw_is)),
+            c.if-element-wrapped.true (sym found.element_is ∙ (sym same ∙ found.raw_is)),
       ),
     )
 
 pub returns : goal.returns
 returns c =
     let found = has_read c.args.can_block c.args.view.now c.args.index _ c.args.value c.args.blocks.now
-    c.kind-kind.result c.in_ok-byte.byte c.in_ok-raw.raw c.size.result c.read.result _ c.index-blocks-view.result
-    c.kind-kind.ensures (sym c.is_waitable.ensures ∙ c.if-not-is_waitable.false)
-    (to_z-of_z w64 c.args.index (search rules)) c.in_ok-byte.ensures.place c.in_ok-raw.ensures.value
-    c.if-not-can_block.false c.requires c.index-blocks-view.is c.size.ensures c.read.ensures.value in
-    (found.checks, found.place_is, found.raw_is ∙ (sym c.if-read-raw.false ∙ sym found.element_is))
+    c.kind-kind.result _ c.in_ok-byte.byte c.wrapped.result c.size.result c.read-element.result _
+    c.index-blocks-view.result c.kind-kind.ensures (to_z-of_z w64 c.args.index (search rules))
+    c.wait_place.result c.in_ok-byte.ensures.cases c.wait_place.ensures.place
+    (to_z-of_z w128 c.whole.result (search rules) ∙ c.whole.ensures) c.wrapped.ensures.value c.requires
+    c.index-blocks-view.is c.size.ensures c.read-element.ensures.value in
+    (found.checks, found.place_is, found.raw_is ∙ (sym c.if-element-wrapped.false ∙ sym found.element_is))
