@@ -7,6 +7,7 @@ use Rattle.sab_block.specs.declared.access.Access.{Access}
 use Rattle.sab_block.specs.declared.access.Access.TheVariants as X
 use Rattle.sab_block.specs.declared.operand.Operand.{Operand}
 use Rattle.sab_block.specs.Access.{ActsAt}
+use Rattle.sab_plan.specs.declared.argument.Argument.TheVariants.{Value}
 use Rattle.sab_plan.specs.declared.call.Call.{Call}
 use Rattle.sab_plan.specs.declared.call.Call.TheVariants as C
 use Rattle.sab_plan.specs.declared.plan_view.PlanView.{PlanView}
@@ -22,7 +23,7 @@ use Rattle.sab_sim.specs.Object.{State, bytes_of, opening, waiters, woken_count,
 use Rattle.sab_sim.specs.Journal.{acts_of, Run, Reaches, track, Course, AtOnce, InLine, course, IsTrack}
 use Rattle.sab_fact_json.specs.CallData.{operand_data}
 use Rattle.sab_fact_json.specs.FactData.{answer_data, answer_in}
-use Rattle.sab_fact_json.specs.SafeNumbers.{IsSafeOperand, IsSafeCall, HasSafeNumbers}
+use Rattle.sab_fact_json.specs.SafeNumbers.{IsSafeArgument, IsSafeCall, HasSafeNumbers}
 use Rattle.sab_fact_json.proofs.ShortNumbers.{HasShortNumbers}
 use Rattle.sab_fact_json.proofs.ShortCalls.{All-at, operand_short}
 use Rattle.sab_fact_json.proofs.ShortElements.{element_short}
@@ -42,7 +43,7 @@ value_answered plan n v (X.Load index) i S x bytes p sound safe acts =
     (element_short v.view (bytes_of S.mem v.block) p (block_bytes S.mem v.block sound.bytes))
 value_answered plan n v (X.Store index y) i S x bytes p sound safe acts =
     subst (λ (y : Operand). HasShortNumbers (operand_data y)) (sym acts.0)
-    (operand_short y (All-head IsSafeOperand y [] safe.operands))
+    (operand_short y (All-head IsSafeArgument (Value y) [] safe.arguments))
 value_answered plan n v (X.Rmw op index y) i S x bytes p sound safe acts =
     subst (λ (y : Operand). HasShortNumbers (operand_data y)) (sym acts.0)
     (element_short v.view (bytes_of S.mem v.block) p (block_bytes S.mem v.block sound.bytes))

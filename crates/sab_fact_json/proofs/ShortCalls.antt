@@ -1,20 +1,18 @@
 -- The calls of a plan whose Numbers are safe integers have short numbers.
-use Rattle.std.proofs.Common.{◌≡◌, ℕ, ℤ, Bool, true, false, List, [], ◌∷◌, Option, Some, None, IfSome, All, refl, sym, subst}
+use Rattle.std.proofs.Common.{◌≡◌, ℕ, Bool, true, false, List, [], ◌∷◌, Option, Some, None, IfSome, All, refl, sym, subst}
 use Rattle.std.specs.Prelude.{slice_get, option_map}
 use Rattle.std.proofs.lemmas.Option.{slice_get_within, get_or_from_slice_get, none-some}
 use Rattle.std.proofs.lemmas.List.Elements.{All-head, All-tail, All-get_or}
 use Rattle.sab_block.specs.declared.operand.Operand.{Operand}
 use Rattle.sab_block.specs.Operand.{is_bigint, whole_of, IsSafeInteger}
-use Rattle.sab_block.specs.declared.access.Access.{Access}
-use Rattle.sab_block.specs.declared.access.Access.TheVariants.{Load, Store, Rmw, CompareExchange}
-use Rattle.sab_block.specs.Access as accesses
+use Rattle.sab_plan.specs.declared.argument.Argument.{Argument}
+use Rattle.sab_plan.specs.declared.argument.Argument.TheVariants.{Value, Limit}
 use Rattle.sab_plan.specs.declared.call.Call.{Call}
-use Rattle.sab_plan.specs.declared.call.Call.TheVariants as C
-use Rattle.sab_plan.specs.Call.{index_of}
+use Rattle.sab_plan.specs.Call.{index_of, arguments_of}
 use Rattle.sab_plan.specs.Script.{ScriptParts}
 use Rattle.sab_plan.specs.Plan.{PlanParts, calls_in, call_of}
-use Rattle.sab_fact_json.specs.CallData.{whole_data, operand_data, limit_items, operand_items, more_items, call_data}
-use Rattle.sab_fact_json.specs.SafeNumbers.{IsSafeOperand, IsSafeCall, HasSafeNumbers}
+use Rattle.sab_fact_json.specs.CallData.{whole_data, operand_data, argument_data, argument_items, call_data}
+use Rattle.sab_fact_json.specs.SafeNumbers.{IsSafeOperand, IsSafeArgument, IsSafeCall, HasSafeNumbers}
 use Rattle.sab_fact_json.proofs.ShortNumbers.{HasShortNumbers, ItemsHaveShortNumbers, safe_short}
 
 -- what holds of all holds of the one at a position
@@ -30,29 +28,19 @@ operand_short x safe = go (is_bigint x) refl
     go false e = safe_short (whole_of x) (safe e)
     go true e = tt
 
-limit_short : (o : Option ℤ) → IfSome o IsSafeInteger → ItemsHaveShortNumbers (limit_items o)
-limit_short None safe = tt
-limit_short (Some n) safe = (safe_short n safe, tt)
+argument_short : (x : Argument) → IsSafeArgument x → HasShortNumbers (argument_data x)
+argument_short (Value x) safe = operand_short x safe
+argument_short (Limit n) safe = safe_short n safe
 
-operands_short : (access : Access) → All IsSafeOperand (accesses.operands_of access)
-    → ItemsHaveShortNumbers (operand_items access)
-operands_short (Load index) safe = tt
-operands_short (Store index x) safe = (operand_short x (All-head IsSafeOperand x [] safe), tt)
-operands_short (Rmw op index x) safe = (operand_short x (All-head IsSafeOperand x [] safe), tt)
-operands_short (CompareExchange index x y) safe = (
-  operand_short x (All-head IsSafeOperand x (y ∷ []) safe),
-  (operand_short y (All-head IsSafeOperand y [] (All-tail IsSafeOperand x (y ∷ []) safe)), tt),
-)
-
-more_short : (call : Call) → IsSafeCall call → ItemsHaveShortNumbers (more_items call)
-more_short (C.Access view access) safe = operands_short access safe.operands
-more_short (C.Wait view index x timeout) safe =
-    (operand_short x (All-head IsSafeOperand x [] safe.operands), limit_short timeout safe.limit)
-more_short (C.Notify view index count) safe = limit_short count safe.limit
+arguments_short : (xs : List Argument) → All IsSafeArgument xs → ItemsHaveShortNumbers (argument_items xs)
+arguments_short [] safe = tt
+arguments_short (x ∷ xs) safe =
+    (argument_short x (All-head IsSafeArgument x xs safe), arguments_short xs (All-tail IsSafeArgument x xs safe))
 
 pub call_short : (names : List (List ℕ)) (call : Call) → IsSafeCall call → HasShortNumbers (call_data names call)
 unfolding call_data
-call_short names call safe = (tt, (tt, (safe_short (index_of call) safe.index, more_short call safe)))
+call_short names call safe =
+    (tt, (tt, (safe_short (index_of call) safe.index, arguments_short (arguments_of call) safe.arguments)))
 
 -- each call of the plan is one
 pub call_safe : (plan : PlanParts) (a c : ℕ) (call : Call) → HasSafeNumbers plan → call_of plan a c ≡ Some call

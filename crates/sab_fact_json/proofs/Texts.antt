@@ -12,7 +12,7 @@ use Rattle.sab_block.specs.declared.rmw_op.RmwOp.TheVariants.{Exchange, Add, Sub
 use Rattle.sab_block.specs.declared.access.Access.TheVariants.{Load, Store, Rmw, CompareExchange}
 use Rattle.sab_plan.specs.declared.call.Call.{Call}
 use Rattle.sab_plan.specs.declared.call.Call.TheVariants as C
-use Rattle.sab_plan.specs.Call.{function_of, view_of, index_of}
+use Rattle.sab_plan.specs.Call.{function_of, view_of, index_of, arguments_of}
 use Rattle.sab_sim.specs.declared.progress.Progress.{Progress}
 use Rattle.sab_sim.specs.declared.entry.Entry.{Entry}
 use Rattle.sab_explain.specs.declared.fact.Fact.{Fact}
@@ -22,7 +22,7 @@ use Rattle.sab_explain.specs.declared.standing.Standing.{Standing}
 use Rattle.sab_text.specs.Text.{hex_byte}
 use Rattle.sab_fact_text.specs.CallText.{name_of}
 use Rattle.sab_fact_json.specs.Members.{member_if, member_text_if}
-use Rattle.sab_fact_json.specs.CallData.{AreNames, natural, whole_data, operand_data, more_items, call_data}
+use Rattle.sab_fact_json.specs.CallData.{AreNames, natural, whole_data, operand_data, argument_items, call_data}
 use Rattle.sab_fact_json.specs.FactData.{answer_in, what_name, why_in, place_data, found_data, entry_data}
 use Rattle.sab_fact_json.specs.StandingData.{at_name, notified_in, waker_in, standing_data, agent_data}
 use Rattle.sab_fact_json.specs.Lines.{line, block_data}
@@ -61,12 +61,12 @@ escape_function (C.Notify view index count) = refl
 pub call_json : (names : List (List ℕ)) (call : Call) → AreNames names
     → compact_text (call_data names call) ≡ (codes "[\"" ++ (function_of call ++ codes "\",\""))
     ++ (name_of names (view_of call) ++ (codes "\"," ++ (signed_decimal (index_of call)
-    ++ items_text true (more_items call))))
+    ++ items_text true (argument_items (arguments_of call)))))
 unfolding call_data
 call_json names call h =
     let word = function_of call in
     let name = name_of names (view_of call) in
-    let end = signed_decimal (index_of call) ++ items_text true (more_items call) in
+    let end = signed_decimal (index_of call) ++ items_text true (argument_items (arguments_of call)) in
     rw (escape_function call, escape_same name (name_plain names (view_of call) h), whole_text (index_of call))
     (ap (λ (s : List ℕ). 91 ∷ 34 ∷ s) (append_assoc word (34 ∷ []) (44 ∷ 34 ∷ ((name ++ 34 ∷ []) ++ 44 ∷ end))
     ∙ ap (λ (s : List ℕ). word ++ 34 ∷ 44 ∷ 34 ∷ s) (append_assoc name (34 ∷ []) (44 ∷ end))

@@ -5,10 +5,10 @@ use Rattle.std.specs.Cmp.Lexicographic.{nat_list_cmp_total}
 use Rattle.serde_json.specs.Data.{Data, Members, no_members, member}
 use Rattle.sab_block.specs.declared.operand.Operand.{Operand}
 use Rattle.sab_block.specs.Operand.{is_bigint, whole_of}
-use Rattle.sab_block.specs.declared.access.Access.{Access}
-use Rattle.sab_block.specs.declared.access.Access.TheVariants.{Load, Store, Rmw, CompareExchange}
+use Rattle.sab_plan.specs.declared.argument.Argument.{Argument}
+use Rattle.sab_plan.specs.declared.argument.Argument.TheVariants.{Value, Limit}
 use Rattle.sab_plan.specs.declared.call.Call.{Call}
-use Rattle.sab_plan.specs.declared.call.Call.TheVariants as C
+use Rattle.sab_plan.specs.Call.{arguments_of}
 use Rattle.sab_sim.specs.declared.place.Place.{Place}
 use Rattle.sab_sim.specs.declared.answer.Answer.{Answer}
 use Rattle.sab_sim.specs.declared.answer.Answer.TheVariants as A
@@ -23,7 +23,7 @@ use Rattle.sab_explain.specs.declared.standing.At.{At}
 use Rattle.sab_explain.specs.declared.standing.At.TheVariants as S
 use Rattle.sab_explain.specs.declared.standing.Standing.{Standing}
 use Rattle.sab_fact_json.specs.Members.{member_if}
-use Rattle.sab_fact_json.specs.CallData.{natural, whole_data, operand_data, limit_items, operand_items, more_items, call_data}
+use Rattle.sab_fact_json.specs.CallData.{natural, whole_data, operand_data, argument_data, argument_items, call_data}
 use Rattle.sab_fact_json.specs.FactData.{answer_data, answer_in, why_in, place_data, agent_items, found_data, entry_data}
 use Rattle.sab_fact_json.specs.StandingData.{notified_in, waker_in, standing_data, agent_data}
 use Rattle.sab_fact_json.specs.Lines.{block_data}
@@ -50,24 +50,17 @@ operand_in_order : (n : ℕ) (x : Operand) → IsInOrder n (operand_data x)
 unfolding operand_data
 operand_in_order n x = whole_in_order n (is_bigint x) (whole_of x)
 
-limit_in_order : (n : ℕ) (o : Option ℤ) → AreInOrder n (limit_items o)
-limit_in_order n None = tt
-limit_in_order n (Some z) = (tt, tt)
+argument_in_order : (n : ℕ) (x : Argument) → IsInOrder n (argument_data x)
+argument_in_order n (Value x) = operand_in_order n x
+argument_in_order n (Limit z) = tt
 
-operands_in_order : (n : ℕ) (access : Access) → AreInOrder n (operand_items access)
-operands_in_order n (Load index) = tt
-operands_in_order n (Store index x) = (operand_in_order n x, tt)
-operands_in_order n (Rmw op index x) = (operand_in_order n x, tt)
-operands_in_order n (CompareExchange index x y) = (operand_in_order n x, (operand_in_order n y, tt))
-
-more_in_order : (n : ℕ) (call : Call) → AreInOrder n (more_items call)
-more_in_order n (C.Access view access) = operands_in_order n access
-more_in_order n (C.Wait view index x timeout) = (operand_in_order n x, limit_in_order n timeout)
-more_in_order n (C.Notify view index count) = limit_in_order n count
+arguments_in_order : (n : ℕ) (xs : List Argument) → AreInOrder n (argument_items xs)
+arguments_in_order n [] = tt
+arguments_in_order n (x ∷ xs) = (argument_in_order n x, arguments_in_order n xs)
 
 pub call_in_order : (n : ℕ) (names : List (List ℕ)) (call : Call) → IsInOrder (suc n) (call_data names call)
 unfolding call_data
-call_in_order n names call = (tt, (tt, (tt, more_in_order n call)))
+call_in_order n names call = (tt, (tt, (tt, arguments_in_order n (arguments_of call))))
 
 pub does_in_order : (n : ℕ) (names : List (List ℕ)) (o : Option Call)
     → IfSome (option_map (call_data names) o) (IsInOrder (suc n))

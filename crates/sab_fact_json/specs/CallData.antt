@@ -1,16 +1,15 @@
 -- Calls as JSON, as a script spells them.
-use Rattle.std.specs.Prelude.{ℕ, ◌||◌, ◌==◌, Bool, true, false, List, Option, Some, None, ℤ, All, IsTrue}
+use Rattle.std.specs.Prelude.{ℕ, ◌||◌, ◌==◌, Bool, true, false, List, [], ◌∷◌, ℤ, All, IsTrue}
 use Rattle.std.specs.Char.{is_ascii_alphanumeric}
 use Rattle.std.specs.Fmt.{signed_decimal}
 use Rattle.serde_json.specs.Data.{Data, unsigned, number, string, array, Items, no_items, item}
 use Rattle.serde_json.specs.Find.{of_integer}
 use Rattle.sab_block.specs.declared.operand.Operand.{Operand}
 use Rattle.sab_block.specs.Operand.{is_bigint, whole_of}
-use Rattle.sab_block.specs.declared.access.Access.{Access}
-use Rattle.sab_block.specs.declared.access.Access.TheVariants.{Load, Store, Rmw, CompareExchange}
+use Rattle.sab_plan.specs.declared.argument.Argument.{Argument}
+use Rattle.sab_plan.specs.declared.argument.Argument.TheVariants.{Value, Limit}
 use Rattle.sab_plan.specs.declared.call.Call.{Call}
-use Rattle.sab_plan.specs.declared.call.Call.TheVariants as C
-use Rattle.sab_plan.specs.Call.{function_of, view_of, index_of}
+use Rattle.sab_plan.specs.Call.{function_of, view_of, index_of, arguments_of}
 use Rattle.sab_fact_text.specs.CallText.{name_of}
 
 -- an ASCII letter, a digit or `_`
@@ -35,25 +34,17 @@ whole_data true z = string (signed_decimal z)
 unfoldable pub operand_data : Operand → Data
 operand_data x = whole_data (is_bigint x) (whole_of x)
 
--- a timeout or a count, where it is there
-abbrev pub limit_items : Option ℤ → Items
-limit_items None = no_items
-limit_items (Some n) = item (whole n) no_items
+-- an operand, a timeout or a count
+abbrev pub argument_data : Argument → Data
+argument_data (Value x) = operand_data x
+argument_data (Limit n) = whole n
 
-abbrev pub operand_items : Access → Items
-operand_items (Load index) = no_items
-operand_items (Store index x) = item (operand_data x) no_items
-operand_items (Rmw op index x) = item (operand_data x) no_items
-operand_items (CompareExchange index x y) = item (operand_data x) (item (operand_data y) no_items)
-
--- what a call takes besides a view and an index
-abbrev pub more_items : Call → Items
-more_items (C.Access view access) = operand_items access
-more_items (C.Wait view index x timeout) = item (operand_data x) (limit_items timeout)
-more_items (C.Notify view index count) = limit_items count
+abbrev pub argument_items : List Argument → Items
+argument_items [] = no_items
+argument_items (x ∷ xs) = item (argument_data x) (argument_items xs)
 
 -- a call, as ["load","m",0]
 unfoldable pub call_data : List (List ℕ) → Call → Data
 call_data names call =
     array (item (string (function_of call)) (item (string (name_of names (view_of call)))
-    (item (whole (index_of call)) (more_items call))))
+    (item (whole (index_of call)) (argument_items (arguments_of call)))))

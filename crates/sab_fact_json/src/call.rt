@@ -3,21 +3,19 @@
 ghost use Rattle.std.specs.Prelude.{◌≡◌, ◌+◌, ◌*◌, ◌≤◌, ◌++◌, true, length, codes};
 ghost use Rattle.serde_json.specs.Written.{compact_text, items_text};
 ghost use Rattle.sab_plan.specs.Call.{function_of};
-ghost use Rattle.sab_fact_json.specs.CallData.{AreNames, operand_data, limit_items, operand_items, more_items, call_data};
+ghost use Rattle.sab_fact_json.specs.CallData.{AreNames, operand_data, argument_data, argument_items, call_data};
 
-use sab_block::{Access, Operand};
+use sab_block::Operand;
 use sab_fact_text::{Name, push_name};
+use sab_plan::Argument;
 use sab_sim::Call;
 use sab_text::Chunk;
 
 /// The most bytes of an operand: a sign, 39 digits and two quotes.
 pub(crate) const OPERAND_LEN: usize = 42;
 
-/// The most bytes of an operand behind a comma.
+/// The most bytes of an argument behind a comma.
 const ITEM_LEN: usize = 43;
-
-/// The most bytes of what a call takes besides a view and an index: two operands and a bracket.
-const MORE_LEN: usize = 87;
 
 /// The most bytes of a bracket and a function of `Atomics`, in quotes, and of what stands between it and the name.
 const FUNCTION_LEN: usize = 20;
@@ -38,7 +36,7 @@ pub fn push_call(names: &[Name], call: Call, chunk: &mut Chunk)
     push_name(names, call.view(), chunk);
     chunk.push(b"\",");
     chunk.push_whole(i128::from(call.index()));
-    push_more(call, chunk);
+    push_more(call.arguments().as_slice(), chunk);
 }
 
 /// Puts an operand last: a Number as a number, a BigInt as a string.
@@ -68,63 +66,28 @@ fn push_function(call: Call, chunk: &mut Chunk)
     chunk.push(b"\",\"");
 }
 
-/// Puts last what a call takes besides a view and an index, and closes its array.
-fn push_more(call: Call, chunk: &mut Chunk)
-    requires { length chunk.old + MORE_LEN ≤ Chunk.ROOM }
-    ensures bytes { chunk.new ≡ chunk.old ++ items_text true (more_items call) }
-    ensures len { length chunk.new ≤ length chunk.old + MORE_LEN }
+/// Puts arguments last, each behind a comma, and closes the array of their call.
+fn push_more(arguments: &[Argument], chunk: &mut Chunk)
+    requires { length chunk.old + ITEM_LEN * length arguments.now + 1 ≤ Chunk.ROOM }
+    ensures bytes { chunk.new ≡ chunk.old ++ items_text true (argument_items arguments.now) }
+    ensures len { length chunk.new ≤ length chunk.old + ITEM_LEN * length arguments.now + 1 }
 {
-    match call {
-        Call::Access { access, .. } => push_operands(access, chunk),
-        Call::Wait { value, timeout, .. } => {
-            push_item(value, chunk);
-            push_limit(timeout, chunk);
-        }
-        Call::Notify { count, .. } => push_limit(count, chunk),
-    }
-}
-
-/// Puts the operands of an access last, and closes the array of its call.
-fn push_operands(access: Access, chunk: &mut Chunk)
-    requires { length chunk.old + MORE_LEN ≤ Chunk.ROOM }
-    ensures bytes { chunk.new ≡ chunk.old ++ items_text true (operand_items access) }
-    ensures len { length chunk.new ≤ length chunk.old + MORE_LEN }
-{
-    match access {
-        Access::Load { .. } => {}
-        Access::Store { value, .. } | Access::Rmw { value, .. } => push_item(value, chunk),
-        Access::CompareExchange {
-            expected,
-            replacement,
-            ..
-        } => {
-            push_item(expected, chunk);
-            push_item(replacement, chunk);
-        }
-    }
-    chunk.push(b"]");
-}
-
-/// Puts an operand last, behind a comma.
-fn push_item(operand: Operand, chunk: &mut Chunk)
-    requires { length chunk.old + ITEM_LEN ≤ Chunk.ROOM }
-    ensures bytes { chunk.new ≡ chunk.old ++ codes "," ++ compact_text (operand_data operand) }
-    ensures len { length chunk.new ≤ length chunk.old + ITEM_LEN }
-{
-    chunk.push(b",");
-    push_operand(operand, chunk);
-}
-
-/// Puts a timeout or a count last, where there is one, and closes the array of its call.
-#[tactic(auto, using(crate::proofs::Texts::whole_text))]
-fn push_limit(limit: Option<i64>, chunk: &mut Chunk)
-    requires { length chunk.old + ITEM_LEN ≤ Chunk.ROOM }
-    ensures bytes { chunk.new ≡ chunk.old ++ items_text true (limit_items limit) }
-    ensures len { length chunk.new ≤ length chunk.old + ITEM_LEN }
-{
-    if let Some(limit) = limit {
+    for argument in arguments {
         chunk.push(b",");
-        chunk.push_whole(i128::from(limit));
+        push_argument(*argument, chunk);
     }
     chunk.push(b"]");
+}
+
+/// Puts an argument last.
+#[tactic(auto, using(crate::proofs::Texts::whole_text))]
+fn push_argument(argument: Argument, chunk: &mut Chunk)
+    requires { length chunk.old + OPERAND_LEN ≤ Chunk.ROOM }
+    ensures bytes { chunk.new ≡ chunk.old ++ compact_text (argument_data argument) }
+    ensures len { length chunk.new ≤ length chunk.old + OPERAND_LEN }
+{
+    match argument {
+        Argument::Value(operand) => push_operand(operand, chunk),
+        Argument::Limit(limit) => chunk.push_whole(i128::from(limit)),
+    }
 }

@@ -1,11 +1,10 @@
 -- Calls as JavaScript writes them, and the elements that they name.
-use Rattle.std.specs.Prelude.{ℕ, ℤ, List, [], ◌++◌, Option, Some, None, codes, slice_index_or}
+use Rattle.std.specs.Prelude.{ℕ, List, [], ◌++◌, codes, flat_map, slice_index_or}
 use Rattle.std.specs.Fmt.{signed_decimal}
-use Rattle.sab_block.specs.declared.access.Access.{Access}
-use Rattle.sab_block.specs.declared.access.Access.TheVariants.{Load, Store, Rmw, CompareExchange}
+use Rattle.sab_plan.specs.declared.argument.Argument.{Argument}
+use Rattle.sab_plan.specs.declared.argument.Argument.TheVariants.{Value, Limit}
 use Rattle.sab_plan.specs.declared.call.Call.{Call}
-use Rattle.sab_plan.specs.declared.call.Call.TheVariants as C
-use Rattle.sab_plan.specs.Call.{function_of, view_of, index_of}
+use Rattle.sab_plan.specs.Call.{function_of, view_of, index_of, arguments_of}
 use Rattle.sab_text.specs.Text.{operand_text}
 
 -- the name of a view, or nothing where it has none
@@ -16,22 +15,14 @@ name_of names view = slice_index_or names view []
 abbrev pub argument : List ℕ → List ℕ
 argument text = codes ", " ++ text
 
--- one more argument, where it is there
-abbrev pub optional : Option ℤ → List ℕ
-optional None = []
-optional (Some n) = argument (signed_decimal n)
-
-abbrev pub operand_arguments : Access → List ℕ
-operand_arguments (Load index) = []
-operand_arguments (Store index x) = argument (operand_text x)
-operand_arguments (Rmw op index x) = argument (operand_text x)
-operand_arguments (CompareExchange index x y) = argument (operand_text x) ++ argument (operand_text y)
+-- an operand, a timeout or a count
+abbrev pub argument_text : Argument → List ℕ
+argument_text (Value x) = argument (operand_text x)
+argument_text (Limit n) = argument (signed_decimal n)
 
 -- the arguments behind the view and the index
 abbrev pub more_arguments : Call → List ℕ
-more_arguments (C.Access view access) = operand_arguments access
-more_arguments (C.Wait view index x timeout) = argument (operand_text x) ++ optional timeout
-more_arguments (C.Notify view index count) = optional count
+more_arguments call = flat_map argument_text (arguments_of call)
 
 -- a call, as load(m, 0)
 unfoldable pub call_text : List (List ℕ) → Call → List ℕ

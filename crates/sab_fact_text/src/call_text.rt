@@ -1,13 +1,12 @@
 //! Calls as JavaScript writes them, and elements.
 
-ghost use Rattle.std.specs.Prelude.{◌≡◌, ◌+◌, ◌*◌, ◌≤◌, ◌++◌, length};
-ghost use Rattle.sab_text.specs.Text.{operand_text};
-ghost use Rattle.sab_fact_text.specs.CallText.{name_of, argument, optional, operand_arguments, more_arguments, call_text, element_text};
+ghost use Rattle.std.specs.Prelude.{◌≡◌, ◌+◌, ◌*◌, ◌≤◌, ◌++◌, length, flat_map};
+ghost use Rattle.sab_fact_text.specs.CallText.{name_of, argument_text, call_text, element_text};
 ghost use Rattle.sab_fact_text.specs.FactText.{stand_text};
 
 use crate::counts::push_since;
 use crate::name::Name;
-use sab_block::{Access, Operand};
+use sab_plan::Argument;
 use sab_sim::Call;
 use sab_text::Chunk;
 
@@ -35,7 +34,7 @@ pub fn push_call(names: &[Name], call: Call, chunk: &mut Chunk)
     push_name(names, call.view(), chunk);
     chunk.push(b", ");
     chunk.push_whole(i128::from(call.index()));
-    push_more_arguments(call, chunk);
+    push_more_arguments(call.arguments().as_slice(), chunk);
     chunk.push(b")");
 }
 
@@ -75,60 +74,26 @@ pub fn push_name(names: &[Name], view: u32, chunk: &mut Chunk)
     }
 }
 
-/// Puts last what a call takes besides a view and an index.
-fn push_more_arguments(call: Call, chunk: &mut Chunk)
-    requires { length chunk.old + 2 * ARGUMENT_LEN ≤ Chunk.ROOM }
-    ensures bytes { chunk.new ≡ chunk.old ++ more_arguments call }
-    ensures len { length chunk.new ≤ length chunk.old + 2 * ARGUMENT_LEN }
+/// Puts arguments last, each behind a comma.
+fn push_more_arguments(arguments: &[Argument], chunk: &mut Chunk)
+    requires { length chunk.old + ARGUMENT_LEN * length arguments.now ≤ Chunk.ROOM }
+    ensures bytes { chunk.new ≡ chunk.old ++ flat_map argument_text arguments.now }
+    ensures len { length chunk.new ≤ length chunk.old + ARGUMENT_LEN * length arguments.now }
 {
-    match call {
-        Call::Access { access, .. } => push_operands(access, chunk),
-        Call::Wait { value, timeout, .. } => {
-            push_argument(value, chunk);
-            push_optional(timeout, chunk);
-        }
-        Call::Notify { count, .. } => push_optional(count, chunk),
+    for argument in arguments {
+        push_argument(*argument, chunk);
     }
 }
 
-/// Puts the operands of an access last.
-fn push_operands(access: Access, chunk: &mut Chunk)
-    requires { length chunk.old + 2 * ARGUMENT_LEN ≤ Chunk.ROOM }
-    ensures bytes { chunk.new ≡ chunk.old ++ operand_arguments access }
-    ensures len { length chunk.new ≤ length chunk.old + 2 * ARGUMENT_LEN }
-{
-    match access {
-        Access::Load { .. } => {}
-        Access::Store { value, .. } | Access::Rmw { value, .. } => push_argument(value, chunk),
-        Access::CompareExchange {
-            expected,
-            replacement,
-            ..
-        } => {
-            push_argument(expected, chunk);
-            push_argument(replacement, chunk);
-        }
-    }
-}
-
-/// Puts an operand last, behind a comma.
-fn push_argument(operand: Operand, chunk: &mut Chunk)
+/// Puts an argument last, behind a comma.
+fn push_argument(argument: Argument, chunk: &mut Chunk)
     requires { length chunk.old + ARGUMENT_LEN ≤ Chunk.ROOM }
-    ensures bytes { chunk.new ≡ chunk.old ++ argument (operand_text operand) }
+    ensures bytes { chunk.new ≡ chunk.old ++ argument_text argument }
     ensures len { length chunk.new ≤ length chunk.old + ARGUMENT_LEN }
 {
     chunk.push(b", ");
-    chunk.push_operand(operand);
-}
-
-/// Puts a number last, behind a comma, where there is one.
-fn push_optional(number: Option<i64>, chunk: &mut Chunk)
-    requires { length chunk.old + ARGUMENT_LEN ≤ Chunk.ROOM }
-    ensures bytes { chunk.new ≡ chunk.old ++ optional number }
-    ensures len { length chunk.new ≤ length chunk.old + ARGUMENT_LEN }
-{
-    if let Some(number) = number {
-        chunk.push(b", ");
-        chunk.push_whole(i128::from(number));
+    match argument {
+        Argument::Value(operand) => chunk.push_operand(operand),
+        Argument::Limit(limit) => chunk.push_whole(i128::from(limit)),
     }
 }

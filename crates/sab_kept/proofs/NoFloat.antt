@@ -4,6 +4,8 @@ use Rattle.serde_json.specs.Data.{Data, object, Items, no_items, item}
 use Rattle.serde_json.specs.Written.{has_float, items_have_float, members_have_float}
 use Rattle.sab_block.specs.declared.operand.Operand.{Operand}
 use Rattle.sab_block.specs.Operand.{is_bigint, whole_of}
+use Rattle.sab_plan.specs.declared.argument.Argument.{Argument}
+use Rattle.sab_plan.specs.declared.argument.Argument.TheVariants.{Value, Limit}
 use Rattle.sab_plan.specs.declared.call.Call.{Call}
 use Rattle.sab_plan.specs.declared.schedule.Move.{Move}
 use Rattle.sab_plan.specs.declared.schedule.Move.TheVariants.{Step, TimeUp}
@@ -13,7 +15,7 @@ use Rattle.sab_script.specs.Reading.{SpellsEach}
 use Rattle.sab_script.specs.Numbers.{whole, whole_or_null, operand_data, operand_tree}
 use Rattle.sab_script.specs.Blocks.{SpellsLen, SpellsLens, with_block}
 use Rattle.sab_script.specs.Views.{SpellsView, view_names}
-use Rattle.sab_script.specs.Calls.{Argument, value, limit, spelling_of, SpellsArgument, SpellsCall}
+use Rattle.sab_script.specs.Calls.{spelling_of, SpellsArgument, SpellsCall}
 use Rattle.sab_script.specs.Agents.{SpellsScript}
 use Rattle.sab_script.specs.Schedule.{SpellsMove}
 use Rattle.sab_script.specs.Setup.{SetupParts, Spells}
@@ -59,8 +61,8 @@ view_exact d s h t v told =
     rw told.tree whole
 
 argument_exact : (d : Data) (x : Argument) → SpellsArgument d x → has_float d ≡ false
-argument_exact d (value x) h = rw h.0 (operand_exact x)
-argument_exact d (limit z) h = rw h.0 (whole_exact z)
+argument_exact d (Value x) h = rw h.0 (operand_exact x)
+argument_exact d (Limit z) h = rw h.0 (whole_exact z)
 
 call_exact : (names : List (List ℕ)) (d : Data) (c : Call) → SpellsCall names d c → has_float d ≡ false
 call_exact names d c h =

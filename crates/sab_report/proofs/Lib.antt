@@ -3,3 +3,4 @@ pub mod Formats
 pub mod ViewNames
 pub mod Equality
 pub mod Verdicts
+pub mod SpelledCalls

@@ -1,5 +1,5 @@
 -- The pieces, one behind the other.
-use Rattle.std.proofs.Common.{rules, ◌∙◌, ap}
+use Rattle.std.proofs.Common.{rules, ◌∙◌, sym, ap}
 use Rattle.std.proofs.lemmas.Int.{to_z-of_z}
 use Rattle.std.specs.Prelude.{FitsSigned}
 use Rattle.std.specs.Int.{w64, w128}
@@ -13,7 +13,7 @@ pub returns-clause-bytes : goal.returns-clause-bytes
 returns-clause-bytes c =
     let narrow : FitsSigned w64 c.index.result = search rules in
     let wide : FitsSigned w128 c.from.result = search rules in
-    rw (call_json c.args.names.now c.args.call c.requires.names)
+    rw (call_json c.args.names.now c.args.call c.requires.names, sym c.arguments.ensures, sym c.as_slice.ensures.items)
     (behind _ _ _ _ _ c.push_function.ensures.bytes
     (behind_as _ _ _ _ _ _ (ap (name_of c.args.names.now) c.view.ensures) c.push_name.ensures.bytes
     (behind _ _ _ _ _ c.push.ensures

@@ -1,0 +1,54 @@
+-- A value that spells a call is what a line of JSON tells of it.
+use Rattle.std.proofs.Common.{◌≡◌, ℕ, ℤ, Bool, true, false, List, [], ◌∷◌, refl, sym, ap, ◌∙◌, subst}
+use Rattle.std.proofs.lemmas.Option.{get_or_from_slice_get}
+use Rattle.serde_json.specs.Data.{Data, string, Items, no_items, item}
+use Rattle.sab_block.specs.declared.operand.Operand.{Operand}
+use Rattle.sab_block.specs.Operand.{is_bigint, whole_of}
+use Rattle.sab_plan.specs.declared.argument.Argument.{Argument}
+use Rattle.sab_plan.specs.declared.argument.Argument.TheVariants.{Value, Limit}
+use Rattle.sab_plan.specs.declared.call.Call.{Call}
+use Rattle.sab_plan.specs.Call.{function_of, view_of, index_of, arguments_of}
+use Rattle.sab_script.specs.Numbers as numbers
+use Rattle.sab_script.specs.Views.{SpellsName}
+use Rattle.sab_script.specs.Calls.{SpellsArgument, SpellsArguments, call_tree, SpellsCall}
+use Rattle.sab_fact_text.specs.CallText.{name_of}
+use Rattle.sab_fact_json.specs.CallData.{whole_data, operand_data, argument_data, argument_items, call_data}
+use Rattle.sab_report.specs.Spelling.{IsToldAsSpelled}
+
+operand_told : (x : Operand) → numbers.operand_tree x ≡ operand_data x
+unfolding operand_data
+operand_told x = go (is_bigint x) (whole_of x)
+  where
+    go : (big : Bool) (z : ℤ) → numbers.operand_data big z ≡ whole_data big z
+    go false z = refl
+    go true z = refl
+
+argument_told : (d : Data) (x : Argument) → SpellsArgument d x → d ≡ argument_data x
+argument_told d (Value x) h = h.0 ∙ operand_told x
+argument_told d (Limit z) h = h.0
+
+arguments_told : (ds : Items) (xs : List Argument) → SpellsArguments ds xs → ds ≡ argument_items xs
+arguments_told no_items [] h = refl
+arguments_told no_items (x ∷ xs) h = absurd h
+arguments_told (item d ds) [] h = absurd h
+arguments_told (item d ds) (x ∷ xs) h =
+    let first = argument_told d x h.0 in
+    let others = arguments_told ds xs h.1 in
+    λ i. item (first i) (others i)
+
+name_told : (names : List (List ℕ)) (d : Data) (view : ℕ) → SpellsName names d view → d ≡ string (name_of names view)
+name_told names d view h = h.tree ∙ ap string (sym (get_or_from_slice_get names view h.text [] h.there))
+
+call_told : (names : List (List ℕ)) (d : Data) (call : Call) → SpellsCall names d call → d ≡ call_data names call
+unfolding call_data
+call_told names d call h =
+    let name = name_told names h.view_tree (view_of call) h.view in
+    let arguments = arguments_told h.argument_trees (arguments_of call) h.arguments in
+    h.tree ∙ (λ i. call_tree (function_of call) (name i) (index_of call) (arguments i))
+
+pub told_as_spelled : (names : List (List ℕ)) (d : Data) (call : Call) → SpellsCall names d call
+    → IsToldAsSpelled names call
+told_as_spelled names d call h = record {
+  spelled = subst (λ (x : Data). SpellsCall names x call) (call_told names d call h) h;
+  only = λ x. call_told names x call;
+}
