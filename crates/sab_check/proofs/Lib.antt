@@ -1,4 +1,3 @@
-pub mod Causes
 pub mod Counts
 pub mod Lines
 pub mod Names

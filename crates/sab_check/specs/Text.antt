@@ -15,7 +15,7 @@ use Rattle.sab_script.specs.Setup.{SetupParts}
 use Rattle.sab_check.specs.declared.cause.Reason.{Reason}
 use Rattle.sab_check.specs.declared.cause.Reason.TheVariants.{NotAtomic, NotWaitable, NoElement, NotNumber, NotBigInt, CannotBlock}
 use Rattle.sab_check.specs.declared.cause.Cause.{Cause}
-use Rattle.sab_check.specs.Cause.{steps, first_cause}
+use Rattle.sab_check.specs.Cause.{first_cause}
 
 -- what is amiss
 abbrev pub reason_text : Reason → List ℕ
@@ -42,7 +42,7 @@ name_in (Some name) = name
 -- why a call throws whenever it acts, if it does
 abbrev pub cause_on : Bool → Option PlanView → Call → Option Cause
 cause_on can_block None call = None
-cause_on can_block (Some v) call = first_cause (steps can_block v.view call)
+cause_on can_block (Some v) call = first_cause can_block v.view call
 
 -- a line of a warning, or none
 abbrev pub line_of : ℕ → ℕ → List ℕ → List ℕ → Option Cause → List ℕ

@@ -1,6 +1,11 @@
 //! Why a call throws whenever it acts.
 
-use sab_block::{Kind, Thrown};
+ghost use Rattle.std.specs.Prelude.{◌≡◌};
+ghost use Rattle.sab_plan.specs.Check.{verdict};
+ghost use Rattle.sab_check.specs.Cause.{reason_of, first_cause, thrown_of};
+
+use sab_block::{Check, Kind, Thrown, View};
+use sab_plan::{Call, failing_check};
 use std::fmt;
 
 /// What a call's check finds amiss.
@@ -27,6 +32,35 @@ pub(crate) struct Cause {
     pub thrown: Thrown,
     /// The first of its checks that fails.
     pub reason: Reason,
+}
+
+/// What a call throws whenever it acts, and why; none for a call that depends on the bytes alone.
+pub(crate) fn cause_of(can_block: bool, view: View, call: &Call) -> Option<Cause>
+    ensures cause { result ≡ first_cause can_block view call.now }
+    ensures verdict { thrown_of result ≡ verdict can_block view call.now }
+{
+    let check = failing_check(view, *call, can_block)?;
+    Some(Cause {
+        thrown: check.thrown(),
+        reason: Reason::of(view, call, check),
+    })
+}
+
+impl Reason {
+    /// What is amiss where a check of a call on its view fails.
+    fn of(view: View, call: &Call, check: Check) -> Reason
+        ensures { result ≡ reason_of view call.now check }
+    {
+        let kind = view.kind();
+        match check {
+            Check::AtomicKind => Reason::NotAtomic(kind),
+            Check::WaitableKind => Reason::NotWaitable(kind),
+            Check::Index => Reason::NoElement(call.index(), view.len()),
+            Check::Operand if kind.is_big() => Reason::NotBigInt(kind),
+            Check::Operand => Reason::NotNumber(kind),
+            Check::CanBlock => Reason::CannotBlock,
+        }
+    }
 }
 
 impl fmt::Display for Reason {

@@ -6,7 +6,6 @@ mod cause;
 mod check;
 mod foreign;
 mod foreign_line;
-mod judging;
 mod ok_line;
 mod scanning;
 mod spot;

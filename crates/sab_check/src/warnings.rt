@@ -5,7 +5,7 @@ ghost use Rattle.sab_plan.specs.Call.{view_of};
 ghost use Rattle.sab_script.specs.Views.{named_views, view_names};
 ghost use Rattle.sab_check.specs.Text.{name_in, call_lines, calls_lines, agents_lines};
 
-use crate::judging::cause_of;
+use crate::cause::cause_of;
 use crate::warning::Warning;
 use sab_plan::{Call, Script};
 use sab_script::Setup;

@@ -1,20 +1,21 @@
 -- What was known before a move is what the fact of its entry tells.
 use Rattle.std.proofs.Common.{◌≡◌, ◌⊎◌, inl, inr, ℕ, zero, suc, ◌==◌, ◌||◌, not, Bool, true, false, cond, List, [], ◌∷◌, ◌++◌, length, take, map, slice_get, Option, Some, None, refl, ap, sym, ◌∙◌, subst, arith, MatchBool, ℤ}
 use Rattle.std.specs.Bool.{then_some}
-use Rattle.std.specs.Prelude.{⊤, Contains, IfSome, IfNone, if◌then◌else◌, filter}
+use Rattle.std.specs.Prelude.{⊤, Contains, IfSome, IfNone, if◌then◌else◌, filter, option_map}
 use Rattle.std.specs.List.{list_any}
 use Rattle.std.proofs.lemmas.Bool.{false≢true, and_parts, eqb-true}
 use Rattle.std.proofs.Math.Seq.{take-append_seam}
 use Rattle.sab_block.specs.declared.kind.Kind.{Kind}
 use Rattle.sab_block.specs.declared.kind.Kind.TheVariants as K
 use Rattle.sab_block.specs.declared.thrown.Thrown.{Thrown}
+use Rattle.sab_block.specs.declared.check.Check.{Check}
 use Rattle.sab_block.specs.declared.operand.Operand.{Operand}
 use Rattle.sab_block.specs.declared.access.Access.TheVariants as X
 use Rattle.sab_block.specs.Kind.{is_atomic, is_waitable}
 use Rattle.sab_block.specs.Operand.{agrees}
 use Rattle.sab_block.specs.View.{kind_of}
-use Rattle.sab_block.specs.Access as accesses
-use Rattle.sab_block.specs.Access.{value_at, raw_of, element, first_failure}
+use Rattle.sab_block.specs.Check.{Checked, thrown_by, first_failed, first_thrown}
+use Rattle.sab_block.specs.Access.{kind_check, index_check, operand_check, value_at, raw_of, element}
 use Rattle.sab_sim.specs.declared.place.Place.{Place}
 use Rattle.sab_plan.specs.declared.plan_view.PlanView.{PlanView}
 use Rattle.sab_plan.specs.declared.call.Call.{Call}
@@ -40,13 +41,11 @@ use Rattle.sab_sim.specs.States.{IsOfWaits}
 use Rattle.sab_sim.specs.Sim.{SimParts}
 use Rattle.sab_sim.proofs.OnlyAct.{one_value}
 use Rattle.sab_sim.proofs.PlaceLine.{Reaches-one}
-use Rattle.sab_explain.specs.declared.fact.Check.{Check}
 use Rattle.sab_explain.specs.declared.fact.Found.{Found}
 use Rattle.sab_explain.specs.declared.fact.Found.TheVariants as F
 use Rattle.sab_explain.specs.declared.fact.Fact.{Fact}
 use Rattle.sab_explain.specs.declared.sight.Sight.{Sight}
 use Rattle.sab_explain.specs.declared.before.Before.{Before}
-use Rattle.sab_explain.specs.Check.{names_of, first_failed}
 use Rattle.sab_explain.specs.Fact.{place_named, value_in, expects, found_by, IsOfAct, IsOfThrow, IsWaker, IsOfWoken, IsOfWaiting, Finds}
 use Rattle.sab_explain.specs.Explainer.{is_expected, IsSight, IsBlind, IsBefore, failure, woken_by, found, concluded}
 use Rattle.sab_explain.proofs.Explaining.{Reaches-last}
@@ -133,10 +132,15 @@ waitable_atomic K.BigInt64 e = refl
 waitable_atomic K.BigUint64 e = refl
 
 -- the first check passes where none fails, and none of the rest fails
-first_passes : (b : Bool) (t : Thrown) (rest : Option Thrown) → (if b then rest else Some t) ≡ None
-    → (b ≡ true) × (rest ≡ None)
-first_passes true t rest e = (refl, e)
-first_passes false t rest e = absurd (cc)
+first_passes : (b : Bool) (check : Check) (rest : Option Check)
+    → option_map thrown_by (if b then rest else Some check) ≡ None
+    → (b ≡ true) × (option_map thrown_by rest ≡ None)
+first_passes true check rest e = (refl, e)
+first_passes false check rest e = absurd (cc)
+
+head_passes : (c : Checked) (rest : List Checked) → first_thrown (c ∷ rest) ≡ None
+    → (c.passes ≡ true) × (first_thrown rest ≡ None)
+head_passes c rest = first_passes c.passes c.check (first_failed rest)
 
 -- it shows an element of the call's view
 abbrev IsSeen : What → Type 0
@@ -193,9 +197,11 @@ DoesCall-sees cb a v call S w T i d = absurd (first_of (assumption, cc))
 expects_is : (cb : Bool) (v : PlanView) (p : Place) (call : Call) (S : State) → verdict cb v.view call ≡ None
     → is_expected v.view call (element_at v S.mem p) ≡ expects S v p call
 expects_is cb v p (C.Access n (X.CompareExchange index x y)) S e =
-    let kind = first_passes _ _ _ e in
-    let there = first_passes _ _ _ kind.1 in
-    let agree : agrees (kind_of v.view) x ≡ true = (first_passes _ _ _ there.1).0 in
+    let second = operand_check v.view y ∷ [] in
+    let operands = operand_check v.view x ∷ second in
+    let kind = head_passes (kind_check v.view) (index_check v.view index ∷ operands) e in
+    let there = head_passes (index_check v.view index) operands kind.1 in
+    let agree : agrees (kind_of v.view) x ≡ true = (head_passes (operand_check v.view x) second there.1).0 in
     rw agree refl
 expects_is cb v p (C.Access n (X.Load index)) S e = refl
 expects_is cb v p (C.Access n (X.Store index x)) S e = refl
@@ -386,28 +392,11 @@ finds_act old new m e S T b (Some s) since k i see blind w q seen acts =
     seen_act old new m e S T b s since k i see w q d.script.can_block
     (passed old.plan S T e b.call s d (known_call old new m e S T b k i d) see.call_is see.view_is sees.passes)
 
--- the first check that fails has a name
-named_failure : (names : List Check) (tests : List accesses.Check) (t : Thrown) → length names ≡ length tests
-    → first_failure tests ≡ Some t → (check : Check) × (first_failed names tests ≡ Some check)
-named_failure [] [] t l e = absurd (cc)
-named_failure [] (test ∷ tests) t l e = absurd (omega (arith, l))
-named_failure (name ∷ names) [] t l e = absurd (omega (arith, l))
-named_failure (name ∷ names) (test ∷ tests) t l e = go (named_failure names tests t (omega (arith, l))) test.passes e
-  where
-    go : (first_failure tests ≡ Some t → (check : Check) × (first_failed names tests ≡ Some check)) → (p : Bool)
-        → (if p then first_failure tests else Some test.thrown) ≡ Some t
-        → (check : Check) × ((if p then first_failed names tests else Some name) ≡ Some check)
-    go rest true f = rest f
-    go rest false f = (name, refl)
-
--- each check of a call has a name
-names_fit : (cb : Bool) (v : PlanView) (call : Call) → length (names_of call) ≡ length (checks cb v.view call)
-names_fit cb v (C.Access n (X.CompareExchange index x y)) = refl
-names_fit cb v (C.Access n (X.Load index)) = refl
-names_fit cb v (C.Access n (X.Store index x)) = refl
-names_fit cb v (C.Access n (X.Rmw op index x)) = refl
-names_fit cb v (C.Wait n index x timeout) = refl
-names_fit cb v (C.Notify n index count) = refl
+-- what is thrown is thrown by a check that fails
+thrown_by_one : (failed : Option Check) (t : Thrown) → option_map thrown_by failed ≡ Some t
+    → (check : Check) × (failed ≡ Some check)
+thrown_by_one None t e = absurd (cc)
+thrown_by_one (Some check) t e = (check, refl)
 
 finds_throw : (old new : SimParts) (m : Move) (e : Entry) (S T : State) (b : Before) (since : Option ℕ) (t : Thrown)
     → Known old new m e S T → IsBefore old (agent_of m) b → e.what ≡ Acted (A.Threw t)
@@ -417,8 +406,7 @@ finds_throw old new m e S T b since t k i q =
     let n = known_call old new m e S T b k i d in
     let threw =
     DoesCall-threw d.script.can_block e.agent d.view d.call S t T (doing old.plan S T e (Acted (A.Threw t)) q d) in
-    let check = named_failure (names_of d.call) (checks d.script.can_block d.view.view d.call) t
-    (names_fit d.script.can_block d.view d.call) threw in
+    let check = thrown_by_one (first_failed (checks d.script.can_block d.view.view d.call)) t threw in
     let script : slice_get old.plan.scripts (agent_of m) ≡ Some d.script = rw (sym k.agent) d.script_is in
     let failing : b.failing ≡ Some check.0 = i.failing_is ∙ (rw (n, d.view_is, script) check.1) in
     record {

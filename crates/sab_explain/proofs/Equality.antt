@@ -1,23 +1,16 @@
--- Checks and standings that the derived `==` finds equal are the same.
+-- Standings that the derived `==` finds equal are the same.
 use Rattle.std.proofs.Common.{◌≡◌, Bool, true, false, Option, Some, None, refl, ap, rules}
 use Rattle.std.specs.Option.{option_eq}
 use Rattle.std.proofs.lemmas.Bool.{false≢true, and_parts}
 use borrow.Author.Tests.{eqb-true}
-use denote.Enum.Bare.{same_true}
 use Rattle.sab_sim.specs.declared.place.Place.{Place}
 use Rattle.sab_sim.specs.contracts.place.PlacePartialEq.TheImpl as place
 use Rattle.sab_plan.proofs.Equality.{same_call}
-use Rattle.sab_explain.specs.declared.fact.Check.{Check}
-use Rattle.sab_explain.specs.contracts.fact.Check.{the_type as check_type}
-use Rattle.sab_explain.specs.contracts.fact.CheckPartialEq.TheImpl as check
 use Rattle.sab_explain.specs.declared.standing.At.{At}
 use Rattle.sab_explain.specs.declared.standing.At.TheVariants as T
 use Rattle.sab_explain.specs.declared.standing.Standing.{Standing}
 use Rattle.sab_explain.specs.contracts.standing.AtPartialEq.TheImpl as at
 use Rattle.sab_explain.specs.contracts.standing.StandingPartialEq.TheImpl as standing
-
-same_check : (x y : Check) → (check.ghosts).eq x y ≡ true → x ≡ y
-same_check = same_true check_type (search rules)
 
 same_option : {X : Type 0} {E : X → X → Bool} → ((x y : X) → E x y ≡ true → x ≡ y) → (t u : Option X)
     → option_eq E t u ≡ true → t ≡ u

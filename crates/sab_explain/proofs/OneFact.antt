@@ -24,11 +24,11 @@ use Rattle.sab_sim.specs.Journal.{Reaches}
 use Rattle.sab_sim.proofs.OnlyAct.{one_value}
 use Rattle.sab_sim.proofs.PlaceLine.{Reaches-one}
 use Rattle.sab_sim.proofs.Fronts.{Reaches-front}
-use Rattle.sab_explain.specs.declared.fact.Check.{Check}
+use Rattle.sab_block.specs.declared.check.Check.{Check}
 use Rattle.sab_explain.specs.declared.fact.Found.{Found}
 use Rattle.sab_explain.specs.declared.fact.Found.TheVariants as F
 use Rattle.sab_explain.specs.declared.fact.Fact.{Fact}
-use Rattle.sab_explain.specs.Check.{names_of, first_failed}
+use Rattle.sab_block.specs.Check.{first_failed}
 use Rattle.sab_explain.specs.Fact.{place_named, value_in, expects, found_by, IsOfAct, IsOfThrow, IsWaker, IsOfWoken, Finds, IsFact, HasWoken, NamesWaker, IsLast}
 use Rattle.sab_explain.proofs.Explaining.{Reaches-last}
 use Rattle.sab_explain.proofs.LastOnes.{last_of, IsLast-one}
@@ -79,16 +79,16 @@ IsOfThrow-one plan e f g o p q =
     one_value (slice_get plan.scripts e.agent) p.script q.script p.script_is q.script_is in
     let views : p.view ≡ q.view = one_value (slice_get plan.views (view_of q.call)) p.view q.view
     (subst (λ (c : Call). slice_get plan.views (view_of c) ≡ Some p.view) calls p.view_is) q.view_is in
-    let one = subst (λ (c : Call). first_failed (names_of c) (checks p.script.can_block p.view.view c) ≡ Some p.check)
+    let one = subst (λ (c : Call). first_failed (checks p.script.can_block p.view.view c) ≡ Some p.check)
     calls p.check_is in
     let two = subst
-    (λ (v : PlanView). first_failed (names_of q.call) (checks p.script.can_block v.view q.call) ≡ Some p.check)
+    (λ (v : PlanView). first_failed (checks p.script.can_block v.view q.call) ≡ Some p.check)
     views one in
     let three = subst
-    (λ (s : ScriptParts). first_failed (names_of q.call) (checks s.can_block q.view.view q.call) ≡ Some p.check)
+    (λ (s : ScriptParts). first_failed (checks s.can_block q.view.view q.call) ≡ Some p.check)
     scripts two in
     let same : p.check ≡ q.check = one_value
-    (first_failed (names_of q.call) (checks q.script.can_block q.view.view q.call)) p.check q.check three q.check_is
+    (first_failed (checks q.script.can_block q.view.view q.call)) p.check q.check three q.check_is
     in
     p.found_is ∙ (ap (λ (c : Check). F.Failed c) same ∙ sym q.found_is)
 

@@ -2,10 +2,12 @@
 use Rattle.std.specs.Prelude.{◌≡◌, ℕ, ◌==◌, ◌<◌, ◌≤◌, ◌+◌, ◌&&◌, Bool, true, false, List, length, slice_get, slice_index_or, Option, Some, None, IfSome, IfNone}
 use Rattle.std.specs.List.{list_any}
 use Rattle.sab_block.specs.declared.access.Access.TheVariants as X
+use Rattle.sab_block.specs.declared.check.Check.{Check}
 use Rattle.sab_block.specs.Kind.{is_atomic, element_size}
 use Rattle.sab_block.specs.Operand.{agrees}
 use Rattle.sab_block.specs.declared.view.View.{View}
 use Rattle.sab_block.specs.View.{kind_of, block_len_of}
+use Rattle.sab_block.specs.Check.{first_failed}
 use Rattle.sab_block.specs.Access.{value_at, element, raw_of}
 use Rattle.sab_sim.specs.declared.place.Place.{Place}
 use Rattle.sab_plan.specs.declared.plan_view.PlanView.{PlanView}
@@ -25,12 +27,10 @@ use Rattle.sab_sim.specs.declared.answer.Answer.TheVariants as A
 use Rattle.sab_sim.specs.declared.entry.Why.TheVariants as Y
 use Rattle.sab_sim.specs.declared.entry.What.{What}
 use Rattle.sab_sim.specs.declared.entry.What.TheVariants.{Acted, Enlisted, Left, Stuck}
-use Rattle.sab_explain.specs.declared.fact.Check.{Check}
 use Rattle.sab_explain.specs.declared.fact.Found.{Found}
 use Rattle.sab_explain.specs.declared.fact.Found.TheVariants as F
 use Rattle.sab_explain.specs.declared.sight.Sight.{Sight}
 use Rattle.sab_explain.specs.declared.before.Before.{Before}
-use Rattle.sab_explain.specs.Check.{names_of, first_failed}
 use Rattle.sab_explain.specs.Fact.{place_named, found_by, IsWaker, IsLast}
 
 -- an element at this byte is inside the view's block
@@ -72,7 +72,7 @@ IsBlind sim next =
 
 -- the check that fails of a call of an agent
 abbrev pub failed_on : Option PlanView → Option ScriptParts → Call → Option Check
-failed_on (Some view) (Some script) call = first_failed (names_of call) (checks script.can_block view.view call)
+failed_on (Some view) (Some script) call = first_failed (checks script.can_block view.view call)
 failed_on view script call = None
 
 abbrev pub failed_of : PlanParts → ℕ → Option Call → Option Check

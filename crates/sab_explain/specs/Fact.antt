@@ -1,8 +1,10 @@
 -- The fact of an entry, by the plan, the journal before it, and the states of the object before and after it.
 use Rattle.std.specs.Prelude.{◌≡◌, ℕ, ◌==◌, ◌<◌, ◌≤◌, ⊤, Bool, true, false, MatchBool, List, [], ◌∷◌, ◌++◌, length, take, slice_get, Contains, Option, Some, None}
 use Rattle.std.specs.List.{list_any}
+use Rattle.sab_block.specs.declared.check.Check.{Check}
 use Rattle.sab_block.specs.declared.operand.Operand.{Operand}
 use Rattle.sab_block.specs.declared.access.Access.TheVariants as X
+use Rattle.sab_block.specs.Check.{first_failed}
 use Rattle.sab_block.specs.Access.{raw_of, value_at}
 use Rattle.sab_sim.specs.declared.place.Place.{Place}
 use Rattle.sab_plan.specs.declared.plan_view.PlanView.{PlanView}
@@ -22,11 +24,9 @@ use Rattle.sab_plan.specs.Check.{checks}
 use Rattle.sab_sim.specs.Object.{State, bytes_of, element_at, waiters}
 use Rattle.sab_sim.specs.Journal.{Reaches}
 use Rattle.sab_sim.specs.Shown.{AtEnd}
-use Rattle.sab_explain.specs.declared.fact.Check.{Check}
 use Rattle.sab_explain.specs.declared.fact.Found.{Found}
 use Rattle.sab_explain.specs.declared.fact.Found.TheVariants as F
 use Rattle.sab_explain.specs.declared.fact.Fact.{Fact}
-use Rattle.sab_explain.specs.Check.{names_of, first_failed}
 
 -- ---- by the plan and the journal alone
 
@@ -98,7 +98,7 @@ pub record IsOfThrow (plan : PlanParts) (e : Entry) (fact : Fact) : Type 0 where
   pub view : PlanView
   pub view_is : slice_get plan.views (view_of call) ≡ Some view
   pub check : Check
-  pub check_is : first_failed (names_of call) (checks script.can_block view.view call) ≡ Some check
+  pub check_is : first_failed (checks script.can_block view.view call) ≡ Some check
   pub found_is : fact.found ≡ F.Failed check
 
 -- entry j is the one that woke the agent, as it is notified after the journal: before it the agent wasn't notified, and

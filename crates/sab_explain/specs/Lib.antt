@@ -1,4 +1,3 @@
-pub mod Check
 pub mod Fact
 pub mod Explainer
 pub mod Standing

@@ -7,10 +7,10 @@ ghost use Rattle.sab_explain.specs.Explainer.{IsReadable, IsBefore, failed_of, f
 ghost use Rattle.sab_explain.specs.Fact as facts;
 ghost use Rattle.sab_explain.specs.Fact.{found_by};
 
-use crate::check::failed_check;
-use crate::fact::{Check, Found};
+use crate::fact::Found;
 use crate::sight::{Sight, look, place_at, read, view_named};
-use sab_block::{Access, Operand, from_raw};
+use sab_block::{Access, Check, Operand, from_raw};
+use sab_plan::failing_check;
 use sab_sim::{Answer, Call, Place, Plan, Sim, What, Why};
 
 /// What is known of an agent before its move.
@@ -55,7 +55,7 @@ fn failing(plan: &Plan, agent: u32, call: Option<Call>) -> Option<Check>
     let call = call?;
     let view = view_named(plan, call)?;
     let script = plan.scripts().get(agent as usize)?;
-    failed_check(view.view, call, script.can_block)
+    failing_check(view.view, call, script.can_block)
 }
 
 /// What was found by an act of the call that was seen.

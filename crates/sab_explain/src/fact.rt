@@ -2,7 +2,7 @@
 
 ghost use Rattle.std.specs.Prelude.{◌≡◌};
 
-use sab_block::Operand;
+use sab_block::{Check, Operand};
 use sab_sim::{Call, Place, Waiters};
 
 /// What an entry found and changed, beyond what the entry itself tells.
@@ -61,19 +61,6 @@ pub enum Found {
     },
     /// A stuck entry of an agent that waits, or a wait that timed out: it had stood in the line at its place.
     Waited,
-}
-
-/// A check of a call.
-#[derive(Clone, Copy, Debug, PartialEq, Eq)]
-pub enum Check {
-    /// The kind of the view is one that the call takes.
-    Kind,
-    /// The view has an element of that index.
-    Index,
-    /// Each operand is a BigInt exactly if the elements are.
-    Operand,
-    /// The agent can block.
-    CanBlock,
 }
 
 impl Found {

@@ -4,7 +4,6 @@
 #![tactic(auto)]
 
 mod before;
-mod check;
 mod explainer;
 mod fact;
 mod notes;
@@ -12,5 +11,5 @@ mod sight;
 mod standing;
 
 pub use explainer::{Explained, Explainer};
-pub use fact::{Check, Fact, Found};
+pub use fact::{Fact, Found};
 pub use standing::{At, Standing};

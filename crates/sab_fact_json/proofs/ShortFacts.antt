@@ -3,7 +3,7 @@ use Rattle.std.proofs.Common.{◌≡◌, ℕ, ◌+◌, ◌*◌, ◌^◌, ◌<◌
 use Rattle.std.specs.Prelude.{slice_get, option_map, filter, codes}
 use Rattle.std.specs.List.{list_any}
 use Rattle.serde_json.specs.Data.{no_members}
-use Rattle.sab_explain.specs.declared.fact.Check.{Check}
+use Rattle.sab_block.specs.declared.check.Check.{Check}
 use borrow.Author.Tests.{ltb-true}
 use Rattle.std.proofs.lemmas.Option.{slice_get_within, cond_some}
 use Rattle.std.proofs.lemmas.List.Elements.{All-head, All-tail, All-map, All-filter, All-take}

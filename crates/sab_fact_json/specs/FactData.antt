@@ -1,6 +1,8 @@
 -- Entries and their facts as JSON.
 use Rattle.std.specs.Prelude.{ℕ, true, List, [], ◌∷◌, Option, Some, None, codes, option_map}
 use Rattle.serde_json.specs.Data.{Data, boolean, string, array, object, Items, no_items, item, Members, no_members, member}
+use Rattle.sab_block.specs.declared.check.Check.{Check}
+use Rattle.sab_block.specs.declared.check.Check.TheVariants as X
 use Rattle.sab_block.specs.Thrown.{name_of}
 use Rattle.sab_sim.specs.declared.answer.Answer.{Answer}
 use Rattle.sab_sim.specs.declared.answer.Answer.TheVariants as A
@@ -8,8 +10,6 @@ use Rattle.sab_sim.specs.declared.place.Place.{Place}
 use Rattle.sab_sim.specs.declared.entry.What.{What}
 use Rattle.sab_sim.specs.declared.entry.What.TheVariants.{Began, Acted, Enlisted, Left, Returned, Stuck}
 use Rattle.sab_sim.specs.declared.entry.Entry.{Entry}
-use Rattle.sab_explain.specs.declared.fact.Check.{Check}
-use Rattle.sab_explain.specs.declared.fact.Check.TheVariants as X
 use Rattle.sab_explain.specs.declared.fact.Found.{Found}
 use Rattle.sab_explain.specs.declared.fact.Found.TheVariants as F
 use Rattle.sab_explain.specs.declared.fact.Fact.{Fact}
@@ -51,7 +51,8 @@ unfoldable pub place_data : Place → Data
 place_data p = object (member (codes "block") (natural p.block) (member (codes "byte") (natural p.byte) no_members))
 
 abbrev pub check_name : Check → List ℕ
-check_name X.Kind = codes "kind"
+check_name X.AtomicKind = codes "kind"
+check_name X.WaitableKind = codes "kind"
 check_name X.Index = codes "index"
 check_name X.Operand = codes "operand"
 check_name X.CanBlock = codes "can-block"

@@ -10,8 +10,8 @@ ghost use Rattle.sab_explain.specs.declared.fact.Found.TheVariants as F;
 
 use crate::call::{OPERAND_LEN, push_operand};
 use crate::small::push_small;
-use sab_block::Operand;
-use sab_explain::{Check, Found};
+use sab_block::{Check, Operand};
+use sab_explain::Found;
 use sab_sim::Place;
 use sab_text::Chunk;
 
@@ -147,7 +147,7 @@ fn failed_text(check: Check) -> &'static [u8]
     ensures len { length result.now ≤ 40 }
 {
     match check {
-        Check::Kind => b",\"found\":{\"failed\":\"kind\"}",
+        Check::AtomicKind | Check::WaitableKind => b",\"found\":{\"failed\":\"kind\"}",
         Check::Index => b",\"found\":{\"failed\":\"index\"}",
         Check::Operand => b",\"found\":{\"failed\":\"operand\"}",
         Check::CanBlock => b",\"found\":{\"failed\":\"can-block\"}",

@@ -1,6 +1,8 @@
 -- The words of a fact.
 use Rattle.std.specs.Prelude.{ℕ, ◌+◌, ◌-◌, ◌==◌, Bool, true, false, if◌then◌else◌, List, [], ◌∷◌, ◌++◌, length, flat_map, Option, Some, None, codes, decimal, slice_get, slice_index_or}
 use Rattle.std.specs.Ordering.{int_eq}
+use Rattle.sab_block.specs.declared.check.Check.{Check}
+use Rattle.sab_block.specs.declared.check.Check.TheVariants as X
 use Rattle.sab_block.specs.declared.operand.Operand.{Operand}
 use Rattle.sab_block.specs.Kind.{is_big, kind_name}
 use Rattle.sab_block.specs.Operand.{whole_of}
@@ -8,7 +10,6 @@ use Rattle.sab_block.specs.View.{kind_of, len_of}
 use Rattle.sab_sim.specs.declared.answer.Answer.{Answer}
 use Rattle.sab_sim.specs.declared.answer.Answer.TheVariants.{Threw}
 use Rattle.sab_plan.specs.declared.call.Call.{Call}
-use Rattle.sab_plan.specs.declared.call.Call.TheVariants as C
 use Rattle.sab_plan.specs.declared.plan_view.PlanView.{PlanView}
 use Rattle.sab_sim.specs.declared.entry.Why.{Why}
 use Rattle.sab_sim.specs.declared.entry.Why.TheVariants.{Endless}
@@ -17,8 +18,6 @@ use Rattle.sab_sim.specs.declared.entry.What.TheVariants.{Began, Returned, Stuck
 use Rattle.sab_sim.specs.declared.entry.Entry.{Entry}
 use Rattle.sab_plan.specs.Call.{view_of}
 use Rattle.sab_plan.specs.Plan.{PlanParts}
-use Rattle.sab_explain.specs.declared.fact.Check.{Check}
-use Rattle.sab_explain.specs.declared.fact.Check.TheVariants as X
 use Rattle.sab_explain.specs.declared.fact.Found.{Found}
 use Rattle.sab_explain.specs.declared.fact.Found.TheVariants as F
 use Rattle.sab_explain.specs.declared.fact.Fact.{Fact}
@@ -99,29 +98,24 @@ abbrev pub notified_text : List ℕ → List (Option ℕ) → List ℕ → ℕ �
 notified_text element sinces [] waiting = nobody_text element waiting
 notified_text element sinces (a ∷ agents) waiting = some_text element sinces a agents waiting
 
--- what is wrong with a kind that a call doesn't take
-abbrev pub unfit_text : Call → List ℕ
-unfit_text (C.Access n access) = codes ", which Atomics doesn't take"
-unfit_text (C.Wait n index x timeout) = codes ", not Int32 or BigInt64"
-unfit_text (C.Notify n index count) = codes ", not Int32 or BigInt64"
-
 -- what a view is or has for which a call on it fails a check
-abbrev pub view_reason : Call → PlanView → Check → List ℕ
-view_reason call v X.Kind = codes " is " ++ kind_name (kind_of v.view) ++ unfit_text call
-view_reason call v X.Index = codes " has " ++ counted (len_of v.view) (codes " element") (codes " elements")
-view_reason call v X.Operand = codes " takes " ++ (if is_big (kind_of v.view) then codes "BigInts" else codes "Numbers")
-view_reason call v X.CanBlock = []
+abbrev pub view_reason : PlanView → Check → List ℕ
+view_reason v X.AtomicKind = codes " is " ++ kind_name (kind_of v.view) ++ codes ", which Atomics doesn't take"
+view_reason v X.WaitableKind = codes " is " ++ kind_name (kind_of v.view) ++ codes ", not Int32 or BigInt64"
+view_reason v X.Index = codes " has " ++ counted (len_of v.view) (codes " element") (codes " elements")
+view_reason v X.Operand = codes " takes " ++ (if is_big (kind_of v.view) then codes "BigInts" else codes "Numbers")
+view_reason v X.CanBlock = []
 
 -- the same where the plan has that view
-abbrev pub view_reason_in : Call → Check → Option PlanView → List ℕ
-view_reason_in call check (Some v) = view_reason call v check
-view_reason_in call check None = []
+abbrev pub view_reason_in : Check → Option PlanView → List ℕ
+view_reason_in check (Some v) = view_reason v check
+view_reason_in check None = []
 
 -- why an agent's call throws
 abbrev pub reason_text : List (List ℕ) → PlanParts → ℕ → Call → Check → List ℕ
 reason_text names plan a call X.CanBlock = codes "agent " ++ decimal a ++ codes " can't block"
 reason_text names plan a call check =
-    name_of names (view_of call) ++ view_reason_in call check (slice_get plan.views (view_of call))
+    name_of names (view_of call) ++ view_reason_in check (slice_get plan.views (view_of call))
 
 -- the two are one number
 abbrev pub is_same : Operand → Operand → Bool

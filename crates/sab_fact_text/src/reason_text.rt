@@ -1,12 +1,12 @@
 //! Why calls throw.
 
 ghost use Rattle.std.specs.Prelude.{◌≡◌, ◌+◌, ◌≤◌, ◌++◌, length};
-ghost use Rattle.sab_fact_text.specs.FactText.{unfit_text, view_reason, reason_text};
+ghost use Rattle.sab_fact_text.specs.FactText.{view_reason, reason_text};
 
 use crate::call_text::push_name;
 use crate::counts::push_counted;
 use crate::name::Name;
-use sab_explain::Check;
+use sab_block::Check;
 use sab_sim::{Call, Plan, PlanView};
 use sab_text::Chunk;
 
@@ -37,22 +37,27 @@ pub(crate) fn push_reason(
     }
     push_name(names, call.view(), chunk);
     if let Some(view) = plan.views().get(call.view() as usize) {
-        push_view_reason(call, *view, check, chunk);
+        push_view_reason(*view, check, chunk);
     }
 }
 
 /// Puts last what a view is or has for which a call on it fails a check.
-fn push_view_reason(call: Call, view: PlanView, check: Check, chunk: &mut Chunk)
+fn push_view_reason(view: PlanView, check: Check, chunk: &mut Chunk)
     requires { length chunk.old + VIEW_REASON_LEN ≤ Chunk.ROOM }
-    ensures bytes { chunk.new ≡ chunk.old ++ view_reason call view check }
+    ensures bytes { chunk.new ≡ chunk.old ++ view_reason view check }
     ensures len { length chunk.new ≤ length chunk.old + VIEW_REASON_LEN }
 {
     let kind = view.view.kind();
     match check {
-        Check::Kind => {
+        Check::AtomicKind => {
             chunk.push(b" is ");
             chunk.push(kind.name().as_bytes());
-            chunk.push(unfit_text(call).as_bytes());
+            chunk.push(b", which Atomics doesn't take");
+        }
+        Check::WaitableKind => {
+            chunk.push(b" is ");
+            chunk.push(kind.name().as_bytes());
+            chunk.push(b", not Int32 or BigInt64");
         }
         Check::Index => {
             chunk.push(b" has ");
@@ -67,16 +72,5 @@ fn push_view_reason(call: Call, view: PlanView, check: Check, chunk: &mut Chunk)
             });
         }
         Check::CanBlock => {}
-    }
-}
-
-/// What is wrong with a kind that a call doesn't take.
-fn unfit_text(call: Call) -> &'static str
-    ensures text { result.now ≡ unfit_text call }
-    ensures len { length result.now ≤ 28 }
-{
-    match call {
-        Call::Access { .. } => ", which Atomics doesn't take",
-        Call::Wait { .. } | Call::Notify { .. } => ", not Int32 or BigInt64",
     }
 }
