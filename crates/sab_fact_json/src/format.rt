@@ -15,6 +15,7 @@ use std::io::Write;
 /// A report as JSON: a line for each entry that has one, with its fact, then one for each block, and one for each agent.
 ///
 /// Each line is read as its tree, if the plan's Numbers are safe integers.
+#[derive(Drop)]
 pub struct Json<'a> {
     /// The names of the plan's views, of letters, digits and `_`.
     pub names: &'a [Name],

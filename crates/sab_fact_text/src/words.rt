@@ -14,6 +14,7 @@ use std::io;
 use std::io::Write;
 
 /// The explained text: the plain lines, and words behind those of entries and agents.
+#[derive(Drop)]
 pub struct Words<'a> {
     /// The names of the plan's views.
     pub names: &'a [Name],

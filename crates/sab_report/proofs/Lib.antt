@@ -3,3 +3,5 @@ pub mod Formats
 pub mod ViewNames
 pub mod Equality
 pub mod Verdicts
+pub mod Memory
+pub mod Driving

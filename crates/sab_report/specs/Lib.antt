@@ -2,3 +2,4 @@ pub mod Telling
 pub mod Racing
 pub mod Reporting
 pub mod Judging
+pub mod Driver
