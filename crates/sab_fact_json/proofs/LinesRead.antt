@@ -19,7 +19,7 @@ use Rattle.sab_sim.specs.Report.{ReportParts, progress_from, Fits}
 use Rattle.sab_explain.specs.declared.fact.Fact.{Fact}
 use Rattle.sab_explain.specs.declared.standing.Standing.{Standing}
 use Rattle.sab_explain.specs.Fact.{IsFact}
-use Rattle.sab_fact_text.specs.Explained.{IsStandingOf}
+use Rattle.sab_fact_text.specs.FactFormat.{IsStandingOf}
 use Rattle.sab_fact_json.specs.CallData.{natural, call_data}
 use Rattle.sab_fact_json.specs.FactData.{answer_in, why_in, place_data, found_data, entry_data}
 use Rattle.sab_fact_json.specs.StandingData.{standing_data, agent_data}

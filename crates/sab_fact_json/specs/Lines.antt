@@ -2,14 +2,15 @@
 use Rattle.std.specs.Prelude.{ℕ, ◌+◌, List, [], ◌∷◌, ◌++◌, flat_map, Option, None, codes, slice_index_or}
 use Rattle.serde_json.specs.Data.{Data, string, object, no_members, member}
 use Rattle.serde_json.specs.Written.{compact_text}
-use Rattle.sab_sim.specs.declared.entry.Entry.{Entry}
 use Rattle.sab_sim.specs.declared.progress.Progress.{Progress}
+use Rattle.sab_plan.specs.Plan.{PlanParts}
 use Rattle.sab_sim.specs.Report.{ReportParts}
 use Rattle.sab_explain.specs.declared.fact.Fact.{Fact}
 use Rattle.sab_explain.specs.declared.standing.Standing.{Standing}
 use Rattle.sab_text.specs.declared.lines.Lines.{Lines}
 use Rattle.sab_text.specs.Lines.{line_if}
 use Rattle.sab_text.specs.Text.{hex_byte}
+use Rattle.sab_fact_text.specs.FactFormat.{Texts, facts_text}
 use Rattle.sab_fact_json.specs.CallData.{natural}
 use Rattle.sab_fact_json.specs.FactData.{entry_data}
 use Rattle.sab_fact_json.specs.StandingData.{agent_data}
@@ -17,13 +18,6 @@ use Rattle.sab_fact_json.specs.StandingData.{agent_data}
 -- a tree on a line of its own
 abbrev pub line : Data → List ℕ
 line d = compact_text d ++ codes "\n"
-
--- a line for each entry that has one, with its fact; the first is entry k
-abbrev pub entry_lines : List (List ℕ) → Lines → ℕ → List Entry → List Fact → List ℕ
-entry_lines names lines k [] facts = []
-entry_lines names lines k (e ∷ journal) [] = []
-entry_lines names lines k (e ∷ journal) (fact ∷ facts) =
-    line_if lines e.what (line (entry_data names k e fact)) ++ entry_lines names lines (k + 1) journal facts
 
 -- block b, each byte of it in two hexadecimal digits
 unfoldable pub block_data : ℕ → List ℕ → Data
@@ -41,8 +35,14 @@ agent_lines names standings a [] = []
 agent_lines names standings a (p ∷ agents) =
     line (agent_data names a p (slice_index_or standings a None)) ++ agent_lines names standings (a + 1) agents
 
+-- what is told of a run as JSON: a line for each entry that has one, and then one for each block and each agent
+abbrev pub json_texts : List (List ℕ) → Lines → Texts
+json_texts names lines = record {
+  start = [];
+  entry = λ plan sinces k e fact. line_if lines e.what (line (entry_data names k e fact));
+  finish = λ report standings. block_lines 0 report.blocks ++ agent_lines names standings 0 report.agents;
+}
+
 -- the text of a report as JSON
-abbrev pub json_text : List (List ℕ) → Lines → ReportParts → List Fact → List (Option Standing) → List ℕ
-json_text names lines report facts standings =
-    entry_lines names lines 0 report.journal facts ++ block_lines 0 report.blocks
-    ++ agent_lines names standings 0 report.agents
+abbrev pub json_text : List (List ℕ) → PlanParts → Lines → ReportParts → List Fact → List (Option Standing) → List ℕ
+json_text names plan lines = facts_text (json_texts names lines) plan

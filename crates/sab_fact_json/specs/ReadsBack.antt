@@ -10,7 +10,7 @@ use Rattle.sab_sim.specs.Report.{ReportParts}
 use Rattle.sab_explain.specs.declared.fact.Fact.{Fact}
 use Rattle.sab_explain.specs.declared.standing.Standing.{Standing}
 use Rattle.sab_explain.specs.Fact.{IsFact}
-use Rattle.sab_fact_text.specs.Explained.{IsStandingOf}
+use Rattle.sab_fact_text.specs.FactFormat.{IsStandingOf}
 use Rattle.sab_fact_json.specs.FactData.{entry_data}
 use Rattle.sab_fact_json.specs.StandingData.{agent_data}
 use Rattle.sab_fact_json.specs.Lines.{block_data}

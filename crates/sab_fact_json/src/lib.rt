@@ -4,11 +4,11 @@
 mod blocks;
 mod call;
 mod entry;
+mod format;
 mod found;
 mod small;
 mod standing;
-mod writing;
 
 pub use call::{CALL_LEN, push_call};
+pub use format::Json;
 pub use small::push_small;
-pub use writing::write_json;

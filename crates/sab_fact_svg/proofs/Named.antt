@@ -16,7 +16,8 @@ use Rattle.sab_explain.specs.declared.standing.At.{At}
 use Rattle.sab_explain.specs.declared.standing.At.TheVariants as A
 use Rattle.sab_explain.specs.declared.standing.Standing.{Standing}
 use Rattle.sab_fact_text.specs.FactText.{is_same, fact_words}
-use Rattle.sab_fact_text.specs.Explained.{noted, no_sinces, standing_words}
+use Rattle.sab_fact_text.specs.Explained.{standing_words}
+use Rattle.sab_fact_text.specs.FactFormat.{noted, no_sinces}
 use Rattle.sab_xml.specs.Xml.{Node, nodes}
 use Rattle.sab_xml.specs.WellFormed.{attribute_names, AreAttributeNames, IsNamed, AreNamed, IsDocument}
 use Rattle.sab_xml.proofs.Names.{name_tested, attribute_names_tested, node_tested, nodes_tested}

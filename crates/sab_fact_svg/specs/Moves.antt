@@ -16,7 +16,7 @@ use Rattle.sab_explain.specs.Fact.{woken_in}
 use Rattle.sab_text.specs.Text.{operand_text, answer_text, why_text}
 use Rattle.sab_fact_text.specs.CallText.{call_text, element_text}
 use Rattle.sab_fact_text.specs.FactText.{is_same, fact_words}
-use Rattle.sab_fact_text.specs.Explained.{noted}
+use Rattle.sab_fact_text.specs.FactFormat.{noted}
 use Rattle.sab_xml.specs.Xml.{Node}
 use Rattle.sab_fact_svg.specs.declared.shape.Shape.{Shape}
 use Rattle.sab_fact_svg.specs.Shape.{lane_x, label_x, change_x, row_top, row_middle, row_text}

@@ -1,21 +1,20 @@
 -- The picture of a run.
-use Rattle.std.specs.Prelude.{◌≡◌, ℕ, List, ◌++◌, length, Option, codes}
+use Rattle.std.specs.Prelude.{◌≡◌, ℕ, List, [], ◌∷◌, ◌++◌, length, Option, codes}
 use Rattle.std.specs.Io.KnownBytes.{Appends}
 use Rattle.sab_plan.specs.declared.schedule.Move.{Move}
-use Rattle.sab_sim.specs.declared.entry.Entry.{Entry}
 use Rattle.sab_plan.specs.Plan.{PlanParts}
-use Rattle.sab_sim.specs.Sim.{SimParts}
 use Rattle.sab_sim.specs.Report.{ReportParts, Fits, IsOnly}
 use Rattle.sab_explain.specs.declared.fact.Fact.{Fact}
 use Rattle.sab_explain.specs.declared.standing.Standing.{Standing}
-use Rattle.sab_fact_text.specs.Explained.{AreFacts, AreStandings, no_sinces}
+use Rattle.sab_fact_text.specs.FactFormat.{Texts, AreFacts, AreStandings, no_sinces}
 use Rattle.sab_xml.specs.Xml.{Node, element, nodes, node_text, nodes_text}
 use Rattle.sab_xml.specs.WellFormed.{IsDocument}
 use Rattle.sab_fact_svg.specs.declared.shape.Shape.{Shape}
 use Rattle.sab_fact_svg.specs.Shape.{shape_of, HaveRoom}
-use Rattle.sab_fact_svg.specs.Moves.{drawn_entries}
+use Rattle.sab_fact_svg.specs.Pieces.{newline}
+use Rattle.sab_fact_svg.specs.Moves.{drawn_entry, drawn_entries}
 use Rattle.sab_fact_svg.specs.Ends.{drawn_ends, drawn_blocks}
-use Rattle.sab_fact_svg.specs.Frame.{root_attributes, background, lanes, legend}
+use Rattle.sab_fact_svg.specs.Frame.{root_attributes, root_start, background, lanes, legend}
 
 -- what is drawn of these measures
 abbrev pub drawn : List (List ℕ) → PlanParts → Shape → ReportParts → List Fact → List (Option Standing) → List Node
@@ -39,21 +38,16 @@ picture names plan report facts standings =
 abbrev pub svg_text : List (List ℕ) → PlanParts → ReportParts → List Fact → List (Option Standing) → List ℕ
 svg_text names plan report facts standings = node_text (picture names plan report facts standings) ++ codes "\n"
 
--- what is drawn of a journal came behind what was told
-pub record DrawsEntries (names : List (List ℕ)) (plan : PlanParts) (shape : Shape) (journal : List Entry)
-    (old new : Option (List ℕ)) : Type 0 where
-  pub facts : List Fact
-  pub are : AreFacts plan journal facts
-  pub written : Appends old new (nodes_text (nodes (drawn_entries names plan shape no_sinces 0 journal facts)))
-
--- what is drawn of where the moves of a simulator have led came behind what was told
-pub record DrawsBelow (names : List (List ℕ)) (shape : Shape) (sim : SimParts) (old new : Option (List ℕ))
-    : Type 0 where
-  pub standings : List (Option Standing)
-  pub are : AreStandings sim.plan sim.journal standings
-  pub written : Appends old new (nodes_text (nodes (drawn_ends names shape standings 0 shape.agents))
-      ++ (nodes_text (nodes (drawn_blocks shape 0 sim.blocks))
-      ++ (nodes_text (nodes (legend shape)) ++ codes "</svg>\n")))
+-- the same text as it is written: what stands before the entries, each entry, and what stands below them
+abbrev pub svg_texts : List (List ℕ) → Shape → Texts
+svg_texts names shape = record {
+  start =
+      root_start shape ++ nodes_text (nodes (background shape)) ++ nodes_text (nodes (lanes shape 0 shape.agents));
+  entry = λ plan sinces k e fact. nodes_text (nodes (drawn_entry names plan shape sinces k e fact ∷ newline ∷ []));
+  finish = λ report standings. nodes_text (nodes (drawn_ends names shape standings 0 shape.agents))
+      ++ (nodes_text (nodes (drawn_blocks shape 0 report.blocks))
+      ++ (nodes_text (nodes (legend shape)) ++ codes "</svg>\n"));
+}
 
 -- the one report of the moves fits, its picture came behind what the writer held, the text is a document of XML, and
 -- no call runs into another lane

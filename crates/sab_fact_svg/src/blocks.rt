@@ -2,6 +2,7 @@
 
 ghost use Rattle.std.specs.Prelude.{◌≡◌, ◌+◌, ◌<◌, ◌≤◌, ◌^◌, ◌*◌, ◌++◌, length, take, flat_map, OnOk};
 ghost use Rattle.std.specs.Io.KnownBytes.{Appends, append_known};
+ghost use Rattle.sab_sim.specs.Report.{items_of_each};
 ghost use Rattle.sab_text.specs.Text.{hex_byte};
 ghost use Rattle.sab_xml.specs.Xml.{nodes, nodes_text};
 ghost use Rattle.sab_fact_svg.specs.Ends.{block_line, block_text, more_text, drawn_blocks};
@@ -9,7 +10,6 @@ ghost use Rattle.sab_fact_svg.specs.Ends.{block_line, block_text, more_text, dra
 use crate::class::Class;
 use crate::pieces::{LABEL_LEN, push_label};
 use crate::shape::{Shape, row_text};
-use sab_block::Block;
 use sab_text::Chunk;
 use std::io;
 use std::io::Write;
@@ -33,19 +33,19 @@ const BLOCK_LEN: usize = LABEL_LEN + 8 * TEXT_LEN + 1;
 #[tactic(auto, using(sab_text::proofs::Appending::all_left, sab_text::proofs::Appending::none_left, crate::proofs::Writing::blocks_after))]
 pub(crate) fn write_blocks<W: Write>(
     shape: Shape,
-    blocks: &[Block],
+    blocks: &[Vec<u8>],
     scratch: &mut Chunk,
     chunk: &mut Chunk,
     w: &mut W,
 ) -> io::Result<()>
-    requires { length blocks.now ≡ shape.blocks }
+    requires { length blocks.now < 2 ^ 32 }
     ensures { OnOk result (Appends (append_known (W.contents w.old) chunk.old)
         (append_known (W.contents w.new) chunk.new)
-        (nodes_text (nodes (drawn_blocks shape 0 blocks.now)))) }
+        (nodes_text (nodes (drawn_blocks shape 0 (items_of_each blocks.now))))) }
 {
-    for (b, block) in blocks.iter().enumerate() {
+    for (b, bytes) in blocks.iter().enumerate() {
         chunk.make_room_for(BLOCK_LEN, w)?;
-        push_block(shape, b, block.bytes(), scratch, chunk);
+        push_block(shape, b, bytes.as_slice(), scratch, chunk);
     }
     Ok(())
 }

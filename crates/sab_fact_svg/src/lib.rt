@@ -12,7 +12,8 @@ mod ends;
 mod entry;
 mod frame;
 mod measuring;
+mod picture;
 mod pieces;
 mod shape;
 
-pub use drawing::write_svg;
+pub use picture::Picture;

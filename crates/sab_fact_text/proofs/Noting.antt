@@ -9,7 +9,7 @@ use Rattle.sab_sim.specs.Entry.{is_stuck}
 use Rattle.sab_explain.specs.Fact.{IsLast}
 use Rattle.sab_explain.specs.Explainer.{AreLast}
 use Rattle.sab_explain.proofs.LastOnes.{AreLast-push, last_kept}
-use Rattle.sab_fact_text.specs.Explained.{noted, sinces_after, no_sinces, NotesLast}
+use Rattle.sab_fact_text.specs.FactFormat.{noted, sinces_after, no_sinces, NotesLast}
 
 -- as many agents as a plan can have
 abbrev sixteen : PlanParts

@@ -1,4 +1,5 @@
 pub mod CallText
 pub mod Column
 pub mod FactText
+pub mod FactFormat
 pub mod Explained

@@ -1,28 +1,17 @@
-//! Where agents stand at the end, and their lines.
+//! The lines of agents.
 
 ghost use Rattle.std.specs.Prelude.{◌≡◌, ◌+◌, ◌≤◌, None, length, slice_index_or, OnOk};
 ghost use Rattle.std.specs.Io.KnownBytes.{Appends, append_known};
-ghost use Rattle.sab_fact_text.specs.Explained.{AreStandings, standing_lines};
+ghost use Rattle.sab_fact_text.specs.Explained.{standing_lines};
 
 use crate::column::Column;
 use crate::name::Name;
 use crate::standing::push_standing;
-use sab_explain::{Explainer, Standing};
+use sab_explain::Standing;
 use sab_sim::Progress;
 use sab_text::Chunk;
 use std::io;
 use std::io::Write;
-
-/// Where each agent stands of whose calls some haven't returned.
-pub fn standings_of(explainer: &Explainer) -> [Option<Standing>; 16]
-    ensures { AreStandings explainer.now.plan explainer.now.journal result }
-{
-    let mut standings = [None; 16];
-    for a in 0..16 {
-        standings[a] = explainer.standing(a as u32);
-    }
-    standings
-}
 
 /// Writes a line for each agent, with words behind it where some of its calls haven't returned; the last lines may stay
 /// in the chunk.

@@ -7,6 +7,7 @@ use Rattle.sab_sim.specs.Report.{ReportParts}
 use Rattle.sab_text.specs.declared.lines.Lines.{Lines}
 use Rattle.sab_text.specs.Text.{text_by}
 use Rattle.sab_fact_text.specs.Column.{column_of}
+use Rattle.sab_fact_text.specs.FactFormat.{Texts, facts_text, TellsFacts}
 use Rattle.sab_fact_text.specs.Explained.{Explains, explained_text}
 use Rattle.sab_fact_text.proofs.Measuring.{has_room}
 use Rattle.sab_fact_json.specs.SafeNumbers.{HasSafeNumbers}
@@ -17,7 +18,7 @@ use Rattle.sab_tool.specs.Replay.{IsReplayOf}
 use Rattle.sab_tool.specs.Racing.{IsRaceOf}
 use Rattle.sab_text.specs.declared.format.Format.TheVariants.{Plain, Explained, Json, Svg}
 use Rattle.sab_text.specs.declared.format.Telling.{Telling}
-use Rattle.sab_report.specs.Telling.{Tells, TellsMoves, IsColumnOf}
+use Rattle.sab_report.specs.Telling.{IsByFacts, Tells, TellsMoves, IsColumnOf}
 use Rattle.sab_report.specs.Racing.{TellsRace}
 
 -- a plain text that was written is a telling
@@ -56,6 +57,18 @@ in_its_column column names plan lines moves old new report is x =
     let its : column ≡ column_of report = is report (record { fits = x.fits; schedule = x.schedule; one = x.one }) in
     subst (λ (c : ℕ). Explains c names plan lines moves old new report) its x
 
+-- a text by facts that was written
+by_facts : {texts : Texts} {plan : PlanParts} {moves : List Move} {old new : Option (List ℕ)} {report : ReportParts}
+    → (told : TellsFacts texts plan moves old new report)
+    → IsByFacts (facts_text texts plan report) plan report (facts_text texts plan report told.facts told.standings)
+by_facts told = record {
+  facts = told.facts;
+  facts_are = told.facts_are;
+  standings = told.standings;
+  standings_are = told.standings_are;
+  is_its = refl;
+}
+
 pub told_explained : (telling : Telling) (names : List (List ℕ)) (plan : PlanParts) (moves : List Move)
     (report : ReportParts) (old new : Option (List ℕ)) → telling.format ≡ Explained
     → Explains (column_of report) names plan telling.lines moves old new report
@@ -64,16 +77,7 @@ told_explained telling names plan moves report old new is x = record {
   is_its = record { fits = x.fits; schedule = x.schedule; one = x.one };
   told = record {
     text = explained_text (column_of report) names plan telling.lines report x.facts x.standings;
-    text_is = rw is (
-      record {
-        facts = x.facts;
-        facts_are = x.facts_are;
-        standings = x.standings;
-        standings_are = x.standings_are;
-        is_its = refl;
-      },
-      has_room report (column_of report) refl,
-    );
+    text_is = rw is (by_facts x, has_room report (column_of report) refl);
     written = x.written;
   };
 }
@@ -82,20 +86,11 @@ pub told_as_json : (telling : Telling) (names : List (List ℕ)) (plan : PlanPar
     (report : ReportParts) (old new : Option (List ℕ)) → telling.format ≡ Json → IsPlan plan → HasSafeNumbers plan
     → ExplainsAsJson names telling.lines plan moves old new report → TellsMoves telling names plan moves old new report
 told_as_json telling names plan moves report old new is is_plan safe x = record {
-  is_its = record { fits = x.fits; schedule = x.schedule; one = x.one };
+  is_its = record { fits = x.told.fits; schedule = x.told.schedule; one = x.told.one };
   told = record {
-    text = json_text names telling.lines report x.facts x.standings;
-    text_is = rw is (
-      record {
-        facts = x.facts;
-        facts_are = x.facts_are;
-        standings = x.standings;
-        standings_are = x.standings_are;
-        is_its = refl;
-      },
-      x.read_back is_plan safe,
-    );
-    written = x.written;
+    text = json_text names plan telling.lines report x.told.facts x.told.standings;
+    text_is = rw is (by_facts x.told, x.read_back is_plan safe);
+    written = x.told.written;
   };
 }
 

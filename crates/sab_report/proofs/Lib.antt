@@ -4,3 +4,5 @@ pub mod ViewNames
 pub mod Equality
 pub mod Verdicts
 pub mod SpelledCalls
+pub mod Memory
+pub mod Driving

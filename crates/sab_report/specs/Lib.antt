@@ -3,3 +3,4 @@ pub mod Racing
 pub mod Reporting
 pub mod Judging
 pub mod Spelling
+pub mod Driver

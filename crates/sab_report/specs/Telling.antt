@@ -9,7 +9,8 @@ use Rattle.sab_explain.specs.declared.standing.Standing.{Standing}
 use Rattle.sab_text.specs.declared.lines.Lines.{Lines}
 use Rattle.sab_text.specs.Text.{text_by}
 use Rattle.sab_fact_text.specs.Column.{column_of, HasRoom}
-use Rattle.sab_fact_text.specs.Explained.{AreFacts, AreStandings, explained_text}
+use Rattle.sab_fact_text.specs.FactFormat.{AreFacts, AreStandings}
+use Rattle.sab_fact_text.specs.Explained.{explained_text}
 use Rattle.sab_fact_json.specs.Lines.{json_text}
 use Rattle.sab_fact_json.specs.ReadsBack.{LinesReadBack}
 use Rattle.sab_xml.specs.WellFormed.{IsDocument}
@@ -38,7 +39,7 @@ IsTextIn Explained lines names plan report text =
     IsByFacts (explained_text (column_of report) names plan lines report) plan report text
     × HasRoom report (column_of report)
 IsTextIn Json lines names plan report text =
-    IsByFacts (json_text names lines report) plan report text × LinesReadBack names plan report
+    IsByFacts (json_text names plan lines report) plan report text × LinesReadBack names plan report
 IsTextIn Svg lines names plan report text = IsByFacts (svg_text names plan report) plan report text × IsDocument text
 
 -- just the text of the report came behind what the writer held

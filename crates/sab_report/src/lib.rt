@@ -1,12 +1,15 @@
 //! From a script to its report, in any format, and to the verdict on its run.
 #![tactic(auto)]
 
+mod driver;
 mod explaining;
 mod judging;
 mod laws;
 mod names;
+mod noting;
 mod racing;
 mod replaying;
+mod standings;
 mod telling;
 
 pub use judging::{Judged, MAX_TOLD, judge_as};

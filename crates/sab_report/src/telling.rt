@@ -1,13 +1,13 @@
 //! From moves to their report.
 
-ghost use Rattle.std.specs.Prelude.{◌^◌, ◌<◌, ◌≤◌, length, All, IfOk, IfErr};
+ghost use Rattle.std.specs.Prelude.{IfOk, IfErr};
 ghost use Rattle.std.specs.Io.KnownBytes.{Appends};
-ghost use Rattle.sab_plan.specs.Schedule.{agent_of};
 ghost use Rattle.sab_text.specs.Text.{text_by};
 ghost use Rattle.sab_plan.specs.Plan.{IsPlan};
 ghost use Rattle.sab_fact_json.specs.CallData.{AreNames};
 ghost use Rattle.sab_fact_json.specs.SafeNumbers.{HasSafeNumbers};
 ghost use Rattle.sab_tool.specs.Replay.{IsReplayOf};
+ghost use Rattle.sab_report.specs.Driver.{AreMovesOf};
 ghost use Rattle.sab_report.specs.Telling.{TellsMoves, IsTellingFault};
 
 use crate::explaining::{draw, explain, explain_as_json};
@@ -31,8 +31,7 @@ pub(crate) fn tell_moves<W: Write>(
     requires plan { IsPlan plan }
     requires numbers { HasSafeNumbers plan }
     requires names { AreNames names.now }
-    requires few { length schedule.now ≤ 2 ^ 20 }
-    requires named { All (λ m. agent_of m < length plan.scripts) schedule.now }
+    requires moves { AreMovesOf plan schedule.now }
     ensures ok { IfOk result (TellsMoves telling names.now plan schedule.now (W.contents w.old) (W.contents w.new)) }
     ensures err { IfErr result (IsTellingFault (W.contents w.old) (W.contents w.new)) }
 {
@@ -54,8 +53,7 @@ fn tell_plainly<W: Write>(
     lines: Lines,
     w: &mut W,
 ) -> Result<Report, ToolFault>
-    requires few { length schedule.now ≤ 2 ^ 20 }
-    requires named { All (λ m. agent_of m < length plan.scripts) schedule.now }
+    requires moves { AreMovesOf plan schedule.now }
     ensures replay { IfOk result (IsReplayOf plan schedule.now) }
     ensures written { IfOk result (λ report. Appends (W.contents w.old) (W.contents w.new) (text_by lines report)) }
     ensures err { IfErr result (IsTellingFault (W.contents w.old) (W.contents w.new)) }

@@ -19,8 +19,8 @@ pub tell_moves-requires-clause-names : goal.tell_moves-requires-clause-names
 tell_moves-requires-clause-names g c =
     rw (c.deref.ensures.value, c.in_ok-names.ensures) (spelled_plain _ _ c.in_ok-setup.ensures.ok.spelled)
 
-pub tell_moves-requires-clause-named : goal.tell_moves-requires-clause-named
-tell_moves-requires-clause-named g c =
-    let spelled = c.in_ok-setup.ensures.ok.spelled in
+pub tell_moves-requires-clause-moves : goal.tell_moves-requires-clause-moves
+tell_moves-requires-clause-moves g c =
+    let schedule = c.in_ok-setup.ensures.ok.spelled.schedule in
     rw (c.as_slice.ensures.value, c.into_parts-plan.ensures.schedule, c.into_parts-plan.ensures.plan)
-    (spelled_moves _ spelled.move_trees _ spelled.schedule.0)
+    (record { few = schedule.1; named = spelled_moves _ c.in_ok-setup.ensures.ok.spelled.move_trees _ schedule.0 })

@@ -1,7 +1,7 @@
 -- One agent more.
 use Rattle.std.proofs.Common.{◌<◌, ◌≢◌, length, arith, length-set, get_or-set_other, get_or-set_same, below_more, ◌∙◌}
-use Rattle.sab_fact_text.proofs.Telling.{standing_is}
-use Rattle.sab_fact_text.proofs.standings.standings_of.Goals as goal
+use Rattle.sab_report.proofs.Driving.{standing_is}
+use Rattle.sab_report.proofs.standings.standings_of.Goals as goal
 
 pub loop-a-preserved : goal.loop-a-preserved
 loop-a-preserved c =

@@ -1,8 +1,7 @@
 use Rattle.std.proofs.Common.{◌≡◌, ◌≤◌, ◌+◌, length, take}
 use Rattle.std.specs.Io.KnownBytes.{append_known}
-use Rattle.sab_fact_text.specs.Explained.{no_sinces, sinces_after}
-use Rattle.sab_fact_svg.specs.Picture.{DrawsEntries}
-use Rattle.sab_fact_svg.proofs.drawing.write_entries.Given as goal
+use Rattle.sab_fact_text.specs.FactFormat.{TellsEntries, no_sinces, sinces_after}
+use Rattle.sab_report.proofs.driver.write_entries.Given as goal
 
 abbrev pub invariant-loop-k : goal.invariant-loop-k
 invariant-loop-k g l = record {
@@ -11,6 +10,7 @@ invariant-loop-k g l = record {
   count : length l.explainer.journal ≡ l.k;
   sinces : l.sinces ≡ sinces_after no_sinces 0 l.explainer.journal;
   reserved : length l.schedule ≤ l.explainer.reserved + l.k;
-  drawn : DrawsEntries l.names l.fn.explainer.plan l.shape l.explainer.journal
+  same : g.F.FactFormat.texts l.format ≡ g.F.FactFormat.texts l.fn.format;
+  told : TellsEntries (g.F.FactFormat.texts l.fn.format) l.fn.explainer.plan l.explainer.journal
       (append_known (g.W.Write.contents l.fn.w) l.fn.chunk) (append_known (g.W.Write.contents l.w) l.chunk);
 }

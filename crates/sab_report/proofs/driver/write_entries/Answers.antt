@@ -1,23 +1,27 @@
--- One move more writes one line more.
-use Rattle.std.proofs.Common.{◌≡◌, ℕ, ◌+◌, ◌∙◌, length, sym, subst, arith, length-append, ◌∷◌, ◌++◌, [], ap}
+-- One move more is told.
+use Rattle.std.proofs.Common.{◌≡◌, ℕ, ◌+◌, ◌∙◌, length, sym, subst, arith, length-append, ◌∷◌, [], ap}
 use Rattle.std.proofs.lemmas.List.{take_more}
-use Rattle.std.specs.Io.KnownBytes.{append_known}
+use Rattle.std.specs.Io.KnownBytes.{Appends, append_known}
 use Rattle.sab_plan.specs.declared.schedule.Move.TheVariants.{Step}
 use Rattle.sab_plan.specs.Plan.{PlanParts}
 use Rattle.sab_sim.specs.Sim.{SimParts}
-use Rattle.sab_fact_text.specs.Explained.{IsTheFact, no_sinces, noted}
-use Rattle.sab_fact_text.proofs.Telling.{told_more, sinces_after-push, line_at}
-use Rattle.sab_fact_text.proofs.explaining.write_moves.Goals as goal
+use Rattle.sab_fact_text.specs.FactFormat.{Texts, IsTheFact, no_sinces, noted}
+use Rattle.sab_report.proofs.Driving.{told_more, sinces_after-push}
+use Rattle.sab_report.proofs.driver.write_entries.Goals as goal
 
 pub loop-k-preserved : goal.loop-k-preserved
 loop-k-preserved g c =
     let position : c.loop-k.k ≡ 0 + length c.loop-k.explainer.journal = omega (arith, c.loop-k.invariant.count) in
     let plan : c.plan-plan.result.now ≡ c.args.explainer.now.plan = c.plan-plan.ensures
     ∙ (ap (λ (s : SimParts). s.plan) c.sim.ensures ∙ (c.step.ensures.plan ∙ c.loop-k.invariant.plan)) in
-    let line : c.push_explained.new.chunk ≡ c.loop-k.chunk ++ line_at c.args.layout.column.at c.args.names.now
-    c.args.explainer.now.plan c.args.layout.lines c.loop-k.sinces c.loop-k.k c.in-Ok.told.entry c.in-Ok.told.fact
-    = subst (λ (p : PlanParts). c.push_explained.new.chunk ≡ c.loop-k.chunk ++ line_at c.args.layout.column.at c.args.names.now p c.args.layout.lines
-    c.loop-k.sinces c.loop-k.k c.in-Ok.told.entry c.in-Ok.told.fact) plan c.push_explained.ensures in
+    let old = append_known (g.W.Write.contents c.loop-k.w) c.loop-k.chunk in
+    let new = append_known (g.W.Write.contents c.write_entry.new.w) c.write_entry.new.chunk in
+    let told : Appends old new ((g.F.FactFormat.texts c.args.format.now).entry c.args.explainer.now.plan
+    c.loop-k.sinces c.loop-k.k c.in-Ok.told.entry c.in-Ok.told.fact)
+    = subst (λ (p : PlanParts). Appends old new ((g.F.FactFormat.texts c.args.format.now).entry p
+    c.loop-k.sinces c.loop-k.k c.in-Ok.told.entry c.in-Ok.told.fact)) plan
+    (subst (λ (t : Texts). Appends old new (t.entry c.plan-plan.result.now c.loop-k.sinces c.loop-k.k
+    c.in-Ok.told.entry c.in-Ok.told.fact)) c.loop-k.invariant.same c.in_ok-write_entry.ensures.written) in
     record {
       plan = c.step.ensures.plan ∙ c.loop-k.invariant.plan;
       moves =
@@ -38,16 +42,12 @@ loop-k-preserved g c =
           )
           (c.note.ensures ∙ ap (λ (n : ℕ). noted c.loop-k.sinces n c.in-Ok.told.entry) position);
       reserved = omega (arith, c.step.ensures.reserved, c.loop-k.invariant.reserved);
+      same = c.write_entry.ensures.same ∙ c.loop-k.invariant.same;
       told =
-          rw c.in-Ok.ensures.journal (told_more c.args.layout.column.at c.args.names.now
-          c.args.explainer.now.plan c.args.layout.lines c.loop-k.explainer.journal _
-          (g.W.Write.contents c.loop-k.w)
-          (append_known (g.W.Write.contents c.make_room.new.w) c.make_room.new.self) c.loop-k.chunk c.loop-k.sinces
-          c.loop-k.k c.in-Ok.told.entry c.in-Ok.told.fact
+          rw c.in-Ok.ensures.journal (told_more (g.F.FactFormat.texts c.args.format.now) c.args.explainer.now.plan
+          c.loop-k.explainer.journal _ old new c.loop-k.sinces c.loop-k.k c.in-Ok.told.entry c.in-Ok.told.fact
           c.loop-k.invariant.count c.loop-k.invariant.sinces c.loop-k.invariant.told
           (subst (λ (p : PlanParts). IsTheFact p c.loop-k.explainer.journal c.in-Ok.told.entry c.in-Ok.told.fact)
           c.loop-k.invariant.plan
-          (record { fact_is = c.in-Ok.ensures.fact; only = c.in-Ok.ensures.only }))
-          (rw line at c.in_ok-make_room.ensures.kept));
-      room = c.in_ok-make_room.ensures.room;
+          (record { fact_is = c.in-Ok.ensures.fact; only = c.in-Ok.ensures.only })) told);
     }

@@ -1,0 +1,33 @@
+-- The start, what was told of all entries, and the end.
+use Rattle.std.proofs.Common.{◌∙◌, subst, sym}
+use Rattle.std.specs.Io.KnownBytes.{Appends, append_known}
+use Rattle.sab_plan.specs.Plan.{PlanParts, IsPlan}
+use Rattle.sab_fact_text.specs.FactFormat.{Texts, TellsEntries}
+use Rattle.sab_report.proofs.Driving.{tells}
+use Rattle.sab_report.proofs.Memory.{few_blocks}
+use Rattle.sab_report.proofs.driver.write_facts.Goals as goal
+
+pub write_end-requires : goal.write_end-requires
+write_end-requires g c =
+    few_blocks c.write_entries.new.explainer.plan c.finish-report.result
+    (subst IsPlan (sym c.in_ok-write_entries.ensures.plan) c.requires.plan) c.finish-report.ensures.fits
+
+pub returns : goal.returns
+returns g c =
+    let texts = g.F.FactFormat.texts in
+    let started = append_known (g.W.Write.contents c.write_start.new.w) c.write_start.new.chunk in
+    let told = append_known (g.W.Write.contents c.write_entries.new.w) c.write_entries.new.chunk in
+    let entries : TellsEntries (texts c.args.format.now) c.args.explainer.plan c.write_entries.new.explainer.journal started told =
+    subst (λ (t : Texts). TellsEntries t c.args.explainer.plan c.write_entries.new.explainer.journal started told)
+    c.write_start.ensures.same c.in_ok-write_entries.ensures.told in
+    let last : Appends told (g.W.Write.contents c.write_end.new.w)
+    ((texts c.args.format.now).finish c.finish-report.result c.standings_of-standings.result) =
+    subst (λ (t : Texts). Appends told (g.W.Write.contents c.write_end.new.w)
+    (t.finish c.finish-report.result c.standings_of-standings.result))
+    (c.in_ok-write_entries.ensures.same ∙ c.write_start.ensures.same) c.in_ok-write_end.ensures in
+    tells (texts c.args.format.now) c.args.explainer.plan c.args.schedule.now c.write_entries.new.explainer
+    c.finish-report.result c.standings_of-standings.result (g.W.Write.contents c.args.w.now) started told
+    (g.W.Write.contents c.write_end.new.w) c.new-chunk.result c.new-chunk.ensures
+    c.in_ok-write_entries.ensures.plan c.in_ok-write_entries.ensures.moves c.in_ok-write_start.ensures.written entries
+    c.standings_of-standings.ensures c.finish-report.ensures.fits c.finish-report.ensures.one
+    c.finish-report.ensures.schedule c.finish-report.ensures.journal last

@@ -1,0 +1,18 @@
+-- What was told is a picture.
+use Rattle.std.proofs.Common.{List, ℕ, subst, ap₂}
+use Rattle.std.proofs.lemmas.Result.{IfOk-weaker}
+use Rattle.sab_fact_text.specs.FactFormat.{Texts, TellsFacts}
+use Rattle.sab_fact_svg.specs.Picture.{svg_texts}
+use Rattle.sab_fact_svg.specs.declared.shape.Shape.{Shape}
+use Rattle.sab_fact_svg.proofs.Telling.{draws}
+use Rattle.sab_report.proofs.explaining.draw.Goals as goal
+
+pub returns-clause-ok : goal.returns-clause-ok
+returns-clause-ok g c =
+    IfOk-weaker c.tell_facts.result _ _
+    (λ report h. draws c.args.names.now c.args.plan c.args.schedule.now
+    (g.W.Write.contents c.args.w.now) (g.W.Write.contents c.tell_facts.new.w) report
+    (subst (λ (t : Texts). TellsFacts t c.args.plan c.args.schedule.now (g.W.Write.contents c.args.w.now)
+    (g.W.Write.contents c.tell_facts.new.w) report)
+    (ap₂ svg_texts c.new-picture.ensures.names c.new-picture.ensures.shape) h))
+    c.tell_facts.ensures.ok
