@@ -1,5 +1,5 @@
 -- What the driver tells, move by move.
-use Rattle.std.proofs.Common.{◌≡◌, inl, inr, ℕ, ◌+◌, ◌<◌, ◌^◌, List, [], ◌∷◌, ◌++◌, length, Option, Some, None, IfSome, IfNone, refl, ap, sym, subst, ◌∙◌, arith, append_assoc, append-nil, length-append}
+use Rattle.std.proofs.Common.{◌≡◌, inl, inr, ℕ, ◌+◌, List, [], ◌∷◌, ◌++◌, length, Option, Some, None, IfSome, IfNone, refl, ap, sym, subst, ◌∙◌, arith, append_assoc, append-nil, length-append}
 use Rattle.std.proofs.lemmas.List.{take-append-le}
 use Rattle.std.proofs.Math.Seq.{take-append_seam}
 use Rattle.std.specs.Io.KnownBytes.{Appends, append_known}
@@ -115,7 +115,9 @@ tells texts plan moves sim report standings a b c y chunk empty p m f t s fits o
       standings = standings;
       standings_are = rw (← p, journal) s;
       written = from_empty a y chunk (facts_text texts plan report t.facts standings) empty
-          (rw journal (appends_both (append_known a chunk) b y texts.start (entries ++ end) f
+          (subst (λ (es : List Entry). Appends (append_known a chunk) y
+          (texts.start ++ (entries_text texts plan no_sinces 0 es t.facts ++ end))) (sym journal)
+          (appends_both (append_known a chunk) b y texts.start (entries ++ end) f
           (appends_both b c y entries end t.written last)));
       since = notes_last;
     }

@@ -1,5 +1,6 @@
 -- A report has as many blocks as its plan.
-use Rattle.std.proofs.Common.{◌≡◌, ℕ, ◌<◌, ◌^◌, Bool, List, [], ◌∷◌, length, Some, sym, ap, ◌∙◌, arith, length-map, length-set}
+use Rattle.std.proofs.Common.{◌≡◌, ℕ, ◌<◌, ◌^◌, Bool, List, [], ◌∷◌, length, Some, sym, ap, ◌∙◌, arith, length-set}
+use Rattle.std.proofs.lemmas.List.{length-map}
 use Rattle.sab_plan.specs.declared.plan_view.PlanView.{PlanView}
 use Rattle.sab_plan.specs.declared.call.Call.{Call}
 use Rattle.sab_plan.specs.declared.call.Call.TheVariants as C
@@ -40,6 +41,6 @@ few_blocks plan report is fits =
     let run = fits.moves.run in
     let same : length report.blocks ≡ length plan.lens =
     ap (λ (mem : List (List ℕ)). length mem) (sym run.2)
-    ∙ (run_keeps plan (opening plan.lens) (acts_of report.journal) run.0 run.1 ∙ length-map _ plan.lens) in
+    ∙ (run_keeps plan (opening plan.lens) (acts_of report.journal) run.0 run.1 ∙ length-map plan.lens _) in
     let few = is.limits.blocks in
     omega (arith, same, few)

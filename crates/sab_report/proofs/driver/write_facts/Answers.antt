@@ -1,16 +1,18 @@
 -- The start, what was told of all entries, and the end.
 use Rattle.std.proofs.Common.{◌∙◌, subst, sym}
 use Rattle.std.specs.Io.KnownBytes.{Appends, append_known}
-use Rattle.sab_plan.specs.Plan.{PlanParts, IsPlan}
+use Rattle.sab_plan.specs.Plan.{IsPlan}
 use Rattle.sab_fact_text.specs.FactFormat.{Texts, TellsEntries}
 use Rattle.sab_report.proofs.Driving.{tells}
 use Rattle.sab_report.proofs.Memory.{few_blocks}
 use Rattle.sab_report.proofs.driver.write_facts.Goals as goal
 
 pub write_end-requires : goal.write_end-requires
-write_end-requires g c =
-    few_blocks c.write_entries.new.explainer.plan c.finish-report.result
-    (subst IsPlan (sym c.in_ok-write_entries.ensures.plan) c.requires.plan) c.finish-report.ensures.fits
+write_end-requires g c = record {
+  few =
+      few_blocks c.write_entries.new.explainer.plan c.finish-report.result
+      (subst IsPlan (sym c.in_ok-write_entries.ensures.plan) c.requires.plan) c.finish-report.ensures.fits;
+}
 
 pub returns : goal.returns
 returns g c =

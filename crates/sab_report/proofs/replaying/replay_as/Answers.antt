@@ -1,4 +1,5 @@
 -- The names that a script spells are short, its Numbers are safe integers, and its moves are its agents'.
+use Rattle.std.proofs.Common.{◌≤◌, length, arith}
 use Rattle.sab_tool.proofs.ReplaySteps.{spelled_moves}
 use Rattle.sab_report.proofs.SpelledNumbers.{spelled_plan, spelled_safe}
 use Rattle.sab_report.proofs.ViewNames.{spelled_short, spelled_plain}
@@ -22,5 +23,6 @@ tell_moves-requires-clause-names g c =
 pub tell_moves-requires-clause-moves : goal.tell_moves-requires-clause-moves
 tell_moves-requires-clause-moves g c =
     let schedule = c.in_ok-setup.ensures.ok.spelled.schedule in
+    let few : length c.in_ok-setup.setup.schedule ≤ 100000 = schedule.1 in
     rw (c.as_slice.ensures.value, c.into_parts-plan.ensures.schedule, c.into_parts-plan.ensures.plan)
-    (record { few = schedule.1; named = spelled_moves _ c.in_ok-setup.ensures.ok.spelled.move_trees _ schedule.0 })
+    (record { few = omega (arith, few); named = spelled_moves _ c.in_ok-setup.ensures.ok.spelled.move_trees _ schedule.0 })
