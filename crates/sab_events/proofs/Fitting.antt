@@ -6,9 +6,10 @@ use Rattle.sab_plan.specs.declared.schedule.Move.{Move}
 use Rattle.sab_plan.specs.declared.schedule.Move.TheVariants.{Step}
 use Rattle.sab_plan.specs.Schedule.{agent_of}
 use Rattle.sab_plan.specs.Plan.{PlanParts, IsPlan}
-use Rattle.sab_sim.specs.declared.entry.Entry.{Entry}
-use Rattle.sab_sim.specs.declared.entry.What.TheVariants.{Began}
-use Rattle.sab_sim.specs.Report.{ReportParts, FitsMoves, Fits}
+use Rattle.sab_plan.specs.declared.entry.Entry.{Entry}
+use Rattle.sab_plan.specs.declared.entry.What.TheVariants.{Began}
+use Rattle.sab_plan.specs.Report.{ReportParts}
+use Rattle.sab_sim.specs.Fits.{FitsMoves, Fits}
 
 -- an entry past the journal's end
 none : Entry

@@ -19,13 +19,14 @@ use Rattle.sab_plan.specs.declared.call.Call.TheVariants as C
 use Rattle.sab_plan.specs.declared.plan_view.PlanView.{PlanView}
 use Rattle.sab_plan.specs.Call.{view_of, index_of}
 use Rattle.sab_plan.specs.Plan.{PlanParts, IsPlan}
-use Rattle.sab_sim.specs.declared.answer.Answer.TheVariants as A
-use Rattle.sab_sim.specs.declared.entry.What.{What}
-use Rattle.sab_sim.specs.declared.entry.What.TheVariants.{Acted, Enlisted, Left}
-use Rattle.sab_sim.specs.declared.entry.Entry.{Entry}
-use Rattle.sab_sim.specs.Entry.{is_act}
+use Rattle.sab_plan.specs.declared.answer.Answer.TheVariants as A
+use Rattle.sab_plan.specs.declared.entry.What.{What}
+use Rattle.sab_plan.specs.declared.entry.What.TheVariants.{Acted, Enlisted, Left}
+use Rattle.sab_plan.specs.declared.entry.Entry.{Entry}
+use Rattle.sab_plan.specs.Entry.{is_act}
 use Rattle.sab_sim.specs.Object.{State, bytes_of, zero_blocks, opening, DoesCall, Does}
-use Rattle.sab_sim.specs.Journal.{acts_of, Run, Reaches}
+use Rattle.sab_plan.specs.Journal.{acts_of}
+use Rattle.sab_sim.specs.Run.{Run, Reaches}
 use Rattle.sab_sim.proofs.OnlyAct.{Run-append}
 use Rattle.sab_sim.proofs.PlaceLine.{Reaches-one}
 use Rattle.sab_judge.specs.declared.event.Event.{Event}

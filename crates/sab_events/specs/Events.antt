@@ -11,10 +11,10 @@ use Rattle.sab_plan.specs.declared.call.Call.TheVariants as C
 use Rattle.sab_plan.specs.declared.plan_view.PlanView.{PlanView}
 use Rattle.sab_plan.specs.Call.{view_of, index_of}
 use Rattle.sab_plan.specs.Plan.{PlanParts, call_of}
-use Rattle.sab_sim.specs.declared.answer.Answer.TheVariants.{Value, NotEqual, Count}
-use Rattle.sab_sim.specs.declared.entry.What.{What}
-use Rattle.sab_sim.specs.declared.entry.What.TheVariants.{Acted, Enlisted, Left}
-use Rattle.sab_sim.specs.declared.entry.Entry.{Entry}
+use Rattle.sab_plan.specs.declared.answer.Answer.TheVariants.{Value, NotEqual, Count}
+use Rattle.sab_plan.specs.declared.entry.What.{What}
+use Rattle.sab_plan.specs.declared.entry.What.TheVariants.{Acted, Enlisted, Left}
+use Rattle.sab_plan.specs.declared.entry.Entry.{Entry}
 use Rattle.sab_judge.specs.declared.access.Access.{Access}
 use Rattle.sab_judge.specs.declared.event.Event.{Event}
 use Rattle.sab_judge.specs.declared.order.Order.TheVariants.{SeqCst}

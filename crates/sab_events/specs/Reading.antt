@@ -1,9 +1,9 @@
 -- What the events of a run read, in the terms of the sequential object.
 use Rattle.std.specs.Prelude.{◌≡◌, ℕ, suc, ◌<◌, false, List, map, length, take, slice_index}
 use Rattle.sab_plan.specs.Plan.{PlanParts}
-use Rattle.sab_sim.specs.declared.entry.Entry.{Entry}
+use Rattle.sab_plan.specs.declared.entry.Entry.{Entry}
 use Rattle.sab_sim.specs.Object.{State, bytes_of, Does}
-use Rattle.sab_sim.specs.Journal.{Reaches}
+use Rattle.sab_sim.specs.Run.{Reaches}
 use Rattle.sab_judge.specs.Event.{event_at, writes_byte}
 use Rattle.sab_judge.specs.HappensBefore.{ReadsByteFrom}
 use Rattle.sab_events.specs.Events.{event_of, events_of}

@@ -2,7 +2,7 @@
 
 ghost use Rattle.std.specs.Prelude.{◌≡◌, ◌<◌, ◌≤◌, ◌^◌, length, All, IfOk};
 ghost use Rattle.sab_judge.specs.Trace.{IsInBlocks};
-ghost use Rattle.sab_sim.specs.declared.entry.Entry.{Entry};
+ghost use Rattle.sab_plan.specs.declared.entry.Entry.{Entry};
 ghost use Rattle.sab_events.specs.Events.{event_of, events_of};
 
 use crate::target::target_of;

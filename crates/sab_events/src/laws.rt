@@ -2,7 +2,7 @@
 
 ghost use Rattle.std.specs.Prelude.{List};
 ghost use Rattle.sab_plan.specs.Plan.{PlanParts, IsPlan};
-ghost use Rattle.sab_sim.specs.declared.entry.Entry.{Entry};
+ghost use Rattle.sab_plan.specs.declared.entry.Entry.{Entry};
 ghost use Rattle.sab_events.specs.Reading.{ChangesWhatItWrites, ReadsWhatWasLeft, ReadsZeros};
 
 /// An entry changes no byte but those that its event writes.

@@ -16,26 +16,27 @@ use Rattle.sab_block.specs.Operand.{agrees}
 use Rattle.sab_block.specs.View.{kind_of}
 use Rattle.sab_block.specs.Check.{Checked, thrown_by, first_failed, first_thrown}
 use Rattle.sab_block.specs.Access.{kind_check, index_check, operand_check, value_at, raw_of, element}
-use Rattle.sab_sim.specs.declared.place.Place.{Place}
+use Rattle.sab_plan.specs.declared.place.Place.{Place}
 use Rattle.sab_plan.specs.declared.plan_view.PlanView.{PlanView}
 use Rattle.sab_plan.specs.declared.call.Call.{Call}
 use Rattle.sab_plan.specs.declared.call.Call.TheVariants as C
-use Rattle.sab_sim.specs.declared.answer.Answer.TheVariants as A
-use Rattle.sab_sim.specs.declared.entry.Why.TheVariants as Y
-use Rattle.sab_sim.specs.declared.entry.What.{What}
-use Rattle.sab_sim.specs.declared.entry.What.TheVariants.{Began, Acted, Enlisted, Left, Returned, Stuck}
-use Rattle.sab_sim.specs.declared.entry.Entry.{Entry}
+use Rattle.sab_plan.specs.declared.answer.Answer.TheVariants as A
+use Rattle.sab_plan.specs.declared.entry.Why.TheVariants as Y
+use Rattle.sab_plan.specs.declared.entry.What.{What}
+use Rattle.sab_plan.specs.declared.entry.What.TheVariants.{Began, Acted, Enlisted, Left, Returned, Stuck}
+use Rattle.sab_plan.specs.declared.entry.Entry.{Entry}
 use Rattle.sab_plan.specs.declared.schedule.Move.{Move}
 use Rattle.sab_plan.specs.Schedule.{agent_of}
-use Rattle.sab_sim.specs.Entry.{is_act}
+use Rattle.sab_plan.specs.Entry.{is_act}
 use Rattle.sab_plan.specs.Call.{view_of, index_of}
 use Rattle.sab_plan.specs.Check.{checks, verdict}
-use Rattle.sab_sim.specs.Place.{place_of}
+use Rattle.sab_plan.specs.Place.{place_of}
 use Rattle.sab_plan.specs.Plan.{PlanParts, call_of}
 use Rattle.sab_sim.specs.Object.{State, Waiter, bytes_of, element_at, is_at, waiters, stands, DoesCall, Does}
-use Rattle.sab_sim.specs.Journal.{Reaches, returned_of, Answers, Justifies}
+use Rattle.sab_plan.specs.Journal.{returned_of, Answers}
+use Rattle.sab_sim.specs.Run.{Reaches, Justifies}
 use Rattle.sab_sim.specs.Agent.{WaitsOn}
-use Rattle.sab_sim.specs.Report.{FitsMoves}
+use Rattle.sab_sim.specs.Fits.{FitsMoves}
 use Rattle.sab_sim.specs.Shown.{AtEnd}
 use Rattle.sab_sim.specs.States.{IsOfWaits}
 use Rattle.sab_sim.specs.Sim.{SimParts}

@@ -1,11 +1,10 @@
 -- Standings that the derived `==` finds equal are the same.
-use Rattle.std.proofs.Common.{◌≡◌, Bool, true, false, Option, Some, None, refl, ap, rules}
+use Rattle.std.proofs.Common.{◌≡◌, Bool, true, false, Option, Some, None, refl, ap}
 use Rattle.std.specs.Option.{option_eq}
 use Rattle.std.proofs.lemmas.Bool.{false≢true, and_parts}
 use borrow.Author.Tests.{eqb-true}
-use Rattle.sab_sim.specs.declared.place.Place.{Place}
-use Rattle.sab_sim.specs.contracts.place.PlacePartialEq.TheImpl as place
 use Rattle.sab_plan.proofs.Equality.{same_call}
+use Rattle.sab_plan.proofs.EntryEquality.{same_place}
 use Rattle.sab_explain.specs.declared.standing.At.{At}
 use Rattle.sab_explain.specs.declared.standing.At.TheVariants as T
 use Rattle.sab_explain.specs.declared.standing.Standing.{Standing}
@@ -18,13 +17,6 @@ same_option same None None e = refl
 same_option same None (Some y) e = absurd (false≢true e)
 same_option same (Some x) None e = absurd (false≢true e)
 same_option same (Some x) (Some y) e = ap (λ z. Some z) (same x y e)
-
-same_place : (p q : Place) → (place.ghosts).eq p q ≡ true → p ≡ q
-same_place p q e =
-    let parts = and_parts _ _ e in
-    let block = eqb-true p.block q.block parts.0 in
-    let byte = eqb-true p.byte q.byte parts.1 in
-    λ i. record { block = block i; byte = byte i }
 
 same_bool : (x y : Bool) → (at.ghosts).eq (T.Waits x) (T.Waits y) ≡ true → x ≡ y
 same_bool true true e = refl

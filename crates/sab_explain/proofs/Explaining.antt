@@ -5,11 +5,12 @@ use Rattle.std.proofs.lemmas.Bool.{cases_eq}
 use Rattle.std.proofs.lemmas.List.{take-append-le, take_all}
 use Rattle.std.proofs.lemmas.List.Elements.{filter-append}
 use Rattle.std.proofs.Math.Seq.{take-append_seam}
-use Rattle.sab_sim.specs.declared.entry.Entry.{Entry}
-use Rattle.sab_sim.specs.Entry.{is_act}
+use Rattle.sab_plan.specs.declared.entry.Entry.{Entry}
+use Rattle.sab_plan.specs.Entry.{is_act}
 use Rattle.sab_plan.specs.Plan.{PlanParts}
 use Rattle.sab_sim.specs.Object.{State, opening, Does}
-use Rattle.sab_sim.specs.Journal.{acts_of, Run, Reaches}
+use Rattle.sab_plan.specs.Journal.{acts_of}
+use Rattle.sab_sim.specs.Run.{Run, Reaches}
 use Rattle.sab_sim.proofs.OnlyAct.{Run-append}
 use Rattle.sab_sim.proofs.PlaceLine.{Reaches-one}
 use Rattle.sab_explain.specs.Fact.{IsWaker}

@@ -4,8 +4,8 @@ use Rattle.std.specs.Prelude.{slice_index_or, slice_set, if◌then◌else◌}
 use Rattle.std.proofs.lemmas.Bool.{cases_eq, true≢false}
 use Rattle.std.proofs.lemmas.Option.{slice_get_within}
 use Rattle.std.proofs.lemmas.List.{get_or-set_same, get_or-set_other}
-use Rattle.sab_sim.specs.declared.entry.Entry.{Entry}
-use Rattle.sab_sim.specs.Entry.{is_stuck}
+use Rattle.sab_plan.specs.declared.entry.Entry.{Entry}
+use Rattle.sab_plan.specs.Entry.{is_stuck}
 use Rattle.sab_plan.specs.Plan.{PlanParts}
 use Rattle.sab_sim.proofs.ChangedLists.{slice_get-push}
 use Rattle.sab_explain.specs.Fact.{HasEffect, IsLast}

@@ -1,12 +1,13 @@
 -- Where an agent stands, and that it stands in one way.
 use Rattle.std.proofs.Common.{◌≡◌, ℕ, Bool, true, false, List, Option, Some, refl, ap, sym, ◌∙◌, subst, MatchBool}
 use Rattle.std.specs.List.{list_any}
-use Rattle.sab_sim.specs.declared.place.Place.{Place}
+use Rattle.sab_plan.specs.declared.place.Place.{Place}
 use Rattle.sab_plan.specs.declared.call.Call.{Call}
-use Rattle.sab_sim.specs.declared.entry.Entry.{Entry}
+use Rattle.sab_plan.specs.declared.entry.Entry.{Entry}
 use Rattle.sab_plan.specs.Plan.{PlanParts, call_of}
 use Rattle.sab_sim.specs.Object.{State, stands}
-use Rattle.sab_sim.specs.Journal.{Reaches, returned_of}
+use Rattle.sab_plan.specs.Journal.{returned_of}
+use Rattle.sab_sim.specs.Run.{Reaches}
 use Rattle.sab_sim.proofs.OnlyAct.{one_value}
 use Rattle.sab_sim.proofs.PlaceLine.{Reaches-one}
 use Rattle.sab_explain.specs.declared.standing.Standing.{Standing}

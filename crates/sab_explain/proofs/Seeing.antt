@@ -6,7 +6,7 @@ use Rattle.sab_block.specs.View.{kind_of}
 use Rattle.sab_plan.specs.declared.plan_view.PlanView.{PlanView}
 use Rattle.sab_plan.specs.declared.call.Call.{Call}
 use Rattle.sab_plan.specs.Call.{view_of, index_of}
-use Rattle.sab_sim.specs.Place.{place_of}
+use Rattle.sab_plan.specs.Place.{place_of}
 use Rattle.sab_sim.specs.Sim.{SimParts}
 use Rattle.sab_explain.specs.Explainer.{IsBlind}
 

@@ -4,12 +4,12 @@ use Rattle.std.specs.Bool.{then_some}
 use Rattle.std.specs.Prelude.{IfSome, slice_index_or, slice_set, if◌then◌else◌}
 use Rattle.std.specs.List.{list_any}
 use Rattle.std.proofs.Math.Seq.{get_or-append_seam}
-use Rattle.sab_sim.specs.declared.entry.Entry.{Entry}
+use Rattle.sab_plan.specs.declared.entry.Entry.{Entry}
 use Rattle.sab_plan.specs.declared.schedule.Move.{Move}
 use Rattle.sab_plan.specs.Schedule.{agent_of}
-use Rattle.sab_sim.specs.Entry.{is_stuck}
+use Rattle.sab_plan.specs.Entry.{is_stuck}
 use Rattle.sab_sim.specs.Object.{State}
-use Rattle.sab_sim.specs.Report.{FitsMoves}
+use Rattle.sab_sim.specs.Fits.{FitsMoves}
 use Rattle.sab_sim.specs.Shown.{AtEnd}
 use Rattle.sab_sim.specs.States.{IsOfWaits}
 use Rattle.sab_sim.specs.Sim.{SimParts}

@@ -6,23 +6,23 @@ use Rattle.sab_block.specs.declared.operand.Operand.{Operand}
 use Rattle.sab_block.specs.declared.access.Access.TheVariants as X
 use Rattle.sab_block.specs.Check.{first_failed}
 use Rattle.sab_block.specs.Access.{raw_of, value_at}
-use Rattle.sab_sim.specs.declared.place.Place.{Place}
+use Rattle.sab_plan.specs.declared.place.Place.{Place}
 use Rattle.sab_plan.specs.declared.plan_view.PlanView.{PlanView}
 use Rattle.sab_plan.specs.declared.call.Call.{Call}
 use Rattle.sab_plan.specs.declared.call.Call.TheVariants as C
-use Rattle.sab_sim.specs.declared.answer.Answer.TheVariants as A
-use Rattle.sab_sim.specs.declared.entry.Why.TheVariants as Y
-use Rattle.sab_sim.specs.declared.entry.What.{What}
-use Rattle.sab_sim.specs.declared.entry.What.TheVariants.{Acted, Enlisted, Left, Stuck}
-use Rattle.sab_sim.specs.declared.entry.Entry.{Entry}
+use Rattle.sab_plan.specs.declared.answer.Answer.TheVariants as A
+use Rattle.sab_plan.specs.declared.entry.Why.TheVariants as Y
+use Rattle.sab_plan.specs.declared.entry.What.{What}
+use Rattle.sab_plan.specs.declared.entry.What.TheVariants.{Acted, Enlisted, Left, Stuck}
+use Rattle.sab_plan.specs.declared.entry.Entry.{Entry}
 use Rattle.sab_plan.specs.Script.{ScriptParts}
-use Rattle.sab_sim.specs.Entry.{is_stuck}
+use Rattle.sab_plan.specs.Entry.{is_stuck}
 use Rattle.sab_plan.specs.Call.{view_of, index_of}
-use Rattle.sab_sim.specs.Place.{place_of}
+use Rattle.sab_plan.specs.Place.{place_of}
 use Rattle.sab_plan.specs.Plan.{PlanParts, call_of}
 use Rattle.sab_plan.specs.Check.{checks}
 use Rattle.sab_sim.specs.Object.{State, bytes_of, element_at, waiters}
-use Rattle.sab_sim.specs.Journal.{Reaches}
+use Rattle.sab_sim.specs.Run.{Reaches}
 use Rattle.sab_sim.specs.Shown.{AtEnd}
 use Rattle.sab_explain.specs.declared.fact.Found.{Found}
 use Rattle.sab_explain.specs.declared.fact.Found.TheVariants as F

@@ -1,15 +1,16 @@
 -- Where an agent stands after a journal.
 use Rattle.std.specs.Prelude.{◌≡◌, ℕ, suc, ◌&&◌, Bool, true, false, MatchBool, List, drop, slice_get, option_map, Option, Some, None}
 use Rattle.std.specs.List.{list_any}
-use Rattle.sab_sim.specs.declared.place.Place.{Place}
-use Rattle.sab_sim.specs.declared.answer.Answer.TheVariants.{Count}
-use Rattle.sab_sim.specs.declared.entry.What.{What}
-use Rattle.sab_sim.specs.declared.entry.What.TheVariants.{Began, Acted, Left}
-use Rattle.sab_sim.specs.declared.entry.Entry.{Entry}
-use Rattle.sab_sim.specs.Place.{same_place}
+use Rattle.sab_plan.specs.declared.place.Place.{Place}
+use Rattle.sab_plan.specs.declared.answer.Answer.TheVariants.{Count}
+use Rattle.sab_plan.specs.declared.entry.What.{What}
+use Rattle.sab_plan.specs.declared.entry.What.TheVariants.{Began, Acted, Left}
+use Rattle.sab_plan.specs.declared.entry.Entry.{Entry}
+use Rattle.sab_plan.specs.Place.{same_place}
 use Rattle.sab_plan.specs.Plan.{PlanParts, call_of}
 use Rattle.sab_sim.specs.Object.{State, stands}
-use Rattle.sab_sim.specs.Journal.{Reaches, returned_of}
+use Rattle.sab_plan.specs.Journal.{returned_of}
+use Rattle.sab_sim.specs.Run.{Reaches}
 use Rattle.sab_explain.specs.declared.standing.Standing.{Standing}
 use Rattle.sab_explain.specs.declared.standing.At.{At}
 use Rattle.sab_explain.specs.declared.standing.At.TheVariants as T

@@ -5,9 +5,9 @@ ghost use Rattle.sab_sim.specs.declared.sim_fault.SimFault.TheVariants.{NoAgent,
 ghost use Rattle.sab_plan.specs.Schedule.{agent_of};
 ghost use Rattle.sab_sim.specs.Object.{zero_blocks};
 ghost use Rattle.sab_plan.specs.Plan.{call_of};
-ghost use Rattle.sab_sim.specs.Journal.{returned_of};
+ghost use Rattle.sab_plan.specs.Journal.{returned_of};
 ghost use Rattle.sab_sim.specs.Shown.{AtEnd};
-ghost use Rattle.sab_sim.specs.Report.{Fits, IsOnly};
+ghost use Rattle.sab_sim.specs.Fits.{Fits, IsOnly};
 ghost use Rattle.sab_explain.specs.Fact.{IsFact, IsOnlyFact, NamesWaker};
 ghost use Rattle.sab_explain.specs.Standing as standings;
 ghost use Rattle.sab_explain.specs.Standing.{IsAt, IsStanding, IsOnlyStanding, what_at};

@@ -1,7 +1,7 @@
 //! Which entries are noted at agents.
 
 ghost use Rattle.std.specs.Prelude.{◌≡◌, ◌<◌, All, Some, slice_set, if◌then◌else◌};
-ghost use Rattle.sab_sim.specs.Entry.{is_stuck};
+ghost use Rattle.sab_plan.specs.Entry.{is_stuck};
 ghost use Rattle.sab_explain.specs.Explainer.{IsNoted};
 
 use sab_sim::What;

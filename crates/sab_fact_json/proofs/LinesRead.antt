@@ -9,13 +9,14 @@ use Rattle.sab_plan.specs.declared.schedule.Move.TheVariants.{Step}
 use Rattle.sab_plan.specs.Schedule.{agent_of}
 use Rattle.sab_plan.specs.Script.{ScriptParts}
 use Rattle.sab_plan.specs.Plan.{PlanParts, IsPlan, calls_of}
-use Rattle.sab_sim.specs.declared.entry.What.{What}
-use Rattle.sab_sim.specs.declared.entry.What.TheVariants.{Began, Acted, Enlisted, Left, Returned, Stuck}
-use Rattle.sab_sim.specs.declared.entry.Entry.{Entry}
-use Rattle.sab_sim.specs.declared.progress.Progress.{Progress}
-use Rattle.sab_sim.specs.Entry.{is_return}
-use Rattle.sab_sim.specs.Journal.{returned_of, Answers}
-use Rattle.sab_sim.specs.Report.{ReportParts, progress_from, Fits}
+use Rattle.sab_plan.specs.declared.entry.What.{What}
+use Rattle.sab_plan.specs.declared.entry.What.TheVariants.{Began, Acted, Enlisted, Left, Returned, Stuck}
+use Rattle.sab_plan.specs.declared.entry.Entry.{Entry}
+use Rattle.sab_plan.specs.declared.progress.Progress.{Progress}
+use Rattle.sab_plan.specs.Entry.{is_return}
+use Rattle.sab_plan.specs.Journal.{returned_of, Answers}
+use Rattle.sab_plan.specs.Report.{ReportParts, progress_from}
+use Rattle.sab_sim.specs.Fits.{Fits}
 use Rattle.sab_explain.specs.declared.fact.Fact.{Fact}
 use Rattle.sab_explain.specs.declared.standing.Standing.{Standing}
 use Rattle.sab_explain.specs.Fact.{IsFact}

@@ -20,14 +20,15 @@ use Rattle.sab_plan.specs.declared.call.Call.{Call}
 use Rattle.sab_plan.specs.declared.call.Call.TheVariants as C
 use Rattle.sab_plan.specs.declared.plan_view.PlanView.{PlanView}
 use Rattle.sab_plan.specs.Plan.{PlanParts}
-use Rattle.sab_sim.specs.declared.place.Place.{Place}
-use Rattle.sab_sim.specs.declared.answer.Answer.TheVariants as A
-use Rattle.sab_sim.specs.declared.entry.What.{What}
-use Rattle.sab_sim.specs.declared.entry.What.TheVariants.{Acted, Enlisted, Left}
-use Rattle.sab_sim.specs.declared.entry.Entry.{Entry}
-use Rattle.sab_sim.specs.Entry.{is_act}
+use Rattle.sab_plan.specs.declared.place.Place.{Place}
+use Rattle.sab_plan.specs.declared.answer.Answer.TheVariants as A
+use Rattle.sab_plan.specs.declared.entry.What.{What}
+use Rattle.sab_plan.specs.declared.entry.What.TheVariants.{Acted, Enlisted, Left}
+use Rattle.sab_plan.specs.declared.entry.Entry.{Entry}
+use Rattle.sab_plan.specs.Entry.{is_act}
 use Rattle.sab_sim.specs.Object.{State, Waiter, opening, bytes_of, is_at, waiters, without_first, DoesCall, Does}
-use Rattle.sab_sim.specs.Journal.{acts_of, Run, Reaches}
+use Rattle.sab_plan.specs.Journal.{acts_of}
+use Rattle.sab_sim.specs.Run.{Run, Reaches}
 use Rattle.sab_fact_json.proofs.ShortElements.{IsByte}
 
 -- bytes are below 256, there are as many blocks as in the plan, and of the agents there are at most so many in the line

@@ -13,14 +13,15 @@ use Rattle.sab_plan.specs.declared.call.Call.TheVariants as C
 use Rattle.sab_plan.specs.declared.plan_view.PlanView.{PlanView}
 use Rattle.sab_plan.specs.Script.{ScriptParts}
 use Rattle.sab_plan.specs.Plan.{PlanParts}
-use Rattle.sab_sim.specs.declared.answer.Answer.{Answer}
-use Rattle.sab_sim.specs.declared.answer.Answer.TheVariants as A
-use Rattle.sab_sim.specs.declared.entry.What.{What}
-use Rattle.sab_sim.specs.declared.entry.What.TheVariants.{Began, Acted, Enlisted, Left, Returned, Stuck}
-use Rattle.sab_sim.specs.declared.entry.Entry.{Entry}
-use Rattle.sab_sim.specs.Entry.{is_act, is_stuck}
+use Rattle.sab_plan.specs.declared.answer.Answer.{Answer}
+use Rattle.sab_plan.specs.declared.answer.Answer.TheVariants as A
+use Rattle.sab_plan.specs.declared.entry.What.{What}
+use Rattle.sab_plan.specs.declared.entry.What.TheVariants.{Began, Acted, Enlisted, Left, Returned, Stuck}
+use Rattle.sab_plan.specs.declared.entry.Entry.{Entry}
+use Rattle.sab_plan.specs.Entry.{is_act, is_stuck}
 use Rattle.sab_sim.specs.Object.{State, bytes_of, opening, waiters, woken_count, DoesCall, Does}
-use Rattle.sab_sim.specs.Journal.{acts_of, Run, Reaches, track, Course, AtOnce, InLine, course, IsTrack}
+use Rattle.sab_plan.specs.Journal.{acts_of, track, Course, AtOnce, InLine, course, IsTrack}
+use Rattle.sab_sim.specs.Run.{Run, Reaches}
 use Rattle.sab_fact_json.specs.CallData.{operand_data}
 use Rattle.sab_fact_json.specs.FactData.{answer_data, answer_in}
 use Rattle.sab_fact_json.specs.SafeNumbers.{IsSafeArgument, IsSafeCall, HasSafeNumbers}

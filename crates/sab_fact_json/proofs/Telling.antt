@@ -2,10 +2,10 @@
 use Rattle.std.proofs.Common.{◌≡◌, ℕ, ◌+◌, ◌<◌, List, ◌++◌, length, Option, None, refl, add-one, drop-cons, drop, get_or, slice_index_or, Global}
 use Rattle.std.specs.Prelude.{Vec}
 use Rattle.std.specs.Io.KnownBytes.{Appends, Keeps, append_known}
-use Rattle.sab_sim.specs.declared.progress.Progress.{Progress}
+use Rattle.sab_plan.specs.declared.progress.Progress.{Progress}
 use Rattle.sab_plan.specs.declared.schedule.Move.{Move}
 use Rattle.sab_plan.specs.Plan.{PlanParts}
-use Rattle.sab_sim.specs.Report.{ReportParts, items_of_each}
+use Rattle.sab_plan.specs.Report.{ReportParts, items_of_each}
 use Rattle.sab_explain.specs.declared.standing.Standing.{Standing}
 use Rattle.sab_text.specs.declared.lines.Lines.{Lines}
 use Rattle.sab_text.proofs.Appending.{left_after, left_told}

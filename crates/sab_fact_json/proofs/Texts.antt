@@ -13,8 +13,8 @@ use Rattle.sab_block.specs.declared.access.Access.TheVariants.{Load, Store, Rmw,
 use Rattle.sab_plan.specs.declared.call.Call.{Call}
 use Rattle.sab_plan.specs.declared.call.Call.TheVariants as C
 use Rattle.sab_plan.specs.Call.{function_of, view_of, index_of, arguments_of}
-use Rattle.sab_sim.specs.declared.progress.Progress.{Progress}
-use Rattle.sab_sim.specs.declared.entry.Entry.{Entry}
+use Rattle.sab_plan.specs.declared.progress.Progress.{Progress}
+use Rattle.sab_plan.specs.declared.entry.Entry.{Entry}
 use Rattle.sab_explain.specs.declared.fact.Fact.{Fact}
 use Rattle.sab_explain.specs.declared.standing.At.{At}
 use Rattle.sab_explain.specs.declared.standing.At.TheVariants as S

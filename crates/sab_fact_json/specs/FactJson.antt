@@ -2,7 +2,7 @@
 use Rattle.std.specs.Prelude.{ℕ, List, Option}
 use Rattle.sab_plan.specs.declared.schedule.Move.{Move}
 use Rattle.sab_plan.specs.Plan.{PlanParts, IsPlan}
-use Rattle.sab_sim.specs.Report.{ReportParts}
+use Rattle.sab_plan.specs.Report.{ReportParts}
 use Rattle.sab_text.specs.declared.lines.Lines.{Lines}
 use Rattle.sab_fact_text.specs.FactFormat.{TellsFacts}
 use Rattle.sab_fact_json.specs.Lines.{json_texts}

@@ -2,9 +2,9 @@
 use Rattle.std.specs.Prelude.{ℕ, ◌+◌, List, [], ◌∷◌, ◌++◌, flat_map, Option, None, codes, slice_index_or}
 use Rattle.serde_json.specs.Data.{Data, string, object, no_members, member}
 use Rattle.serde_json.specs.Written.{compact_text}
-use Rattle.sab_sim.specs.declared.progress.Progress.{Progress}
+use Rattle.sab_plan.specs.declared.progress.Progress.{Progress}
 use Rattle.sab_plan.specs.Plan.{PlanParts}
-use Rattle.sab_sim.specs.Report.{ReportParts}
+use Rattle.sab_plan.specs.Report.{ReportParts}
 use Rattle.sab_explain.specs.declared.fact.Fact.{Fact}
 use Rattle.sab_explain.specs.declared.standing.Standing.{Standing}
 use Rattle.sab_text.specs.declared.lines.Lines.{Lines}

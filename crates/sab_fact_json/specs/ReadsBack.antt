@@ -4,9 +4,9 @@ use Rattle.serde_json.specs.Data.{Data}
 use Rattle.serde_json.specs.Read.{read}
 use Rattle.serde_json.specs.Written.{compact_text}
 use Rattle.sab_plan.specs.Plan.{PlanParts}
-use Rattle.sab_sim.specs.declared.entry.Entry.{Entry}
-use Rattle.sab_sim.specs.declared.progress.Progress.{Progress}
-use Rattle.sab_sim.specs.Report.{ReportParts}
+use Rattle.sab_plan.specs.declared.entry.Entry.{Entry}
+use Rattle.sab_plan.specs.declared.progress.Progress.{Progress}
+use Rattle.sab_plan.specs.Report.{ReportParts}
 use Rattle.sab_explain.specs.declared.fact.Fact.{Fact}
 use Rattle.sab_explain.specs.declared.standing.Standing.{Standing}
 use Rattle.sab_explain.specs.Fact.{IsFact}

@@ -2,7 +2,7 @@
 
 ghost use Rattle.std.specs.Prelude.{◌≡◌, ◌+◌, ◌≤◌, ◌++◌, length, codes, decimal, OnOk};
 ghost use Rattle.std.specs.Io.KnownBytes.{Appends, append_known};
-ghost use Rattle.sab_sim.specs.Report.{items_of_each};
+ghost use Rattle.sab_plan.specs.Report.{items_of_each};
 ghost use Rattle.sab_fact_json.specs.Lines.{line, block_data, block_lines};
 
 use sab_text::{Chunk, Line, write_hex};

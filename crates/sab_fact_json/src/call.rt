@@ -7,8 +7,7 @@ ghost use Rattle.sab_fact_json.specs.CallData.{AreNames, operand_data, argument_
 
 use sab_block::Operand;
 use sab_fact_text::{Name, push_name};
-use sab_plan::Argument;
-use sab_sim::Call;
+use sab_plan::{Argument, Call};
 use sab_text::Chunk;
 
 /// The most bytes of an operand: a sign, 39 digits and two quotes.

@@ -15,7 +15,7 @@ use crate::small::push_small;
 use sab_block::Thrown;
 use sab_explain::Fact;
 use sab_fact_text::Name;
-use sab_sim::{Answer, Call, Entry, What, Why};
+use sab_plan::{Answer, Call, Entry, What, Why};
 use sab_text::{Chunk, Lines};
 
 /// The most bytes of an answer.

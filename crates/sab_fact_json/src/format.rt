@@ -7,7 +7,7 @@ use crate::entry::push_entry_if;
 use crate::standing::write_agents;
 use sab_explain::{Explained, Standing};
 use sab_fact_text::{FactFormat, Name};
-use sab_sim::{Plan, Report};
+use sab_plan::{Plan, Report};
 use sab_text::{Chunk, Lines};
 use std::io;
 use std::io::Write;

@@ -12,7 +12,7 @@ use crate::call::{OPERAND_LEN, push_operand};
 use crate::small::push_small;
 use sab_block::{Check, Operand};
 use sab_explain::Found;
-use sab_sim::Place;
+use sab_plan::Place;
 use sab_text::Chunk;
 
 /// The most bytes of one more agent of several.

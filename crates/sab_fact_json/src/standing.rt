@@ -12,7 +12,7 @@ use crate::call::{CALL_LEN, push_call};
 use crate::found::{PLACE_LEN, SINCE_LEN, push_place, push_since};
 use sab_explain::{At, Standing};
 use sab_fact_text::{Name, standing_at};
-use sab_sim::Progress;
+use sab_plan::Progress;
 use sab_text::Chunk;
 use std::io;
 use std::io::Write;

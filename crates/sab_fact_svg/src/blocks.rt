@@ -2,7 +2,7 @@
 
 ghost use Rattle.std.specs.Prelude.{◌≡◌, ◌+◌, ◌<◌, ◌≤◌, ◌^◌, ◌*◌, ◌++◌, length, take, flat_map, OnOk};
 ghost use Rattle.std.specs.Io.KnownBytes.{Appends, append_known};
-ghost use Rattle.sab_sim.specs.Report.{items_of_each};
+ghost use Rattle.sab_plan.specs.Report.{items_of_each};
 ghost use Rattle.sab_text.specs.Text.{hex_byte};
 ghost use Rattle.sab_xml.specs.Xml.{nodes, nodes_text};
 ghost use Rattle.sab_fact_svg.specs.Ends.{block_line, block_text, more_text, drawn_blocks};

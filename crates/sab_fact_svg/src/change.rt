@@ -10,7 +10,7 @@ use crate::shape::{Shape, row_text};
 use sab_block::Operand;
 use sab_explain::Found;
 use sab_fact_text::{ELEMENT_LEN, Name, is_same, push_element};
-use sab_sim::Call;
+use sab_plan::Call;
 use sab_text::Chunk;
 use sab_xml::push_escaped;
 

@@ -8,7 +8,7 @@ ghost use Rattle.sab_fact_svg.specs.Moves.{answered_text, answered_class, calls_
 use crate::class::Class;
 use crate::pieces::{LABEL_LEN, push_label};
 use sab_fact_text::{CALL_LEN, Name, push_call};
-use sab_sim::{Answer, Call, What, Why};
+use sab_plan::{Answer, Call, What, Why};
 use sab_text::{Chunk, Line, prepend_answer, prepend_why};
 
 /// The most bytes of an answer, with what stands before it.

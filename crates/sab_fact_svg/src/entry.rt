@@ -17,7 +17,7 @@ use crate::pieces::{
 use crate::shape::{Shape, row_text};
 use sab_explain::{Explained, Fact};
 use sab_fact_text::{Name, WORDS_LEN, push_words};
-use sab_sim::{Entry, Plan};
+use sab_plan::{Entry, Plan};
 use sab_text::Chunk;
 
 /// Where the numbers of rows end: one of 7 digits has room.

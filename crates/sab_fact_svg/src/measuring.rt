@@ -6,7 +6,7 @@ ghost use Rattle.sab_fact_svg.specs.Shape.{greatest, longest_in, longest_name, h
 
 use crate::shape::Shape;
 use sab_fact_text::{CALL_LEN, Name, push_call};
-use sab_sim::{Call, Plan, Script};
+use sab_plan::{Call, Plan, Script};
 use sab_text::Chunk;
 
 /// How wide a character is.

@@ -10,7 +10,7 @@ use crate::entry::{ENTRY_ROOM, push_entry};
 use crate::shape::Shape;
 use sab_explain::{Explained, Standing};
 use sab_fact_text::{FactFormat, Name};
-use sab_sim::{Plan, Report};
+use sab_plan::{Plan, Report};
 use sab_text::Chunk;
 use std::io;
 use std::io::Write;

@@ -2,9 +2,9 @@
 use Rattle.std.proofs.Common.{◌≡◌, ℕ, zero, suc, ◌<◌, ◌≤◌, ◌+◌, List, [], ◌∷◌, length, max, Some, slice_get, arith, add-one, drop-cons, drop, get_or, take, replicate, ap, ◌∙◌}
 use Rattle.std.proofs.lemmas.List.{take-replicate}
 use Rattle.std.proofs.Math.Nat.{le-max_left}
-use Rattle.sab_sim.specs.declared.entry.Entry.{Entry}
-use Rattle.sab_sim.specs.declared.progress.Progress.{Progress}
-use Rattle.sab_sim.specs.Report.{ReportParts}
+use Rattle.sab_plan.specs.declared.entry.Entry.{Entry}
+use Rattle.sab_plan.specs.declared.progress.Progress.{Progress}
+use Rattle.sab_plan.specs.Report.{ReportParts}
 use Rattle.sab_text.specs.Text.{entry_text, agent_text}
 use Rattle.sab_fact_text.specs.Column.{longest_entry, longest_agent, column_of, HasRoom}
 

@@ -4,8 +4,8 @@ use Rattle.std.specs.Prelude.{slice_index_or, replicate}
 use Rattle.std.proofs.lemmas.Bool.{cases_lt}
 use Rattle.std.proofs.lemmas.List.{length-set, get_or-set_other, get_or-replicate}
 use Rattle.sab_plan.specs.Plan.{PlanParts, parts_of}
-use Rattle.sab_sim.specs.declared.entry.Entry.{Entry}
-use Rattle.sab_sim.specs.Entry.{is_stuck}
+use Rattle.sab_plan.specs.declared.entry.Entry.{Entry}
+use Rattle.sab_plan.specs.Entry.{is_stuck}
 use Rattle.sab_explain.specs.Fact.{IsLast}
 use Rattle.sab_explain.specs.Explainer.{AreLast}
 use Rattle.sab_explain.proofs.LastOnes.{AreLast-push, last_kept}

@@ -2,7 +2,7 @@
 use Rattle.std.proofs.Common.{◌≡◌, ℕ, ◌+◌, List, [], ◌++◌, length, Option, Some, None, Result, OnOk, refl, sym, append_assoc, append-nil, add-one, drop-cons, drop, get_or, slice_index_or, ◌<◌}
 use Rattle.std.proofs.lemmas.Result.{on_ok_weaker}
 use Rattle.std.specs.Io.KnownBytes.{Appends, Keeps, append_known}
-use Rattle.sab_sim.specs.declared.progress.Progress.{Progress}
+use Rattle.sab_plan.specs.declared.progress.Progress.{Progress}
 use Rattle.sab_explain.specs.declared.standing.Standing.{Standing}
 use Rattle.sab_text.proofs.Appending.{left_after}
 use Rattle.sab_fact_text.specs.Explained.{standing_line, standing_lines}

@@ -7,15 +7,15 @@ use Rattle.sab_block.specs.declared.operand.Operand.{Operand}
 use Rattle.sab_block.specs.Kind.{is_big, kind_name}
 use Rattle.sab_block.specs.Operand.{whole_of}
 use Rattle.sab_block.specs.View.{kind_of, len_of}
-use Rattle.sab_sim.specs.declared.answer.Answer.{Answer}
-use Rattle.sab_sim.specs.declared.answer.Answer.TheVariants.{Threw}
+use Rattle.sab_plan.specs.declared.answer.Answer.{Answer}
+use Rattle.sab_plan.specs.declared.answer.Answer.TheVariants.{Threw}
 use Rattle.sab_plan.specs.declared.call.Call.{Call}
 use Rattle.sab_plan.specs.declared.plan_view.PlanView.{PlanView}
-use Rattle.sab_sim.specs.declared.entry.Why.{Why}
-use Rattle.sab_sim.specs.declared.entry.Why.TheVariants.{Endless}
-use Rattle.sab_sim.specs.declared.entry.What.{What}
-use Rattle.sab_sim.specs.declared.entry.What.TheVariants.{Began, Returned, Stuck}
-use Rattle.sab_sim.specs.declared.entry.Entry.{Entry}
+use Rattle.sab_plan.specs.declared.entry.Why.{Why}
+use Rattle.sab_plan.specs.declared.entry.Why.TheVariants.{Endless}
+use Rattle.sab_plan.specs.declared.entry.What.{What}
+use Rattle.sab_plan.specs.declared.entry.What.TheVariants.{Began, Returned, Stuck}
+use Rattle.sab_plan.specs.declared.entry.Entry.{Entry}
 use Rattle.sab_plan.specs.Call.{view_of}
 use Rattle.sab_plan.specs.Plan.{PlanParts}
 use Rattle.sab_explain.specs.declared.fact.Found.{Found}

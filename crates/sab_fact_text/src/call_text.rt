@@ -6,8 +6,7 @@ ghost use Rattle.sab_fact_text.specs.FactText.{stand_text};
 
 use crate::counts::push_since;
 use crate::name::Name;
-use sab_plan::Argument;
-use sab_sim::Call;
+use sab_plan::{Argument, Call};
 use sab_text::Chunk;
 
 /// The most bytes of an argument: a comma, a space and an operand.

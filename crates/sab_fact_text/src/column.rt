@@ -3,7 +3,7 @@
 ghost use Rattle.std.specs.Prelude.{◌≡◌, ◌-◌, ◌≤◌};
 ghost use Rattle.sab_fact_text.specs.Column.{longest_entry, longest_agent, column_of, HasRoom};
 
-use sab_sim::{Entry, Progress, Report};
+use sab_plan::{Entry, Progress, Report};
 use sab_text::{Line, prepend_agent, prepend_entry};
 
 /// How many columns are free between the longest line and the words.

@@ -13,7 +13,7 @@ use crate::layout::Layout;
 use crate::name::Name;
 use crate::outcome_text::push_outcome;
 use sab_explain::{Explained, Fact, Found};
-use sab_sim::{Answer, Call, Entry, Plan, What, Why};
+use sab_plan::{Answer, Call, Entry, Plan, What, Why};
 use sab_text::{Chunk, Line, prepend_entry};
 
 /// The most bytes of why a wait goes on.

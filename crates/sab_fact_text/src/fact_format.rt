@@ -4,7 +4,7 @@ ghost use Rattle.std.specs.Prelude.{◌≡◌, ◌<◌, ◌^◌, length, OnOk};
 ghost use Rattle.std.specs.Io.KnownBytes.{Appends, append_known};
 
 use sab_explain::{Explained, Standing};
-use sab_sim::{Plan, Report};
+use sab_plan::{Plan, Report};
 use sab_text::Chunk;
 use std::io;
 use std::io::Write;

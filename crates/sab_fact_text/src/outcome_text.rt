@@ -10,7 +10,7 @@ use crate::reason_text::push_reason;
 use crate::waiting_text::{push_ahead, push_notified};
 use sab_block::Operand;
 use sab_explain::{Fact, Found};
-use sab_sim::{Call, Plan};
+use sab_plan::{Call, Plan};
 use sab_text::Chunk;
 
 /// The most bytes of what an element is.

@@ -7,7 +7,7 @@ use crate::call_text::push_name;
 use crate::counts::push_counted;
 use crate::name::Name;
 use sab_block::Check;
-use sab_sim::{Call, Plan, PlanView};
+use sab_plan::{Call, Plan, PlanView};
 use sab_text::Chunk;
 
 /// The most bytes of what a view is or has.

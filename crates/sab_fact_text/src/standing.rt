@@ -9,7 +9,7 @@ use crate::column::Column;
 use crate::explained::push_spaced;
 use crate::name::Name;
 use sab_explain::{At, Standing};
-use sab_sim::{Call, Progress};
+use sab_plan::{Call, Progress};
 use sab_text::{Chunk, Line, prepend_agent};
 
 /// The most bytes of whether a place was notified.

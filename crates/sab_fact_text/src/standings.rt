@@ -8,7 +8,7 @@ use crate::column::Column;
 use crate::name::Name;
 use crate::standing::push_standing;
 use sab_explain::Standing;
-use sab_sim::Progress;
+use sab_plan::Progress;
 use sab_text::Chunk;
 use std::io;
 use std::io::Write;

@@ -9,7 +9,8 @@ use crate::counts::{
     push_counted, push_next_agents, push_next_sleepers, push_since_of, push_sleeper,
 };
 use crate::name::Name;
-use sab_sim::{Call, Waiters};
+use sab_plan::Call;
+use sab_sim::Waiters;
 use sab_text::Chunk;
 
 /// The most bytes of who is ahead: words, and 16 agents.

@@ -8,7 +8,7 @@ use crate::layout::Layout;
 use crate::name::Name;
 use crate::standings::write_standings;
 use sab_explain::{Explained, Standing};
-use sab_sim::{Plan, Report};
+use sab_plan::{Plan, Report};
 use sab_text::{Chunk, write_blocks};
 use std::io;
 use std::io::Write;

@@ -1,14 +1,14 @@
 -- A journal determines its schedule.
 use Rattle.std.proofs.Common.{◌≡◌, ℕ, suc, true, cond, List, [], ◌∷◌, length, slice_get, Some, refl, sym, ◌∙◌, arith}
-use Rattle.sab_sim.specs.declared.answer.Answer.TheVariants.{TimedOut}
-use Rattle.sab_sim.specs.declared.entry.Why.TheVariants.{NotWaiting, Endless}
-use Rattle.sab_sim.specs.declared.entry.What.{What}
-use Rattle.sab_sim.specs.declared.entry.What.TheVariants.{Left, Stuck}
-use Rattle.sab_sim.specs.declared.entry.Entry.{Entry}
+use Rattle.sab_plan.specs.declared.answer.Answer.TheVariants.{TimedOut}
+use Rattle.sab_plan.specs.declared.entry.Why.TheVariants.{NotWaiting, Endless}
+use Rattle.sab_plan.specs.declared.entry.What.{What}
+use Rattle.sab_plan.specs.declared.entry.What.TheVariants.{Left, Stuck}
+use Rattle.sab_plan.specs.declared.entry.Entry.{Entry}
 use Rattle.sab_plan.specs.declared.schedule.Move.{Move}
 use Rattle.sab_plan.specs.declared.schedule.Move.TheVariants.{Step, TimeUp}
 use Rattle.sab_plan.specs.Schedule.{agent_of}
-use Rattle.sab_sim.specs.Journal.{answers_move, Answers}
+use Rattle.sab_plan.specs.Journal.{answers_move, Answers}
 use Rattle.sab_kept.specs.Telling.{is_time_up, move_of, schedule_of, JournalTells}
 
 -- the kind of a move that an entry answers

@@ -3,7 +3,7 @@ use Rattle.std.specs.Prelude.{◌≡◌, ◌⊎◌, ℕ, ◌<◌, ◌≤◌, Lis
 use Rattle.std.specs.Io.KnownBytes.{Appends, Keeps}
 use Rattle.serde_json.specs.Data.{Data}
 use Rattle.sab_plan.specs.declared.schedule.Move.{Move}
-use Rattle.sab_sim.specs.Report.{ReportParts}
+use Rattle.sab_plan.specs.Report.{ReportParts}
 use Rattle.sab_script.specs.declared.schedule.TheConstants.{MAX_MOVES}
 use Rattle.sab_script.specs.Setup.{SetupParts, Spells, IsOnlySetup}
 use Rattle.sab_script.specs.Script.{ReadsAs, IsScriptOf}

@@ -1,14 +1,15 @@
 -- The schedule that a journal tells.
 use Rattle.std.specs.Prelude.{◌≡◌, List, map, Bool, true, false, if◌then◌else◌}
-use Rattle.sab_sim.specs.declared.answer.Answer.TheVariants.{TimedOut}
-use Rattle.sab_sim.specs.declared.entry.Why.TheVariants.{NotWaiting, Endless}
-use Rattle.sab_sim.specs.declared.entry.What.{What}
-use Rattle.sab_sim.specs.declared.entry.What.TheVariants.{Left, Stuck}
-use Rattle.sab_sim.specs.declared.entry.Entry.{Entry}
+use Rattle.sab_plan.specs.declared.answer.Answer.TheVariants.{TimedOut}
+use Rattle.sab_plan.specs.declared.entry.Why.TheVariants.{NotWaiting, Endless}
+use Rattle.sab_plan.specs.declared.entry.What.{What}
+use Rattle.sab_plan.specs.declared.entry.What.TheVariants.{Left, Stuck}
+use Rattle.sab_plan.specs.declared.entry.Entry.{Entry}
 use Rattle.sab_plan.specs.declared.schedule.Move.{Move}
 use Rattle.sab_plan.specs.declared.schedule.Move.TheVariants.{Step, TimeUp}
 use Rattle.sab_plan.specs.Plan.{PlanParts}
-use Rattle.sab_sim.specs.Report.{ReportParts, Fits}
+use Rattle.sab_plan.specs.Report.{ReportParts}
+use Rattle.sab_sim.specs.Fits.{Fits}
 
 -- it is what the end of a wait's time does: it ends the wait, or finds none that it can end
 abbrev pub is_time_up : What → Bool

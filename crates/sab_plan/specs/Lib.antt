@@ -4,3 +4,7 @@ pub mod Script
 pub mod Plan
 pub mod PlanFault
 pub mod Check
+pub mod Entry
+pub mod Place
+pub mod Journal
+pub mod Report

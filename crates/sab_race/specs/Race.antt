@@ -3,7 +3,8 @@ use Rattle.std.specs.Prelude.{◌≡◌, ℕ, ◌+◌, ◌<◌, ◌≤◌, ◌^�
 use Rattle.sab_plan.specs.declared.schedule.Move.{Move}
 use Rattle.sab_plan.specs.Plan.{PlanParts, parts_of, calls_of, calls_in}
 use Rattle.sab_plan.specs.Script.{ScriptParts}
-use Rattle.sab_sim.specs.Report.{ReportParts, Fits}
+use Rattle.sab_plan.specs.Report.{ReportParts}
+use Rattle.sab_sim.specs.Fits.{Fits}
 use Rattle.sab_race.specs.Moves.{moves_of, part}
 use Rattle.sab_race.specs.Agenda.{AgendaParts, agenda_at, unmade, left_in, left_of}
 

@@ -2,7 +2,7 @@
 
 ghost use Rattle.std.specs.Prelude.{◌≡◌, ℕ, ◌<◌, ◌≤◌, ◌^◌, ◌↔◌, IfOk, IsErrOf};
 ghost use Rattle.sab_plan.specs.Plan.{PlanParts};
-ghost use Rattle.sab_sim.specs.Report.{IsOnly};
+ghost use Rattle.sab_sim.specs.Fits.{IsOnly};
 ghost use Rattle.sab_race.specs.Moves.{count_of};
 ghost use Rattle.sab_race.specs.Race.{IsRace, no_plan};
 

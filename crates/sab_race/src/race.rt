@@ -3,7 +3,7 @@
 ghost use Rattle.std.specs.Prelude.{◌≡◌, ◌≢◌, ℕ, ◌<◌, ◌≤◌, ◌^◌, ◌↔◌, length, All, IsTrue, IsFalse, IfOk, IfSome, IfNone, IsErrOf, SomeIndex};
 ghost use Rattle.sab_plan.specs.Script.{ScriptParts};
 ghost use Rattle.sab_plan.specs.Plan.{calls_of};
-ghost use Rattle.sab_sim.specs.Report.{IsOnly};
+ghost use Rattle.sab_sim.specs.Fits.{IsOnly};
 ghost use Rattle.sab_race.specs.Moves.{moves_of, count_of};
 ghost use Rattle.sab_race.specs.Agenda.{agenda_at, left_in, advanced, HasNext, IsNext};
 ghost use Rattle.sab_race.specs.Race.{IsRace, IsDone, AreFresh};

@@ -2,7 +2,7 @@
 
 ghost use Rattle.std.specs.Prelude.{◌≡◌, ◌<◌, ◌≤◌, ◌^◌, ◌↔◌, length, IfOk, IsErrOf};
 ghost use Rattle.rtrb.specs.Ring.{known_free};
-ghost use Rattle.sab_sim.specs.Report.{IsOnly};
+ghost use Rattle.sab_sim.specs.Fits.{IsOnly};
 ghost use Rattle.sab_race.specs.Moves.{count_of};
 ghost use Rattle.sab_race.specs.Race.{IsRace};
 

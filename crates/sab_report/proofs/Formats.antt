@@ -3,7 +3,7 @@ use Rattle.std.proofs.Common.{◌≡◌, ◌∙◌, ℕ, List, Option, refl, sub
 use Rattle.std.specs.Io.KnownBytes.{Appends}
 use Rattle.sab_plan.specs.declared.schedule.Move.{Move}
 use Rattle.sab_plan.specs.Plan.{PlanParts, IsPlan}
-use Rattle.sab_sim.specs.Report.{ReportParts}
+use Rattle.sab_plan.specs.Report.{ReportParts}
 use Rattle.sab_text.specs.declared.lines.Lines.{Lines}
 use Rattle.sab_text.specs.Text.{text_by}
 use Rattle.sab_fact_text.specs.Column.{column_of}

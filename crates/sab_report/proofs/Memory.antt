@@ -5,13 +5,15 @@ use Rattle.sab_plan.specs.declared.plan_view.PlanView.{PlanView}
 use Rattle.sab_plan.specs.declared.call.Call.{Call}
 use Rattle.sab_plan.specs.declared.call.Call.TheVariants as C
 use Rattle.sab_plan.specs.Plan.{PlanParts, IsPlan}
-use Rattle.sab_sim.specs.declared.answer.Answer.TheVariants as A
-use Rattle.sab_sim.specs.declared.entry.What.{What}
-use Rattle.sab_sim.specs.declared.entry.What.TheVariants.{Acted, Enlisted, Left}
-use Rattle.sab_sim.specs.declared.entry.Entry.{Entry}
+use Rattle.sab_plan.specs.declared.answer.Answer.TheVariants as A
+use Rattle.sab_plan.specs.declared.entry.What.{What}
+use Rattle.sab_plan.specs.declared.entry.What.TheVariants.{Acted, Enlisted, Left}
+use Rattle.sab_plan.specs.declared.entry.Entry.{Entry}
 use Rattle.sab_sim.specs.Object.{State, opening, DoesCall}
-use Rattle.sab_sim.specs.Journal.{Run, acts_of}
-use Rattle.sab_sim.specs.Report.{ReportParts, Fits}
+use Rattle.sab_plan.specs.Journal.{acts_of}
+use Rattle.sab_sim.specs.Run.{Run}
+use Rattle.sab_plan.specs.Report.{ReportParts}
+use Rattle.sab_sim.specs.Fits.{Fits}
 
 abbrev blocks_in : State → ℕ
 blocks_in S = length S.mem

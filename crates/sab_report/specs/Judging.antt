@@ -2,7 +2,7 @@
 use Rattle.std.specs.Prelude.{◌≡◌, ◌↔◌, ℕ, false, Bool, List, Option}
 use Rattle.std.specs.Io.KnownBytes.{Appends}
 use Rattle.sab_plan.specs.Plan.{PlanParts}
-use Rattle.sab_sim.specs.Report.{ReportParts}
+use Rattle.sab_plan.specs.Report.{ReportParts}
 use Rattle.sab_script.specs.Views.{view_names}
 use Rattle.sab_script.specs.Setup.{SetupParts}
 use Rattle.sab_script.specs.Script.{IsScriptOf}

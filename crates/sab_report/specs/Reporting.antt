@@ -1,6 +1,6 @@
 -- What replaying and racing a script answer.
 use Rattle.std.specs.Prelude.{◌≡◌, ℕ, List, Option}
-use Rattle.sab_sim.specs.Report.{ReportParts}
+use Rattle.sab_plan.specs.Report.{ReportParts}
 use Rattle.sab_script.specs.Views.{view_names}
 use Rattle.sab_script.specs.Setup.{SetupParts}
 use Rattle.sab_script.specs.Script.{IsScriptOf}

@@ -2,7 +2,7 @@
 
 ghost use Rattle.std.specs.Prelude.{IfOk, IfErr};
 ghost use Rattle.sab_plan.specs.Plan.{IsPlan};
-ghost use Rattle.sab_sim.specs.Report.{Fits};
+ghost use Rattle.sab_sim.specs.Fits.{Fits};
 ghost use Rattle.sab_fact_json.specs.CallData.{AreNames};
 ghost use Rattle.sab_fact_json.specs.SafeNumbers.{HasSafeNumbers};
 ghost use Rattle.sab_tool.specs.Replay.{IsReplayFault};

@@ -5,7 +5,7 @@ use Rattle.sab_tool.specs.declared.input.TheConstants.{MAX_INPUT}
 use Rattle.sab_tool.specs.declared.tool_fault.ToolFault.{ToolFault}
 use Rattle.sab_tool.specs.declared.tool_fault.ToolFault.TheVariants.{OutOfMemory, WriteFailed}
 use Rattle.sab_tool.specs.Input.{IsInputFault}
-use Rattle.sab_sim.specs.Report.{ReportParts}
+use Rattle.sab_plan.specs.Report.{ReportParts}
 use Rattle.sab_script.specs.Setup.{SetupParts}
 use Rattle.sab_tool.specs.Replay.{IsReportOf, IsReplayFault}
 use Rattle.sab_tool.specs.Racing.{IsRaceFault}

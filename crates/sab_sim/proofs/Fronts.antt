@@ -4,16 +4,17 @@ use Rattle.std.specs.Prelude.{slice_index_or}
 use Rattle.std.proofs.lemmas.Bool.{false≢true}
 use Rattle.std.proofs.lemmas.List.{take-append-drop}
 use Rattle.std.proofs.lemmas.List.Elements.{filter-append}
-use Rattle.sab_sim.specs.declared.place.Place.{Place}
-use Rattle.sab_sim.specs.declared.entry.Entry.{Entry}
+use Rattle.sab_plan.specs.declared.place.Place.{Place}
+use Rattle.sab_plan.specs.declared.entry.Entry.{Entry}
 use Rattle.sab_plan.specs.declared.schedule.Move.{Move}
 use Rattle.sab_sim.specs.declared.agent.Agent.{Agent}
 use Rattle.sab_sim.specs.declared.agent.Phase.{Phase}
 use Rattle.sab_sim.specs.declared.agent.Phase.TheVariants as P
-use Rattle.sab_sim.specs.Entry.{is_act}
+use Rattle.sab_plan.specs.Entry.{is_act}
 use Rattle.sab_plan.specs.Plan.{PlanParts, calls_of, call_of}
 use Rattle.sab_sim.specs.Object.{State, Waiter, opening, stands}
-use Rattle.sab_sim.specs.Journal.{acts_of, Run, Reaches, returned_of}
+use Rattle.sab_plan.specs.Journal.{acts_of, returned_of}
+use Rattle.sab_sim.specs.Run.{Run, Reaches}
 use Rattle.sab_sim.specs.Agent.{is_woken, is_waiting, waiting_phase, woken_phase, IsAtCall}
 use Rattle.sab_sim.specs.Line.{WaitsAt}
 use Rattle.sab_sim.specs.Machine.{MachineParts, IsSeated}

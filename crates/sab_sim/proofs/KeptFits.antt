@@ -5,10 +5,10 @@ use Rattle.std.proofs.lemmas.List.{take-append-le, length-replicate, take_all}
 use Rattle.std.proofs.lemmas.Grind.{flat_map-append}
 use Rattle.std.proofs.lemmas.Bool.{cases_lt}
 use Rattle.sab_plan.specs.declared.call.Call.{Call}
-use Rattle.sab_sim.specs.declared.answer.Answer.TheVariants as A
-use Rattle.sab_sim.specs.declared.entry.What.{What}
-use Rattle.sab_sim.specs.declared.entry.What.TheVariants.{Began, Acted, Enlisted, Left, Returned, Stuck}
-use Rattle.sab_sim.specs.declared.entry.Entry.{Entry}
+use Rattle.sab_plan.specs.declared.answer.Answer.TheVariants as A
+use Rattle.sab_plan.specs.declared.entry.What.{What}
+use Rattle.sab_plan.specs.declared.entry.What.TheVariants.{Began, Acted, Enlisted, Left, Returned, Stuck}
+use Rattle.sab_plan.specs.declared.entry.Entry.{Entry}
 use Rattle.sab_plan.specs.declared.schedule.Move.{Move}
 use Rattle.sab_sim.specs.declared.agent.Agent.{Agent}
 use Rattle.sab_sim.specs.declared.agent.Phase.{Phase}
@@ -17,12 +17,13 @@ use Rattle.sab_plan.specs.Schedule.{agent_of}
 use Rattle.sab_plan.specs.Script.{ScriptParts}
 use Rattle.sab_plan.specs.Plan.{PlanParts, IsPlan, calls_of}
 use Rattle.sab_sim.specs.Object.{opening}
-use Rattle.sab_sim.specs.Journal.{Course, AtOnce, InLine, course, IsTrack, returned_of, answers_move}
+use Rattle.sab_plan.specs.Journal.{Course, AtOnce, InLine, course, IsTrack, returned_of, answers_move}
 use Rattle.sab_sim.specs.Agent.{newcomer, agent_at, is_woken, is_waiting, IsPart, IsAtCall, IsWhere}
 use Rattle.sab_sim.specs.Machine.{MachineParts, opening_machine, IsReady}
 use Rattle.sab_sim.specs.Turn.{Turns, ticket_after}
 use Rattle.sab_sim.specs.Kept.{Kept}
-use Rattle.sab_sim.specs.Report.{ReportParts, FitsMoves, Fits, progress_from}
+use Rattle.sab_plan.specs.Report.{ReportParts, progress_from}
+use Rattle.sab_sim.specs.Fits.{FitsMoves, Fits}
 use Rattle.sab_sim.specs.Sim.{IsKept, standing_from}
 use Rattle.sab_sim.proofs.OneMoveMore.{Kept-push}
 

@@ -3,7 +3,7 @@ pub mod SeatedLine
 pub mod OwnMoves
 pub mod LineMoves
 pub mod CallActs
-mod EntryEquality
+mod Equality
 pub mod OneMoveMore
 pub mod KeptFits
 pub mod OnlyAct

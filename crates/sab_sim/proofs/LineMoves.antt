@@ -5,17 +5,17 @@ use Rattle.std.proofs.Math.Bool.{or-false, or-true, and-false, and-true}
 use Rattle.std.proofs.lemmas.Option.{slice_get_within}
 use Rattle.std.proofs.lemmas.Bool.{ne_eqb, eq-eqb, eqb-true, false≢true}
 use Rattle.std.proofs.lemmas.List.Folds.{list_any-append}
-use Rattle.sab_sim.specs.declared.place.Place.{Place}
+use Rattle.sab_plan.specs.declared.place.Place.{Place}
 use Rattle.sab_plan.specs.declared.plan_view.PlanView.{PlanView}
 use Rattle.sab_plan.specs.declared.call.Call.{Call}
 use Rattle.sab_plan.specs.declared.call.Call.TheVariants as C
-use Rattle.sab_sim.specs.declared.answer.Answer.TheVariants as A
-use Rattle.sab_sim.specs.declared.entry.What.TheVariants.{Enlisted, Left}
+use Rattle.sab_plan.specs.declared.answer.Answer.TheVariants as A
+use Rattle.sab_plan.specs.declared.entry.What.TheVariants.{Enlisted, Left}
 use Rattle.sab_sim.specs.declared.agent.Agent.{Agent}
 use Rattle.sab_sim.specs.declared.agent.Phase.{Phase}
 use Rattle.sab_sim.specs.declared.agent.Phase.TheVariants as P
 use Rattle.sab_plan.specs.Call.{view_of}
-use Rattle.sab_sim.specs.Place.{same_place}
+use Rattle.sab_plan.specs.Place.{same_place}
 use Rattle.sab_plan.specs.Plan.{PlanParts, calls_of, call_of, is_timed}
 use Rattle.sab_sim.specs.Object.{State, Waiter, stands, is_at, joined, taken_off, departed, Does, DoesCall}
 use Rattle.sab_sim.specs.Agent.{agent_at, waiting_phase, woken_phase, WaitsOn, HasCall, IsAtCall, IsInLine}

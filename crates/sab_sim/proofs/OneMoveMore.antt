@@ -6,19 +6,20 @@ use Rattle.std.proofs.lemmas.List.Elements.{filter-append}
 use Rattle.std.proofs.lemmas.Grind.{flat_map-append}
 use Rattle.std.proofs.lemmas.Bool.{cases_eq, ne_eqb, eq-eqb}
 use Rattle.std.proofs.Math.Seq.{take-append_seam}
-use Rattle.sab_sim.specs.declared.answer.Answer.{Answer}
-use Rattle.sab_sim.specs.declared.entry.What.{What}
-use Rattle.sab_sim.specs.declared.entry.What.TheVariants.{Began, Acted, Enlisted, Left, Returned, Stuck}
-use Rattle.sab_sim.specs.declared.entry.Entry.{Entry}
+use Rattle.sab_plan.specs.declared.answer.Answer.{Answer}
+use Rattle.sab_plan.specs.declared.entry.What.{What}
+use Rattle.sab_plan.specs.declared.entry.What.TheVariants.{Began, Acted, Enlisted, Left, Returned, Stuck}
+use Rattle.sab_plan.specs.declared.entry.Entry.{Entry}
 use Rattle.sab_plan.specs.declared.schedule.Move.{Move}
 use Rattle.sab_sim.specs.declared.agent.Agent.{Agent}
 use Rattle.sab_sim.specs.declared.agent.Phase.{Phase}
 use Rattle.sab_sim.specs.declared.agent.Phase.TheVariants as P
 use Rattle.sab_plan.specs.Schedule.{agent_of}
-use Rattle.sab_sim.specs.Entry.{is_act, is_stuck, is_return}
+use Rattle.sab_plan.specs.Entry.{is_act, is_stuck, is_return}
 use Rattle.sab_plan.specs.Plan.{PlanParts, calls_of}
 use Rattle.sab_sim.specs.Object.{State, opening, Does}
-use Rattle.sab_sim.specs.Journal.{Course, AtOnce, InLine, course, acts_of, Run, track, returned_of, answers_move, EachAnswers, Answers, IsJustified, EachAfter, Reaches}
+use Rattle.sab_plan.specs.Journal.{Course, AtOnce, InLine, course, acts_of, track, returned_of, answers_move, EachAnswers, Answers, EachAfter}
+use Rattle.sab_sim.specs.Run.{Run, IsJustified, Reaches}
 use Rattle.sab_sim.specs.Agent.{IsPart, IsAtCall, IsWhere, Advances, IsLike, IsInLine}
 use Rattle.sab_sim.specs.Machine.{MachineParts}
 use Rattle.sab_sim.specs.Turn.{Goes, Turns}

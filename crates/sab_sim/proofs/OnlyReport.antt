@@ -3,20 +3,22 @@ use Rattle.std.proofs.Common.{◌≡◌, inl, inr, ℕ, zero, suc, ◌<◌, ◌�
 use Rattle.std.proofs.lemmas.Option.{slice_get_cases, slice_get_within, get_or_from_slice_get}
 use Rattle.std.proofs.lemmas.List.{map-append, take-append-drop, take_all}
 use Rattle.std.proofs.lemmas.List.Elements.{filter-append}
-use Rattle.sab_sim.specs.declared.entry.What.{What}
-use Rattle.sab_sim.specs.declared.entry.Entry.{Entry}
+use Rattle.sab_plan.specs.declared.entry.What.{What}
+use Rattle.sab_plan.specs.declared.entry.Entry.{Entry}
 use Rattle.sab_plan.specs.declared.schedule.Move.{Move}
 use Rattle.sab_sim.specs.declared.agent.Agent.{Agent}
-use Rattle.sab_sim.specs.declared.progress.Progress.{Progress}
+use Rattle.sab_plan.specs.declared.progress.Progress.{Progress}
 use Rattle.sab_plan.specs.Schedule.{agent_of}
-use Rattle.sab_sim.specs.Entry.{is_act, is_stuck}
+use Rattle.sab_plan.specs.Entry.{is_act, is_stuck}
 use Rattle.sab_plan.specs.Plan.{PlanParts, calls_of}
 use Rattle.sab_sim.specs.Object.{State, opening}
-use Rattle.sab_sim.specs.Journal.{acts_of, Run, Reaches, track, IsTrack, returned_of, Answers, Justifies}
+use Rattle.sab_plan.specs.Journal.{acts_of, track, IsTrack, returned_of, Answers}
+use Rattle.sab_sim.specs.Run.{Run, Reaches, Justifies}
 use Rattle.sab_sim.specs.Agent.{agent_at, IsWhere}
 use Rattle.sab_sim.specs.Turn.{Goes}
 use Rattle.sab_sim.specs.Kept.{Kept}
-use Rattle.sab_sim.specs.Report.{ReportParts, FitsMoves, Fits, IsOnly, progress_from}
+use Rattle.sab_plan.specs.Report.{ReportParts, progress_from}
+use Rattle.sab_sim.specs.Fits.{FitsMoves, Fits, IsOnly}
 use Rattle.sab_sim.specs.Machine.{MachineParts}
 use Rattle.sab_sim.specs.Sim.{IsKept}
 use Rattle.sab_sim.proofs.OneMoveMore.{its_entry}

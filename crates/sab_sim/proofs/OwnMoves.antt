@@ -6,19 +6,19 @@ use Rattle.std.proofs.lemmas.Option.{slice_get_within, slice_get-get_or, slice_g
 use Rattle.std.proofs.lemmas.Bool.{cases_eq}
 use Rattle.sab_plan.specs.declared.plan_view.PlanView.{PlanView}
 use Rattle.sab_plan.specs.declared.call.Call.{Call}
-use Rattle.sab_sim.specs.declared.answer.Answer.{Answer}
-use Rattle.sab_sim.specs.declared.entry.Why.{Why}
-use Rattle.sab_sim.specs.declared.entry.What.{What}
-use Rattle.sab_sim.specs.declared.entry.What.TheVariants.{Began, Acted, Returned, Stuck}
+use Rattle.sab_plan.specs.declared.answer.Answer.{Answer}
+use Rattle.sab_plan.specs.declared.entry.Why.{Why}
+use Rattle.sab_plan.specs.declared.entry.What.{What}
+use Rattle.sab_plan.specs.declared.entry.What.TheVariants.{Began, Acted, Returned, Stuck}
 use Rattle.sab_sim.specs.declared.agent.Agent.{Agent}
 use Rattle.sab_sim.specs.declared.agent.Phase.{Phase}
 use Rattle.sab_sim.specs.declared.agent.Phase.TheVariants as P
-use Rattle.sab_sim.specs.declared.place.Place.{Place}
+use Rattle.sab_plan.specs.declared.place.Place.{Place}
 use Rattle.sab_plan.specs.Call.{view_of}
 use Rattle.sab_plan.specs.Script.{ScriptParts}
 use Rattle.sab_plan.specs.Plan.{PlanParts, calls_in, calls_of, call_of}
 use Rattle.sab_sim.specs.Object.{State, Waiter, stands, Does, DoesCall}
-use Rattle.sab_sim.specs.Journal.{Justifies}
+use Rattle.sab_sim.specs.Run.{Justifies}
 use Rattle.sab_sim.specs.Agent.{woken_phase, waiting_phase, is_woken, is_waiting, newcomer, agent_at, HasCall, IsAtCall, Advances}
 use Rattle.sab_sim.specs.Line.{WaitsAt}
 use Rattle.sab_sim.specs.Machine.{MachineParts, with_phase, IsReady, IsSeated, Represents}

@@ -3,10 +3,10 @@ use Rattle.std.proofs.Common.{◌≡◌, ◌≢◌, ℕ, suc, ◌≤◌, ◌==�
 use Rattle.std.specs.Prelude.{filter}
 use Rattle.std.specs.List.{list_any}
 use Rattle.std.proofs.lemmas.Bool.{and_parts, ne_eqb, eq-eqb, eqb-true, eqb-false, false≢true, true≢false}
-use Rattle.sab_sim.specs.declared.place.Place.{Place}
+use Rattle.sab_plan.specs.declared.place.Place.{Place}
 use Rattle.sab_sim.specs.declared.agent.Agent.{Agent}
 use Rattle.sab_sim.specs.declared.agent.Phase.TheVariants as P
-use Rattle.sab_sim.specs.Place.{same_place}
+use Rattle.sab_plan.specs.Place.{same_place}
 use Rattle.sab_sim.specs.Object.{Waiter}
 use Rattle.sab_sim.specs.Agent.{waiting_phase}
 use Rattle.sab_sim.specs.Line.{WaitsAt}

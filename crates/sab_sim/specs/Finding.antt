@@ -5,13 +5,13 @@ use Rattle.sab_block.specs.declared.access.Access.{Access}
 use Rattle.sab_block.specs.declared.operand.Operand.{Operand}
 use Rattle.sab_block.specs.Check.{first_thrown}
 use Rattle.sab_block.specs.Access.{Acts, access_verdict, raw_of}
-use Rattle.sab_sim.specs.declared.place.Place.{Place}
+use Rattle.sab_plan.specs.declared.place.Place.{Place}
 use Rattle.sab_plan.specs.declared.plan_view.PlanView.{PlanView}
-use Rattle.sab_sim.specs.declared.answer.Answer.{Answer}
-use Rattle.sab_sim.specs.Place.{place_of}
+use Rattle.sab_plan.specs.declared.answer.Answer.{Answer}
+use Rattle.sab_plan.specs.Place.{place_of}
 use Rattle.sab_plan.specs.Check.{wait_checks, notify_checks}
 use Rattle.sab_sim.specs.Object.{element_at, bytes_of}
-use Rattle.sab_sim.specs.declared.answer.Answer.TheVariants as A
+use Rattle.sab_plan.specs.declared.answer.Answer.TheVariants as A
 
 -- the answer and the bytes of an access on its block
 abbrev pub AnswersAccess : PlanView → Access → List (List ℕ) → Answer → List (List ℕ) → Type 0

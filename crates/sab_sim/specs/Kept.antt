@@ -1,12 +1,13 @@
 -- What a simulator keeps of its moves.
 use Rattle.std.specs.Prelude.{◌≡◌, ℕ, ◌<◌, List, length, slice_get, Some}
-use Rattle.sab_sim.specs.declared.entry.Entry.{Entry}
+use Rattle.sab_plan.specs.declared.entry.Entry.{Entry}
 use Rattle.sab_plan.specs.declared.schedule.Move.{Move}
 use Rattle.sab_sim.specs.declared.agent.Agent.{Agent}
 use Rattle.sab_plan.specs.Schedule.{agent_of}
 use Rattle.sab_plan.specs.Plan.{PlanParts}
 use Rattle.sab_sim.specs.Object.{State}
-use Rattle.sab_sim.specs.Journal.{EachAnswers, IsJustified, EachAfter, Reaches}
+use Rattle.sab_plan.specs.Journal.{EachAnswers, EachAfter}
+use Rattle.sab_sim.specs.Run.{IsJustified, Reaches}
 use Rattle.sab_sim.specs.Agent.{IsWhere}
 use Rattle.sab_sim.specs.Machine.{MachineParts, Represents}
 

@@ -1,8 +1,6 @@
-pub mod Place
 pub mod Object
-pub mod Entry
-pub mod Journal
-pub mod Report
+pub mod Run
+pub mod Fits
 pub mod Agent
 pub mod Line
 pub mod Machine

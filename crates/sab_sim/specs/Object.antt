@@ -2,18 +2,18 @@
 use Rattle.std.specs.Prelude.{◌≡◌, ◌≢◌, ℕ, zero, suc, ◌==◌, ◌&&◌, ◌||◌, not, min, Bool, true, false, if◌then◌else◌, ℤ, pos, negsuc, List, [], ◌∷◌, ◌++◌, length, map, take, filter, replicate, slice_get, slice_set, slice_index_or, Contains, Option, Some, None}
 use Rattle.std.specs.List.{list_any}
 use Rattle.sab_block.specs.Access.{Acts, element, raw_of}
-use Rattle.sab_sim.specs.declared.place.Place.{Place}
+use Rattle.sab_plan.specs.declared.place.Place.{Place}
 use Rattle.sab_plan.specs.declared.call.Call.{Call}
 use Rattle.sab_plan.specs.declared.call.Call.TheVariants as C
-use Rattle.sab_sim.specs.declared.answer.Answer.TheVariants.{Value, Woken, NotEqual, TimedOut, Count, Threw}
-use Rattle.sab_sim.specs.declared.entry.What.{What}
-use Rattle.sab_sim.specs.declared.entry.What.TheVariants.{Acted, Enlisted, Left}
-use Rattle.sab_sim.specs.declared.entry.Entry.{Entry}
+use Rattle.sab_plan.specs.declared.answer.Answer.TheVariants.{Value, Woken, NotEqual, TimedOut, Count, Threw}
+use Rattle.sab_plan.specs.declared.entry.What.{What}
+use Rattle.sab_plan.specs.declared.entry.What.TheVariants.{Acted, Enlisted, Left}
+use Rattle.sab_plan.specs.declared.entry.Entry.{Entry}
 use Rattle.sab_plan.specs.declared.plan_view.PlanView.{PlanView}
 use Rattle.sab_plan.specs.Call.{view_of}
 use Rattle.sab_plan.specs.Script.{ScriptParts}
 use Rattle.sab_plan.specs.Plan.{PlanParts}
-use Rattle.sab_sim.specs.Place.{same_place, place_of}
+use Rattle.sab_plan.specs.Place.{same_place, place_of}
 use Rattle.sab_plan.specs.Check.{verdict}
 
 -- an agent that waits at a place

@@ -2,9 +2,9 @@
 use Rattle.std.specs.Prelude.{◌≡◌, ℕ, suc, ◌≤◌, ◌^◌, ◌-◌, List, [], ◌∷◌, length, map, take, Vec, vec_len, vec_capacity}
 use Rattle.std.proofs.Common.{Global}
 use Rattle.sab_plan.specs.declared.schedule.Move.{Move}
-use Rattle.sab_sim.specs.declared.entry.Entry.{Entry}
+use Rattle.sab_plan.specs.declared.entry.Entry.{Entry}
 use Rattle.sab_sim.specs.declared.agent.Agent.{Agent}
-use Rattle.sab_sim.specs.declared.progress.Progress.{Progress}
+use Rattle.sab_plan.specs.declared.progress.Progress.{Progress}
 use Rattle.sab_plan.specs.Plan.{PlanParts, IsPlan}
 use Rattle.sab_plan.specs.Script.{ScriptParts}
 use Rattle.sab_sim.specs.Agent.{agent_at}

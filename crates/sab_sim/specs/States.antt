@@ -1,11 +1,12 @@
 -- The states that a journal leads to, and the line in the last of them.
 use Rattle.std.specs.Prelude.{◌≡◌, ℕ, true, false, List, take, Contains, Some}
-use Rattle.sab_sim.specs.declared.place.Place.{Place}
+use Rattle.sab_plan.specs.declared.place.Place.{Place}
 use Rattle.sab_plan.specs.declared.call.Call.{Call}
-use Rattle.sab_sim.specs.declared.entry.Entry.{Entry}
+use Rattle.sab_plan.specs.declared.entry.Entry.{Entry}
 use Rattle.sab_plan.specs.Plan.{PlanParts, call_of}
 use Rattle.sab_sim.specs.Object.{State, stands}
-use Rattle.sab_sim.specs.Journal.{Reaches, returned_of}
+use Rattle.sab_plan.specs.Journal.{returned_of}
+use Rattle.sab_sim.specs.Run.{Reaches}
 use Rattle.sab_sim.specs.Agent.{WaitsOn}
 use Rattle.sab_sim.specs.Shown.{AtEnd}
 

@@ -1,13 +1,13 @@
 -- What one move does.
 use Rattle.std.specs.Prelude.{◌≡◌, ◌≢◌, ℕ, suc, length, map, slice_get, Some, MatchBool}
-use Rattle.sab_sim.specs.declared.entry.What.{What}
-use Rattle.sab_sim.specs.declared.entry.What.TheVariants.{Enlisted}
-use Rattle.sab_sim.specs.declared.entry.Entry.{Entry}
+use Rattle.sab_plan.specs.declared.entry.What.{What}
+use Rattle.sab_plan.specs.declared.entry.What.TheVariants.{Enlisted}
+use Rattle.sab_plan.specs.declared.entry.Entry.{Entry}
 use Rattle.sab_sim.specs.declared.agent.Agent.{Agent}
-use Rattle.sab_sim.specs.Entry.{is_act}
+use Rattle.sab_plan.specs.Entry.{is_act}
 use Rattle.sab_plan.specs.Plan.{PlanParts, calls_of}
 use Rattle.sab_sim.specs.Object.{State, Does}
-use Rattle.sab_sim.specs.Journal.{Justifies}
+use Rattle.sab_sim.specs.Run.{Justifies}
 use Rattle.sab_sim.specs.Agent.{agent_at, IsAtCall, Advances, IsLike}
 use Rattle.sab_sim.specs.Machine.{MachineParts, Represents}
 

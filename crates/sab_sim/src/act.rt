@@ -4,10 +4,8 @@ ghost use Rattle.std.specs.Prelude.{◌≡◌, length, map, slice_get, Some};
 ghost use Rattle.sab_block.specs.View.{block_len_of};
 ghost use Rattle.sab_sim.specs.Finding.{AnswersAccess, FindsWait, FindsNotify};
 
-use crate::answer::Answer;
-use crate::place::Place;
 use sab_block::{Access, Block, Check, Operand, Thrown, wrapped};
-use sab_plan::{PlanView, notify_place, wait_place};
+use sab_plan::{Answer, Place, PlanView, notify_place, wait_place};
 
 /// Makes an access on its view's block.
 pub fn act_access(blocks: &mut [Block], view: &PlanView, access: &Access) -> Answer

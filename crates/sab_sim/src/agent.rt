@@ -2,8 +2,7 @@
 
 ghost use Rattle.std.specs.Prelude.{◌≡◌, slice_get};
 
-use crate::answer::Answer;
-use crate::place::Place;
+use sab_plan::{Answer, Place};
 
 /// Where an agent stands.
 #[derive(Clone, Copy, Debug, PartialEq, Eq)]

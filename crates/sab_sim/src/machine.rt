@@ -2,23 +2,20 @@
 
 ghost use Rattle.std.specs.Prelude.{◌≡◌, ◌<◌, ◌≤◌, ◌^◌, length, true, IfOk};
 ghost use Rattle.sab_plan.specs.declared.schedule.Move.TheVariants.{Step, TimeUp};
-ghost use Rattle.sab_sim.specs.declared.entry.What.TheVariants.{Acted, Enlisted};
+ghost use Rattle.sab_plan.specs.declared.entry.What.TheVariants.{Acted, Enlisted};
 ghost use Rattle.sab_sim.specs.declared.agent.Phase.TheVariants.{Answered};
 ghost use Rattle.sab_plan.specs.Schedule.{agent_of};
-ghost use Rattle.sab_sim.specs.Journal.{answers_move};
+ghost use Rattle.sab_plan.specs.Journal.{answers_move};
 ghost use Rattle.sab_sim.specs.Agent.{agent_at};
 ghost use Rattle.sab_sim.specs.Machine.{IsReady, IsBegun, opening_machine, with_agent, with_phase, enlisted};
 ghost use Rattle.sab_sim.specs.Turn.{Turns, entry_of};
 
 use crate::act::{act_access, find_notify, find_wait};
 use crate::agent::{Agent, Phase};
-use crate::answer::Answer;
-use crate::entry::{Entry, What, Why};
 use crate::line::wake;
 use crate::lookup::{call_at, can_block, is_timed, view_at};
-use crate::place::Place;
 use sab_block::Block;
-use sab_plan::{Call, Move, Plan};
+use sab_plan::{Answer, Call, Entry, Move, Place, Plan, What, Why};
 use std::alloc::{AllocError, Global};
 use std::marker::Model;
 

@@ -2,13 +2,12 @@
 
 ghost use Rattle.std.specs.Prelude.{◌≡◌, ◌<◌, ◌≤◌, ◌^◌, [], length, All, vec_capacity};
 ghost use Rattle.sab_plan.specs.Script.{ScriptParts};
-ghost use Rattle.sab_sim.specs.Report.{items_of_each};
+ghost use Rattle.sab_plan.specs.Report.{items_of_each};
 ghost use Rattle.sab_sim.specs.Sim.{standing_from};
 
 use crate::agent::Agent;
-use crate::progress::Progress;
 use sab_block::Block;
-use sab_plan::Script;
+use sab_plan::{Progress, Script};
 
 /// Hands over the bytes of each block.
 pub fn hand_over(room: &mut Vec<Vec<u8>>, blocks: Vec<Block>)

@@ -2,12 +2,11 @@
 
 ghost use Rattle.std.specs.Prelude.{◌≡◌, [], length, None, IfOk, IfErr, OnOk};
 ghost use Rattle.sab_sim.specs.declared.sim_fault.SimFault.TheVariants.{OutOfMemory};
-ghost use Rattle.sab_sim.specs.Report.{Fits, IsOnly, IsRefusal, first_refusal};
+ghost use Rattle.sab_sim.specs.Fits.{Fits, IsOnly, IsRefusal, first_refusal};
 
-use crate::report::Report;
 use crate::sim::Sim;
 use crate::sim_fault::SimFault;
-use sab_plan::{Move, Plan};
+use sab_plan::{Move, Plan, Report};
 use std::alloc::Global;
 
 /// The report of a plan after all moves of a schedule, in order.

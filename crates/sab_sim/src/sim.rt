@@ -1,29 +1,25 @@
 //! The simulator.
 
 ghost use Rattle.std.specs.Prelude.{◌≡◌, ℕ, ◌<◌, ◌≤◌, ◌^◌, ◌+◌, ◌-◌, ◌++◌, ◌∷◌, [], length, map, min, replicate, All, Err, IsOk, IfOk, OnOk, OnErr, IsOkUnless};
-ghost use Rattle.sab_sim.specs.declared.entry.Entry.{Entry};
+ghost use Rattle.sab_plan.specs.declared.entry.Entry.{Entry};
 ghost use Rattle.sab_sim.specs.declared.sim_fault.SimFault.TheVariants.{NoAgent, Full, OutOfMemory};
 ghost use Rattle.sab_plan.specs.Schedule.{agent_of};
 ghost use Rattle.sab_sim.specs.Object.{zero_blocks, waiters, stands};
 ghost use Rattle.sab_plan.specs.Plan.{call_of};
-ghost use Rattle.sab_sim.specs.Journal.{returned_of};
+ghost use Rattle.sab_plan.specs.Journal.{returned_of};
 ghost use Rattle.sab_sim.specs.Shown.{AtEnd};
 ghost use Rattle.sab_sim.specs.States.{HasStates, IsOfWaits};
-ghost use Rattle.sab_sim.specs.Report.{FitsMoves, Fits, IsOnly};
+ghost use Rattle.sab_sim.specs.Fits.{FitsMoves, Fits, IsOnly};
 
 use crate::agent::find_agent;
-use crate::entry::Entry;
 use crate::line::line_at;
 use crate::lookup::call_at;
 use crate::machine::Machine;
-use crate::place::Place;
-use crate::progress::Progress;
-use crate::report::Report;
 use crate::room::{hand_over, tell_progress};
 use crate::sim_fault::SimFault;
 use crate::waiters::Waiters;
 use sab_block::Block;
-use sab_plan::{Call, Move, Plan};
+use sab_plan::{Call, Entry, Move, Place, Plan, Progress, Report};
 use std::alloc::{AllocError, Global};
 use std::marker::Model;
 

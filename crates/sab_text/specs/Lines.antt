@@ -1,7 +1,7 @@
 -- Which entries of a journal have a line.
 use Rattle.std.specs.Prelude.{Bool, true, false, List, [], if◌then◌else◌, ℕ}
-use Rattle.sab_sim.specs.declared.entry.What.{What}
-use Rattle.sab_sim.specs.declared.entry.What.TheVariants.{Began, Returned}
+use Rattle.sab_plan.specs.declared.entry.What.{What}
+use Rattle.sab_plan.specs.declared.entry.What.TheVariants.{Began, Returned}
 use Rattle.sab_text.specs.declared.lines.Lines.{Lines}
 use Rattle.sab_text.specs.declared.lines.Lines.TheVariants as L
 

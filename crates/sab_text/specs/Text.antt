@@ -4,15 +4,15 @@ use Rattle.std.specs.Fmt.{signed_decimal, digit_glyph}
 use Rattle.sab_block.specs.declared.operand.Operand.{Operand}
 use Rattle.sab_block.specs.Operand.{is_bigint, whole_of}
 use Rattle.sab_block.specs.Thrown.{name_of}
-use Rattle.sab_sim.specs.declared.answer.Answer.{Answer}
-use Rattle.sab_sim.specs.declared.answer.Answer.TheVariants.{Value, Woken, NotEqual, TimedOut, Count, Threw}
-use Rattle.sab_sim.specs.declared.entry.Why.{Why}
-use Rattle.sab_sim.specs.declared.entry.Why.TheVariants.{Done, Waiting, NotWaiting, Endless}
-use Rattle.sab_sim.specs.declared.entry.What.{What}
-use Rattle.sab_sim.specs.declared.entry.What.TheVariants.{Began, Acted, Enlisted, Left, Returned, Stuck}
-use Rattle.sab_sim.specs.declared.entry.Entry.{Entry}
-use Rattle.sab_sim.specs.declared.progress.Progress.{Progress}
-use Rattle.sab_sim.specs.Report.{ReportParts}
+use Rattle.sab_plan.specs.declared.answer.Answer.{Answer}
+use Rattle.sab_plan.specs.declared.answer.Answer.TheVariants.{Value, Woken, NotEqual, TimedOut, Count, Threw}
+use Rattle.sab_plan.specs.declared.entry.Why.{Why}
+use Rattle.sab_plan.specs.declared.entry.Why.TheVariants.{Done, Waiting, NotWaiting, Endless}
+use Rattle.sab_plan.specs.declared.entry.What.{What}
+use Rattle.sab_plan.specs.declared.entry.What.TheVariants.{Began, Acted, Enlisted, Left, Returned, Stuck}
+use Rattle.sab_plan.specs.declared.entry.Entry.{Entry}
+use Rattle.sab_plan.specs.declared.progress.Progress.{Progress}
+use Rattle.sab_plan.specs.Report.{ReportParts}
 use Rattle.sab_text.specs.declared.lines.Lines.{Lines}
 use Rattle.sab_text.specs.declared.lines.Lines.TheVariants.{All}
 use Rattle.sab_text.specs.Lines.{line_if}

@@ -8,7 +8,7 @@ use crate::chunk::Chunk;
 use crate::line::Line;
 use crate::lines::Lines;
 use sab_block::{Operand, Thrown};
-use sab_sim::{Answer, Entry, What, Why};
+use sab_plan::{Answer, Entry, What, Why};
 
 /// The most bytes of an answer: a sign, 39 digits and `n`.
 pub const ANSWER_LEN: usize = 41;

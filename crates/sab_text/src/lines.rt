@@ -2,7 +2,7 @@
 
 ghost use Rattle.std.specs.Prelude.{◌≡◌};
 
-use sab_sim::What;
+use sab_plan::What;
 
 /// Which entries of a journal have a line in a report.
 #[derive(Clone, Copy, Debug, PartialEq, Eq)]

@@ -9,7 +9,7 @@ use Rattle.sab_sim.specs.declared.sim_fault.SimFault.{SimFault}
 use Rattle.sab_sim.specs.declared.sim_fault.SimFault.TheVariants as F
 use Rattle.sab_plan.specs.Schedule.{agent_of}
 use Rattle.sab_plan.specs.Plan.{PlanParts}
-use Rattle.sab_sim.specs.Report.{IsRefusal, first_refusal}
+use Rattle.sab_sim.specs.Fits.{IsRefusal, first_refusal}
 use Rattle.sab_refusal.specs.declared.read_fault.ReadFault.{ReadFault}
 use Rattle.sab_refusal.specs.declared.read_fault.ReadFault.TheVariants.{TooMany, OutOfMemory, BadShape, BadName, BadNumber, BadCall, BadView, BadAgent, NoBlock}
 use Rattle.sab_refusal.specs.declared.refusal.Refusal.{Refusal}

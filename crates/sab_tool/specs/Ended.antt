@@ -1,8 +1,8 @@
 -- How a run ended.
 use Rattle.std.specs.Prelude.{◌==◌, Bool, if◌then◌else◌}
 use Rattle.std.specs.List.{list_all}
-use Rattle.sab_sim.specs.declared.progress.Progress.{Progress}
-use Rattle.sab_sim.specs.Report.{ReportParts}
+use Rattle.sab_plan.specs.declared.progress.Progress.{Progress}
+use Rattle.sab_plan.specs.Report.{ReportParts}
 use Rattle.sab_tool.specs.declared.ended.Ended.{Ended}
 use Rattle.sab_tool.specs.declared.ended.Ended.TheVariants.{Finished, Unfinished}
 

@@ -2,7 +2,8 @@
 use Rattle.std.specs.Prelude.{◌≡◌, ◌⊎◌, ℕ, ◌<◌, ◌^◌, List, Option, ⊤}
 use Rattle.std.specs.Io.KnownBytes.{Appends, Keeps}
 use Rattle.sab_plan.specs.Plan.{PlanParts}
-use Rattle.sab_sim.specs.Report.{ReportParts, IsOnly}
+use Rattle.sab_plan.specs.Report.{ReportParts}
+use Rattle.sab_sim.specs.Fits.{IsOnly}
 use Rattle.sab_race.specs.declared.race_fault.RaceFault.{RaceFault}
 use Rattle.sab_race.specs.declared.race_fault.RaceFault.TheVariants as R
 use Rattle.sab_race.specs.Moves.{count_of}

@@ -4,7 +4,8 @@ use Rattle.std.specs.Io.KnownBytes.{Appends, Keeps}
 use Rattle.serde_json.specs.Data.{Data}
 use Rattle.sab_plan.specs.declared.schedule.Move.{Move}
 use Rattle.sab_plan.specs.Plan.{PlanParts}
-use Rattle.sab_sim.specs.Report.{ReportParts, Fits, IsOnly}
+use Rattle.sab_plan.specs.Report.{ReportParts}
+use Rattle.sab_sim.specs.Fits.{Fits, IsOnly}
 use Rattle.sab_refusal.specs.declared.read_fault.ReadFault.{ReadFault}
 use Rattle.sab_refusal.specs.declared.read_fault.ReadFault.TheVariants as R
 use Rattle.sab_refusal.specs.declared.refusal.Refusal.{Refusal}

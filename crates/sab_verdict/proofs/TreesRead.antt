@@ -3,7 +3,7 @@ use Rattle.std.proofs.Common.{ℕ, suc, List, refl}
 use Rattle.std.specs.Prelude.{codes, option_map}
 use Rattle.serde_json.specs.Data.{Data}
 use Rattle.sab_plan.specs.Plan.{PlanParts}
-use Rattle.sab_sim.specs.declared.entry.Entry.{Entry}
+use Rattle.sab_plan.specs.declared.entry.Entry.{Entry}
 use Rattle.sab_judge.specs.declared.event.Event.{Event}
 use Rattle.sab_judge.specs.declared.race.Race.{Race}
 use Rattle.sab_fact_json.specs.CallData.{natural, call_data}

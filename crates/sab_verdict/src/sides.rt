@@ -4,7 +4,7 @@ ghost use Rattle.std.specs.Prelude.{◌≡◌};
 ghost use Rattle.sab_verdict.specs.Events.{call_at};
 
 use sab_fact_text::Name;
-use sab_sim::{Call, Entry, Plan};
+use sab_plan::{Call, Entry, Plan};
 
 /// How the two events of a race are told.
 #[derive(Clone, Copy)]

@@ -17,7 +17,7 @@ use crate::sides::{Run, Sides};
 use crate::{as_json, plain};
 use sab_fact_text::Name;
 use sab_judge::{Event, Race, Trace, Verdict};
-use sab_sim::{Entry, Plan};
+use sab_plan::{Entry, Plan};
 use sab_text::{Chunk, VerdictFormat};
 use std::io;
 use std::io::Write;

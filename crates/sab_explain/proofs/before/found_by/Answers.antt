@@ -1,7 +1,7 @@
 -- An access that answered a value.
 use Rattle.std.proofs.Common.{◌≡◌, ap, ◌∙◌}
-use Rattle.sab_sim.specs.declared.entry.What.TheVariants.{Acted}
-use Rattle.sab_sim.specs.declared.answer.Answer.TheVariants.{Value}
+use Rattle.sab_plan.specs.declared.entry.What.TheVariants.{Acted}
+use Rattle.sab_plan.specs.declared.answer.Answer.TheVariants.{Value}
 use Rattle.sab_explain.proofs.before.found_by.Goals as goal
 
 pub returns-in-Acted-Value : goal.returns-in-Acted-Value

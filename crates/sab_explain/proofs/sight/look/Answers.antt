@@ -3,7 +3,7 @@ use Rattle.std.proofs.Common.{rules, ◌≡◌, ◌<◌, length, false, slice_ge
 use Rattle.sab_block.specs.Kind.{is_atomic}
 use Rattle.sab_block.specs.View.{kind_of}
 use Rattle.sab_plan.specs.Call.{view_of, index_of}
-use Rattle.sab_sim.specs.Place.{place_of}
+use Rattle.sab_plan.specs.Place.{place_of}
 use Rattle.sab_explain.proofs.Noting.{All-found}
 use Rattle.sab_explain.proofs.Seeing.{blind_place, blind_kind, if_none}
 use Rattle.sab_explain.specs.Explainer.{IsBlind}

@@ -3,7 +3,7 @@ use Rattle.std.proofs.Common.{◌≡◌, ◌∙◌, List, ℕ, ◌++◌, ap, sub
 use Rattle.std.specs.Prelude.{Vec}
 use Rattle.std.specs.Io.KnownBytes.{append_known}
 use Rattle.sab_xml.specs.Xml.{nodes, nodes_text}
-use Rattle.sab_sim.specs.Report.{items_of_each}
+use Rattle.sab_plan.specs.Report.{items_of_each}
 use Rattle.sab_fact_svg.specs.Ends.{block_line, drawn_blocks}
 use Rattle.sab_fact_svg.proofs.Writing.{blocks_after}
 use Rattle.sab_fact_svg.proofs.blocks.write_blocks.Goals as goal

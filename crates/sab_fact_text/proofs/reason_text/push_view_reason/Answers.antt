@@ -13,5 +13,5 @@ returns-in-AtomicKind-clause-bytes c =
 pub returns-in-WaitableKind-clause-bytes : goal.returns-in-WaitableKind-clause-bytes
 returns-in-WaitableKind-clause-bytes c =
     let named : c.push-in-WaitableKind-2.new.self ≡ c.push-in-WaitableKind.new.self ++ kind_name (kind_of c.args.view.view)
-        = search rules in
+    = search rules in
     rw c.in-WaitableKind.is (three _ _ _ _ _ _ _ c.push-in-WaitableKind.ensures named c.push-in-WaitableKind-3.ensures)

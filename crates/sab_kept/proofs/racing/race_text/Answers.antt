@@ -2,7 +2,7 @@
 use Rattle.std.proofs.Common.{◌≡◌, inl, inr, ap, subst, ◌∙◌}
 use Rattle.serde_json.specs.View.{view}
 use Rattle.sab_plan.specs.Plan.{PlanParts}
-use Rattle.sab_sim.specs.Report.{ReportParts}
+use Rattle.sab_plan.specs.Report.{ReportParts}
 use Rattle.sab_tool.specs.Racing.{IsRaceOf, IsUnraced}
 use Rattle.sab_kept.specs.Keeping.{IsRaceIn, IsRaceUnkept}
 use Rattle.sab_kept.proofs.KeptRuns.{script_of, kept, unkept, exit_fault}

@@ -1,7 +1,7 @@
 -- What is known of the run of a script's own moves.
 use Rattle.std.proofs.Common.{◌≡◌, inr, ap, ◌∙◌}
 use Rattle.serde_json.specs.View.{view}
-use Rattle.sab_sim.specs.Report.{ReportParts}
+use Rattle.sab_plan.specs.Report.{ReportParts}
 use Rattle.sab_tool.specs.Replay.{IsReportOf}
 use Rattle.sab_tool.proofs.ReplaySteps.{spelled_moves}
 use Rattle.sab_kept.specs.Keeping.{IsReplayUnkept}

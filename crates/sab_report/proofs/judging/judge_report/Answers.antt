@@ -1,7 +1,7 @@
 -- The verdict is that on the events of the report's journal.
 use Rattle.std.proofs.Common.{◌≡◌, ap, ◌∙◌, sym, subst, All, ◌<◌, List}
-use Rattle.sab_sim.specs.declared.entry.Entry.{Entry}
-use Rattle.sab_sim.specs.Report.{ReportParts}
+use Rattle.sab_plan.specs.declared.entry.Entry.{Entry}
+use Rattle.sab_plan.specs.Report.{ReportParts}
 use Rattle.sab_events.proofs.Fitting.{agents_in_report}
 use Rattle.sab_report.proofs.Verdicts.{verdict_told}
 use Rattle.sab_report.proofs.judging.judge_report.Goals as goal

@@ -1,6 +1,6 @@
 -- The moves of a race are its agents'.
 use Rattle.std.proofs.Common.{◌≡◌, ◌∙◌, ap}
-use Rattle.sab_sim.specs.Report.{ReportParts}
+use Rattle.sab_plan.specs.Report.{ReportParts}
 use Rattle.sab_report.proofs.racing.race_and_replay.Goals as goal
 
 pub tell_moves-requires-clause-moves : goal.tell_moves-requires-clause-moves

@@ -15,8 +15,8 @@ use Rattle.sab_block.specs.Block.{number}
 use Rattle.sab_block.specs.Check.{Checked, thrown_by, first_failed, first_thrown, Places}
 use Rattle.sab_plan.specs.declared.plan_view.PlanView.{PlanView}
 use Rattle.sab_plan.specs.Check.{wait_checks}
-use Rattle.sab_sim.specs.declared.place.Place.{Place}
-use Rattle.sab_sim.specs.Place.{place_of}
+use Rattle.sab_plan.specs.declared.place.Place.{Place}
+use Rattle.sab_plan.specs.Place.{place_of}
 use Rattle.sab_sim.specs.Object.{bytes_of, element_at}
 use Rattle.sab_sim.proofs.act.find_wait.Goals as goal
 

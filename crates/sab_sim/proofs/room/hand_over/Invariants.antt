@@ -1,6 +1,6 @@
 use Rattle.std.proofs.Common.{◌≡◌, ◌≤◌, ◌++◌, length, vec_capacity}
 use Rattle.std.specs.Vec.Iter.{into_iter_items}
-use Rattle.sab_sim.specs.Report.{items_of_each}
+use Rattle.sab_plan.specs.Report.{items_of_each}
 use Rattle.sab_sim.proofs.room.hand_over.Given as goal
 
 -- the bytes of the blocks so far, and room for the rest

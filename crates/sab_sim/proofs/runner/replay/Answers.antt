@@ -9,7 +9,7 @@ use Rattle.sab_sim.specs.declared.sim_fault.SimFault.{SimFault}
 use Rattle.sab_sim.specs.declared.sim_fault.SimFault.TheVariants.{NoAgent, Full, OutOfMemory}
 use Rattle.sab_plan.specs.Schedule.{agent_of}
 use Rattle.sab_plan.specs.Plan.{PlanParts}
-use Rattle.sab_sim.specs.Report.{IsRefusal, first_refusal}
+use Rattle.sab_sim.specs.Fits.{IsRefusal, first_refusal}
 use Rattle.sab_sim.specs.Sim.{SimParts}
 use Rattle.sab_sim.proofs.runner.replay.Goals as goal
 

@@ -1,5 +1,5 @@
 use Rattle.std.proofs.Common.{◌≡◌, take, drop, length}
-use Rattle.sab_sim.specs.Report.{first_refusal}
+use Rattle.sab_sim.specs.Fits.{first_refusal}
 use Rattle.sab_sim.proofs.runner.replay.Given as goal
 
 -- the moves so far were made, and none of them was to be refused

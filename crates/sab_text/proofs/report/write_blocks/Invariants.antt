@@ -1,6 +1,6 @@
 use Rattle.std.proofs.Common.{drop, ◌+◌, ◌≤◌, length}
 use Rattle.std.specs.Io.KnownBytes.{Appends, append_known}
-use Rattle.sab_sim.specs.Report.{items_of_each}
+use Rattle.sab_plan.specs.Report.{items_of_each}
 use Rattle.sab_text.specs.declared.chunk.TheConstants.Chunk.{ROOM, LINE_ROOM}
 use Rattle.sab_text.specs.Text.{block_lines}
 use Rattle.sab_text.proofs.report.write_blocks.Given as goal

@@ -1,6 +1,6 @@
 -- By the state that the journal leads to.
 use Rattle.std.proofs.Common.{◌∙◌, sym, subst}
-use Rattle.sab_sim.specs.Journal.{Reaches}
+use Rattle.sab_sim.specs.Run.{Reaches}
 use Rattle.sab_sim.specs.Sim.{SimParts}
 use Rattle.sab_explain.proofs.OneStanding.{at_last}
 use Rattle.sab_explain.proofs.explainer.Explainer.at.Goals as goal

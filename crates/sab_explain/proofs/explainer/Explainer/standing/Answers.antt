@@ -1,7 +1,7 @@
 -- What is told of an agent is how it stands.
 use Rattle.std.proofs.Common.{rules, subst, None}
 use Rattle.std.specs.Prelude.{slice_index_or}
-use Rattle.sab_sim.specs.Journal.{Reaches}
+use Rattle.sab_sim.specs.Run.{Reaches}
 use Rattle.sab_sim.specs.Sim.{SimParts}
 use Rattle.sab_explain.specs.declared.standing.Standing.{Standing}
 use Rattle.sab_sim.specs.Object.{State}

@@ -1,8 +1,8 @@
 -- What was concluded is the entry's fact.
 use Rattle.std.proofs.Common.{rules, ◌≡◌, ◌∙◌, ◌<◌, ◌≤◌, ℕ, List, Option, None, length, get_or, ap, subst, arith}
 use Rattle.std.specs.Prelude.{slice_index_or}
-use Rattle.sab_sim.specs.declared.entry.Entry.{Entry}
-use Rattle.sab_sim.specs.declared.entry.What.TheVariants.{Began}
+use Rattle.sab_plan.specs.declared.entry.Entry.{Entry}
+use Rattle.sab_plan.specs.declared.entry.What.TheVariants.{Began}
 use Rattle.sab_plan.specs.Plan.{PlanParts}
 use Rattle.sab_sim.specs.Sim.{SimParts}
 use Rattle.sab_explain.specs.declared.fact.Fact.{Fact}

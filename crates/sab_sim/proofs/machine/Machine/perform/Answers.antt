@@ -5,7 +5,7 @@ use Rattle.std.specs.Int.{w64}
 use Rattle.std.proofs.lemmas.List.{with_items_is}
 use Rattle.sab_block.specs.declared.thrown.Thrown.{Thrown}
 use Rattle.sab_block.specs.declared.operand.Operand.{Operand}
-use Rattle.sab_sim.specs.declared.place.Place.{Place}
+use Rattle.sab_plan.specs.declared.place.Place.{Place}
 use Rattle.sab_plan.specs.declared.plan_view.PlanView.{PlanView}
 use Rattle.sab_sim.specs.Finding.{FindsWait, FindsNotify}
 use Rattle.sab_sim.proofs.CallActs.{is_acting, access_made, wait_threw, wait_differs, wait_joins, notify_threw, notify_made}

@@ -2,7 +2,7 @@
 use Rattle.std.proofs.Common.{ap, sym, ◌∙◌, add-one}
 use Rattle.std.specs.Prelude.{is_some}
 use Rattle.sab_sim.specs.Agent.{waiting_phase}
-use Rattle.sab_sim.specs.declared.entry.Why.TheVariants.{Waiting}
+use Rattle.sab_plan.specs.declared.entry.Why.TheVariants.{Waiting}
 use Rattle.sab_sim.proofs.OwnMoves.{has_turn, began_turn, returned_turn, stuck_turn, its_stands}
 use Rattle.sab_sim.proofs.LineMoves.{woken_turn}
 use Rattle.sab_sim.proofs.machine.Machine.step.Goals as goal

@@ -1,6 +1,7 @@
 -- What is kept is told.
 use Rattle.std.proofs.Common.{◌∙◌, refl, subst}
-use Rattle.sab_sim.specs.Report.{Fits, IsOnly, ReportParts, items_of_each}
+use Rattle.sab_plan.specs.Report.{ReportParts, items_of_each}
+use Rattle.sab_sim.specs.Fits.{Fits, IsOnly}
 use Rattle.sab_sim.specs.Sim.{SimParts}
 use Rattle.sab_sim.proofs.KeptFits.{Fits-kept}
 use Rattle.sab_sim.proofs.OnlyReport.{IsOnly-kept}

@@ -1,6 +1,6 @@
 -- What is kept fits.
 use Rattle.std.proofs.Common.{subst}
-use Rattle.sab_sim.specs.Report.{FitsMoves}
+use Rattle.sab_sim.specs.Fits.{FitsMoves}
 use Rattle.sab_sim.specs.Shown.{AtEnd}
 use Rattle.sab_sim.specs.States.{HasStates, IsOfWaits}
 use Rattle.sab_sim.specs.Sim.{SimParts}

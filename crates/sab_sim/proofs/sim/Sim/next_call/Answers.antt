@@ -2,7 +2,7 @@
 use Rattle.std.proofs.Common.{rules, ◌≡◌, ◌∙◌, slice_get, Some, List, ap, sym, subst}
 use Rattle.sab_sim.specs.declared.agent.Agent.{Agent}
 use Rattle.sab_plan.specs.Plan.{call_of}
-use Rattle.sab_sim.specs.Journal.{returned_of}
+use Rattle.sab_plan.specs.Journal.{returned_of}
 use Rattle.sab_sim.specs.Sim.{SimParts}
 use Rattle.sab_sim.proofs.Fronts.{next_call-kept}
 use Rattle.sab_sim.proofs.sim.Sim.next_call.Goals as goal

@@ -1,7 +1,7 @@
 -- Kinds of entries.
 use Rattle.std.specs.Prelude.{Bool, true, false}
-use Rattle.sab_sim.specs.declared.entry.What.{What}
-use Rattle.sab_sim.specs.declared.entry.What.TheVariants.{Acted, Enlisted, Left, Returned, Stuck}
+use Rattle.sab_plan.specs.declared.entry.What.{What}
+use Rattle.sab_plan.specs.declared.entry.What.TheVariants.{Acted, Enlisted, Left, Returned, Stuck}
 
 -- it acts on the object
 abbrev pub is_act : What → Bool

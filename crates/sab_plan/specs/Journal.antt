@@ -1,32 +1,22 @@
--- Journals: runs, tracks, entries that answer moves, and entries that are stuck.
+-- Journals: acts, tracks, and entries that answer moves.
 use Rattle.std.specs.Prelude.{◌≡◌, ℕ, ◌==◌, ◌&&◌, not, Bool, true, false, List, [], ◌∷◌, ◌++◌, length, map, flat_map, take, filter, slice_get, Some, None, ⊤}
 use Rattle.sab_plan.specs.declared.call.Call.{Call}
 use Rattle.sab_plan.specs.declared.call.Call.TheVariants as C
-use Rattle.sab_sim.specs.declared.answer.Answer.{Answer}
-use Rattle.sab_sim.specs.declared.answer.Answer.TheVariants.{TimedOut}
-use Rattle.sab_sim.specs.declared.entry.Why.TheVariants as Y
-use Rattle.sab_sim.specs.declared.entry.What.{What}
-use Rattle.sab_sim.specs.declared.entry.What.TheVariants.{Began, Acted, Enlisted, Left, Returned, Stuck}
-use Rattle.sab_sim.specs.declared.entry.Entry.{Entry}
+use Rattle.sab_plan.specs.declared.answer.Answer.{Answer}
+use Rattle.sab_plan.specs.declared.answer.Answer.TheVariants.{TimedOut}
+use Rattle.sab_plan.specs.declared.entry.Why.TheVariants as Y
+use Rattle.sab_plan.specs.declared.entry.What.{What}
+use Rattle.sab_plan.specs.declared.entry.What.TheVariants.{Began, Acted, Enlisted, Left, Returned, Stuck}
+use Rattle.sab_plan.specs.declared.entry.Entry.{Entry}
 use Rattle.sab_plan.specs.declared.schedule.Move.{Move}
 use Rattle.sab_plan.specs.declared.schedule.Move.TheVariants.{Step, TimeUp}
 use Rattle.sab_plan.specs.Schedule.{agent_of}
-use Rattle.sab_sim.specs.Entry.{is_act, is_stuck, is_return}
-use Rattle.sab_plan.specs.Plan.{PlanParts, calls_of, call_of}
-use Rattle.sab_sim.specs.Object.{State, opening, stands, Does}
+use Rattle.sab_plan.specs.Entry.{is_act, is_stuck, is_return}
+use Rattle.sab_plan.specs.Plan.{PlanParts, call_of}
 
 -- the entries that act
 abbrev pub acts_of : List Entry → List Entry
 acts_of journal = filter (λ (e : Entry). is_act e.what) journal
-
--- each of these acts leads from one state to the next
-abbrev pub Run : PlanParts → State → List Entry → State → Type 0
-Run plan S [] T = T ≡ S
-Run plan S (e ∷ es) T = (U : State) × Does plan S e U × Run plan U es T
-
--- the acts of these entries are a run from zero blocks, and this is its last state
-abbrev pub Reaches : PlanParts → List Entry → State → Type 0
-Reaches plan journal S = Run plan (opening plan.lens) (acts_of journal) S
 
 -- an agent's track: what it did that had an effect
 abbrev pub track : List Entry → ℕ → List What
@@ -82,18 +72,6 @@ WaitsForever _ = ⊥
 -- the agent's call is a wait without a timeout
 abbrev pub IsEndless : PlanParts → Entry → Type 0
 IsEndless plan e = (call : Call) × (call_of plan e.agent e.call ≡ Some call) × WaitsForever call
-
--- the state allows that the agent is stuck so
-abbrev pub Justifies : PlanParts → State → Entry → What → Type 0
-Justifies plan S e (Stuck Y.Done) = e.call ≡ length (calls_of plan e.agent)
-Justifies plan S e (Stuck Y.Waiting) = stands S e.agent ≡ true
-Justifies plan S e (Stuck Y.Endless) = (stands S e.agent ≡ true) × IsEndless plan e
-Justifies plan S e (Stuck Y.NotWaiting) = stands S e.agent ≡ false
-Justifies plan S e _ = ⊤
-
--- the state before the entry allows it
-abbrev pub IsJustified : PlanParts → List Entry → Entry → Type 0
-IsJustified plan before e = (S : State) × Reaches plan before S × Justifies plan S e e.what
 
 -- a fact of each entry and of the entries before it
 abbrev pub EachAfter : (List Entry → Entry → Type 0) → List Entry → Type 0

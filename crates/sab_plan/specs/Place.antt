@@ -1,7 +1,7 @@
 -- Places.
 use Rattle.std.specs.Prelude.{◌==◌, ◌&&◌, Bool, ℤ, Option, option_map}
 use Rattle.sab_block.specs.View.{place}
-use Rattle.sab_sim.specs.declared.place.Place.{Place}
+use Rattle.sab_plan.specs.declared.place.Place.{Place}
 use Rattle.sab_plan.specs.declared.plan_view.PlanView.{PlanView}
 
 -- the two are one place: the same byte of the same block

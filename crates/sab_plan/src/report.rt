@@ -2,7 +2,7 @@
 
 use crate::entry::Entry;
 use crate::progress::Progress;
-use sab_plan::Move;
+use crate::schedule::Move;
 use std::marker::Model;
 
 /// What is told of a run.
@@ -19,7 +19,7 @@ pub struct Report {
 }
 
 impl Model for Report {
-    ghost use Rattle.sab_sim.specs.Report.{ReportParts, items_of_each};
+    ghost use Rattle.sab_plan.specs.Report.{ReportParts, items_of_each};
 
     ghost Value = { ReportParts };
 

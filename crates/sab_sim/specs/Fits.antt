@@ -1,26 +1,15 @@
--- Reports, and when one fits a plan.
-use Rattle.std.specs.Prelude.{◌≡◌, ◌⊎◌, ℕ, suc, ◌<◌, ◌≤◌, ◌^◌, List, [], ◌∷◌, length, map, All, Option, Some, None, nat_le, if◌then◌else◌, Vec}
-use Rattle.std.proofs.Common.{Global}
+-- When a report fits a plan, and refusals of schedules.
+use Rattle.std.specs.Prelude.{◌≡◌, ◌⊎◌, ℕ, suc, ◌<◌, ◌≤◌, ◌^◌, List, [], ◌∷◌, length, All, Option, Some, None, nat_le, if◌then◌else◌}
 use Rattle.sab_plan.specs.declared.schedule.Move.{Move}
-use Rattle.sab_sim.specs.declared.entry.Entry.{Entry}
-use Rattle.sab_sim.specs.declared.progress.Progress.{Progress}
+use Rattle.sab_plan.specs.declared.entry.Entry.{Entry}
 use Rattle.sab_sim.specs.declared.sim_fault.SimFault.{SimFault}
 use Rattle.sab_sim.specs.declared.sim_fault.SimFault.TheVariants.{NoAgent, Full, OutOfMemory}
 use Rattle.sab_plan.specs.Schedule.{agent_of}
-use Rattle.sab_plan.specs.Script.{ScriptParts}
 use Rattle.sab_plan.specs.Plan.{PlanParts, calls_of}
 use Rattle.sab_sim.specs.Object.{State}
-use Rattle.sab_sim.specs.Journal.{track, IsTrack, returned_of, EachAnswers, IsJustified, EachAfter, Reaches}
-
--- what is told of a run
-pub record ReportParts : Type 0 where
-  pub schedule : List Move
-  pub journal : List Entry
-  pub blocks : List (List ℕ)
-  pub agents : List Progress
-
-abbrev pub items_of_each : List (Vec ℕ Global) → List (List ℕ)
-items_of_each blocks = map (λ (b : Vec ℕ Global). b.items) blocks
+use Rattle.sab_plan.specs.Journal.{track, IsTrack, EachAnswers, EachAfter}
+use Rattle.sab_sim.specs.Run.{IsJustified, Reaches}
+use Rattle.sab_plan.specs.Report.{ReportParts, progress_from}
 
 -- the journal and the bytes fit the plan and the moves
 pub record FitsMoves (plan : PlanParts) (moves : List Move) (journal : List Entry)
@@ -38,12 +27,6 @@ pub record FitsMoves (plan : PlanParts) (moves : List Move) (journal : List Entr
   pub justified : EachAfter (IsJustified plan) journal
   -- the acts are a run of the sequential object from zero blocks, and the bytes are the object's at the end
   pub run : (S : State) × Reaches plan journal S × (S.mem ≡ blocks)
-
--- for each agent from a on, how many of its calls returned, and how many it has
-abbrev pub progress_from : List Entry → ℕ → List ScriptParts → List Progress
-progress_from journal a [] = []
-progress_from journal a (s ∷ scripts) =
-    record { returned = returned_of journal a; total = length s.calls } ∷ progress_from journal (suc a) scripts
 
 -- the report fits the plan
 pub record Fits (plan : PlanParts) (report : ReportParts) : Type 0 where
