@@ -3,7 +3,7 @@
 use crate::found::Found;
 use crate::scripts::{ROOM, STORE_AND_LOAD, is_text, is_unwritten, refused};
 use sab_kept::{keep_race, keep_replay};
-use sab_report::{Format, Lines, Race, Telling, race_as, replay_as};
+use sab_report::{Format, Lines, RaceOptions, Telling, race_as, replay_as};
 use sab_tool::{Share, ToolFault};
 use std::alloc::Global;
 use std::sync::Wait;
@@ -78,7 +78,7 @@ fn tell<R: Threads + Wait + Sync>(
     w: &mut &mut [u8],
 ) -> Result<(), ToolFault> {
     let script = STORE_AND_LOAD.as_bytes();
-    let race = Race {
+    let race = RaceOptions {
         share: Share::Lock,
         spins: 0,
         seed: 0,

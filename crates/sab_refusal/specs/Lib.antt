@@ -1,6 +1,6 @@
 pub mod ReadFault
 pub mod Excerpt
 pub mod Location
-pub mod Why
+pub mod Reason
 pub mod Located
 pub mod Refusal

@@ -4,7 +4,7 @@ use Rattle.sab_refusal.specs.declared.located.Located.{Located}
 use Rattle.sab_refusal.specs.declared.read_fault.ReadFault.{ReadFault}
 use Rattle.sab_refusal.specs.ReadFault.{number_of, name_of}
 use Rattle.sab_refusal.specs.Location.{location_text}
-use Rattle.sab_refusal.specs.Why.{fault_of, why_text}
+use Rattle.sab_refusal.specs.Reason.{fault_of, why_text}
 
 -- a fault's number and name
 abbrev pub label_text : ReadFault → List ℕ

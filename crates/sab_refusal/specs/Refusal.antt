@@ -3,7 +3,7 @@ use Rattle.std.specs.Prelude.{◌≡◌, ℕ, Bool, true, false, List, ◌++◌,
 use Rattle.sab_refusal.specs.declared.read_fault.ReadFault.TheVariants.{OutOfMemory}
 use Rattle.sab_refusal.specs.declared.refusal.Refusal.{Refusal}
 use Rattle.sab_refusal.specs.declared.refusal.Refusal.TheVariants.{NotJson, Tree}
-use Rattle.sab_refusal.specs.Why.{fault_of}
+use Rattle.sab_refusal.specs.Reason.{fault_of}
 use Rattle.sab_refusal.specs.Located.{located_text}
 
 -- memory ran out

@@ -7,7 +7,7 @@ mod location;
 mod member;
 mod read_fault;
 mod refusal;
-mod why;
+mod reason;
 
 pub use excerpt::Excerpt;
 pub use located::Located;
@@ -15,4 +15,4 @@ pub use location::Location;
 pub use member::Member;
 pub use read_fault::ReadFault;
 pub use refusal::Refusal;
-pub use why::{Counted, Misfit, Unit, Wanted, Why};
+pub use reason::{Counted, Misfit, Unit, Wanted, Reason};

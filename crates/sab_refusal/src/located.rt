@@ -2,7 +2,7 @@
 
 use crate::location::Location;
 use crate::read_fault::ReadFault;
-use crate::why::Why;
+use crate::reason::Reason;
 use std::alloc::AllocError;
 use std::error::Error;
 use std::fmt;
@@ -15,12 +15,12 @@ pub struct Located {
     /// Where.
     pub at: Location,
     /// Why.
-    pub why: Why,
+    pub why: Reason,
 }
 
 impl Located {
     ghost use Rattle.std.specs.Prelude.{◌≡◌};
-    ghost use Rattle.sab_refusal.specs.Why.{fault_of};
+    ghost use Rattle.sab_refusal.specs.Reason.{fault_of};
 
     /// The fault that it is.
     pub fn fault(self) -> ReadFault
@@ -49,14 +49,14 @@ impl Error for Located {}
 
 impl From<AllocError> for Located {
     ghost use Rattle.std.specs.Prelude.{◌≡◌};
-    ghost use Rattle.sab_refusal.specs.declared.why.Why.TheVariants.{Memory};
+    ghost use Rattle.sab_refusal.specs.declared.reason.Reason.TheVariants.{Memory};
 
     ghost from_gives = { λ _ refusal. refusal.why ≡ Memory };
 
     fn from(_refused: AllocError) -> Located {
         Located {
             at: Location::Script,
-            why: Why::Memory,
+            why: Reason::Memory,
         }
     }
 }

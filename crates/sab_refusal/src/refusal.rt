@@ -1,7 +1,7 @@
 //! Refusals of scripts as bytes.
 
 use crate::located::Located;
-use crate::why::Why;
+use crate::reason::Reason;
 use std::error::Error;
 use std::fmt;
 
@@ -30,7 +30,7 @@ impl Refusal {
         ensures { IsTrue result ↔ IsMemory self }
     {
         match self {
-            Refusal::Tree(refusal) => matches!(refusal.why, Why::Memory),
+            Refusal::Tree(refusal) => matches!(refusal.why, Reason::Memory),
             Refusal::NotJson { .. } => false,
         }
     }

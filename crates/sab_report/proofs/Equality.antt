@@ -3,10 +3,10 @@ use Rattle.std.proofs.Common.{◌≡◌, true}
 use borrow.Author.Tests.{eqb-true}
 use Rattle.std.proofs.lemmas.Bool.{and_parts}
 use Rattle.sab_race.proofs.Equality.{same_share}
-use Rattle.sab_report.specs.declared.racing.Race.{Race}
+use Rattle.sab_report.specs.declared.racing.RaceOptions.{RaceOptions}
 use Rattle.sab_report.specs.contracts.racing.RacePartialEq.TheImpl as race
 
-pub same_race : (x y : Race) → (race.ghosts).eq x y ≡ true → x ≡ y
+pub same_race : (x y : RaceOptions) → (race.ghosts).eq x y ≡ true → x ≡ y
 same_race x y e =
     let shares = and_parts _ _ e in
     let counts = and_parts _ _ shares.1 in

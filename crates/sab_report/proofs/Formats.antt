@@ -6,14 +6,14 @@ use Rattle.sab_plan.specs.Plan.{PlanParts, IsPlan}
 use Rattle.sab_plan.specs.Report.{ReportParts}
 use Rattle.sab_text.specs.declared.lines.Lines.{Lines}
 use Rattle.sab_text.specs.Text.{text_by}
-use Rattle.sab_fact_text.specs.Column.{column_of}
-use Rattle.sab_fact_text.specs.FactFormat.{Texts, facts_text, TellsFacts}
-use Rattle.sab_fact_text.specs.Explained.{Explains, explained_text}
-use Rattle.sab_fact_text.proofs.Measuring.{has_room}
-use Rattle.sab_fact_json.specs.SafeNumbers.{HasSafeNumbers}
-use Rattle.sab_fact_json.specs.FactJson.{ExplainsAsJson}
-use Rattle.sab_fact_json.specs.Lines.{json_text}
-use Rattle.sab_fact_svg.specs.Picture.{Draws, svg_text}
+use Rattle.sab_words.specs.Column.{column_of}
+use Rattle.sab_words.specs.FactFormat.{Texts, facts_text, TellsFacts}
+use Rattle.sab_words.specs.Explained.{Explains, explained_text}
+use Rattle.sab_words.proofs.Measuring.{has_room}
+use Rattle.sab_json.specs.SafeNumbers.{HasSafeNumbers}
+use Rattle.sab_json.specs.FactJson.{ExplainsAsJson}
+use Rattle.sab_json.specs.Lines.{json_text}
+use Rattle.sab_svg.specs.Picture.{Draws, svg_text}
 use Rattle.sab_tool.specs.Replay.{IsReplayOf}
 use Rattle.sab_tool.specs.Racing.{IsRaceOf}
 use Rattle.sab_text.specs.declared.format.Format.TheVariants.{Plain, Explained, Json, Svg}

@@ -11,8 +11,8 @@ use Rattle.sab_plan.specs.Call.{function_of, view_of, index_of, arguments_of}
 use Rattle.sab_script.specs.Numbers as numbers
 use Rattle.sab_script.specs.Views.{SpellsName}
 use Rattle.sab_script.specs.Calls.{SpellsArgument, SpellsArguments, call_tree, SpellsCall}
-use Rattle.sab_fact_text.specs.CallText.{name_of}
-use Rattle.sab_fact_json.specs.CallData.{whole_data, operand_data, argument_data, argument_items, call_data}
+use Rattle.sab_words.specs.CallText.{name_of}
+use Rattle.sab_json.specs.CallData.{whole_data, operand_data, argument_data, argument_items, call_data}
 use Rattle.sab_report.specs.Spelling.{IsToldAsSpelled}
 
 operand_told : (x : Operand) → numbers.operand_tree x ≡ operand_data x

@@ -16,7 +16,7 @@ use Rattle.sab_script.specs.Views.{view_names}
 use Rattle.sab_script.specs.Agents.{SpellsScript}
 use Rattle.sab_script.specs.Setup.{SetupParts, Spells}
 use Rattle.sab_script.proofs.WholePlan.{makes_plan}
-use Rattle.sab_fact_json.specs.SafeNumbers.{IsSafeArgument, IsSafeCall, HasSafeNumbers}
+use Rattle.sab_json.specs.SafeNumbers.{IsSafeArgument, IsSafeCall, HasSafeNumbers}
 
 -- the parts that are spelled make a plan
 pub spelled_plan : (d : Data) (setup : SetupParts) → Spells d setup → IsPlan setup.plan

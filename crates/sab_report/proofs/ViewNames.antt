@@ -10,8 +10,8 @@ use Rattle.sab_script.specs.declared.view_spec.ViewSpec.{ViewSpec}
 use Rattle.sab_script.specs.Reading.{SpellsEach}
 use Rattle.sab_script.specs.Views.{SpellsView, named_views, view_names}
 use Rattle.sab_script.specs.Setup.{SetupParts, Spells}
-use Rattle.sab_fact_json.specs.CallData.{AreNames, is_name_byte}
-use Rattle.sab_fact_text.specs.declared.name.TheConstants.Name.{MAX_LEN}
+use Rattle.sab_json.specs.CallData.{AreNames, is_name_byte}
+use Rattle.sab_words.specs.declared.name.TheConstants.Name.{MAX_LEN}
 
 -- a name that has room in a `Name`
 abbrev pub IsShort : List ℕ → Type 0

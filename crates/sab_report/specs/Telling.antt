@@ -8,13 +8,13 @@ use Rattle.sab_explain.specs.declared.fact.Fact.{Fact}
 use Rattle.sab_explain.specs.declared.standing.Standing.{Standing}
 use Rattle.sab_text.specs.declared.lines.Lines.{Lines}
 use Rattle.sab_text.specs.Text.{text_by}
-use Rattle.sab_fact_text.specs.Column.{column_of, HasRoom}
-use Rattle.sab_fact_text.specs.FactFormat.{AreFacts, AreStandings}
-use Rattle.sab_fact_text.specs.Explained.{explained_text}
-use Rattle.sab_fact_json.specs.Lines.{json_text}
-use Rattle.sab_fact_json.specs.ReadsBack.{LinesReadBack}
+use Rattle.sab_words.specs.Column.{column_of, HasRoom}
+use Rattle.sab_words.specs.FactFormat.{AreFacts, AreStandings}
+use Rattle.sab_words.specs.Explained.{explained_text}
+use Rattle.sab_json.specs.Lines.{json_text}
+use Rattle.sab_json.specs.ReadsBack.{LinesReadBack}
 use Rattle.sab_xml.specs.WellFormed.{IsDocument}
-use Rattle.sab_fact_svg.specs.Picture.{svg_text}
+use Rattle.sab_svg.specs.Picture.{svg_text}
 use Rattle.sab_tool.specs.declared.tool_fault.ToolFault.{ToolFault}
 use Rattle.sab_tool.specs.declared.tool_fault.ToolFault.TheVariants.{OutOfMemory, WriteFailed}
 use Rattle.sab_tool.specs.Replay.{IsReplayOf}

@@ -3,14 +3,14 @@
 ghost use Rattle.std.specs.Prelude.{◌≡◌, ◌^◌, ◌≤◌, [], length, IfOk, IfErr, OnOk};
 ghost use Rattle.std.specs.Io.KnownBytes.{append_known};
 ghost use Rattle.sab_plan.specs.Plan.{IsPlan};
-ghost use Rattle.sab_fact_text.specs.FactFormat.{TellsEntries, TellsFacts};
+ghost use Rattle.sab_words.specs.FactFormat.{TellsEntries, TellsFacts};
 ghost use Rattle.sab_report.specs.Driver.{AreMovesOf, IsFreshFor};
 ghost use Rattle.sab_report.specs.Telling.{IsTellingFault};
 
 use crate::noting::note;
 use crate::standings::standings_of;
 use sab_explain::Explainer;
-use sab_fact_text::FactFormat;
+use sab_words::FactFormat;
 use sab_sim::{Move, Plan, Report};
 use sab_text::Chunk;
 use sab_tool::ToolFault;

@@ -2,18 +2,18 @@
 
 ghost use Rattle.std.specs.Prelude.{IfOk, IfErr};
 ghost use Rattle.sab_plan.specs.Plan.{IsPlan};
-ghost use Rattle.sab_fact_text.specs.Column.{column_of};
-ghost use Rattle.sab_fact_text.specs.Explained.{Explains};
-ghost use Rattle.sab_fact_json.specs.CallData.{AreNames};
-ghost use Rattle.sab_fact_json.specs.FactJson.{ExplainsAsJson};
-ghost use Rattle.sab_fact_svg.specs.Picture.{Draws};
+ghost use Rattle.sab_words.specs.Column.{column_of};
+ghost use Rattle.sab_words.specs.Explained.{Explains};
+ghost use Rattle.sab_json.specs.CallData.{AreNames};
+ghost use Rattle.sab_json.specs.FactJson.{ExplainsAsJson};
+ghost use Rattle.sab_svg.specs.Picture.{Draws};
 ghost use Rattle.sab_report.specs.Driver.{AreMovesOf};
 ghost use Rattle.sab_report.specs.Telling.{IsColumnOf, IsTellingFault};
 
 use crate::driver::tell_facts;
-use sab_fact_json::Json;
-use sab_fact_svg::Picture;
-use sab_fact_text::{Column, Layout, Name, Words};
+use sab_json::Json;
+use sab_svg::Picture;
+use sab_words::{Column, Layout, Name, Words};
 use sab_sim::{Move, Plan, Report};
 use sab_text::Lines;
 use sab_tool::{ToolFault, replay_moves};

@@ -3,15 +3,15 @@
 ghost use Rattle.std.specs.Prelude.{IfOk, IfErr};
 ghost use Rattle.sab_plan.specs.Plan.{IsPlan};
 ghost use Rattle.sab_sim.specs.Fits.{Fits};
-ghost use Rattle.sab_fact_json.specs.CallData.{AreNames};
-ghost use Rattle.sab_fact_json.specs.SafeNumbers.{HasSafeNumbers};
+ghost use Rattle.sab_json.specs.CallData.{AreNames};
+ghost use Rattle.sab_json.specs.SafeNumbers.{HasSafeNumbers};
 ghost use Rattle.sab_tool.specs.Replay.{IsReplayFault};
 ghost use Rattle.sab_report.specs.Telling.{IsTellingFault};
 ghost use Rattle.sab_report.specs.Judging.{JudgesAs, TellsVerdict};
 
 use crate::names::names_of;
 use sab_events::trace_of;
-use sab_fact_text::Name;
+use sab_words::Name;
 use sab_judge::judge;
 use sab_sim::{Plan, Report};
 use sab_text::VerdictFormat;

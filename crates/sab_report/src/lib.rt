@@ -14,7 +14,7 @@ mod telling;
 
 pub use judging::{Judged, MAX_TOLD, judge_as};
 pub use laws::calls_are_told_as_spelled;
-pub use racing::{Race, race_as};
+pub use racing::{RaceOptions, race_as};
 pub use replaying::replay_as;
 pub use sab_text::{Format, Lines, Telling, VerdictFormat};
 pub use sab_tool::Ended;

@@ -3,7 +3,7 @@
 ghost use Rattle.std.specs.Prelude.{◌≡◌, ◌≤◌, length, All, IfOk};
 ghost use Rattle.sab_script.specs.Views.{view_names};
 
-use sab_fact_text::Name;
+use sab_words::Name;
 use sab_script::Setup;
 use std::alloc::{AllocError, Global};
 

@@ -1,7 +1,7 @@
 //! Which entries are noted at agents.
 
 ghost use Rattle.std.specs.Prelude.{◌≡◌};
-ghost use Rattle.sab_fact_text.specs.FactFormat.{noted};
+ghost use Rattle.sab_words.specs.FactFormat.{noted};
 
 use sab_sim::{Entry, What};
 

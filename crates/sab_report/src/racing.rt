@@ -4,17 +4,17 @@ ghost use Rattle.std.specs.Prelude.{◌≤◌, IfOk, IfErr};
 ghost use Rattle.std.specs.Io.KnownBytes.{Appends};
 ghost use Rattle.sab_text.specs.Text.{text_by};
 ghost use Rattle.sab_plan.specs.Plan.{IsPlan};
-ghost use Rattle.sab_fact_json.specs.CallData.{AreNames};
-ghost use Rattle.sab_fact_json.specs.SafeNumbers.{HasSafeNumbers};
+ghost use Rattle.sab_json.specs.CallData.{AreNames};
+ghost use Rattle.sab_json.specs.SafeNumbers.{HasSafeNumbers};
 ghost use Rattle.sab_tool.specs.Racing.{IsRaceOf, IsRaceFault};
 ghost use Rattle.sab_report.specs.Racing.{TellsRace, IsTellingRaceFault};
 ghost use Rattle.sab_report.specs.Reporting.{RacesAs};
 
 use crate::names::names_of;
 use crate::telling::tell_moves;
-use sab_fact_text::Name;
+use sab_words::Name;
 use sab_sim::{Plan, Report};
-use sab_text::{Format, Lines, Telling, write_report};
+use sab_text::{Format, Lines, Telling, write_plain};
 use sab_tool::{Ended, MAX_SPINS, Share, ToolFault, race_plan, setup_of};
 use std::alloc::Global;
 use std::io::Write;
@@ -23,7 +23,7 @@ use std::thread::Threads;
 
 /// How agents are raced.
 #[derive(Clone, Copy, Debug, PartialEq, Eq)]
-pub struct Race {
+pub struct RaceOptions {
     /// How they share one simulator.
     pub share: Share,
     /// How often an agent steps at each wait before the wait's time is up.
@@ -44,7 +44,7 @@ pub fn race_as<R: Threads + Wait + Sync, W: Write>(
     rt: &R,
     alloc: Global,
     script: &[u8],
-    race: Race,
+    race: RaceOptions,
     telling: Telling,
     w: &mut W,
 ) -> Result<Ended, ToolFault>
@@ -66,7 +66,7 @@ fn tell_race<R: Threads + Wait + Sync, W: Write>(
     alloc: Global,
     plan: Plan,
     names: &[Name],
-    race: Race,
+    race: RaceOptions,
     telling: Telling,
     w: &mut W,
 ) -> Result<Report, ToolFault>
@@ -91,7 +91,7 @@ fn race_plainly<R: Threads + Wait + Sync, W: Write>(
     rt: &R,
     alloc: Global,
     plan: Plan,
-    race: Race,
+    race: RaceOptions,
     lines: Lines,
     w: &mut W,
 ) -> Result<Report, ToolFault>
@@ -101,7 +101,7 @@ fn race_plainly<R: Threads + Wait + Sync, W: Write>(
     ensures err { IfErr result (IsTellingRaceFault plan race.spins (W.contents w.old) (W.contents w.new)) }
 {
     let report = race_plan(rt, alloc, plan, race.share, race.spins, race.seed)?;
-    match write_report(&report, lines, w) {
+    match write_plain(&report, lines, w) {
         Ok(()) => Ok(report),
         Err(_) => Err(ToolFault::WriteFailed),
     }
@@ -114,7 +114,7 @@ fn race_and_replay<R: Threads + Wait + Sync, W: Write>(
     alloc: Global,
     plan: Plan,
     names: &[Name],
-    race: Race,
+    race: RaceOptions,
     telling: Telling,
     w: &mut W,
 ) -> Result<Report, ToolFault>

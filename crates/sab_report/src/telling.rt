@@ -4,16 +4,16 @@ ghost use Rattle.std.specs.Prelude.{IfOk, IfErr};
 ghost use Rattle.std.specs.Io.KnownBytes.{Appends};
 ghost use Rattle.sab_text.specs.Text.{text_by};
 ghost use Rattle.sab_plan.specs.Plan.{IsPlan};
-ghost use Rattle.sab_fact_json.specs.CallData.{AreNames};
-ghost use Rattle.sab_fact_json.specs.SafeNumbers.{HasSafeNumbers};
+ghost use Rattle.sab_json.specs.CallData.{AreNames};
+ghost use Rattle.sab_json.specs.SafeNumbers.{HasSafeNumbers};
 ghost use Rattle.sab_tool.specs.Replay.{IsReplayOf};
 ghost use Rattle.sab_report.specs.Driver.{AreMovesOf};
 ghost use Rattle.sab_report.specs.Telling.{TellsMoves, IsTellingFault};
 
 use crate::explaining::{draw, explain, explain_as_json};
-use sab_fact_text::Name;
+use sab_words::Name;
 use sab_sim::{Move, Plan, Report};
-use sab_text::{Format, Lines, Telling, write_report};
+use sab_text::{Format, Lines, Telling, write_plain};
 use sab_tool::{ToolFault, replay_moves};
 use std::alloc::Global;
 use std::io::Write;
@@ -59,7 +59,7 @@ fn tell_plainly<W: Write>(
     ensures err { IfErr result (IsTellingFault (W.contents w.old) (W.contents w.new)) }
 {
     let report = replay_moves(alloc, plan, schedule)?;
-    match write_report(&report, lines, w) {
+    match write_plain(&report, lines, w) {
         Ok(()) => Ok(report),
         Err(_) => Err(ToolFault::WriteFailed),
     }

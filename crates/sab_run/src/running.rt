@@ -12,7 +12,7 @@ use sab_check::{Checked, check_script};
 use sab_command::{Form, Job};
 use sab_ending::Outcome;
 use sab_kept::{keep_race, keep_replay};
-use sab_report::{Ended, Race, VerdictFormat, judge_as, race_as, replay_as};
+use sab_report::{Ended, RaceOptions, VerdictFormat, judge_as, race_as, replay_as};
 use sab_tool::{MAX_SPINS, ToolFault, read_input};
 use std::alloc::Global;
 use std::io::{Read, Write};
@@ -87,7 +87,7 @@ fn run_script<T: Threads + Wait + Sync + AllocGlobal + RandomSource, W: Write>(
             finish,
         } => {
             let seed = seed_of(rt, mix);
-            let ended = race(rt, Race { share, spins, seed }, form, script, output)?;
+            let ended = race(rt, RaceOptions { share, spins, seed }, form, script, output)?;
             flush(output)?;
             Ok(Outcome::of_run(ended, finish))
         }
@@ -192,7 +192,7 @@ fn seed_of(rt: &impl RandomSource, mix: Option<u64>) -> u64
 /// Runs the agents of a script in threads, writes the run in its form, and answers how it ended.
 fn race<T: Threads + Wait + Sync + AllocGlobal, W: Write>(
     rt: &T,
-    how: Race,
+    how: RaceOptions,
     form: Form,
     script: &[u8],
     output: &mut W,
@@ -207,7 +207,7 @@ fn race<T: Threads + Wait + Sync + AllocGlobal, W: Write>(
     match form {
         Form::Report(telling) => race_as(rt, alloc, script, how, telling, output),
         Form::Script => {
-            let Race { share, spins, seed } = how;
+            let RaceOptions { share, spins, seed } = how;
             let report = keep_race(rt, alloc, script, share, spins, seed, output)?;
             Ok(Ended::of(&report))
         }

@@ -11,8 +11,8 @@ use Rattle.sab_plan.specs.declared.plan.TheConstants.Plan.{MAX_VIEWS}
 use Rattle.sab_refusal.specs.declared.excerpt.Excerpt.{Excerpt}
 use Rattle.sab_refusal.specs.declared.located.Located.{Located}
 use Rattle.sab_refusal.specs.declared.location.Location.{Location}
-use Rattle.sab_refusal.specs.declared.why.Unit.TheVariants as unit
-use Rattle.sab_refusal.specs.declared.why.Why.TheVariants as why
+use Rattle.sab_refusal.specs.declared.reason.Unit.TheVariants as unit
+use Rattle.sab_refusal.specs.declared.reason.Reason.TheVariants as why
 use Rattle.sab_refusal.specs.Location.{member_at, item_at}
 use Rattle.sab_refusal.specs.declared.location.Location.TheVariants as at
 use Rattle.sab_refusal.specs.declared.member.Member.{Member}

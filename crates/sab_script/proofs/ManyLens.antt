@@ -8,7 +8,7 @@ use Rattle.sab_script.specs.declared.form.Form.{Form}
 use Rattle.sab_script.specs.declared.form.Form.TheVariants.{Blocks}
 use Rattle.sab_refusal.specs.declared.located.Located.{Located}
 use Rattle.sab_script.specs.Reading.{Finds, SpellsUpTo}
-use Rattle.sab_refusal.specs.Why.{fault_of}
+use Rattle.sab_refusal.specs.Reason.{fault_of}
 use Rattle.sab_script.specs.Blocks.{SpellsLen, SpellsLens}
 use Rattle.sab_script.proofs.Each.{length-each}
 use Rattle.sab_script.proofs.Refusing.{refuses_more}

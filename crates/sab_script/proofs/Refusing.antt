@@ -6,8 +6,8 @@ use Rattle.sab_refusal.specs.declared.read_fault.ReadFault.{ReadFault}
 use Rattle.sab_refusal.specs.declared.read_fault.ReadFault.TheVariants.{TooMany, OutOfMemory, BadShape, BadName, BadNumber, BadCall, BadView, BadAgent, NoBlock}
 use Rattle.sab_script.specs.Reading.{Refuses, Finds}
 use Rattle.sab_refusal.specs.declared.located.Located.{Located}
-use Rattle.sab_refusal.specs.declared.why.Why.TheVariants.{Memory}
-use Rattle.sab_refusal.specs.Why.{fault_of}
+use Rattle.sab_refusal.specs.declared.reason.Reason.TheVariants.{Memory}
+use Rattle.sab_refusal.specs.Reason.{fault_of}
 
 pub refuses_more : {Y Z : Type 0} (P : Y → Type 0) (Q : Z → Type 0) (e : ReadFault) → ((z : Z) → Q z → (y : Y) × P y)
     → Refuses P e → Refuses Q e

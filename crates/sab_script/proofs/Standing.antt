@@ -9,8 +9,8 @@ use Rattle.sab_refusal.specs.declared.location.Location.{Location}
 use Rattle.sab_refusal.specs.declared.location.Location.TheVariants as at
 use Rattle.sab_refusal.specs.declared.member.Member.{Member}
 use Rattle.sab_refusal.specs.declared.member.Member.TheVariants as M
-use Rattle.sab_refusal.specs.declared.why.Unit.{Unit as Units}
-use Rattle.sab_refusal.specs.declared.why.Unit.TheVariants as unit
+use Rattle.sab_refusal.specs.declared.reason.Unit.{Unit as Units}
+use Rattle.sab_refusal.specs.declared.reason.Unit.TheVariants as unit
 use Rattle.sab_refusal.specs.Location.{member_name, member_at, item_at}
 use Rattle.sab_script.specs.Places.{Stands, part_of, item_of}
 use Rattle.sab_script.specs.Truth.{HasMany, IsListOf}

@@ -6,8 +6,8 @@ use Rattle.std.proofs.lemmas.Result.{err_from_is_err_and}
 use Rattle.serde_json.specs.Data.{Data, null}
 use Rattle.sab_refusal.specs.declared.located.Located.{Located}
 use Rattle.sab_refusal.specs.declared.location.Location.{Location}
-use Rattle.sab_refusal.specs.declared.why.Why.TheVariants.{Memory}
-use Rattle.sab_refusal.specs.declared.why.Wanted.TheVariants as wanted
+use Rattle.sab_refusal.specs.declared.reason.Reason.TheVariants.{Memory}
+use Rattle.sab_refusal.specs.declared.reason.Wanted.TheVariants as wanted
 use Rattle.sab_script.specs.Truth.{IsTrueWhere}
 use Rattle.sab_script.specs.Known.{IsNumberAs}
 

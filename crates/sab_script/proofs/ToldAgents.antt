@@ -4,7 +4,7 @@ use Rattle.serde_json.specs.Data.{Data, object, Members, member}
 use Rattle.sab_refusal.specs.declared.location.Location.{Location}
 use Rattle.sab_refusal.specs.declared.location.Location.TheVariants as at
 use Rattle.sab_refusal.specs.declared.member.Member.TheVariants as M
-use Rattle.sab_refusal.specs.declared.why.Why.{Why}
+use Rattle.sab_refusal.specs.declared.reason.Reason.{Reason}
 use Rattle.sab_script.specs.Places.{Stands, members_at, form_of}
 use Rattle.sab_script.specs.Truth.{IsTrueAt}
 use Rattle.sab_script.specs.Known.{AreInOrder, IsFirst, LackMember}
@@ -15,14 +15,14 @@ block_read : (ms rest : Members) (block : Data) → AreInOrder ms → ms ≡ mem
     → Unread ms (Some (codes "block")) rest
 block_read ms rest block order e = one_read ms None ms (codes "block") block rest e (none_read ms order)
 
-pub block_missing_told : (root : Data) (i : ℕ) (place : Location) (d : Data) (ms : Members) (reason : Why)
+pub block_missing_told : (root : Data) (i : ℕ) (place : Location) (d : Data) (ms : Members) (reason : Reason)
     → place ≡ at.Item M.Agents i → Stands root place d → d ≡ object ms → AreInOrder ms
     → LackMember M.Block ms reason → IsTrueAt root place reason
 block_missing_told root i place d ms reason is stands is_object order lacks =
     member_told root place (M.Block ∷ M.Calls ∷ []) ms None ms M.Block reason (stands ∙ ap Some is_object)
     (ap (members_at (form_of root)) is) (none_read ms order) (0, omega arith, refl) tt refl lacks
 
-pub calls_missing_told : (root : Data) (i : ℕ) (place : Location) (d block : Data) (ms rest : Members) (reason : Why)
+pub calls_missing_told : (root : Data) (i : ℕ) (place : Location) (d block : Data) (ms rest : Members) (reason : Reason)
     → place ≡ at.Item M.Agents i → Stands root place d → d ≡ object ms → AreInOrder ms
     → ms ≡ member (codes "block") block rest → (AreInOrder rest → LackMember M.Calls rest reason)
     → IsTrueAt root place reason
@@ -32,7 +32,7 @@ calls_missing_told root i place d block ms rest reason is stands is_object order
     (stands ∙ ap Some is_object) (ap (members_at (form_of root)) is) read (1, omega arith, refl) refl refl
     (lacks (order_behind (codes "block") rest read.behind))
 
-pub agent_end_told : (root : Data) (i : ℕ) (place : Location) (d block calls : Data) (ms m1 m2 : Members) (reason : Why)
+pub agent_end_told : (root : Data) (i : ℕ) (place : Location) (d block calls : Data) (ms m1 m2 : Members) (reason : Reason)
     → place ≡ at.Item M.Agents i → Stands root place d → d ≡ object ms → AreInOrder ms
     → ms ≡ member (codes "block") block m1 → m1 ≡ member (codes "calls") calls m2 → IsFirst m2 reason
     → IsTrueAt root place reason

@@ -15,8 +15,8 @@ use Rattle.sab_plan.specs.declared.call.Call.TheVariants.{Access as ToAccess, Wa
 use Rattle.sab_refusal.specs.Location.{item_at}
 use Rattle.sab_refusal.specs.declared.location.Location.{Location}
 use Rattle.sab_refusal.specs.declared.located.Located.{Located}
-use Rattle.sab_refusal.specs.declared.why.Wanted.{Wanted}
-use Rattle.sab_refusal.specs.declared.why.Wanted.TheVariants as wanted
+use Rattle.sab_refusal.specs.declared.reason.Wanted.{Wanted}
+use Rattle.sab_refusal.specs.declared.reason.Wanted.TheVariants as wanted
 use Rattle.sab_script.specs.Calls.{spelling_of}
 use Rattle.sab_script.specs.Places.{argument_type, IsNamed, ElementIs, CallsFor, Stands}
 use Rattle.sab_script.specs.Known.{IsNumberAs, HasArguments}

@@ -4,22 +4,22 @@ use Rattle.serde_json.specs.Data.{Data, object, Members, member}
 use Rattle.sab_refusal.specs.declared.location.Location.{Location}
 use Rattle.sab_refusal.specs.declared.location.Location.TheVariants as at
 use Rattle.sab_refusal.specs.declared.member.Member.TheVariants as M
-use Rattle.sab_refusal.specs.declared.why.Counted.TheVariants.{Agent}
-use Rattle.sab_refusal.specs.declared.why.Wanted.TheVariants as wanted
-use Rattle.sab_refusal.specs.declared.why.Why.{Why}
+use Rattle.sab_refusal.specs.declared.reason.Counted.TheVariants.{Agent}
+use Rattle.sab_refusal.specs.declared.reason.Wanted.TheVariants as wanted
+use Rattle.sab_refusal.specs.declared.reason.Reason.{Reason}
 use Rattle.sab_script.specs.Places.{Stands, CallsFor, members_at, form_of}
 use Rattle.sab_script.specs.Truth.{HasItems, IsCountedAt, IsTrueAt}
 use Rattle.sab_script.specs.Known.{AreInOrder, IsFirst, LackMember, IsNumberAs}
 use Rattle.sab_script.proofs.Unread.{none_read, one_read, member_told, end_told}
 
-pub timeout_missing_told : (root : Data) (k : ℕ) (place : Location) (d : Data) (ms : Members) (reason : Why)
+pub timeout_missing_told : (root : Data) (k : ℕ) (place : Location) (d : Data) (ms : Members) (reason : Reason)
     → place ≡ at.Item M.Schedule k → Stands root place d → d ≡ object ms → AreInOrder ms
     → LackMember M.Timeout ms reason → IsTrueAt root place reason
 timeout_missing_told root k place d ms reason is stands is_object order lacks =
     member_told root place (M.Timeout ∷ []) ms None ms M.Timeout reason (stands ∙ ap Some is_object)
     (ap (members_at (form_of root)) is) (none_read ms order) (0, omega arith, refl) tt refl lacks
 
-pub move_end_told : (root : Data) (k : ℕ) (place : Location) (d t : Data) (ms rest : Members) (reason : Why)
+pub move_end_told : (root : Data) (k : ℕ) (place : Location) (d t : Data) (ms rest : Members) (reason : Reason)
     → place ≡ at.Item M.Schedule k → Stands root place d → d ≡ object ms → AreInOrder ms
     → ms ≡ member (codes "timeout") t rest → IsFirst rest reason → IsTrueAt root place reason
 move_end_told root k place d t ms rest reason is stands is_object order e first =

@@ -4,7 +4,7 @@ use Rattle.serde_json.specs.Data.{Data, object, Members, member}
 use Rattle.sab_refusal.specs.declared.location.Location.TheVariants as at
 use Rattle.sab_refusal.specs.declared.member.Member.{Member}
 use Rattle.sab_refusal.specs.declared.member.Member.TheVariants as M
-use Rattle.sab_refusal.specs.declared.why.Why.{Why}
+use Rattle.sab_refusal.specs.declared.reason.Reason.{Reason}
 use Rattle.sab_script.specs.declared.form.Form.{Form}
 use Rattle.sab_script.specs.declared.form.Form.TheVariants.{Bytes, Blocks}
 use Rattle.sab_script.specs.Blocks.{lens_name}
@@ -84,7 +84,7 @@ views_read form ms m1 m2 m3 m4 a l s v order e1 e2 e3 e4 =
 
 -- what is told where one of them is missing, or isn't called for
 
-pub agents_missing_told : (form : Form) (root : Data) (ms : Members) (reason : Why) → Called form root ms
+pub agents_missing_told : (form : Form) (root : Data) (ms : Members) (reason : Reason) → Called form root ms
     → (AreInOrder ms → LackMember M.Agents ms reason) → IsTrueAt root at.Script reason
 agents_missing_told Bytes root ms reason h lacks =
     member_told root at.Script (names_of Bytes) ms None ms M.Agents reason (ap Some h.0) (called Bytes root h.1)
@@ -93,7 +93,7 @@ agents_missing_told Blocks root ms reason h lacks =
     member_told root at.Script (names_of Blocks) ms None ms M.Agents reason (ap Some h.0) (called Blocks root h.1)
     (none_read ms h.2) (0, omega arith, refl) tt refl (lacks h.2)
 
-pub lens_missing_told : (form : Form) (root a : Data) (ms m1 : Members) (reason : Why) → Called form root ms
+pub lens_missing_told : (form : Form) (root a : Data) (ms m1 : Members) (reason : Reason) → Called form root ms
     → ms ≡ member (codes "agents") a m1 → (AreInOrder m1 → LackMember (lens_member form) m1 reason)
     → IsTrueAt root at.Script reason
 lens_missing_told Bytes root a ms m1 reason h e1 lacks =
@@ -105,7 +105,7 @@ lens_missing_told Blocks root a ms m1 reason h e1 lacks =
     member_told root at.Script (names_of Blocks) ms (Some (codes "agents")) m1 M.Blocks reason (ap Some h.0)
     (called Blocks root h.1) read (1, omega arith, refl) refl refl (lacks (order_behind (codes "agents") m1 read.behind))
 
-pub schedule_missing_told : (form : Form) (root a l : Data) (ms m1 m2 : Members) (reason : Why) → Called form root ms
+pub schedule_missing_told : (form : Form) (root a l : Data) (ms m1 m2 : Members) (reason : Reason) → Called form root ms
     → ms ≡ member (codes "agents") a m1 → m1 ≡ member (lens_name form) l m2
     → (AreInOrder m2 → LackMember M.Schedule m2 reason) → IsTrueAt root at.Script reason
 schedule_missing_told Bytes root a l ms m1 m2 reason h e1 e2 lacks =
@@ -118,7 +118,7 @@ schedule_missing_told Blocks root a l ms m1 m2 reason h e1 e2 lacks =
     (called Blocks root h.1) read (2, omega arith, refl) refl refl
     (lacks (order_behind (codes "blocks") m2 read.behind))
 
-pub views_missing_told : (form : Form) (root a l s : Data) (ms m1 m2 m3 : Members) (reason : Why) → Called form root ms
+pub views_missing_told : (form : Form) (root a l s : Data) (ms m1 m2 m3 : Members) (reason : Reason) → Called form root ms
     → ms ≡ member (codes "agents") a m1 → m1 ≡ member (lens_name form) l m2 → m2 ≡ member (codes "schedule") s m3
     → (AreInOrder m3 → LackMember M.Views m3 reason) → IsTrueAt root at.Script reason
 views_missing_told Bytes root a l s ms m1 m2 m3 reason h e1 e2 e3 lacks =
@@ -132,7 +132,7 @@ views_missing_told Blocks root a l s ms m1 m2 m3 reason h e1 e2 e3 lacks =
     (called Blocks root h.1) read (3, omega arith, refl) refl refl
     (lacks (order_behind (codes "schedule") m3 read.behind))
 
-pub script_end_told : (form : Form) (root a l s v : Data) (ms m1 m2 m3 m4 : Members) (reason : Why)
+pub script_end_told : (form : Form) (root a l s v : Data) (ms m1 m2 m3 m4 : Members) (reason : Reason)
     → Called form root ms → ms ≡ member (codes "agents") a m1 → m1 ≡ member (lens_name form) l m2
     → m2 ≡ member (codes "schedule") s m3 → m3 ≡ member (codes "views") v m4 → IsFirst m4 reason
     → IsTrueAt root at.Script reason
@@ -144,6 +144,6 @@ script_end_told Blocks root a l s v ms m1 m2 m3 m4 reason h e1 e2 e3 e4 first =
     (views_read Blocks ms m1 m2 m3 m4 a l s v h.2 e1 e2 e3 e4) refl first
 
 -- the member that tells of the blocks, by another spelling
-pub lacks_lens : (form : Form) (m : Member) (ms : Members) (reason : Why) → m ≡ lens_member form
+pub lacks_lens : (form : Form) (m : Member) (ms : Members) (reason : Reason) → m ≡ lens_member form
     → (AreInOrder ms → LackMember m ms reason) → AreInOrder ms → LackMember (lens_member form) ms reason
 lacks_lens form m ms reason same lacks order = rw same at (lacks order)

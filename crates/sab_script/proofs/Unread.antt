@@ -9,8 +9,8 @@ use Rattle.serde_json.specs.Data.{Data, object, Members, member}
 use Rattle.serde_json.specs.Find.{get_member}
 use Rattle.sab_refusal.specs.declared.location.Location.{Location}
 use Rattle.sab_refusal.specs.declared.member.Member.{Member}
-use Rattle.sab_refusal.specs.declared.why.Why.{Why}
-use Rattle.sab_refusal.specs.declared.why.Why.TheVariants as why
+use Rattle.sab_refusal.specs.declared.reason.Reason.{Reason}
+use Rattle.sab_refusal.specs.declared.reason.Reason.TheVariants as why
 use Rattle.sab_refusal.specs.Location.{member_name}
 use Rattle.sab_script.specs.Places.{Stands, members_at, form_of}
 use Rattle.sab_script.specs.Truth.{IsTrueAt}
@@ -127,7 +127,7 @@ no_more k (y ∷ xs) e x (suc i, within, is) p = no_more k xs (split _ _ e).1 x 
 
 -- what is told where a member that is called for doesn't come next; none that is called for before it is unread
 pub member_told : (root : Data) (place : Location) (names : List Member) (ms : Members) (last : Option (List ℕ))
-    (rest : Members) (m : Member) (reason : Why)
+    (rest : Members) (m : Member) (reason : Reason)
     → Stands root place (object ms) → members_at (form_of root) place ≡ names → Unread ms last rest → Contains names m
     → IsBehind last (member_name m) → none_between last (member_name m) names ≡ true → LackMember m rest reason
     → IsTrueAt root place reason
@@ -155,7 +155,7 @@ member_told root place names ms last rest m reason stands called unread here beh
 
 -- what is told of a member behind all that are called for
 pub end_told : (root : Data) (place : Location) (names : List Member) (ms : Members) (k : List ℕ) (rest : Members)
-    (reason : Why)
+    (reason : Reason)
     → Stands root place (object ms) → members_at (form_of root) place ≡ names → Unread ms (Some k) rest
     → none_behind k names ≡ true → IsFirst rest reason → IsTrueAt root place reason
 end_told root place names ms k rest (why.Surplus told) stands called unread none h =

@@ -9,7 +9,7 @@ use Rattle.sab_refusal.specs.declared.location.Location.{Location}
 use Rattle.sab_refusal.specs.declared.location.Location.TheVariants as at
 use Rattle.sab_refusal.specs.declared.member.Member.{Member}
 use Rattle.sab_refusal.specs.declared.member.Member.TheVariants as M
-use Rattle.sab_refusal.specs.declared.why.Wanted.{Wanted}
+use Rattle.sab_refusal.specs.declared.reason.Wanted.{Wanted}
 use Rattle.sab_refusal.specs.Location.{member_name, member_at}
 use Rattle.sab_script.specs.declared.form.Form.{Form}
 use Rattle.sab_script.specs.declared.form.Form.TheVariants.{Bytes, Blocks}

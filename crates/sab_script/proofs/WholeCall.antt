@@ -8,7 +8,7 @@ use Rattle.serde_json.specs.Data.{Data, string, array, Items, item}
 use Rattle.sab_plan.specs.declared.call.Call.{Call}
 use Rattle.sab_refusal.specs.declared.located.Located.{Located}
 use Rattle.sab_script.specs.Reading.{Finds}
-use Rattle.sab_refusal.specs.Why.{fault_of}
+use Rattle.sab_refusal.specs.Reason.{fault_of}
 use Rattle.sab_script.specs.Calls.{Spelling, spelling_of, call_tree, SpellsParts, HasSpelling, SpellsCall}
 use Rattle.sab_script.specs.Views.{SpellsName}
 use Rattle.sab_script.specs.Numbers.{whole, SpellsWhole}

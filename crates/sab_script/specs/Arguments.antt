@@ -4,8 +4,8 @@ use Rattle.serde_json.specs.Data.{Items, no_items, item}
 use Rattle.sab_block.specs.declared.rmw_op.RmwOp.{RmwOp}
 use Rattle.sab_block.specs.RmwOp.{function_of_op}
 use Rattle.sab_plan.specs.declared.call.Call.{Call}
-use Rattle.sab_refusal.specs.declared.why.Wanted.{Wanted}
-use Rattle.sab_refusal.specs.declared.why.Wanted.TheVariants as wanted
+use Rattle.sab_refusal.specs.declared.reason.Wanted.{Wanted}
+use Rattle.sab_refusal.specs.declared.reason.Wanted.TheVariants as wanted
 use Rattle.sab_script.specs.Calls.{spelling_of}
 use Rattle.sab_script.specs.Places.{argument_type}
 

@@ -10,10 +10,10 @@ use Rattle.sab_refusal.specs.declared.location.Location.{Location}
 use Rattle.sab_refusal.specs.declared.location.Location.TheVariants as at
 use Rattle.sab_refusal.specs.declared.member.Member.{Member}
 use Rattle.sab_refusal.specs.declared.member.Member.TheVariants as M
-use Rattle.sab_refusal.specs.declared.why.Wanted.{Wanted}
-use Rattle.sab_refusal.specs.declared.why.Wanted.TheVariants as wanted
-use Rattle.sab_refusal.specs.declared.why.Why.{Why}
-use Rattle.sab_refusal.specs.declared.why.Why.TheVariants as why
+use Rattle.sab_refusal.specs.declared.reason.Wanted.{Wanted}
+use Rattle.sab_refusal.specs.declared.reason.Wanted.TheVariants as wanted
+use Rattle.sab_refusal.specs.declared.reason.Reason.{Reason}
+use Rattle.sab_refusal.specs.declared.reason.Reason.TheVariants as why
 use Rattle.sab_refusal.specs.Location.{member_name}
 use Rattle.sab_script.specs.declared.form.Form.{Form}
 use Rattle.sab_script.specs.declared.form.Form.TheVariants.{Bytes, Blocks}
@@ -36,13 +36,13 @@ AreInOrder no_members = Unit {0}
 AreInOrder (member k d ms) = FollowInOrder k ms
 
 -- the first of these members has a name that is told
-abbrev pub IsFirst : Members → Why → Type 0
+abbrev pub IsFirst : Members → Reason → Type 0
 IsFirst ms (why.Surplus told) =
     (name : List ℕ) × (d : Data) × (rest : Members) × (ms ≡ member name d rest) × IsStart told name
 IsFirst ms reason = ⊥
 
 -- these members have none of the name that is called for; or the first one's name is before that, and is told
-abbrev pub LackMember : Member → Members → Why → Type 0
+abbrev pub LackMember : Member → Members → Reason → Type 0
 LackMember m ms (why.Missing n) = (n ≡ m) × (get_member (member_name m) ms ≡ None)
 LackMember m ms (why.Surplus told) =
     (name : List ℕ) × (d : Data) × (rest : Members) × (ms ≡ member name d rest) × IsStart told name

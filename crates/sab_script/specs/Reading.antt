@@ -4,7 +4,7 @@ use Rattle.serde_json.specs.Data.{Data, Items, no_items, item}
 use Rattle.sab_refusal.specs.declared.read_fault.ReadFault.{ReadFault}
 use Rattle.sab_refusal.specs.declared.read_fault.ReadFault.TheVariants.{OutOfMemory}
 use Rattle.sab_refusal.specs.declared.located.Located.{Located}
-use Rattle.sab_refusal.specs.Why.{fault_of}
+use Rattle.sab_refusal.specs.Reason.{fault_of}
 
 -- a refusal: nothing is spelled, or memory ran out
 abbrev pub Refuses : {Y : Type 0} → (Y → Type 0) → ReadFault → Type 0

@@ -16,18 +16,18 @@ use Rattle.sab_refusal.specs.declared.location.Location.TheVariants as at
 use Rattle.sab_refusal.specs.declared.member.Member.{Member}
 use Rattle.sab_refusal.specs.declared.member.Member.TheVariants as M
 use Rattle.sab_refusal.specs.declared.read_fault.ReadFault.{ReadFault}
-use Rattle.sab_refusal.specs.declared.why.Wanted.{Wanted}
-use Rattle.sab_refusal.specs.declared.why.Wanted.TheVariants as wanted
-use Rattle.sab_refusal.specs.declared.why.Unit.{Unit as Units}
-use Rattle.sab_refusal.specs.declared.why.Unit.TheVariants as unit
-use Rattle.sab_refusal.specs.declared.why.Counted.{Counted}
-use Rattle.sab_refusal.specs.declared.why.Counted.TheVariants.{Agent, Block}
-use Rattle.sab_refusal.specs.declared.why.Misfit.{Misfit}
-use Rattle.sab_refusal.specs.declared.why.Misfit.TheVariants as misfit
-use Rattle.sab_refusal.specs.declared.why.Why.{Why}
-use Rattle.sab_refusal.specs.declared.why.Why.TheVariants as why
+use Rattle.sab_refusal.specs.declared.reason.Wanted.{Wanted}
+use Rattle.sab_refusal.specs.declared.reason.Wanted.TheVariants as wanted
+use Rattle.sab_refusal.specs.declared.reason.Unit.{Unit as Units}
+use Rattle.sab_refusal.specs.declared.reason.Unit.TheVariants as unit
+use Rattle.sab_refusal.specs.declared.reason.Counted.{Counted}
+use Rattle.sab_refusal.specs.declared.reason.Counted.TheVariants.{Agent, Block}
+use Rattle.sab_refusal.specs.declared.reason.Misfit.{Misfit}
+use Rattle.sab_refusal.specs.declared.reason.Misfit.TheVariants as misfit
+use Rattle.sab_refusal.specs.declared.reason.Reason.{Reason}
+use Rattle.sab_refusal.specs.declared.reason.Reason.TheVariants as why
 use Rattle.sab_refusal.specs.Location.{member_name}
-use Rattle.sab_refusal.specs.Why.{fault_of}
+use Rattle.sab_refusal.specs.Reason.{fault_of}
 use Rattle.sab_script.specs.declared.form.Form.{Form}
 use Rattle.sab_script.specs.declared.form.Form.TheVariants.{Bytes, Blocks}
 use Rattle.sab_script.specs.declared.schedule.TheConstants.{MAX_MOVES}
@@ -255,7 +255,7 @@ IsBeyond root place of n count =
     Stands root place (whole n) × ((k : ℕ) → k < count → n ≡ pos k → ⊥) × IsCountedAt root place of count
 
 -- what is told of the value at a place is true of the script; of memory nothing is told
-abbrev pub IsTrueAt : Data → Location → Why → Type 0
+abbrev pub IsTrueAt : Data → Location → Reason → Type 0
 IsTrueAt root place (why.Type w) = IsMistyped root place w
 IsTrueAt root place (why.Missing m) = Lacks root place m
 IsTrueAt root place (why.Surplus told) = HasSurplus root place told

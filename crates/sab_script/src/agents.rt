@@ -8,7 +8,7 @@ ghost use Rattle.sab_refusal.specs.declared.member.Member.TheVariants as M;
 ghost use Rattle.sab_script.specs.Reading.{Finds};
 ghost use Rattle.sab_script.specs.Views.{view_names};
 ghost use Rattle.sab_script.specs.Agents.{agent_object, SpellsScript, SpellsScripts};
-ghost use Rattle.sab_refusal.specs.Why.{fault_of};
+ghost use Rattle.sab_refusal.specs.Reason.{fault_of};
 ghost use Rattle.sab_script.specs.Truth.{IsTrueWhere};
 ghost use Rattle.sab_script.specs.Known.{HasNames};
 

@@ -11,7 +11,7 @@ use crate::elements::{Reader, read_each};
 use crate::form::Form;
 use crate::tree::{items, whole};
 use sab_plan::Plan;
-use sab_refusal::{Located, Location, Unit, Wanted, Why};
+use sab_refusal::{Located, Location, Unit, Wanted, Reason};
 use serde_json::Value;
 use std::alloc::Global;
 
@@ -22,11 +22,11 @@ fn read_len(at: Location, tree: &Value) -> Result<u32, Located>
 {
     let len = whole(at, Wanted::Whole, tree)?;
     if len < 0 {
-        let why = Why::BelowZero(len);
+        let why = Reason::BelowZero(len);
         return Err(Located { at, why });
     }
     if len > i64::from(Plan::MAX_BLOCK_LEN) {
-        let why = Why::TooMany(Unit::Bytes, len as u64, u64::from(Plan::MAX_BLOCK_LEN));
+        let why = Reason::TooMany(Unit::Bytes, len as u64, u64::from(Plan::MAX_BLOCK_LEN));
         return Err(Located { at, why });
     }
     Ok(len as u32)
@@ -67,7 +67,7 @@ pub(crate) fn read_lens(
         Form::Blocks => {
             let trees = items(at, tree)?;
             if trees.is_empty() {
-                let why = Why::NoBlocks;
+                let why = Reason::NoBlocks;
                 return Err(Located { at, why });
             }
             read_each(alloc, at, &LenReader, Unit::Blocks, Plan::MAX_BLOCKS, trees)

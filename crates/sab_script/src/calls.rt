@@ -20,7 +20,7 @@ use crate::tree::{items, text, whole};
 use crate::views::{Views, view_of};
 use sab_block::{Access, RmwOp};
 use sab_plan::{Call, Plan};
-use sab_refusal::{Excerpt, Located, Location, Unit, Wanted, Why};
+use sab_refusal::{Excerpt, Located, Location, Unit, Wanted, Reason};
 use serde_json::Value;
 use std::alloc::Global;
 
@@ -39,7 +39,7 @@ fn rmw_op(at: Location, name: &str) -> Result<RmwOp, Located>
         "xor" => Ok(RmwOp::Xor),
         _ => {
             let at = at.item(0);
-            let why = Why::NoCall(Excerpt::of(name));
+            let why = Reason::NoCall(Excerpt::of(name));
             Err(Located { at, why })
         }
     }
@@ -122,11 +122,11 @@ fn read_call(at: Location, views: &Views, tree: &Value) -> Result<Call, Located>
 {
     let trees = items(at, tree)?;
     if trees.is_empty() {
-        let why = Why::EmptyCall;
+        let why = Reason::EmptyCall;
         return Err(Located { at, why });
     }
     let [name_tree, view_tree, index_tree, operands @ ..] = trees else {
-        let why = Why::FewElements(trees.len(), 3);
+        let why = Reason::FewElements(trees.len(), 3);
         return Err(Located { at, why });
     };
     let name = text(at.item(0), name_tree)?;

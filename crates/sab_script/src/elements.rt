@@ -8,7 +8,7 @@ ghost use Rattle.sab_refusal.specs.Location.{item_at};
 ghost use Rattle.sab_script.specs.Reading.{Finds, SpellsUpTo};
 ghost use Rattle.sab_script.specs.Truth.{IsTrueWhere, IsListOf, limit_of};
 
-use sab_refusal::{Located, Location, Unit, Why};
+use sab_refusal::{Located, Location, Unit, Reason};
 use serde_json::Value;
 use std::alloc::Global;
 
@@ -44,7 +44,7 @@ pub(crate) fn read_each<R: Reader>(
         (λ root. IsListOf unit at × (most ≡ limit_of unit) × ((i : ℕ) → R.Knows reader.now root (item_at at i)))) }
 {
     if trees.len() > most {
-        let why = Why::TooMany(unit, trees.len() as u64, most as u64);
+        let why = Reason::TooMany(unit, trees.len() as u64, most as u64);
         return Err(Located { at, why });
     }
     let mut elements = Vec::with_capacity(alloc, trees.len())?;

@@ -3,12 +3,12 @@
 ghost use Rattle.std.specs.Prelude.{◌≡◌, ℕ, None};
 ghost use Rattle.serde_json.specs.Data.{Data};
 ghost use Rattle.sab_block.specs.View.{count};
-ghost use Rattle.sab_refusal.specs.Why.{fault_of};
+ghost use Rattle.sab_refusal.specs.Reason.{fault_of};
 ghost use Rattle.sab_script.specs.Truth.{IsMisfit, IsTrueOf};
 ghost use Rattle.sab_script.specs.ViewPlaces.{HasView};
 
 use crate::view_spec::ViewSpec;
-use sab_refusal::{Located, Location, Member, Misfit, ReadFault, Why};
+use sab_refusal::{Located, Location, Member, Misfit, ReadFault, Reason};
 
 /// The refusal of a view, which stands there, that can't be made on its block of so many bytes: of its offset or of its
 /// length.
@@ -19,7 +19,7 @@ pub(crate) fn misfit(at: Location, block_len: u32, spec: ViewSpec) -> Located
 {
     let (member, misfit) = part_amiss(block_len, spec);
     let at = at.member(member);
-    let why = Why::Misfit(misfit);
+    let why = Reason::Misfit(misfit);
     Located { at, why }
 }
 

@@ -2,7 +2,7 @@
 
 ghost use Rattle.std.specs.Prelude.{◌≡◌, ℕ, IfErr, ◌↔◌, ◌<◌, ◌≤◌, IsTrue};
 ghost use Rattle.sab_block.specs.Kind.{kind_name};
-ghost use Rattle.sab_refusal.specs.Why.{fault_of};
+ghost use Rattle.sab_refusal.specs.Reason.{fault_of};
 ghost use Rattle.sab_script.specs.Reading.{Finds};
 ghost use Rattle.sab_script.specs.Views.{IsName};
 ghost use Rattle.sab_refusal.specs.declared.member.Member.TheVariants as M;
@@ -10,7 +10,7 @@ ghost use Rattle.serde_json.specs.Data.{string};
 ghost use Rattle.sab_script.specs.Truth.{IsTrueWhere};
 
 use sab_block::Kind;
-use sab_refusal::{Excerpt, Located, Location, ReadFault, Why};
+use sab_refusal::{Excerpt, Located, Location, ReadFault, Reason};
 
 /// The kind of a name.
 pub(crate) fn kind(at: Location, name: &str) -> Result<Kind, Located>
@@ -33,7 +33,7 @@ pub(crate) fn kind(at: Location, name: &str) -> Result<Kind, Located>
         "BigInt64" => Ok(Kind::BigInt64),
         "BigUint64" => Ok(Kind::BigUint64),
         _ => {
-            let why = Why::NoKind(Excerpt::of(name));
+            let why = Reason::NoKind(Excerpt::of(name));
             Err(Located { at, why })
         }
     }

@@ -13,11 +13,11 @@ ghost use Rattle.sab_script.specs.Places.{CallsFor};
 ghost use Rattle.sab_script.specs.Truth.{IsTrueWhere, IsTrueOf};
 ghost use Rattle.sab_script.specs.Known.{HasArguments};
 ghost use Rattle.sab_script.specs.Arguments.{TakesFrom, TakesJust, TakesTimed, StandBehind};
-ghost use Rattle.sab_refusal.specs.Why.{fault_of};
+ghost use Rattle.sab_refusal.specs.Reason.{fault_of};
 
 use crate::tree::whole;
 use sab_block::Operand;
-use sab_refusal::{Excerpt, Located, Location, ReadFault, Wanted, Why};
+use sab_refusal::{Excerpt, Located, Location, ReadFault, Wanted, Reason};
 use serde_json::Value;
 
 /// Where in a call what stands behind its index begins.
@@ -30,7 +30,7 @@ fn no_big(at: Location, digits: &str) -> Located
     ensures told { IsTrueWhere at (string digits.now)
         (λ root. CallsFor root at Wanted.Operand × ((z : ℤ) → SpellsBig digits.now z → ⊥)) result }
 {
-    let why = Why::NoBigInt(Excerpt::of(digits));
+    let why = Reason::NoBigInt(Excerpt::of(digits));
     Located { at, why }
 }
 
@@ -43,9 +43,9 @@ fn wrong_count(at: Location, count: usize, least: usize, most: usize) -> Located
         → count + 3 < 2 ^ 64 → IsTrueOf root result }
 {
     let why = if count < least {
-        Why::FewElements(count.saturating_add(FIRST), least.saturating_add(FIRST))
+        Reason::FewElements(count.saturating_add(FIRST), least.saturating_add(FIRST))
     } else {
-        Why::ManyElements(count.saturating_add(FIRST), most.saturating_add(FIRST))
+        Reason::ManyElements(count.saturating_add(FIRST), most.saturating_add(FIRST))
     };
     Located { at, why }
 }
@@ -74,7 +74,7 @@ pub(crate) fn operand(at: Location, tree: &Value) -> Result<Operand, Located>
         return Ok(Operand::big(big(at, digits.as_str())?));
     }
     let number = whole(at, Wanted::Operand, tree)?;
-    let why = Why::NotWhole;
+    let why = Reason::NotWhole;
     Operand::number(number).ok_or(Located { at, why })
 }
 

@@ -4,7 +4,7 @@ ghost use Rattle.std.specs.Prelude.{IfOk, IfErr};
 ghost use Rattle.sab_script.specs.Script.{IsScriptOf, IsRefusedBy, IsTrueRefusal};
 
 use crate::setup::{Setup, locate_setup};
-use sab_refusal::{Located, Location, Refusal, Why};
+use sab_refusal::{Located, Location, Refusal, Reason};
 use serde_json::Value;
 use std::alloc::Global;
 
@@ -22,7 +22,7 @@ pub fn read_script(alloc: Global, script: &[u8]) -> Result<Setup, Refusal>
         Err(error) => {
             if error.is_memory() {
                 let at = Location::Script;
-                let why = Why::Memory;
+                let why = Reason::Memory;
                 return Err(Refusal::Tree(Located { at, why }));
             }
             return Err(Refusal::NotJson {

@@ -5,7 +5,7 @@ ghost use Rattle.serde_json.specs.Data.{Data, array};
 ghost use Rattle.serde_json.specs.View.{view, items_view};
 ghost use Rattle.sab_plan.specs.Plan.{IsPlan, parts_of};
 ghost use Rattle.sab_refusal.specs.declared.read_fault.ReadFault.TheVariants.{OutOfMemory};
-ghost use Rattle.sab_refusal.specs.Why.{fault_of};
+ghost use Rattle.sab_refusal.specs.Reason.{fault_of};
 ghost use Rattle.sab_script.specs.Reading.{Refuses, Reads, Finds};
 ghost use Rattle.sab_script.specs.Views.{named_views};
 ghost use Rattle.sab_script.specs.Setup.{IsSetup, Spells, IsOnlySetup, script_object};

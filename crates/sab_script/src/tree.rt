@@ -6,13 +6,13 @@ ghost use Rattle.serde_json.specs.View.{view, items_view, members_view};
 ghost use Rattle.sab_script.specs.Reading.{Finds};
 ghost use Rattle.sab_refusal.specs.Location.{member_name};
 ghost use Rattle.sab_script.specs.Numbers.{SpellsWhole, SpellsOptional, SpellsPosition};
-ghost use Rattle.sab_refusal.specs.Why.{fault_of, fault_beyond};
+ghost use Rattle.sab_refusal.specs.Reason.{fault_of, fault_beyond};
 ghost use Rattle.sab_script.specs.Places.{CallsFor};
 ghost use Rattle.sab_script.specs.Truth.{IsTrueWhere, IsCountedAt};
 ghost use Rattle.sab_script.specs.Known.{AreInOrder, IsFirst, LackMember, IsNumberAs};
 
 use sab_block::Operand;
-use sab_refusal::{Counted, Excerpt, Located, Location, Member, ReadFault, Wanted, Why};
+use sab_refusal::{Counted, Excerpt, Located, Location, Member, ReadFault, Wanted, Reason};
 use serde_json::Value;
 use std::collections::btree_map::Iter;
 
@@ -28,13 +28,13 @@ pub(crate) fn whole(at: Location, wanted: Wanted, tree: &Value) -> Result<i64, L
         (λ root. CallsFor root at wanted × IsNumberAs wanted (view tree.now))) }
 {
     let Value::Number(number) = tree else {
-        let why = Why::Type(wanted);
+        let why = Reason::Type(wanted);
         return Err(Located { at, why });
     };
     match number.as_i64() {
         Some(n) if -Operand::MAX_SAFE_INTEGER <= n && n <= Operand::MAX_SAFE_INTEGER => Ok(n),
         _ => {
-            let why = Why::NotWhole;
+            let why = Reason::NotWhole;
             Err(Located { at, why })
         }
     }
@@ -57,7 +57,7 @@ pub(crate) fn position(
 {
     let n = whole(at, wanted, tree)?;
     if n < 0 || n >= i64::from(count) {
-        let why = Why::Beyond(counted, n, count);
+        let why = Reason::Beyond(counted, n, count);
         return Err(Located { at, why });
     }
     Ok(n as u32)
@@ -83,7 +83,7 @@ pub(crate) fn text(at: Location, tree: &Value) -> Result<&str, Located>
     ensures place { IfErr result (λ e. e.at ≡ at) }
     ensures told { IfErr result (IsTrueWhere at (view tree.now) (λ root. CallsFor root at Wanted.Text)) }
 {
-    let why = Why::Type(Wanted::Text);
+    let why = Reason::Type(Wanted::Text);
     tree.as_str().ok_or(Located { at, why })
 }
 
@@ -94,7 +94,7 @@ pub(crate) fn flag(at: Location, tree: &Value) -> Result<bool, Located>
     ensures place { IfErr result (λ e. e.at ≡ at) }
     ensures told { IfErr result (IsTrueWhere at (view tree.now) (λ root. CallsFor root at Wanted.Flag)) }
 {
-    let why = Why::Type(Wanted::Flag);
+    let why = Reason::Type(Wanted::Flag);
     tree.as_bool().ok_or(Located { at, why })
 }
 
@@ -108,7 +108,7 @@ pub(crate) fn items(at: Location, tree: &Value) -> Result<&[Value], Located>
     match tree.as_array() {
         Some(items) => Ok(items.as_slice()),
         None => {
-            let why = Why::Type(Wanted::Array);
+            let why = Reason::Type(Wanted::Array);
             Err(Located { at, why })
         }
     }
@@ -126,7 +126,7 @@ pub(crate) fn members(at: Location, tree: &Value) -> Result<Members<'_>, Located
     match tree.as_object() {
         Some(members) => Ok(members.iter()),
         None => {
-            let why = Why::Type(Wanted::Object);
+            let why = Reason::Type(Wanted::Object);
             Err(Located { at, why })
         }
     }
@@ -151,11 +151,11 @@ pub(crate) fn member<'a>(
         Some((found, tree)) if found.as_str() == name.name() => Ok(tree),
         // Names come in order: one that is less than the next that is called for is none of those.
         Some((found, _)) if found.as_str() < name.name() => {
-            let why = Why::Surplus(Excerpt::of(found.as_str()));
+            let why = Reason::Surplus(Excerpt::of(found.as_str()));
             Err(Located { at, why })
         }
         _ => {
-            let why = Why::Missing(name);
+            let why = Reason::Missing(name);
             Err(Located { at, why })
         }
     }
@@ -172,7 +172,7 @@ pub(crate) fn end(at: Location, members: &mut Members<'_>) -> Result<(), Located
     match members.next() {
         None => Ok(()),
         Some((found, _)) => {
-            let why = Why::Surplus(Excerpt::of(found.as_str()));
+            let why = Reason::Surplus(Excerpt::of(found.as_str()));
             Err(Located { at, why })
         }
     }

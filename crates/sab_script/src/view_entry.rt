@@ -10,7 +10,7 @@ ghost use Rattle.sab_script.specs.Truth.{IsTrueOf, IsTrueWhere};
 ghost use Rattle.sab_script.specs.Known.{HasLens};
 ghost use Rattle.sab_script.specs.ViewPlaces.{HasBlocks, HasView, IsTrueOfView};
 ghost use Rattle.sab_script.specs.Views.{description, count_on, SpellsDescription, SpellsView, SpellsViews, IsDescribed, AreDescribed};
-ghost use Rattle.sab_refusal.specs.Why.{fault_of};
+ghost use Rattle.sab_refusal.specs.Reason.{fault_of};
 
 use crate::form::Form;
 use crate::misfit::misfit;
@@ -20,7 +20,7 @@ use crate::view_spec::ViewSpec;
 use crate::views::Views;
 use sab_block::View;
 use sab_plan::{Plan, PlanView};
-use sab_refusal::{Counted, Excerpt, Located, Location, Member, Unit, Wanted, Why};
+use sab_refusal::{Counted, Excerpt, Located, Location, Member, Unit, Wanted, Reason};
 use serde_json::Value;
 use std::alloc::Global;
 
@@ -102,7 +102,7 @@ fn read_description<'a>(
     let name = text(at_name, name_tree)?;
     let offset = whole(at.member(Member::Offset), Wanted::Whole, offset_tree)?;
     if !is_name(name) {
-        let why = Why::NameForm(Excerpt::of(name));
+        let why = Reason::NameForm(Excerpt::of(name));
         return Err(Located { at: at_name, why });
     }
     let spec = ViewSpec {
@@ -151,7 +151,7 @@ pub(crate) fn read_views(
         (λ root. (at ≡ Location.Member Member.Views) × HasLens root form lens.now)) }
 {
     if trees.len() > Plan::MAX_VIEWS {
-        let why = Why::TooMany(Unit::Views, trees.len() as u64, Plan::MAX_VIEWS as u64);
+        let why = Reason::TooMany(Unit::Views, trees.len() as u64, Plan::MAX_VIEWS as u64);
         return Err(Located { at, why });
     }
     let mut views = Views::new(alloc);
@@ -160,7 +160,7 @@ pub(crate) fn read_views(
         let at_view = at.item(plan_views.len());
         let (name, spec, plan_view) = read_view(at_view, form, lens, tree)?;
         if let Some(other) = views.position(name) {
-            let why = Why::Twice(Excerpt::of(name), other);
+            let why = Reason::Twice(Excerpt::of(name), other);
             let at = at_view.member(Member::Name);
             return Err(Located { at, why });
         }

@@ -12,7 +12,7 @@ use crate::tree::text;
 use crate::view_spec::ViewSpec;
 use indexmap::IndexMap;
 use sab_plan::Plan;
-use sab_refusal::{Excerpt, Located, Location, Why};
+use sab_refusal::{Excerpt, Located, Location, Reason};
 use serde_json::Value;
 use std::alloc::{AllocError, Global};
 use std::marker::Model;
@@ -92,7 +92,7 @@ pub(crate) fn view_of(at: Location, views: &Views, tree: &Value) -> Result<u32, 
     match views.position(name) {
         Some(view) => Ok(view),
         None => {
-            let why = Why::NoView(Excerpt::of(name));
+            let why = Reason::NoView(Excerpt::of(name));
             Err(Located { at, why })
         }
     }

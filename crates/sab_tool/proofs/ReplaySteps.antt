@@ -18,7 +18,7 @@ use Rattle.sab_script.specs.Reading.{SpellsEach}
 use Rattle.sab_script.specs.Schedule.{SpellsMove}
 use Rattle.sab_script.specs.Script.{ReadsAs, SpellsNone, IsTreeFault, IsRefusedBy, IsTrueRefusal}
 use Rattle.sab_script.specs.Truth.{IsTrueFault}
-use Rattle.sab_refusal.specs.Why.{fault_of}
+use Rattle.sab_refusal.specs.Reason.{fault_of}
 use Rattle.sab_tool.specs.Replay.{IsRefused, IsRefusedFor, as_tool_fault, script_as_tool_fault}
 
 pub keeps_same : (o : Option (List ℕ)) → Keeps o o

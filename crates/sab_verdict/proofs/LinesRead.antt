@@ -18,11 +18,11 @@ use Rattle.sab_judge.specs.Event.{idle_event, event_at, agent_at}
 use Rattle.sab_judge.specs.Trace.{HasBytes, IsWithinLimits, IsTrace}
 use Rattle.sab_judge.specs.Verdict.{IsLastSeen, IsTold}
 use Rattle.sab_judge.proofs.LastSteps.{before_earlier}
-use Rattle.sab_fact_json.specs.CallData.{natural, call_data}
-use Rattle.sab_fact_json.specs.SafeNumbers.{HasSafeNumbers}
-use Rattle.sab_fact_json.proofs.ShortNumbers.{HasShortNumbers, short_if}
-use Rattle.sab_fact_json.proofs.ShortCalls.{does_short}
-use Rattle.sab_fact_json.proofs.ReadingBack.{IsInOrder, reads_back}
+use Rattle.sab_json.specs.CallData.{natural, call_data}
+use Rattle.sab_json.specs.SafeNumbers.{HasSafeNumbers}
+use Rattle.sab_json.proofs.ShortNumbers.{HasShortNumbers, short_if}
+use Rattle.sab_json.proofs.ShortCalls.{does_short}
+use Rattle.sab_json.proofs.ReadingBack.{IsInOrder, reads_back}
 use Rattle.sab_verdict.specs.declared.side.Side.{Side}
 use Rattle.sab_verdict.specs.Events.{access_in, side_at, call_in, call_at, overlap_of, accesses_of, agents_of, has_access, is_accessing}
 use Rattle.sab_verdict.specs.Json.{call_side, access_side, race_data, count_data}

@@ -4,9 +4,9 @@ ghost use Rattle.std.specs.Prelude.{◌≡◌, ◌+◌, ◌<◌, ◌≤◌, ◌+
 ghost use Rattle.serde_json.specs.Data.{boolean};
 ghost use Rattle.serde_json.specs.Written.{compact_text};
 ghost use Rattle.sab_judge.specs.declared.event.Event.{Event};
-ghost use Rattle.sab_fact_json.specs.Members.{member_text, member_text_if};
-ghost use Rattle.sab_fact_json.specs.CallData.{AreNames, natural, call_data};
-ghost use Rattle.sab_fact_json.specs.Lines.{line};
+ghost use Rattle.sab_json.specs.Members.{member_text, member_text_if};
+ghost use Rattle.sab_json.specs.CallData.{AreNames, natural, call_data};
+ghost use Rattle.sab_json.specs.Lines.{line};
 ghost use Rattle.sab_verdict.specs.Events.{call_at, Overlap};
 ghost use Rattle.sab_verdict.specs.Json.{call_side, access_side, race_data, count_data};
 ghost use Rattle.sab_verdict.specs.Sides.{data_of, HaveNames};
@@ -15,7 +15,7 @@ use crate::byte_range::ByteRange;
 use crate::count::{count_accesses, count_agents};
 use crate::side::Side;
 use crate::sides::{Run, Sides};
-use sab_fact_json::{CALL_LEN, push_call, push_small};
+use sab_json::{CALL_LEN, push_call_data, push_small};
 use sab_judge::{Event, Race};
 use sab_text::Chunk;
 
@@ -96,7 +96,7 @@ fn push_does(run: &Run, k: usize, chunk: &mut Chunk)
 {
     if let Some(call) = run.call_at(k) {
         chunk.push(b",\"does\":");
-        push_call(run.names, call, chunk);
+        push_call_data(run.names, call, chunk);
     }
 }
 

@@ -3,7 +3,7 @@
 ghost use Rattle.std.specs.Prelude.{◌≡◌};
 ghost use Rattle.sab_verdict.specs.Events.{call_at};
 
-use sab_fact_text::Name;
+use sab_words::Name;
 use sab_plan::{Call, Entry, Plan};
 
 /// How the two events of a race are told.

@@ -5,7 +5,7 @@ use Rattle.std.specs.Io.KnownBytes.{Appends, append_known}
 use Rattle.sab_plan.specs.declared.schedule.Move.TheVariants.{Step}
 use Rattle.sab_plan.specs.Plan.{PlanParts}
 use Rattle.sab_sim.specs.Sim.{SimParts}
-use Rattle.sab_fact_text.specs.FactFormat.{Texts, IsTheFact, no_sinces, noted}
+use Rattle.sab_words.specs.FactFormat.{Texts, IsTheFact, no_sinces, noted}
 use Rattle.sab_report.proofs.Driving.{told_more, sinces_after-push}
 use Rattle.sab_report.proofs.driver.write_entries.Goals as goal
 

@@ -5,7 +5,7 @@ use Rattle.serde_json.specs.View.{view, items_view}
 use Rattle.sab_plan.specs.declared.plan.TheConstants.Plan.{MAX_BLOCKS}
 use Rattle.sab_refusal.specs.declared.location.Location.TheVariants as at
 use Rattle.sab_refusal.specs.declared.member.Member.TheVariants as M
-use Rattle.sab_refusal.specs.declared.why.Unit.TheVariants as unit
+use Rattle.sab_refusal.specs.declared.reason.Unit.TheVariants as unit
 use Rattle.sab_refusal.specs.Location.{item_at}
 use Rattle.sab_script.specs.Places.{lens_member}
 use Rattle.sab_script.specs.Truth.{IsTrueWhere, IsLenPlace, IsListOf, limit_of}

@@ -6,7 +6,7 @@ use Rattle.sab_refusal.specs.Location.{item_at}
 use Rattle.sab_refusal.specs.declared.location.Location.{Location}
 use Rattle.sab_refusal.specs.declared.location.Location.TheVariants as at
 use Rattle.sab_refusal.specs.declared.member.Member.TheVariants as M
-use Rattle.sab_refusal.specs.declared.why.Unit.TheVariants as unit
+use Rattle.sab_refusal.specs.declared.reason.Unit.TheVariants as unit
 use Rattle.sab_script.specs.Known.{HasNames}
 use Rattle.sab_script.specs.Truth.{IsTrueWhere, IsListOf, limit_of}
 use Rattle.sab_script.specs.Views.{view_names}

@@ -1,7 +1,7 @@
 use Rattle.std.proofs.Common.{◌<◌, ◌≤◌, ◌^◌, ℕ, List, [], ◌∷◌, length, refl, arith, rules}
 use Rattle.serde_json.specs.Data.{Data}
 use Rattle.serde_json.specs.View.{view, items_view}
-use Rattle.sab_refusal.specs.declared.why.Wanted.TheVariants as wanted
+use Rattle.sab_refusal.specs.declared.reason.Wanted.TheVariants as wanted
 use Rattle.sab_script.specs.Places.{CallsFor}
 use Rattle.sab_script.specs.Known.{HasArguments}
 use Rattle.sab_script.specs.Truth.{IsTrueOf, IsTrueWhere}

@@ -2,7 +2,7 @@ use Rattle.std.proofs.Common.{◌≡◌, ℕ, List, rules}
 use Rattle.serde_json.specs.Data.{string}
 use Rattle.serde_json.specs.declared.value.Value.{the_lemmas}
 use Rattle.serde_json.specs.View.{view}
-use Rattle.sab_refusal.specs.declared.why.Wanted.TheVariants as wanted
+use Rattle.sab_refusal.specs.declared.reason.Wanted.TheVariants as wanted
 use Rattle.sab_script.specs.Places.{CallsFor}
 use Rattle.sab_script.specs.Truth.{IsTrueWhere}
 use Rattle.sab_script.proofs.Telling.{exit_told}

@@ -5,8 +5,8 @@ use Rattle.sab_block.specs.declared.operand.Operand.{Operand}
 use Rattle.serde_json.proofs.Views.{items_len-items_view}
 use Rattle.sab_refusal.specs.declared.located.Located.{Located}
 use Rattle.sab_refusal.specs.declared.location.Location.{Location}
-use Rattle.sab_refusal.specs.declared.why.Wanted.{Wanted}
-use Rattle.sab_refusal.specs.declared.why.Wanted.TheVariants as wanted
+use Rattle.sab_refusal.specs.declared.reason.Wanted.{Wanted}
+use Rattle.sab_refusal.specs.declared.reason.Wanted.TheVariants as wanted
 use Rattle.sab_script.specs.Numbers.{SpellsOperand}
 use Rattle.sab_plan.specs.declared.argument.Argument.TheVariants.{Value}
 use Rattle.sab_script.specs.Calls.{SpellsArguments}

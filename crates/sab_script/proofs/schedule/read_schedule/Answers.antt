@@ -4,7 +4,7 @@ use Rattle.serde_json.specs.Data.{array}
 use Rattle.serde_json.specs.View.{items_view}
 use Rattle.sab_refusal.specs.declared.location.Location.TheVariants as at
 use Rattle.sab_refusal.specs.declared.member.Member.TheVariants as M
-use Rattle.sab_refusal.specs.declared.why.Unit.TheVariants as unit
+use Rattle.sab_refusal.specs.declared.reason.Unit.TheVariants as unit
 use Rattle.sab_refusal.specs.Location.{item_at}
 use Rattle.sab_script.specs.declared.schedule.TheConstants.{MAX_MOVES}
 use Rattle.sab_script.specs.Truth.{IsTrueWhere, HasItems, IsListOf, limit_of}

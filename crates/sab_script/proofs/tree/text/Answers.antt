@@ -1,7 +1,7 @@
 use Rattle.std.proofs.Common.{ℕ, List, Bor, option_map, sym, ap, ◌∙◌}
 use Rattle.serde_json.specs.Find.{as_str}
 use Rattle.serde_json.specs.View.{view}
-use Rattle.sab_refusal.specs.declared.why.Wanted.TheVariants.{Text}
+use Rattle.sab_refusal.specs.declared.reason.Wanted.TheVariants.{Text}
 use Rattle.sab_script.specs.Places.{CallsFor}
 use Rattle.sab_script.specs.Truth.{IsTrueWhere}
 use Rattle.sab_script.proofs.Telling.{none_told}

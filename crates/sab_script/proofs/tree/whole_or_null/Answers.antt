@@ -2,7 +2,7 @@ use Rattle.std.proofs.Common.{◌≡◌, rules}
 use Rattle.serde_json.specs.Data.{null}
 use Rattle.serde_json.specs.View.{view}
 use Rattle.serde_json.specs.declared.value.Value.{the_lemmas}
-use Rattle.sab_refusal.specs.declared.why.Wanted.TheVariants.{WholeOrNull}
+use Rattle.sab_refusal.specs.declared.reason.Wanted.TheVariants.{WholeOrNull}
 use Rattle.sab_script.specs.Places.{CallsFor}
 use Rattle.sab_script.specs.Truth.{IsTrueWhere}
 use Rattle.sab_script.proofs.Telling.{exit_told, number_as_optional}

@@ -13,7 +13,7 @@ use Rattle.sab_script.proofs.OneView.{description_parts, same_text, not_made}
 use Rattle.sab_script.proofs.Refusing.{exit_none, exit_refuses}
 use Rattle.std.proofs.lemmas.Option.{slice_get-get_or}
 use Rattle.sab_refusal.specs.declared.member.Member.TheVariants as M
-use Rattle.sab_refusal.specs.declared.why.Wanted.TheVariants as wanted
+use Rattle.sab_refusal.specs.declared.reason.Wanted.TheVariants as wanted
 use Rattle.sab_script.specs.Blocks.{with_block}
 use Rattle.sab_script.specs.Places.{CallsFor}
 use Rattle.sab_refusal.specs.declared.location.Location.TheVariants as at

@@ -1,0 +1,14 @@
+use Rattle.std.proofs.Common.{drop, ◌+◌, ◌≤◌, length}
+use Rattle.std.specs.Io.KnownBytes.{Appends, append_known}
+use Rattle.sab_text.specs.declared.chunk.TheConstants.Chunk.{ROOM, LINE_ROOM}
+use Rattle.sab_words.specs.Explained.{standing_lines}
+use Rattle.sab_words.proofs.standings.write_standings.Given as goal
+
+abbrev pub invariant-loop-a : goal.invariant-loop-a
+invariant-loop-a g l = record {
+  told : Appends (append_known (g.W.Write.contents l.fn.w) l.fn.chunk)
+      (append_known (append_known (g.W.Write.contents l.w) l.chunk)
+      (standing_lines l.column.at l.names l.standings l.a (drop l.a l.agents)))
+      (standing_lines l.column.at l.names l.standings 0 l.agents);
+  room : length l.chunk + LINE_ROOM ≤ ROOM;
+}

@@ -1,0 +1,56 @@
+//! Formats of reports that tell facts.
+
+ghost use Rattle.std.specs.Prelude.{◌≡◌, ◌<◌, ◌^◌, length, OnOk};
+ghost use Rattle.std.specs.Io.KnownBytes.{Appends, append_known};
+
+use sab_explain::{Explained, Standing};
+use sab_plan::{Plan, Report};
+use sab_text::Chunk;
+use std::io;
+use std::io::Write;
+
+/// A format of reports that tell facts: what stands first, a text for each entry, and what stands last.
+///
+/// A text goes behind what the chunk holds, which is written where it has too little room. No method takes memory or
+/// flushes. Where a write failed nothing is said of how much was written.
+pub trait FactFormat {
+    ghost use Rattle.sab_words.specs.FactFormat.{Texts};
+
+    /// What it writes.
+    ghost texts: { Self → Texts };
+
+    /// Writes what stands before the entries; the last of it may stay in the chunk.
+    fn write_start<W: Write>(&mut self, chunk: &mut Chunk, w: &mut W) -> io::Result<()>
+        ensures same { texts self.new ≡ texts self.old }
+        ensures written { OnOk result (Appends (append_known (W.contents w.old) chunk.old)
+            (append_known (W.contents w.new) chunk.new) (texts self.old).start) };
+
+    /// Writes what is told of entry `k` of a plan's journal; the last of it may stay in the chunk.
+    ///
+    /// `sinces` has for each agent the position of its last entry before this one that had an effect.
+    fn write_entry<W: Write>(
+        &mut self,
+        plan: &Plan,
+        sinces: &[Option<u32>],
+        k: u32,
+        told: &Explained,
+        chunk: &mut Chunk,
+        w: &mut W,
+    ) -> io::Result<()>
+        ensures same { texts self.new ≡ texts self.old }
+        ensures written { OnOk result (Appends (append_known (W.contents w.old) chunk.old)
+            (append_known (W.contents w.new) chunk.new)
+            ((texts self.old).entry plan.now sinces.now k told.now.entry told.now.fact)) };
+
+    /// Writes what stands behind the entries of a report, and what the chunk holds.
+    fn write_end<W: Write>(
+        &mut self,
+        report: &Report,
+        standings: &[Option<Standing>],
+        chunk: &mut Chunk,
+        w: &mut W,
+    ) -> io::Result<()>
+        requires few { length report.now.blocks < 2 ^ 32 }
+        ensures { OnOk result (Appends (append_known (W.contents w.old) chunk.old) (W.contents w.new)
+            ((texts self.old).finish report.now standings.now)) };
+}
