@@ -40,7 +40,7 @@ fn call_count(scripts: &[Script]) -> usize
     count
 }
 
-/// Puts the line last: what a setup has.
+/// Appends the line: what a setup has.
 pub(crate) fn push_ok(text: &mut String, setup: &Setup) -> Result<(), AllocError>
     ensures { OnOk result (string_bytes text.new ≡ string_bytes text.old ++ ok_text setup.now) }
 {

@@ -30,7 +30,7 @@ fn view_name(setup: &Setup, position: u32) -> &str
     }
 }
 
-/// Puts the warning of a call last, if there is one.
+/// Appends the warning of a call, if there is one.
 fn push_call(
     text: &mut String,
     setup: &Setup,
@@ -59,7 +59,7 @@ fn push_call(
     write!(text, "{warning}\n")
 }
 
-/// Puts the warnings of an agent's calls last.
+/// Appends the warnings of an agent's calls.
 #[tactic(auto, using(crate::proofs::Lines::calls_after, crate::proofs::Lines::no_calls_left))]
 fn push_calls(
     text: &mut String,
@@ -76,7 +76,7 @@ fn push_calls(
     Ok(())
 }
 
-/// Puts the warnings of all calls last.
+/// Appends the warnings of all calls.
 #[tactic(auto, using(crate::proofs::Lines::agents_after, crate::proofs::Lines::no_agents_left))]
 pub(crate) fn push_warnings(text: &mut String, setup: &Setup) -> Result<(), AllocError>
     ensures { OnOk result (string_bytes text.new

@@ -41,7 +41,7 @@ fn write_block<W: Write>(b: usize, bytes: &[u8], chunk: &mut Chunk, w: &mut W) -
     chunk.append(b"\"}\n", w)
 }
 
-/// Puts first what stands before the digits of block `b`.
+/// Prepends what stands before the digits of block `b`.
 fn prepend_head(b: usize, line: &mut Line)
     requires { length line.old + 40 ≤ Line.ROOM }
     ensures { line.new ≡ (codes "{\"block\":" ++ (decimal b ++ codes ",\"bytes\":\"")) ++ line.old }

@@ -22,7 +22,7 @@ const FUNCTION_LEN: usize = 20;
 /// The most bytes of a call as JSON: its function, a name, an index and what else it takes.
 pub const CALL_LEN: usize = 190;
 
-/// Puts a call last, as `["load","m",0]`: at most [`CALL_LEN`] bytes.
+/// Appends a call, as `["load","m",0]`: at most [`CALL_LEN`] bytes.
 ///
 /// `names` has the names of the plan's views, of letters, digits and `_`. A view without one has an empty name.
 pub fn push_call_data(names: &[Name], call: Call, chunk: &mut Chunk)
@@ -38,7 +38,7 @@ pub fn push_call_data(names: &[Name], call: Call, chunk: &mut Chunk)
     push_more(call.arguments().as_slice(), chunk);
 }
 
-/// Puts an operand last: a Number as a number, a BigInt as a string.
+/// Appends an operand: a Number as a number, a BigInt as a string.
 #[tactic(auto, using(crate::proofs::Texts::number_operand))]
 pub(crate) fn push_operand(operand: Operand, chunk: &mut Chunk)
     requires { length chunk.old + OPERAND_LEN ≤ Chunk.ROOM }
@@ -54,7 +54,7 @@ pub(crate) fn push_operand(operand: Operand, chunk: &mut Chunk)
     }
 }
 
-/// Puts last what stands before the name of a call's view.
+/// Appends what stands before the name of a call's view.
 fn push_function(call: Call, chunk: &mut Chunk)
     requires { length chunk.old + FUNCTION_LEN ≤ Chunk.ROOM }
     ensures bytes { chunk.new ≡ chunk.old ++ (codes "[\"" ++ (function_of call ++ codes "\",\"")) }
@@ -65,7 +65,7 @@ fn push_function(call: Call, chunk: &mut Chunk)
     chunk.push(b"\",\"");
 }
 
-/// Puts arguments last, each behind a comma, and closes the array of their call.
+/// Appends arguments, each behind a comma, and closes the array of their call.
 fn push_more(arguments: &[Argument], chunk: &mut Chunk)
     requires { length chunk.old + ITEM_LEN * length arguments.now + 1 ≤ Chunk.ROOM }
     ensures bytes { chunk.new ≡ chunk.old ++ items_text true (argument_items arguments.now) }
@@ -78,7 +78,7 @@ fn push_more(arguments: &[Argument], chunk: &mut Chunk)
     chunk.push(b"]");
 }
 
-/// Puts an argument last.
+/// Appends an argument.
 #[tactic(auto, using(crate::proofs::Texts::whole_text))]
 fn push_argument(argument: Argument, chunk: &mut Chunk)
     requires { length chunk.old + OPERAND_LEN ≤ Chunk.ROOM }

@@ -24,7 +24,7 @@ const ANSWER_LEN: usize = 52;
 /// The most bytes of a call as a member.
 const DOES_LEN: usize = 200;
 
-/// Puts the line of an entry last, which is entry `k` of its journal, if it has one.
+/// Appends the line of an entry, which is entry `k` of its journal, if it has one.
 pub(crate) fn push_entry_if(
     names: &[Name],
     lines: Lines,
@@ -43,7 +43,7 @@ pub(crate) fn push_entry_if(
     }
 }
 
-/// Puts the line of an entry last, which is entry `k` of its journal.
+/// Appends the line of an entry, which is entry `k` of its journal.
 fn push_entry(names: &[Name], k: usize, entry: &Entry, fact: &Fact, chunk: &mut Chunk)
     requires names { AreNames names.now }
     requires room { length chunk.old + Chunk.LINE_ROOM ≤ Chunk.ROOM }
@@ -63,7 +63,7 @@ fn push_entry(names: &[Name], k: usize, entry: &Entry, fact: &Fact, chunk: &mut 
     chunk.push(end_of(entry.what));
 }
 
-/// Puts last what a move answered, where it did.
+/// Appends what a move answered, where it did.
 fn push_answer_in(what: What, chunk: &mut Chunk)
     requires { length chunk.old + ANSWER_LEN ≤ Chunk.ROOM }
     ensures bytes { chunk.new ≡ chunk.old ++ member_text_if (codes "answer") (answer_in what) }
@@ -77,7 +77,7 @@ fn push_answer_in(what: What, chunk: &mut Chunk)
     }
 }
 
-/// Puts an answer last, as a member.
+/// Appends an answer, as a member.
 #[tactic(auto, unfolding(json::specs::Print::escape_byte, crate::specs::FactData::answer_data))]
 fn push_answer(answer: Answer, chunk: &mut Chunk)
     requires { length chunk.old + ANSWER_LEN ≤ Chunk.ROOM }
@@ -101,7 +101,7 @@ fn push_answer(answer: Answer, chunk: &mut Chunk)
     }
 }
 
-/// Puts a call last, as a member, where there is one.
+/// Appends a call, as a member, where there is one.
 fn push_does(names: &[Name], call: Option<Call>, chunk: &mut Chunk)
     requires names { AreNames names.now }
     requires room { length chunk.old + DOES_LEN ≤ Chunk.ROOM }

@@ -30,7 +30,7 @@ pub(crate) const PLACE_LEN: usize = 68;
 /// The most bytes of since when an agent stands as it does.
 pub(crate) const SINCE_LEN: usize = 29;
 
-/// Puts last what an entry found, where it is something.
+/// Appends what an entry found, where it is something.
 #[tactic(auto, unfolding(json::specs::Print::escape_byte, crate::specs::FactData::found_data))]
 pub(crate) fn push_found(found: &Found, chunk: &mut Chunk)
     requires { length chunk.old + FOUND_LEN ≤ Chunk.ROOM }
@@ -54,7 +54,7 @@ pub(crate) fn push_found(found: &Found, chunk: &mut Chunk)
     }
 }
 
-/// Puts last what a load or a wait read.
+/// Appends what a load or a wait read.
 #[tactic(auto, unfolding(json::specs::Print::escape_byte, crate::specs::FactData::found_data))]
 fn push_element(value: Operand, chunk: &mut Chunk)
     requires { length chunk.old + FOUND_LEN ≤ Chunk.ROOM }
@@ -66,7 +66,7 @@ fn push_element(value: Operand, chunk: &mut Chunk)
     chunk.push(b"}");
 }
 
-/// Puts last what a store or a read-modify-write wrote.
+/// Appends what a store or a read-modify-write wrote.
 #[tactic(auto, unfolding(json::specs::Print::escape_byte, crate::specs::FactData::found_data))]
 fn push_wrote(before: Operand, after: Operand, chunk: &mut Chunk)
     requires { length chunk.old + FOUND_LEN ≤ Chunk.ROOM }
@@ -80,7 +80,7 @@ fn push_wrote(before: Operand, after: Operand, chunk: &mut Chunk)
     chunk.push(b"}");
 }
 
-/// Puts last what a compare-exchange did.
+/// Appends what a compare-exchange did.
 #[tactic(auto, unfolding(json::specs::Print::escape_byte, crate::specs::FactData::found_data))]
 fn push_compared(before: Operand, after: Operand, exchanged: bool, chunk: &mut Chunk)
     requires { length chunk.old + FOUND_LEN ≤ Chunk.ROOM }
@@ -99,7 +99,7 @@ fn push_compared(before: Operand, after: Operand, exchanged: bool, chunk: &mut C
     }
 }
 
-/// Puts last whom a wait found in line before it.
+/// Appends whom a wait found in line before it.
 #[tactic(auto, unfolding(json::specs::Print::escape_byte, crate::specs::FactData::found_data))]
 fn push_joined(ahead: &[u32], chunk: &mut Chunk)
     requires few { length ahead.now ≤ 16 }
@@ -112,7 +112,7 @@ fn push_joined(ahead: &[u32], chunk: &mut Chunk)
     chunk.push(b"}");
 }
 
-/// Puts last whom a notify woke, of so many that waited.
+/// Appends whom a notify woke, of so many that waited.
 #[tactic(auto, unfolding(json::specs::Print::escape_byte, crate::specs::FactData::found_data))]
 fn push_notified(woken: &[u32], waiting: u32, chunk: &mut Chunk)
     requires few { length woken.now ≤ 16 }
@@ -128,7 +128,7 @@ fn push_notified(woken: &[u32], waiting: u32, chunk: &mut Chunk)
     chunk.push(b"}");
 }
 
-/// Puts last which entry woke an agent.
+/// Appends which entry woke an agent.
 #[tactic(auto, unfolding(json::specs::Print::escape_byte, crate::specs::FactData::found_data))]
 fn push_waker(entry: u32, chunk: &mut Chunk)
     requires { length chunk.old + FOUND_LEN ≤ Chunk.ROOM }
@@ -154,7 +154,7 @@ fn failed_text(check: Check) -> &'static [u8]
     }
 }
 
-/// Puts agents last, as an array.
+/// Appends agents, as an array.
 fn push_agents(agents: &[u32], chunk: &mut Chunk)
     requires few { length agents.now ≤ 16 }
     requires room { length chunk.old + AGENTS_LEN ≤ Chunk.ROOM }
@@ -170,7 +170,7 @@ fn push_agents(agents: &[u32], chunk: &mut Chunk)
     push_next_agents(others, chunk);
 }
 
-/// Puts agents last, each behind a comma, and closes their array.
+/// Appends agents, each behind a comma, and closes their array.
 fn push_next_agents(agents: &[u32], chunk: &mut Chunk)
     requires { length chunk.old + NEXT_AGENT_LEN * length agents.now + 1 ≤ Chunk.ROOM }
     ensures bytes { chunk.new ≡ chunk.old ++ items_text true (agent_items agents.now) }
@@ -183,7 +183,7 @@ fn push_next_agents(agents: &[u32], chunk: &mut Chunk)
     chunk.push(b"]");
 }
 
-/// Puts a place last, where there is one.
+/// Appends a place, where there is one.
 #[tactic(auto, unfolding(json::specs::Print::escape_byte, crate::specs::FactData::place_data))]
 pub(crate) fn push_place(place: Option<Place>, chunk: &mut Chunk)
     requires { length chunk.old + PLACE_LEN ≤ Chunk.ROOM }
@@ -199,7 +199,7 @@ pub(crate) fn push_place(place: Option<Place>, chunk: &mut Chunk)
     }
 }
 
-/// Puts last since which entry an agent stands as it does, where there is one.
+/// Appends since which entry an agent stands as it does, where there is one.
 pub(crate) fn push_since(since: Option<u32>, chunk: &mut Chunk)
     requires { length chunk.old + SINCE_LEN ≤ Chunk.ROOM }
     ensures bytes { chunk.new ≡ chunk.old ++ member_text_if (codes "since") (option_map natural since) }

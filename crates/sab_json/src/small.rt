@@ -4,7 +4,7 @@ ghost use Rattle.std.specs.Prelude.{◌≡◌, ◌+◌, ◌≤◌, ◌++◌, len
 
 use sab_text::Chunk;
 
-/// Puts a number last, in decimal, as [`Chunk::push_number`] does: at most 20 bytes. It is sooner done where the number
+/// Appends a number, in decimal, as [`Chunk::push_number`] does: at most 20 bytes. It is sooner done where the number
 /// has one digit, as that of an agent, a block or a count mostly has.
 #[tactic(auto, using(std::proofs::lemmas::Fmt::decimal_digit))]
 pub fn push_small(n: u32, chunk: &mut Chunk)

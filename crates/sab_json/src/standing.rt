@@ -45,7 +45,7 @@ pub(crate) fn write_agents<W: Write>(
     Ok(())
 }
 
-/// Puts the line of agent `a` last, and where it stands if some of its calls haven't returned.
+/// Appends the line of agent `a`, and where it stands if some of its calls haven't returned.
 fn push_agent(
     names: &[Name],
     a: usize,
@@ -67,7 +67,7 @@ fn push_agent(
     chunk.push(b"}\n");
 }
 
-/// Puts last where an agent stands, as a member, where it is known.
+/// Appends where an agent stands, as a member, where it is known.
 fn push_standing_if(names: &[Name], standing: Option<Standing>, chunk: &mut Chunk)
     requires names { AreNames names.now }
     requires room { length chunk.old + MEMBER_LEN ≤ Chunk.ROOM }
@@ -81,7 +81,7 @@ fn push_standing_if(names: &[Name], standing: Option<Standing>, chunk: &mut Chun
     }
 }
 
-/// Puts last where an agent stands.
+/// Appends where an agent stands.
 fn push_standing(names: &[Name], standing: Standing, chunk: &mut Chunk)
     requires names { AreNames names.now }
     requires room { length chunk.old + STANDING_LEN ≤ Chunk.ROOM }
@@ -111,7 +111,7 @@ fn head_of(at: At) -> &'static [u8]
     }
 }
 
-/// Puts last whether the place of an agent that waits was notified since.
+/// Appends whether the place of an agent that waits was notified since.
 #[tactic(auto, unfolding(json::specs::Print::escape_byte))]
 fn push_notified(at: At, chunk: &mut Chunk)
     requires { length chunk.old + 17 ≤ Chunk.ROOM }
@@ -127,7 +127,7 @@ fn push_notified(at: At, chunk: &mut Chunk)
     }
 }
 
-/// Puts last which entry woke an agent that hasn't left its wait.
+/// Appends which entry woke an agent that hasn't left its wait.
 fn push_waker(at: At, chunk: &mut Chunk)
     requires { length chunk.old + 32 ≤ Chunk.ROOM }
     ensures bytes { chunk.new ≡ chunk.old ++ member_text_if (codes "woken_by") (waker_in at) }

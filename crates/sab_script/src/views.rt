@@ -62,7 +62,7 @@ impl Views {
         Some(position as u32)
     }
 
-    /// Puts a view with a new name last.
+    /// Appends a view with a new name.
     pub(crate) fn add(
         &mut self,
         alloc: Global,

@@ -32,7 +32,7 @@ impl Waiters {
         }
     }
 
-    /// Puts an agent last.
+    /// Appends an agent.
     pub(crate) fn push(&mut self, agent: u32)
         requires { length self.old < 16 }
         ensures { self.new ≡ self.old ++ agent ∷ [] }

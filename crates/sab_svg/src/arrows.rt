@@ -25,7 +25,7 @@ const TIP_GAP: u64 = 10;
 /// The most bytes of the arrows of an entry: one to each of 16 agents.
 pub(crate) const ARROWS_LEN: usize = 16 * LINE_LEN;
 
-/// Puts an arrow last to each agent that the entry in row k woke.
+/// Appends an arrow to each agent that the entry in row k woke.
 pub(crate) fn push_arrows(shape: Shape, k: u32, entry: &Entry, found: &Found, chunk: &mut Chunk)
     requires { length chunk.old + ARROWS_LEN ≤ Chunk.ROOM }
     ensures bytes { chunk.new ≡ chunk.old ++ nodes_text (nodes (arrows shape k entry.now found.now)) }
@@ -54,7 +54,7 @@ fn answer_chars(what: What) -> usize
     }
 }
 
-/// Puts an arrow last in row k from an agent, behind so many characters, to each of these.
+/// Appends an arrow in row k from an agent, behind so many characters, to each of these.
 fn push_arrows_to(shape: Shape, k: u32, a: u32, chars: usize, agents: &[u32], chunk: &mut Chunk)
     requires short { chars ≤ ANSWERED_LEN }
     requires room { length chunk.old + LINE_LEN * length agents.now ≤ Chunk.ROOM }
@@ -66,7 +66,7 @@ fn push_arrows_to(shape: Shape, k: u32, a: u32, chars: usize, agents: &[u32], ch
     }
 }
 
-/// Puts an arrow last in row k from an agent, behind so many characters where it goes to the right, to another.
+/// Appends an arrow in row k from an agent, behind so many characters where it goes to the right, to another.
 fn push_arrow(shape: Shape, k: u32, a: u32, chars: usize, b: u32, chunk: &mut Chunk)
     requires short { chars ≤ ANSWERED_LEN }
     requires room { length chunk.old + LINE_LEN ≤ Chunk.ROOM }

@@ -15,7 +15,7 @@ const BEGIN_SHIFT: u64 = 3;
 /// From the upper edge of a row to the end of a call.
 const RETURN_SHIFT: u64 = 17;
 
-/// Puts the part of a call last that ends with an entry in row k, of an agent that stood as it did since that one.
+/// Appends the part of a call that ends with an entry in row k, of an agent that stood as it did since that one.
 pub(crate) fn push_bars(
     shape: Shape,
     k: u32,
@@ -45,7 +45,7 @@ pub(crate) fn push_bars(
     }
 }
 
-/// Puts time of an agent in a call last, from the row of an entry, where there is one, to a height.
+/// Appends time of an agent in a call, from the row of an entry, where there is one, to a height.
 fn push_call_since(shape: Shape, a: u32, since: Option<u32>, end: u64, chunk: &mut Chunk)
     requires { length chunk.old + RECTANGLE_LEN ≤ Chunk.ROOM }
     ensures bytes { chunk.new ≡ chunk.old ++ nodes_text (nodes (call_since shape a since end)) }
@@ -56,7 +56,7 @@ fn push_call_since(shape: Shape, a: u32, since: Option<u32>, end: u64, chunk: &m
     }
 }
 
-/// Puts time of an agent in a wait last, from the row of an entry, where there is one, to a height.
+/// Appends time of an agent in a wait, from the row of an entry, where there is one, to a height.
 fn push_wait_since(shape: Shape, a: u32, since: Option<u32>, end: u64, chunk: &mut Chunk)
     requires { length chunk.old + RECTANGLE_LEN ≤ Chunk.ROOM }
     ensures bytes { chunk.new ≡ chunk.old ++ nodes_text (nodes (wait_since shape a since end)) }

@@ -50,7 +50,7 @@ pub(crate) fn write_blocks<W: Write>(
     Ok(())
 }
 
-/// Puts the line of block `b` last.
+/// Appends the line of block `b`.
 fn push_block(shape: Shape, b: usize, bytes: &[u8], scratch: &mut Chunk, chunk: &mut Chunk)
     requires few { b < 2 ^ 32 }
     requires room { length chunk.old + BLOCK_LEN ≤ Chunk.ROOM }
@@ -63,7 +63,7 @@ fn push_block(shape: Shape, b: usize, bytes: &[u8], scratch: &mut Chunk, chunk: 
     chunk.push(b"\n");
 }
 
-/// Puts last what is said of block `b`: its first bytes, and how many more there are.
+/// Appends what is said of block `b`: its first bytes, and how many more there are.
 fn push_text(b: usize, bytes: &[u8], chunk: &mut Chunk)
     requires { length chunk.old + TEXT_LEN ≤ Chunk.ROOM }
     ensures bytes { chunk.new ≡ chunk.old ++ block_text b bytes.now }
@@ -76,7 +76,7 @@ fn push_text(b: usize, bytes: &[u8], chunk: &mut Chunk)
     push_more(bytes.len(), chunk);
 }
 
-/// Puts the first bytes last, each in two hexadecimal digits.
+/// Appends the first bytes, each in two hexadecimal digits.
 fn push_shown(bytes: &[u8], chunk: &mut Chunk)
     requires { length chunk.old + 2 * SHOWN ≤ Chunk.ROOM }
     ensures bytes { chunk.new ≡ chunk.old ++ flat_map hex_byte (take SHOWN bytes.now) }
@@ -93,7 +93,7 @@ fn first_of(bytes: &[u8]) -> &[u8]
     &bytes[..SHOWN.min(bytes.len())]
 }
 
-/// Puts last how many of so many bytes aren't shown, if some aren't.
+/// Appends how many of so many bytes aren't shown, if some aren't.
 fn push_more(len: usize, chunk: &mut Chunk)
     requires { length chunk.old + MORE_LEN ≤ Chunk.ROOM }
     ensures bytes { chunk.new ≡ chunk.old ++ more_text len }

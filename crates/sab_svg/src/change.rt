@@ -23,7 +23,7 @@ const CHANGED_TEXT_LEN: usize = 8 * ELEMENT_LEN + 93;
 /// The most bytes of what an entry changed.
 pub(crate) const CHANGE_LEN: usize = LABEL_LEN + CHANGED_TEXT_LEN;
 
-/// Puts last what the entry in row k changed.
+/// Appends what the entry in row k changed.
 pub(crate) fn push_change(
     names: &[Name],
     shape: Shape,
@@ -45,7 +45,7 @@ pub(crate) fn push_change(
     }
 }
 
-/// Puts last in row k how an element changed, where it did.
+/// Appends in row k how an element changed, where it did.
 fn push_changed(
     names: &[Name],
     shape: Shape,
@@ -68,7 +68,7 @@ fn push_changed(
     chunk.push(LABEL_END);
 }
 
-/// Puts last how an element changed.
+/// Appends how an element changed.
 fn push_changed_text(
     names: &[Name],
     call: Option<Call>,

@@ -17,7 +17,7 @@ pub(crate) const ANSWERED_LEN: usize = 48;
 /// The most bytes of what an entry did: the text of a call, each byte as a reference.
 pub(crate) const DONE_LEN: usize = LABEL_LEN + 8 * CALL_LEN;
 
-/// Puts last what an entry did, as a text from x on.
+/// Appends what an entry did, as a text from x on.
 pub(crate) fn push_done(
     names: &[Name],
     x: u64,
@@ -40,7 +40,7 @@ pub(crate) fn push_done(
     }
 }
 
-/// Puts a call last, where there is one, as a text from x on.
+/// Appends a call, where there is one, as a text from x on.
 fn push_calls(
     names: &[Name],
     x: u64,
@@ -61,7 +61,7 @@ fn push_calls(
     push_label(Class::Ink, x, y, scratch.bytes(), chunk);
 }
 
-/// Puts an answer last, as a text from x on.
+/// Appends an answer, as a text from x on.
 fn push_answered(x: u64, y: u64, answer: Answer, chunk: &mut Chunk)
     requires { length chunk.old + DONE_LEN ≤ Chunk.ROOM }
     ensures bytes { chunk.new
@@ -95,7 +95,7 @@ pub(crate) fn answered(answer: Answer) -> Line
     line
 }
 
-/// Puts last why a move had no effect, as a text from x on.
+/// Appends why a move had no effect, as a text from x on.
 fn push_stuck(x: u64, y: u64, why: Why, chunk: &mut Chunk)
     requires { length chunk.old + DONE_LEN ≤ Chunk.ROOM }
     ensures bytes { chunk.new ≡ chunk.old ++ node_text (label (class_text Class.Dim) x y (stuck_text why)) }

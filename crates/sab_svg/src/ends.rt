@@ -57,7 +57,7 @@ pub(crate) fn write_ends<W: Write>(
     Ok(())
 }
 
-/// Puts last where an agent stands, if it isn't done.
+/// Appends where an agent stands, if it isn't done.
 fn push_end(
     names: &[Name],
     shape: Shape,
@@ -74,7 +74,7 @@ fn push_end(
     }
 }
 
-/// Puts last where an agent stands, with it in words for a pointer, and a line feed.
+/// Appends where an agent stands, with it in words for a pointer, and a line feed.
 fn push_standing(
     names: &[Name],
     shape: Shape,
@@ -102,7 +102,7 @@ fn push_standing(
     chunk.push(b"</g>\n");
 }
 
-/// Puts last the bar of a call that hasn't returned, to the end of the last row.
+/// Appends the bar of a call that hasn't returned, to the end of the last row.
 fn push_open_bar(shape: Shape, a: u32, since: Option<u32>, at: At, chunk: &mut Chunk)
     requires { length chunk.old + RECTANGLE_LEN ≤ Chunk.ROOM }
     ensures bytes { chunk.new ≡ chunk.old ++ nodes_text (nodes (open_bar shape a since at)) }
@@ -115,7 +115,7 @@ fn push_open_bar(shape: Shape, a: u32, since: Option<u32>, at: At, chunk: &mut C
     }
 }
 
-/// Puts last the time that an agent is in a call, from the row of an entry, where there is one.
+/// Appends the time that an agent is in a call, from the row of an entry, where there is one.
 fn push_open_call(shape: Shape, a: u32, since: Option<u32>, chunk: &mut Chunk)
     requires { length chunk.old + RECTANGLE_LEN ≤ Chunk.ROOM }
     ensures bytes { chunk.new ≡ chunk.old ++ nodes_text (nodes (open_call shape a since)) }
@@ -131,7 +131,7 @@ fn push_open_call(shape: Shape, a: u32, since: Option<u32>, chunk: &mut Chunk)
     }
 }
 
-/// Puts last the time that an agent waits, from the row of an entry, where there is one.
+/// Appends the time that an agent waits, from the row of an entry, where there is one.
 fn push_open_wait(shape: Shape, a: u32, since: Option<u32>, chunk: &mut Chunk)
     requires { length chunk.old + RECTANGLE_LEN ≤ Chunk.ROOM }
     ensures bytes { chunk.new ≡ chunk.old ++ nodes_text (nodes (open_wait shape a since)) }

@@ -33,7 +33,7 @@ const PIECES_LEN: usize = NUMBER_LEN + RECTANGLE_LEN + DONE_LEN + CHANGE_LEN + A
 /// The most bytes of an entry: its words, each byte as a reference, and what is drawn of it.
 pub(crate) const ENTRY_ROOM: usize = GROUP_LEN + 8 * (AGENT_LEN + WORDS_LEN) + PIECES_LEN + 5;
 
-/// Puts an entry last, which is entry `k` of its journal, with its fact in words for a pointer, and a line feed.
+/// Appends an entry, which is entry `k` of its journal, with its fact in words for a pointer, and a line feed.
 ///
 /// `sinces` has for each agent the position of its last entry before this one that had an effect. What the scratch held
 /// is lost.
@@ -59,7 +59,7 @@ pub(crate) fn push_entry(
     chunk.push(b"</g>\n");
 }
 
-/// Puts last what is drawn of an entry in row k: its number, what it did there, what it changed, and whom it woke.
+/// Appends what is drawn of an entry in row k: its number, what it did there, what it changed, and whom it woke.
 fn push_pieces(
     names: &[Name],
     shape: Shape,
@@ -82,7 +82,7 @@ fn push_pieces(
     push_arrows(shape, k, entry, &fact.found, chunk);
 }
 
-/// Puts the number of row k last.
+/// Appends the number of row k.
 fn push_number(k: u32, chunk: &mut Chunk)
     requires { length chunk.old + NUMBER_LEN ≤ Chunk.ROOM }
     ensures bytes { chunk.new ≡ chunk.old ++ node_text (label (codes "row") 48 (shapes.row_text k) (decimal k)) }

@@ -72,7 +72,7 @@ const LANE_TOP: u64 = 44;
 /// How far the head of a lane goes to the left of it.
 const HEAD_SHIFT: u64 = 8;
 
-/// Puts the tag last that begins a picture.
+/// Appends the tag that begins a picture.
 pub(crate) fn push_root(shape: Shape, chunk: &mut Chunk)
     requires { length chunk.old + ROOT_LEN ≤ Chunk.ROOM }
     ensures bytes { chunk.new ≡ chunk.old ++ root_start shape }
@@ -89,7 +89,7 @@ pub(crate) fn push_root(shape: Shape, chunk: &mut Chunk)
     chunk.push(b"\">");
 }
 
-/// Puts the colours last.
+/// Appends the colours.
 fn push_style(chunk: &mut Chunk)
     requires { length chunk.old + STYLE_LEN ≤ Chunk.ROOM }
     ensures bytes { chunk.new ≡ chunk.old ++ node_text style }
@@ -100,7 +100,7 @@ fn push_style(chunk: &mut Chunk)
     chunk.push(b"</style>");
 }
 
-/// Puts the tip of an arrow last, and the background of every second row.
+/// Appends the tip of an arrow, and the background of every second row.
 fn push_defs(shape: Shape, chunk: &mut Chunk)
     requires { length chunk.old + DEFS_LEN ≤ Chunk.ROOM }
     ensures bytes { chunk.new ≡ chunk.old ++ node_text (drawn_defs shape) }
@@ -117,7 +117,7 @@ fn push_defs(shape: Shape, chunk: &mut Chunk)
     chunk.push(b"</pattern></defs>");
 }
 
-/// Puts what stands behind everything last.
+/// Appends what stands behind everything.
 pub(crate) fn push_background(shape: Shape, chunk: &mut Chunk)
     requires { length chunk.old + BACKGROUND_LEN ≤ Chunk.ROOM }
     ensures bytes { chunk.new ≡ chunk.old ++ nodes_text (nodes (background shape)) }
@@ -137,7 +137,7 @@ pub(crate) fn push_background(shape: Shape, chunk: &mut Chunk)
     chunk.push(b"\n");
 }
 
-/// Puts the background of all rows last.
+/// Appends the background of all rows.
 fn push_rows(shape: Shape, chunk: &mut Chunk)
     requires { length chunk.old + RECTANGLE_LEN ≤ Chunk.ROOM }
     ensures bytes { chunk.new
@@ -148,7 +148,7 @@ fn push_rows(shape: Shape, chunk: &mut Chunk)
     push_rectangle(Class::Rows, 0, ROWS_TOP, shape.width(), height, chunk);
 }
 
-/// Puts the lane of an agent last.
+/// Appends the lane of an agent.
 pub(crate) fn push_lane(shape: Shape, a: u32, scratch: &mut Chunk, chunk: &mut Chunk)
     requires { length chunk.old + LANE_LEN ≤ Chunk.ROOM }
     ensures bytes { chunk.new ≡ chunk.old ++ nodes_text (nodes (lane shape a)) }
@@ -164,7 +164,7 @@ pub(crate) fn push_lane(shape: Shape, a: u32, scratch: &mut Chunk, chunk: &mut C
     chunk.push(b"\n");
 }
 
-/// Puts what the colours mean last.
+/// Appends what the colours mean.
 pub(crate) fn push_legend(shape: Shape, chunk: &mut Chunk)
     requires { length chunk.old + LEGEND_LEN ≤ Chunk.ROOM }
     ensures bytes { chunk.new ≡ chunk.old ++ nodes_text (nodes (legend shape)) }

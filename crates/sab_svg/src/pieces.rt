@@ -41,7 +41,7 @@ const CALL_HALF: u64 = 6;
 /// How far the bar of a wait goes to each side from the middle of its lane.
 const WAIT_HALF: u64 = 8;
 
-/// Puts a text of a class last, from x on: 8 bytes at most for each of its own.
+/// Appends a text of a class, from x on: 8 bytes at most for each of its own.
 pub(crate) fn push_label(class: Class, x: u64, y: u64, text: &[u8], chunk: &mut Chunk)
     requires { length chunk.old + LABEL_LEN + 8 * length text.now ≤ Chunk.ROOM }
     ensures bytes { chunk.new ≡ chunk.old ++ node_text (label (class_text class) x y text.now) }
@@ -52,7 +52,7 @@ pub(crate) fn push_label(class: Class, x: u64, y: u64, text: &[u8], chunk: &mut 
     chunk.push(LABEL_END);
 }
 
-/// Puts the start of a text of a class last, up to what it says.
+/// Appends the start of a text of a class, up to what it says.
 pub(crate) fn open_label(class: Class, x: u64, y: u64, chunk: &mut Chunk)
     requires { length chunk.old + LABEL_START_LEN ≤ Chunk.ROOM }
     ensures bytes { chunk.new ≡ chunk.old ++ label_start (class_text class) x y }
@@ -67,7 +67,7 @@ pub(crate) fn open_label(class: Class, x: u64, y: u64, chunk: &mut Chunk)
     chunk.push(b"\">");
 }
 
-/// Puts a rectangle of a class last.
+/// Appends a rectangle of a class.
 pub(crate) fn push_rectangle(
     class: Class,
     x: u64,
@@ -93,7 +93,7 @@ pub(crate) fn push_rectangle(
     chunk.push(b"\"/>");
 }
 
-/// Puts a bar last in the lane whose middle is x, so wide to each side.
+/// Appends a bar in the lane whose middle is x, so wide to each side.
 fn push_bar(class: Class, half: u64, x: u64, top: u64, end: u64, chunk: &mut Chunk)
     requires narrow { half < 2 ^ 32 }
     requires room { length chunk.old + RECTANGLE_LEN ≤ Chunk.ROOM }
@@ -111,7 +111,7 @@ fn push_bar(class: Class, half: u64, x: u64, top: u64, end: u64, chunk: &mut Chu
     );
 }
 
-/// Puts time in a call last, in the lane whose middle is x.
+/// Appends time in a call, in the lane whose middle is x.
 pub(crate) fn push_call_bar(x: u64, top: u64, end: u64, chunk: &mut Chunk)
     requires { length chunk.old + RECTANGLE_LEN ≤ Chunk.ROOM }
     ensures bytes { chunk.new ≡ chunk.old ++ node_text (call_bar x top end) }
@@ -120,7 +120,7 @@ pub(crate) fn push_call_bar(x: u64, top: u64, end: u64, chunk: &mut Chunk)
     push_bar(Class::Call, CALL_HALF, x, top, end, chunk);
 }
 
-/// Puts time in a wait last, in the lane whose middle is x.
+/// Appends time in a wait, in the lane whose middle is x.
 pub(crate) fn push_wait_bar(x: u64, top: u64, end: u64, chunk: &mut Chunk)
     requires { length chunk.old + RECTANGLE_LEN ≤ Chunk.ROOM }
     ensures bytes { chunk.new ≡ chunk.old ++ node_text (wait_bar x top end) }
@@ -129,7 +129,7 @@ pub(crate) fn push_wait_bar(x: u64, top: u64, end: u64, chunk: &mut Chunk)
     push_bar(Class::Wait, WAIT_HALF, x, top, end, chunk);
 }
 
-/// Puts time in a call last that hasn't returned when the run ends, in the lane whose middle is x.
+/// Appends time in a call that hasn't returned when the run ends, in the lane whose middle is x.
 pub(crate) fn push_open_call_bar(x: u64, top: u64, end: u64, chunk: &mut Chunk)
     requires { length chunk.old + RECTANGLE_LEN ≤ Chunk.ROOM }
     ensures bytes { chunk.new ≡ chunk.old ++ node_text (open_call_bar x top end) }
@@ -138,7 +138,7 @@ pub(crate) fn push_open_call_bar(x: u64, top: u64, end: u64, chunk: &mut Chunk)
     push_bar(Class::OpenCall, CALL_HALF, x, top, end, chunk);
 }
 
-/// Puts time in a wait last that its agent hasn't left when the run ends, in the lane whose middle is x.
+/// Appends time in a wait that its agent hasn't left when the run ends, in the lane whose middle is x.
 pub(crate) fn push_open_wait_bar(x: u64, top: u64, end: u64, chunk: &mut Chunk)
     requires { length chunk.old + RECTANGLE_LEN ≤ Chunk.ROOM }
     ensures bytes { chunk.new ≡ chunk.old ++ node_text (open_wait_bar x top end) }
@@ -147,7 +147,7 @@ pub(crate) fn push_open_wait_bar(x: u64, top: u64, end: u64, chunk: &mut Chunk)
     push_bar(Class::OpenWait, WAIT_HALF, x, top, end, chunk);
 }
 
-/// Puts a line across last, from a point to this x.
+/// Appends a line across, from a point to this x.
 pub(crate) fn push_across(class: Class, x: u64, y: u64, end: u64, chunk: &mut Chunk)
     requires { length chunk.old + LINE_LEN ≤ Chunk.ROOM }
     ensures bytes { chunk.new ≡ chunk.old ++ node_text (across (class_text class) x y end) }
@@ -159,7 +159,7 @@ pub(crate) fn push_across(class: Class, x: u64, y: u64, end: u64, chunk: &mut Ch
     chunk.push(b"\"/>");
 }
 
-/// Puts a line down last, from a point to this y.
+/// Appends a line down, from a point to this y.
 pub(crate) fn push_down(class: Class, x: u64, y: u64, end: u64, chunk: &mut Chunk)
     requires { length chunk.old + LINE_LEN ≤ Chunk.ROOM }
     ensures bytes { chunk.new ≡ chunk.old ++ node_text (down (class_text class) x y end) }
@@ -171,7 +171,7 @@ pub(crate) fn push_down(class: Class, x: u64, y: u64, end: u64, chunk: &mut Chun
     chunk.push(b"\"/>");
 }
 
-/// Puts last how a line begins: its class, and the point that it goes from.
+/// Appends how a line begins: its class, and the point that it goes from.
 fn push_start(class: Class, x: u64, y: u64, chunk: &mut Chunk)
     requires { length chunk.old + LINE_START_LEN ≤ Chunk.ROOM }
     ensures bytes { chunk.new ≡ chunk.old ++ line_start (class_text class) x y }
@@ -185,7 +185,7 @@ fn push_start(class: Class, x: u64, y: u64, chunk: &mut Chunk)
     chunk.push_number(y);
 }
 
-/// Puts last what a pointer shows: 8 bytes at most for each of its own.
+/// Appends what a pointer shows: 8 bytes at most for each of its own.
 #[tactic(auto, using(crate::proofs::Texts::title_text))]
 pub(crate) fn push_title(text: &[u8], chunk: &mut Chunk)
     requires { length chunk.old + TITLE_LEN + 8 * length text.now ≤ Chunk.ROOM }
@@ -197,7 +197,7 @@ pub(crate) fn push_title(text: &[u8], chunk: &mut Chunk)
     chunk.push(b"</title>");
 }
 
-/// Puts an agent last, before its words.
+/// Appends an agent, before its words.
 pub(crate) fn push_agent(a: u32, chunk: &mut Chunk)
     requires { length chunk.old + AGENT_LEN ≤ Chunk.ROOM }
     ensures bytes { chunk.new ≡ chunk.old ++ agent_words a [] }
@@ -208,7 +208,7 @@ pub(crate) fn push_agent(a: u32, chunk: &mut Chunk)
     chunk.push(b": ");
 }
 
-/// Puts the start of a group last, up to its first piece: 8 bytes at most for each of its title.
+/// Appends the start of a group, up to its first piece: 8 bytes at most for each of its title.
 ///
 /// Its pieces come behind it, and then `</g>`.
 #[tactic(auto, unfolding(crate::specs::Pieces::group_start))]

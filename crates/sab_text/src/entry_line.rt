@@ -19,7 +19,7 @@ const WHAT_LEN: usize = 48;
 /// The most bytes of an entry's text: three numbers, and what a move did.
 const ENTRY_LEN: usize = 111;
 
-/// Puts the line of an entry last, if it has one; it is entry `k` of its journal.
+/// Appends the line of an entry, if it has one; it is entry `k` of its journal.
 pub fn push_entry(lines: Lines, k: usize, entry: &Entry, chunk: &mut Chunk)
     requires { length chunk.old + Chunk.LINE_ROOM ≤ Chunk.ROOM }
     ensures { chunk.new ≡ chunk.old ++ line_if lines entry.now.what (entry_line k entry.now) }
@@ -33,7 +33,7 @@ pub fn push_entry(lines: Lines, k: usize, entry: &Entry, chunk: &mut Chunk)
     chunk.push(line.bytes());
 }
 
-/// Puts the text of an entry first, its line but for the line feed; it is entry `k` of its journal.
+/// Prepends the text of an entry, its line but for the line feed; it is entry `k` of its journal.
 pub fn prepend_entry(k: usize, entry: &Entry, line: &mut Line)
     requires { length line.old + ENTRY_LEN ≤ Line.ROOM }
     ensures { line.new ≡ entry_text k entry.now ++ line.old }
@@ -44,7 +44,7 @@ pub fn prepend_entry(k: usize, entry: &Entry, line: &mut Line)
     line.prepend_field(k as u64);
 }
 
-/// Puts first what a move did.
+/// Prepends what a move did.
 fn prepend_what(what: What, line: &mut Line)
     requires { length line.old + WHAT_LEN ≤ Line.ROOM }
     ensures bytes { line.new ≡ what_text what ++ line.old }
@@ -72,7 +72,7 @@ fn prepend_what(what: What, line: &mut Line)
     }
 }
 
-/// Puts an answer first.
+/// Prepends an answer.
 pub fn prepend_answer(answer: Answer, line: &mut Line)
     requires { length line.old + ANSWER_LEN ≤ Line.ROOM }
     ensures bytes { line.new ≡ answer_text answer ++ line.old }
@@ -89,7 +89,7 @@ pub fn prepend_answer(answer: Answer, line: &mut Line)
     }
 }
 
-/// Puts an operand first.
+/// Prepends an operand.
 fn prepend_operand(operand: Operand, line: &mut Line)
     requires { length line.old + ANSWER_LEN ≤ Line.ROOM }
     ensures bytes { line.new ≡ operand_text operand ++ line.old }
@@ -101,7 +101,7 @@ fn prepend_operand(operand: Operand, line: &mut Line)
     line.prepend_whole(operand.whole());
 }
 
-/// Puts first why a move had no effect.
+/// Prepends why a move had no effect.
 pub fn prepend_why(why: Why, line: &mut Line)
     requires { length line.old + 11 ≤ Line.ROOM }
     ensures bytes { line.new ≡ why_text why ++ line.old }

@@ -48,7 +48,7 @@ impl Line {
         &self.bytes[self.start..]
     }
 
-    /// Puts a text first.
+    /// Prepends a text.
     pub fn prepend(&mut self, text: &[u8])
         requires { length text.now + length self.old ≤ Line.ROOM }
         ensures { self.new ≡ text.now ++ self.old }
@@ -59,7 +59,7 @@ impl Line {
         self.start = start;
     }
 
-    /// Puts a number first, in decimal: at most 20 bytes.
+    /// Prepends a number, in decimal: at most 20 bytes.
     pub fn prepend_number(&mut self, n: u64)
         requires { 20 + length self.old ≤ Line.ROOM }
         ensures bytes { self.new ≡ decimal n ++ self.old }
@@ -68,7 +68,7 @@ impl Line {
         self.start = write_digits(n, &mut self.bytes, self.start);
     }
 
-    /// Puts a number and a space first.
+    /// Prepends a number and a space.
     pub fn prepend_field(&mut self, n: u64)
         requires { 21 + length self.old ≤ Line.ROOM }
         ensures bytes { self.new ≡ decimal n ++ (codes " " ++ self.old) }
@@ -78,7 +78,7 @@ impl Line {
         self.prepend_number(n);
     }
 
-    /// Puts a whole number first, in decimal: at most 40 bytes.
+    /// Prepends a whole number, in decimal: at most 40 bytes.
     pub fn prepend_whole(&mut self, n: i128)
         requires { 40 + length self.old ≤ Line.ROOM }
         ensures bytes { self.new ≡ signed_decimal n ++ self.old }

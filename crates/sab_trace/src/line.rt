@@ -65,7 +65,7 @@ impl Line {
         self.len = 0;
     }
 
-    /// Puts bytes last; TooLong, where it would have more bytes than a line can have.
+    /// Appends bytes; TooLong, where it would have more bytes than a line can have.
     pub(crate) fn push(&mut self, piece: &[u8]) -> Result<(), LineFault>
         ensures ok { OnOk result (self.new ≡ self.old ++ piece.now) }
         ensures short { OnOk result (length self.new ≤ 1024) }

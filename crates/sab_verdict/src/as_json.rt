@@ -31,7 +31,7 @@ const BOOL_LEN: usize = 5;
 /// The most bytes of the last event seen, as a member.
 const SEEN_LEN: usize = 28;
 
-/// Puts the line of a race of two events last.
+/// Appends the line of a race of two events.
 #[tactic(auto, using(crate::proofs::Racing::shared_begins))]
 pub(crate) fn push_race(sides: &Sides, race: Race, first: Side, second: Side, chunk: &mut Chunk)
     requires overlap { Overlap first second }
@@ -57,7 +57,7 @@ pub(crate) fn push_race(sides: &Sides, race: Race, first: Side, second: Side, ch
     chunk.push(b"\n");
 }
 
-/// Puts an event of a race last.
+/// Appends an event of a race.
 fn push_side(sides: &Sides, side: Side, chunk: &mut Chunk)
     requires names { HaveNames sides.now }
     requires room { length chunk.old + SIDE_LEN ≤ Chunk.ROOM }
@@ -70,7 +70,7 @@ fn push_side(sides: &Sides, side: Side, chunk: &mut Chunk)
     }
 }
 
-/// Puts an event of a script's run last, with its call.
+/// Appends an event of a script's run, with its call.
 fn push_call_side(run: &Run, side: Side, chunk: &mut Chunk)
     requires names { AreNames run.now.names.now }
     requires room { length chunk.old + SIDE_LEN ≤ Chunk.ROOM }
@@ -86,7 +86,7 @@ fn push_call_side(run: &Run, side: Side, chunk: &mut Chunk)
     chunk.push(b"}");
 }
 
-/// Puts the call of entry `k` last, as a member, if there is one.
+/// Appends the call of entry `k`, as a member, if there is one.
 fn push_does(run: &Run, k: usize, chunk: &mut Chunk)
     requires names { AreNames run.now.names.now }
     requires room { length chunk.old + DOES_LEN ≤ Chunk.ROOM }
@@ -100,7 +100,7 @@ fn push_does(run: &Run, k: usize, chunk: &mut Chunk)
     }
 }
 
-/// Puts an event of a trace last, with its access.
+/// Appends an event of a trace, with its access.
 fn push_access_side(side: Side, chunk: &mut Chunk)
     requires { length chunk.old + SIDE_LEN ≤ Chunk.ROOM }
     ensures bytes { chunk.new ≡ chunk.old ++ compact_text (access_side side) }
@@ -124,7 +124,7 @@ fn push_access_side(side: Side, chunk: &mut Chunk)
     chunk.push(b"}");
 }
 
-/// Puts a boolean last.
+/// Appends a boolean.
 fn push_bool(b: bool, chunk: &mut Chunk)
     requires { length chunk.old + BOOL_LEN ≤ Chunk.ROOM }
     ensures bytes { chunk.new ≡ chunk.old ++ compact_text (boolean b) }
@@ -133,7 +133,7 @@ fn push_bool(b: bool, chunk: &mut Chunk)
     chunk.push(if b { b"true" } else { b"false" });
 }
 
-/// Puts the last event seen last, as a member, where there is one.
+/// Appends the last event seen, as a member, where there is one.
 fn push_seen(seen: Option<usize>, chunk: &mut Chunk)
     requires { length chunk.old + SEEN_LEN ≤ Chunk.ROOM }
     ensures bytes { chunk.new ≡ chunk.old ++ member_text_if (codes "seen") (option_map natural seen) }
@@ -145,7 +145,7 @@ fn push_seen(seen: Option<usize>, chunk: &mut Chunk)
     }
 }
 
-/// Puts the line last that counts accesses, agents and races, of which so many are told and so many aren't.
+/// Appends the line that counts accesses, agents and races, of which so many are told and so many aren't.
 pub(crate) fn push_count(events: &[Event], told: usize, rest: u64, chunk: &mut Chunk)
     requires agents { All (λ (e : Event). e.agent < 16) events.now }
     requires room { length chunk.old + Chunk.LINE_ROOM ≤ Chunk.ROOM }

@@ -124,7 +124,7 @@ fn write_races<W: Write>(
     Ok(())
 }
 
-/// Puts the line of a race last.
+/// Appends the line of a race.
 #[tactic(auto, using(crate::proofs::Racing::first_within, crate::proofs::Racing::second_within, crate::proofs::Racing::first_accesses, crate::proofs::Racing::second_accesses, crate::proofs::Racing::they_overlap))]
 fn push_race(sides: &Sides, events: &[Event], race: Race, format: VerdictFormat, chunk: &mut Chunk)
     requires names { HaveNames sides.now }
@@ -140,7 +140,7 @@ fn push_race(sides: &Sides, events: &[Event], race: Race, format: VerdictFormat,
     }
 }
 
-/// Puts last what stands behind the races, of which so many are told and so many aren't.
+/// Appends what stands behind the races, of which so many are told and so many aren't.
 fn push_last(events: &[Event], told: usize, rest: u64, format: VerdictFormat, chunk: &mut Chunk)
     requires agents { All (λ (e : Event). e.agent < 16) events.now }
     requires room { length chunk.old + Chunk.LINE_ROOM ≤ Chunk.ROOM }

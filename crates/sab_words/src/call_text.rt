@@ -21,7 +21,7 @@ pub const ELEMENT_LEN: usize = 74;
 /// The most bytes of where an agent stands in line, and since when.
 pub(crate) const STAND_LEN: usize = 105;
 
-/// Puts a call last, as `load(m, 0)`.
+/// Appends a call, as `load(m, 0)`.
 #[tactic(auto, unfolding(crate::specs::CallText::call_text))]
 pub fn push_call(names: &[Name], call: Call, chunk: &mut Chunk)
     requires { length chunk.old + CALL_LEN ≤ Chunk.ROOM }
@@ -37,7 +37,7 @@ pub fn push_call(names: &[Name], call: Call, chunk: &mut Chunk)
     chunk.push(b")");
 }
 
-/// Puts the element that a call names last, as `m[0]`.
+/// Appends the element that a call names, as `m[0]`.
 #[tactic(auto, unfolding(crate::specs::CallText::element_text))]
 pub fn push_element(names: &[Name], call: Call, chunk: &mut Chunk)
     requires { length chunk.old + ELEMENT_LEN ≤ Chunk.ROOM }
@@ -50,7 +50,7 @@ pub fn push_element(names: &[Name], call: Call, chunk: &mut Chunk)
     chunk.push(b"]");
 }
 
-/// Puts last at which element an agent stands in line, and since when.
+/// Appends at which element an agent stands in line, and since when.
 #[tactic(auto, unfolding(crate::specs::FactText::stand_text))]
 pub(crate) fn push_stand(names: &[Name], call: Call, since: Option<u32>, chunk: &mut Chunk)
     requires { length chunk.old + STAND_LEN ≤ Chunk.ROOM }
@@ -62,7 +62,7 @@ pub(crate) fn push_stand(names: &[Name], call: Call, since: Option<u32>, chunk: 
     push_since(since, chunk);
 }
 
-/// Puts the name of a view last, and nothing where it has none.
+/// Appends the name of a view, and nothing where it has none.
 pub fn push_name(names: &[Name], view: u32, chunk: &mut Chunk)
     requires { length chunk.old + Name.MAX_LEN ≤ Chunk.ROOM }
     ensures bytes { chunk.new ≡ chunk.old ++ name_of names.now view }
@@ -73,7 +73,7 @@ pub fn push_name(names: &[Name], view: u32, chunk: &mut Chunk)
     }
 }
 
-/// Puts arguments last, each behind a comma.
+/// Appends arguments, each behind a comma.
 fn push_more_arguments(arguments: &[Argument], chunk: &mut Chunk)
     requires { length chunk.old + ARGUMENT_LEN * length arguments.now ≤ Chunk.ROOM }
     ensures bytes { chunk.new ≡ chunk.old ++ flat_map argument_text arguments.now }
@@ -84,7 +84,7 @@ fn push_more_arguments(arguments: &[Argument], chunk: &mut Chunk)
     }
 }
 
-/// Puts an argument last, behind a comma.
+/// Appends an argument, behind a comma.
 fn push_argument(argument: Argument, chunk: &mut Chunk)
     requires { length chunk.old + ARGUMENT_LEN ≤ Chunk.ROOM }
     ensures bytes { chunk.new ≡ chunk.old ++ argument_text argument }

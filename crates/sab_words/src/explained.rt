@@ -28,7 +28,7 @@ pub const WORDS_LEN: usize = 1_150;
 /// As many spaces as there can be columns before the words.
 const SPACES: [u8; Column::MAX] = [b' '; Column::MAX];
 
-/// Puts the line of an entry last, if it has one, with its fact in words behind it; it is entry `k` of its journal.
+/// Appends the line of an entry, if it has one, with its fact in words behind it; it is entry `k` of its journal.
 ///
 /// `sinces` has for each agent the position of its last entry before this one that had an effect.
 pub fn push_explained(
@@ -49,7 +49,7 @@ pub fn push_explained(
     }
 }
 
-/// Puts the line of an entry last, with its fact in words behind it.
+/// Appends the line of an entry, with its fact in words behind it.
 fn push_line(
     names: &[Name],
     plan: &Plan,
@@ -80,7 +80,7 @@ pub(crate) fn push_spaced(plain: &[u8], column: Column, chunk: &mut Chunk)
     chunk.push(&SPACES[..column.behind(plain.len())]);
 }
 
-/// Puts the words of an entry last.
+/// Appends the words of an entry.
 ///
 /// `sinces` has for each agent the position of its last entry before this one that had an effect.
 pub fn push_words(
@@ -101,7 +101,7 @@ pub fn push_words(
     }
 }
 
-/// Puts last why there is nothing left to call, by how many calls have returned.
+/// Appends why there is nothing left to call, by how many calls have returned.
 fn push_done(returned: u32, chunk: &mut Chunk)
     requires { length chunk.old + WORDS_LEN ≤ Chunk.ROOM }
     ensures bytes { chunk.new ≡ chunk.old ++ done_text returned }
@@ -114,7 +114,7 @@ fn push_done(returned: u32, chunk: &mut Chunk)
     }
 }
 
-/// Puts last what an entry did, of an agent that has a call left.
+/// Appends what an entry did, of an agent that has a call left.
 fn push_called(
     names: &[Name],
     plan: &Plan,
@@ -146,7 +146,7 @@ fn push_called(
     }
 }
 
-/// Puts last how a call ends that has this answer.
+/// Appends how a call ends that has this answer.
 fn push_return(answer: Answer, chunk: &mut Chunk)
     requires { length chunk.old + 14 ≤ Chunk.ROOM }
     ensures bytes { chunk.new ≡ chunk.old ++ return_words answer }
@@ -158,7 +158,7 @@ fn push_return(answer: Answer, chunk: &mut Chunk)
     }
 }
 
-/// Puts last why a move of an agent that has a call left had no effect.
+/// Appends why a move of an agent that has a call left had no effect.
 fn push_stuck(names: &[Name], call: Call, why: Why, fact: &Fact, chunk: &mut Chunk)
     requires { length chunk.old + STUCK_LEN ≤ Chunk.ROOM }
     ensures bytes { chunk.new ≡ chunk.old ++ stuck_text names.now call fact.now.since why fact.now.found }
@@ -178,7 +178,7 @@ fn push_stuck(names: &[Name], call: Call, why: Why, fact: &Fact, chunk: &mut Chu
     }
 }
 
-/// Puts last why the time of a wait can't be up, or the call that an agent waits in.
+/// Appends why the time of a wait can't be up, or the call that an agent waits in.
 fn push_wait(names: &[Name], call: Call, why: Why, chunk: &mut Chunk)
     requires { length chunk.old + WAIT_LEN ≤ Chunk.ROOM }
     ensures bytes { chunk.new ≡ chunk.old ++ wait_text why (call_text names.now call) }

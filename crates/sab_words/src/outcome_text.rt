@@ -22,7 +22,7 @@ const CHANGE_LEN: usize = 180;
 /// The most bytes of what came of a call.
 pub(crate) const OUTCOME_LEN: usize = 960;
 
-/// Puts last what came of a call of an agent.
+/// Appends what came of a call of an agent.
 pub(crate) fn push_outcome(
     names: &[Name],
     plan: &Plan,
@@ -76,7 +76,7 @@ pub(crate) fn push_outcome(
     }
 }
 
-/// Puts last what a store or a read-modify-write did.
+/// Appends what a store or a read-modify-write did.
 fn push_wrote(names: &[Name], call: Call, before: Operand, after: Operand, chunk: &mut Chunk)
     requires { length chunk.old + CHANGE_LEN ≤ Chunk.ROOM }
     ensures bytes { chunk.new ≡ chunk.old ++ wrote_text (element_text names.now call) before after }
@@ -92,7 +92,7 @@ fn push_wrote(names: &[Name], call: Call, before: Operand, after: Operand, chunk
     chunk.push_operand(after);
 }
 
-/// Puts last what a compare-exchange did.
+/// Appends what a compare-exchange did.
 fn push_compared(
     names: &[Name],
     call: Call,
@@ -113,7 +113,7 @@ fn push_compared(
     }
 }
 
-/// Puts last what a compare-exchange did that exchanged.
+/// Appends what a compare-exchange did that exchanged.
 fn push_exchanged(names: &[Name], call: Call, before: Operand, after: Operand, chunk: &mut Chunk)
     requires { length chunk.old + CHANGE_LEN ≤ Chunk.ROOM }
     ensures bytes { chunk.new ≡ chunk.old ++ exchanged_text (element_text names.now call) before after }
@@ -126,7 +126,7 @@ fn push_exchanged(names: &[Name], call: Call, before: Operand, after: Operand, c
     }
 }
 
-/// Puts last what a compare-exchange did that exchanged one number for the same.
+/// Appends what a compare-exchange did that exchanged one number for the same.
 fn push_stayed(names: &[Name], call: Call, after: Operand, chunk: &mut Chunk)
     requires { length chunk.old + CHANGE_LEN ≤ Chunk.ROOM }
     ensures bytes { chunk.new ≡ chunk.old ++ stayed_text (element_text names.now call) after }
@@ -138,7 +138,7 @@ fn push_stayed(names: &[Name], call: Call, after: Operand, chunk: &mut Chunk)
     chunk.push_operand(after);
 }
 
-/// Puts last how an element changed.
+/// Appends how an element changed.
 fn push_changed(names: &[Name], call: Call, before: Operand, after: Operand, chunk: &mut Chunk)
     requires { length chunk.old + CHANGE_LEN ≤ Chunk.ROOM }
     ensures bytes { chunk.new ≡ chunk.old ++ changed_text (element_text names.now call) before after }
@@ -152,7 +152,7 @@ fn push_changed(names: &[Name], call: Call, before: Operand, after: Operand, chu
     chunk.push_operand(after);
 }
 
-/// Puts last what an element is, for which a call does nothing.
+/// Appends what an element is, for which a call does nothing.
 #[tactic(auto, unfolding(crate::specs::FactText::element_is))]
 fn push_element_is(names: &[Name], call: Call, value: Operand, chunk: &mut Chunk)
     requires { length chunk.old + VALUE_LEN ≤ Chunk.ROOM }

@@ -16,7 +16,7 @@ const VIEW_REASON_LEN: usize = 60;
 /// The most bytes of why a call throws.
 pub(crate) const REASON_LEN: usize = 100;
 
-/// Puts last why a call of an agent throws, by the check that failed.
+/// Appends why a call of an agent throws, by the check that failed.
 pub(crate) fn push_reason(
     names: &[Name],
     plan: &Plan,
@@ -41,7 +41,7 @@ pub(crate) fn push_reason(
     }
 }
 
-/// Puts last what a view is or has for which a call on it fails a check.
+/// Appends what a view is or has for which a call on it fails a check.
 fn push_view_reason(view: PlanView, check: Check, chunk: &mut Chunk)
     requires { length chunk.old + VIEW_REASON_LEN ≤ Chunk.ROOM }
     ensures bytes { chunk.new ≡ chunk.old ++ view_reason view check }

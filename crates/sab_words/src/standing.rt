@@ -18,7 +18,7 @@ const PASSED_LEN: usize = 120;
 /// The most bytes of where an agent stands.
 pub const STANDING_LEN: usize = 420;
 
-/// Puts the line of agent `a` last, with words behind it where some of its calls haven't returned.
+/// Appends the line of agent `a`, with words behind it where some of its calls haven't returned.
 pub fn push_standing(
     names: &[Name],
     a: usize,
@@ -42,7 +42,7 @@ pub fn push_standing(
     chunk.push(b"\n");
 }
 
-/// Puts last where an agent stands, in words.
+/// Appends where an agent stands, in words.
 pub fn push_standing_words(names: &[Name], standing: Standing, chunk: &mut Chunk)
     requires { length chunk.old + STANDING_LEN ≤ Chunk.ROOM }
     ensures bytes { chunk.new ≡ chunk.old ++ standing_words names.now standing }
@@ -64,7 +64,7 @@ pub fn push_standing_words(names: &[Name], standing: Standing, chunk: &mut Chunk
     }
 }
 
-/// Puts last that a call has begun, and at which entry, where that is known.
+/// Appends that a call has begun, and at which entry, where that is known.
 fn push_begun(names: &[Name], call: Call, since: Option<u32>, chunk: &mut Chunk)
     requires { length chunk.old + STANDING_LEN ≤ Chunk.ROOM }
     ensures bytes { chunk.new ≡ chunk.old ++ begun_text (call_text names.now call) since }
@@ -76,7 +76,7 @@ fn push_begun(names: &[Name], call: Call, since: Option<u32>, chunk: &mut Chunk)
     chunk.push(b" and hasn't acted");
 }
 
-/// Puts an entry last, where there is one.
+/// Appends an entry, where there is one.
 fn push_at(since: Option<u32>, chunk: &mut Chunk)
     requires { length chunk.old + 24 ≤ Chunk.ROOM }
     ensures bytes { chunk.new ≡ chunk.old ++ at_text since }
@@ -88,7 +88,7 @@ fn push_at(since: Option<u32>, chunk: &mut Chunk)
     }
 }
 
-/// Puts last that an agent waits, and whether its place was notified since.
+/// Appends that an agent waits, and whether its place was notified since.
 fn push_waits(names: &[Name], call: Call, since: Option<u32>, notified: bool, chunk: &mut Chunk)
     requires { length chunk.old + STANDING_LEN ≤ Chunk.ROOM }
     ensures bytes { chunk.new
@@ -102,7 +102,7 @@ fn push_waits(names: &[Name], call: Call, since: Option<u32>, notified: bool, ch
     push_passed(names, call, notified, chunk);
 }
 
-/// Puts last whether a place was notified while an agent waits there.
+/// Appends whether a place was notified while an agent waits there.
 fn push_passed(names: &[Name], call: Call, notified: bool, chunk: &mut Chunk)
     requires { length chunk.old + PASSED_LEN ≤ Chunk.ROOM }
     ensures bytes { chunk.new ≡ chunk.old ++ passed_text (element_text names.now call) notified }
@@ -119,7 +119,7 @@ fn push_passed(names: &[Name], call: Call, notified: bool, chunk: &mut Chunk)
     }
 }
 
-/// Puts last that an agent was woken and hasn't left its wait.
+/// Appends that an agent was woken and hasn't left its wait.
 fn push_unleft(names: &[Name], call: Call, entry: u32, chunk: &mut Chunk)
     requires { length chunk.old + STANDING_LEN ≤ Chunk.ROOM }
     ensures bytes { chunk.new ≡ chunk.old ++ unleft_text (call_text names.now call) entry }

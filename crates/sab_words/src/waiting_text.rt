@@ -31,7 +31,7 @@ const STILL_LEN: usize = 38;
 /// The most bytes of what a notify did.
 pub(crate) const NOTIFIED_LEN: usize = 940;
 
-/// Puts last who is before an agent in line.
+/// Appends who is before an agent in line.
 pub(crate) fn push_ahead(ahead: &Waiters, chunk: &mut Chunk)
     requires { length chunk.old + AHEAD_LEN ≤ Chunk.ROOM }
     ensures bytes { chunk.new ≡ chunk.old ++ ahead_text ahead.now }
@@ -50,7 +50,7 @@ pub(crate) fn push_ahead(ahead: &Waiters, chunk: &mut Chunk)
     push_next_agents(others, chunk);
 }
 
-/// Puts last whom a notify wakes, of so many that waited.
+/// Appends whom a notify wakes, of so many that waited.
 pub(crate) fn push_notified(
     names: &[Name],
     call: Call,
@@ -69,7 +69,7 @@ pub(crate) fn push_notified(
     }
 }
 
-/// Puts last what a notify does that wakes one agent and others, of so many that waited.
+/// Appends what a notify does that wakes one agent and others, of so many that waited.
 fn push_some(
     names: &[Name],
     call: Call,
@@ -90,7 +90,7 @@ fn push_some(
     push_still(waiting.saturating_sub(others.len() as u32 + 1), chunk);
 }
 
-/// Puts last what a notify does that wakes nobody, where so many wait.
+/// Appends what a notify does that wakes nobody, where so many wait.
 fn push_nobody(names: &[Name], call: Call, waiting: u32, chunk: &mut Chunk)
     requires { length chunk.old + NOBODY_LEN ≤ Chunk.ROOM }
     ensures bytes { chunk.new ≡ chunk.old ++ nobody_text (element_text names.now call) waiting }
@@ -102,7 +102,7 @@ fn push_nobody(names: &[Name], call: Call, waiting: u32, chunk: &mut Chunk)
     push_element(names, call, chunk);
 }
 
-/// Puts last why a notify wakes nobody.
+/// Appends why a notify wakes nobody.
 fn push_idle(waiting: u32, chunk: &mut Chunk)
     requires { length chunk.old + IDLE_LEN ≤ Chunk.ROOM }
     ensures bytes { chunk.new ≡ chunk.old ++ idle_text waiting }
@@ -115,7 +115,7 @@ fn push_idle(waiting: u32, chunk: &mut Chunk)
     }
 }
 
-/// Puts last why a notify wakes nobody of those that wait.
+/// Appends why a notify wakes nobody of those that wait.
 fn push_unwoken(waiting: u32, chunk: &mut Chunk)
     requires { length chunk.old + IDLE_LEN ≤ Chunk.ROOM }
     ensures bytes { chunk.new ≡ chunk.old ++ unwoken_text waiting }
@@ -125,7 +125,7 @@ fn push_unwoken(waiting: u32, chunk: &mut Chunk)
     push_counted(waiting, b" agent waits", b" agents wait", chunk);
 }
 
-/// Puts last the agents that a notify wakes: one, and the others.
+/// Appends the agents that a notify wakes: one, and the others.
 fn push_woken(
     names: &[Name],
     call: Call,
@@ -146,7 +146,7 @@ fn push_woken(
     }
 }
 
-/// Puts last the one agent that a notify wakes.
+/// Appends the one agent that a notify wakes.
 fn push_one_woken(names: &[Name], call: Call, sinces: &[Option<u32>], agent: u32, chunk: &mut Chunk)
     requires { length chunk.old + WOKEN_LEN ≤ Chunk.ROOM }
     ensures bytes { chunk.new ≡ chunk.old ++ one_woken_text (element_text names.now call) sinces.now agent }
@@ -159,7 +159,7 @@ fn push_one_woken(names: &[Name], call: Call, sinces: &[Option<u32>], agent: u32
     push_since_of(sinces, agent, chunk);
 }
 
-/// Puts last the agents that a notify wakes: one, and the others.
+/// Appends the agents that a notify wakes: one, and the others.
 fn push_more_woken(
     names: &[Name],
     call: Call,
@@ -180,7 +180,7 @@ fn push_more_woken(
     push_next_sleepers(sinces, others, chunk);
 }
 
-/// Puts last how many wait on.
+/// Appends how many wait on.
 fn push_still(n: u32, chunk: &mut Chunk)
     requires { length chunk.old + STILL_LEN ≤ Chunk.ROOM }
     ensures bytes { chunk.new ≡ chunk.old ++ still_text n }

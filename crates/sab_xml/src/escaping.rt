@@ -9,7 +9,7 @@ use sab_text::Chunk;
 /// The number of the replacement character, which stands for control characters: a document can hold few of them.
 const REPLACEMENT: u16 = 0xfffd;
 
-/// Puts a text last, each character as XML writes it: itself, or a reference; 8 bytes at most for each.
+/// Appends a text, each character as XML writes it: itself, or a reference; 8 bytes at most for each.
 ///
 /// A byte above 126 is the character of that number, and a control character other than the line feed becomes the
 /// replacement character. What stands for itself from one reference to the next is copied at once.
@@ -36,7 +36,7 @@ fn stands_for_itself(byte: u8) -> bool
     matches!(byte, b'\n' | b' '..=b'~') && !matches!(byte, b'<' | b'>' | b'&' | b'"')
 }
 
-/// Puts the reference last that stands for a character.
+/// Appends the reference that stands for a character.
 #[tactic(auto, unfolding(crate::specs::Xml::char_text))]
 fn push_reference(byte: u8, chunk: &mut Chunk)
     requires plain { is_plain byte ≡ false }
@@ -54,7 +54,7 @@ fn push_reference(byte: u8, chunk: &mut Chunk)
     }
 }
 
-/// Puts the reference to a character by its number last.
+/// Appends the reference to a character by its number.
 #[tactic(auto, using(crate::proofs::Texts::short_number))]
 fn push_numbered(number: u16, chunk: &mut Chunk)
     requires { length chunk.old + 8 ≤ Chunk.ROOM }
