@@ -38,7 +38,7 @@ pub fn keep_race<R: Threads + Wait + Sync, W: Write>(
         (IsKeepFault (IsRaceUnkept spins) (W.contents w.old) (W.contents w.new) script.now) }
 {
     let (text, report) = race_text(rt, alloc, script, share, spins, seed)?;
-    w.write_all(&text).map_err(|_| ToolFault::WriteFailed)?;
+    w.write_all(&text).map_err(ToolFault::of_write)?;
     Ok(report)
 }
 

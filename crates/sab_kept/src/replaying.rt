@@ -25,7 +25,7 @@ pub fn keep_replay<W: Write>(alloc: Global, script: &[u8], w: &mut W) -> Result<
         (IsKeepFault IsReplayUnkept (W.contents w.old) (W.contents w.new) script.now) }
 {
     let (text, report) = replay_text(alloc, script)?;
-    w.write_all(&text).map_err(|_| ToolFault::WriteFailed)?;
+    w.write_all(&text).map_err(ToolFault::of_write)?;
     Ok(report)
 }
 

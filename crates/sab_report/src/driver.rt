@@ -35,7 +35,7 @@ pub(crate) fn tell_facts<F: FactFormat, W: Write>(
     let explainer = explainer_for(alloc, plan, schedule)?;
     match write_facts(explainer, schedule, format, w) {
         Ok(report) => Ok(report),
-        Err(_) => Err(ToolFault::WriteFailed),
+        Err(error) => Err(ToolFault::of_write(error)),
     }
 }
 

@@ -83,6 +83,6 @@ fn judge_report<W: Write>(
     let verdict = judge(alloc, &trace, MAX_TOLD)?;
     match write_run_verdict(names, plan, journal, &trace, &verdict, format, w) {
         Ok(()) => Ok(!verdict.has_no_race()),
-        Err(_) => Err(ToolFault::WriteFailed),
+        Err(error) => Err(ToolFault::of_write(error)),
     }
 }

@@ -103,7 +103,7 @@ fn race_plainly<R: Threads + Wait + Sync, W: Write>(
     let report = race_plan(rt, alloc, plan, race.share, race.spins, race.seed)?;
     match write_plain(&report, lines, w) {
         Ok(()) => Ok(report),
-        Err(_) => Err(ToolFault::WriteFailed),
+        Err(error) => Err(ToolFault::of_write(error)),
     }
 }
 

@@ -61,6 +61,6 @@ fn tell_plainly<W: Write>(
     let report = replay_moves(alloc, plan, schedule)?;
     match write_plain(&report, lines, w) {
         Ok(()) => Ok(report),
-        Err(_) => Err(ToolFault::WriteFailed),
+        Err(error) => Err(ToolFault::of_write(error)),
     }
 }

@@ -99,7 +99,7 @@ fn flush<W: Write>(output: &mut W) -> Result<(), ToolFault>
     ensures ok { OnOk result (Keeps (W.contents output.old) (W.contents output.new)) }
     ensures err { IfErr result (λ fault. fault ≡ ToolFault.WriteFailed) }
 {
-    output.flush().map_err(|_| ToolFault::WriteFailed)
+    output.flush().map_err(ToolFault::of_write)
 }
 
 /// Replays a script, writes the run in its form, and answers how it ended.
@@ -171,7 +171,7 @@ fn tell<W: Write>(text: &str, output: &mut W) -> Result<(), ToolFault>
 {
     output
         .write_all(text.as_bytes())
-        .map_err(|_| ToolFault::WriteFailed)?;
+        .map_err(ToolFault::of_write)?;
     flush(output)
 }
 

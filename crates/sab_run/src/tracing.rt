@@ -64,8 +64,8 @@ fn tell<W: Write>(
     ensures read_back { LinesReadBack access_side trace.now verdict.now.races.items verdict.now.rest }
     ensures err { IfErr result (λ fault. fault ≡ ToolFault.WriteFailed) }
 {
-    write_trace_verdict(trace, verdict, format, output).map_err(|_| ToolFault::WriteFailed)?;
-    output.flush().map_err(|_| ToolFault::WriteFailed)
+    write_trace_verdict(trace, verdict, format, output).map_err(ToolFault::of_write)?;
+    output.flush().map_err(ToolFault::of_write)
 }
 
 /// That of a trace that is refused. Of a read that failed, and of want of memory, the line isn't told.

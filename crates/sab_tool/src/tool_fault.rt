@@ -5,6 +5,7 @@ ghost use Rattle.std.specs.Prelude.{◌≡◌};
 use sab_race::RaceFault;
 use sab_script::{ReadFault, Refusal};
 use std::alloc::AllocError;
+use std::io;
 use thiserror::Error;
 
 /// Why a tool doesn't do what it was asked for.
@@ -107,6 +108,13 @@ impl ToolFault {
             ToolFault::ReadFailed => "ReadFailed",
             ToolFault::NoBlock => "NoBlock",
         }
+    }
+
+    /// The fault of a write or a flush that failed with this error: WriteFailed.
+    pub fn of_write(_error: io::Error) -> ToolFault
+        ensures { result ≡ ToolFault.WriteFailed }
+    {
+        Self::WriteFailed
     }
 }
 
