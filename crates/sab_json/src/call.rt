@@ -6,9 +6,9 @@ ghost use Rattle.sab_plan.specs.Call.{function_of};
 ghost use Rattle.sab_json.specs.CallData.{AreNames, operand_data, argument_data, argument_items, call_data};
 
 use sab_block::Operand;
-use sab_words::{Name, push_name};
 use sab_plan::{Argument, Call};
 use sab_text::Chunk;
+use sab_words::{Name, push_name};
 
 /// The most bytes of an operand: a sign, 39 digits and two quotes.
 pub(crate) const OPERAND_LEN: usize = 42;

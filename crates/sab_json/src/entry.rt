@@ -14,9 +14,9 @@ use crate::found::{push_found, push_place, push_since};
 use crate::small::push_small;
 use sab_block::Thrown;
 use sab_explain::Fact;
-use sab_words::Name;
 use sab_plan::{Answer, Call, Entry, What, Why};
 use sab_text::{Chunk, Lines};
+use sab_words::Name;
 
 /// The most bytes of an answer.
 const ANSWER_LEN: usize = 52;

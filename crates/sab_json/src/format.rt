@@ -6,9 +6,9 @@ use crate::blocks::write_blocks;
 use crate::entry::push_entry_if;
 use crate::standing::write_agents;
 use sab_explain::{Explained, Standing};
-use sab_words::{FactFormat, Name};
 use sab_plan::{Plan, Report};
 use sab_text::{Chunk, Lines};
+use sab_words::{FactFormat, Name};
 use std::io;
 use std::io::Write;
 

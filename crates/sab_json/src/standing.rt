@@ -11,9 +11,9 @@ ghost use Rattle.sab_json.specs.Lines.{line, agent_lines};
 use crate::call::{CALL_LEN, push_call_data};
 use crate::found::{PLACE_LEN, SINCE_LEN, push_place, push_since};
 use sab_explain::{At, Standing};
-use sab_words::{Name, standing_at};
 use sab_plan::Progress;
 use sab_text::Chunk;
+use sab_words::{Name, standing_at};
 use std::io;
 use std::io::Write;
 

@@ -6,13 +6,13 @@ mod located;
 mod location;
 mod member;
 mod read_fault;
-mod refusal;
 mod reason;
+mod refusal;
 
 pub use excerpt::Excerpt;
 pub use located::Located;
 pub use location::Location;
 pub use member::Member;
 pub use read_fault::ReadFault;
+pub use reason::{Counted, Misfit, Reason, Unit, Wanted};
 pub use refusal::Refusal;
-pub use reason::{Counted, Misfit, Unit, Wanted, Reason};

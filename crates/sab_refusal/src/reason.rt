@@ -124,7 +124,8 @@ impl Reason {
             Reason::TooMany(_, _, _) => ReadFault::TooMany,
             Reason::NameForm(_) | Reason::Twice(_, _) | Reason::NoView(_) => ReadFault::BadName,
             Reason::NotWhole | Reason::BelowZero(_) | Reason::NoBigInt(_) => ReadFault::BadNumber,
-            Reason::NoCall(_) | Reason::FewElements(_, _) | Reason::ManyElements(_, _) => ReadFault::BadCall,
+            Reason::NoCall(_) | Reason::FewElements(_, _) | Reason::ManyElements(_, _) =>
+                ReadFault::BadCall,
             Reason::NoKind(_) | Reason::Misfit(_) => ReadFault::BadView,
             Reason::Beyond(Counted::Agent, _, _) => ReadFault::BadAgent,
             Reason::Beyond(Counted::Block, _, _) | Reason::NoBlocks => ReadFault::NoBlock,

@@ -12,11 +12,11 @@ ghost use Rattle.sab_report.specs.Telling.{IsColumnOf, IsTellingFault};
 
 use crate::driver::tell_facts;
 use sab_json::Json;
-use sab_svg::Picture;
-use sab_words::{Column, Layout, Name, Words};
 use sab_sim::{Move, Plan, Report};
+use sab_svg::Picture;
 use sab_text::Lines;
 use sab_tool::{ToolFault, replay_moves};
+use sab_words::{Column, Layout, Name, Words};
 use std::alloc::{AllocError, Global};
 use std::io::Write;
 

@@ -11,12 +11,12 @@ ghost use Rattle.sab_report.specs.Judging.{JudgesAs, TellsVerdict};
 
 use crate::names::names_of;
 use sab_events::trace_of;
-use sab_words::Name;
 use sab_judge::judge;
 use sab_sim::{Plan, Report};
 use sab_text::VerdictFormat;
 use sab_tool::{Ended, ToolFault, replay_moves, setup_of};
 use sab_verdict::write_run_verdict;
+use sab_words::Name;
 use std::alloc::Global;
 use std::io::Write;
 

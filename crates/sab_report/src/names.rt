@@ -3,8 +3,8 @@
 ghost use Rattle.std.specs.Prelude.{◌≡◌, ◌≤◌, length, All, IfOk};
 ghost use Rattle.sab_script.specs.Views.{view_names};
 
-use sab_words::Name;
 use sab_script::Setup;
+use sab_words::Name;
 use std::alloc::{AllocError, Global};
 
 /// The names of a setup's views, in order.

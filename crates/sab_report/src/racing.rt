@@ -12,10 +12,10 @@ ghost use Rattle.sab_report.specs.Reporting.{RacesAs};
 
 use crate::names::names_of;
 use crate::telling::tell_moves;
-use sab_words::Name;
 use sab_sim::{Plan, Report};
 use sab_text::{Format, Lines, Telling, write_plain};
 use sab_tool::{Ended, MAX_SPINS, Share, ToolFault, race_plan, setup_of};
+use sab_words::Name;
 use std::alloc::Global;
 use std::io::Write;
 use std::sync::Wait;

@@ -11,10 +11,10 @@ ghost use Rattle.sab_report.specs.Driver.{AreMovesOf};
 ghost use Rattle.sab_report.specs.Telling.{TellsMoves, IsTellingFault};
 
 use crate::explaining::{draw, explain, explain_as_json};
-use sab_words::Name;
 use sab_sim::{Move, Plan, Report};
 use sab_text::{Format, Lines, Telling, write_plain};
 use sab_tool::{ToolFault, replay_moves};
+use sab_words::Name;
 use std::alloc::Global;
 use std::io::Write;
 

@@ -11,7 +11,7 @@ use crate::elements::{Reader, read_each};
 use crate::form::Form;
 use crate::tree::{items, whole};
 use sab_plan::Plan;
-use sab_refusal::{Located, Location, Unit, Wanted, Reason};
+use sab_refusal::{Located, Location, Reason, Unit, Wanted};
 use serde_json::Value;
 use std::alloc::Global;
 

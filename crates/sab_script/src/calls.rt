@@ -20,7 +20,7 @@ use crate::tree::{items, text, whole};
 use crate::views::{Views, view_of};
 use sab_block::{Access, RmwOp};
 use sab_plan::{Call, Plan};
-use sab_refusal::{Excerpt, Located, Location, Unit, Wanted, Reason};
+use sab_refusal::{Excerpt, Located, Location, Reason, Unit, Wanted};
 use serde_json::Value;
 use std::alloc::Global;
 

@@ -8,7 +8,7 @@ ghost use Rattle.sab_refusal.specs.Location.{item_at};
 ghost use Rattle.sab_script.specs.Reading.{Finds, SpellsUpTo};
 ghost use Rattle.sab_script.specs.Truth.{IsTrueWhere, IsListOf, limit_of};
 
-use sab_refusal::{Located, Location, Unit, Reason};
+use sab_refusal::{Located, Location, Reason, Unit};
 use serde_json::Value;
 use std::alloc::Global;
 

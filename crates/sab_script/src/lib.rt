@@ -18,7 +18,7 @@ mod view_spec;
 mod views;
 
 pub use sab_refusal::{
-    Counted, Excerpt, Located, Location, Member, Misfit, ReadFault, Refusal, Unit, Wanted, Reason,
+    Counted, Excerpt, Located, Location, Member, Misfit, ReadFault, Reason, Refusal, Unit, Wanted,
 };
 pub use schedule::MAX_MOVES;
 pub use script::read_script;

@@ -17,7 +17,7 @@ ghost use Rattle.sab_refusal.specs.Reason.{fault_of};
 
 use crate::tree::whole;
 use sab_block::Operand;
-use sab_refusal::{Excerpt, Located, Location, ReadFault, Wanted, Reason};
+use sab_refusal::{Excerpt, Located, Location, ReadFault, Reason, Wanted};
 use serde_json::Value;
 
 /// Where in a call what stands behind its index begins.

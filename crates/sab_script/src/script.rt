@@ -4,7 +4,7 @@ ghost use Rattle.std.specs.Prelude.{IfOk, IfErr};
 ghost use Rattle.sab_script.specs.Script.{IsScriptOf, IsRefusedBy, IsTrueRefusal};
 
 use crate::setup::{Setup, locate_setup};
-use sab_refusal::{Located, Location, Refusal, Reason};
+use sab_refusal::{Located, Location, Reason, Refusal};
 use serde_json::Value;
 use std::alloc::Global;
 

@@ -12,7 +12,7 @@ ghost use Rattle.sab_script.specs.Truth.{IsTrueWhere, IsCountedAt};
 ghost use Rattle.sab_script.specs.Known.{AreInOrder, IsFirst, LackMember, IsNumberAs};
 
 use sab_block::Operand;
-use sab_refusal::{Counted, Excerpt, Located, Location, Member, ReadFault, Wanted, Reason};
+use sab_refusal::{Counted, Excerpt, Located, Location, Member, ReadFault, Reason, Wanted};
 use serde_json::Value;
 use std::collections::btree_map::Iter;
 

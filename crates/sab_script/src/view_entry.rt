@@ -20,7 +20,7 @@ use crate::view_spec::ViewSpec;
 use crate::views::Views;
 use sab_block::View;
 use sab_plan::{Plan, PlanView};
-use sab_refusal::{Counted, Excerpt, Located, Location, Member, Unit, Wanted, Reason};
+use sab_refusal::{Counted, Excerpt, Located, Location, Member, Reason, Unit, Wanted};
 use serde_json::Value;
 use std::alloc::Global;
 

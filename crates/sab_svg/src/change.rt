@@ -9,9 +9,9 @@ use crate::pieces::{LABEL_END, LABEL_LEN, open_label};
 use crate::shape::{Shape, row_text};
 use sab_block::Operand;
 use sab_explain::Found;
-use sab_words::{ELEMENT_LEN, Name, is_same, push_element};
 use sab_plan::Call;
 use sab_text::Chunk;
+use sab_words::{ELEMENT_LEN, Name, is_same, push_element};
 use sab_xml::push_escaped;
 
 /// What stands between the element before and after: an arrow, by its reference.

@@ -13,8 +13,8 @@ use crate::pieces::{
 };
 use crate::shape::{Shape, row_middle, row_text};
 use sab_explain::{At, Standing};
-use sab_words::{Name, STANDING_LEN, push_standing_words, standing_at};
 use sab_text::Chunk;
+use sab_words::{Name, STANDING_LEN, push_standing_words, standing_at};
 use std::io;
 use std::io::Write;
 

@@ -16,9 +16,9 @@ use crate::pieces::{
 };
 use crate::shape::{Shape, row_text};
 use sab_explain::{Explained, Fact};
-use sab_words::{Name, WORDS_LEN, push_words};
 use sab_plan::{Entry, Plan};
 use sab_text::Chunk;
+use sab_words::{Name, WORDS_LEN, push_words};
 
 /// Where the numbers of rows end: one of 7 digits has room.
 const NUMBERS_END: u64 = 48;

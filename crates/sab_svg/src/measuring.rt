@@ -5,9 +5,9 @@ ghost use Rattle.sab_words.specs.CallText.{call_text};
 ghost use Rattle.sab_svg.specs.Shape.{greatest, longest_in, longest_name, has_big, value_chars, shape_of};
 
 use crate::shape::Shape;
-use sab_words::{CALL_LEN, Name, push_call};
 use sab_plan::{Call, Plan, Script};
 use sab_text::Chunk;
+use sab_words::{CALL_LEN, Name, push_call};
 
 /// How wide a character is.
 pub(crate) const CHAR_WIDTH: u32 = 8;

@@ -9,9 +9,9 @@ use crate::ends::write_ends;
 use crate::entry::{ENTRY_ROOM, push_entry};
 use crate::shape::Shape;
 use sab_explain::{Explained, Standing};
-use sab_words::{FactFormat, Name};
 use sab_plan::{Plan, Report};
 use sab_text::Chunk;
+use sab_words::{FactFormat, Name};
 use std::io;
 use std::io::Write;
 

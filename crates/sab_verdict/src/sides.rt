@@ -3,8 +3,8 @@
 ghost use Rattle.std.specs.Prelude.{◌≡◌};
 ghost use Rattle.sab_verdict.specs.Events.{call_at};
 
-use sab_words::Name;
 use sab_plan::{Call, Entry, Plan};
+use sab_words::Name;
 
 /// How the two events of a race are told.
 #[derive(Clone, Copy)]

@@ -15,10 +15,10 @@ ghost use Rattle.sab_verdict.specs.Sides.{words_of, data_of, HaveNames};
 use crate::side::side_at;
 use crate::sides::{Run, Sides};
 use crate::{as_json, plain};
-use sab_words::Name;
 use sab_judge::{Event, Race, Trace, Verdict};
 use sab_plan::{Entry, Plan};
 use sab_text::{Chunk, VerdictFormat};
+use sab_words::Name;
 use std::io;
 use std::io::Write;
 
