@@ -4,7 +4,7 @@ use borrow.Author.Tests.{eqb-true}
 use Rattle.std.proofs.lemmas.Bool.{and_parts}
 use Rattle.sab_race.proofs.Equality.{same_share}
 use Rattle.sab_report.specs.declared.racing.RaceOptions.{RaceOptions}
-use Rattle.sab_report.specs.contracts.racing.RacePartialEq.TheImpl as race
+use Rattle.sab_report.specs.contracts.racing.RaceOptionsPartialEq.TheImpl as race
 
 pub same_race : (x y : RaceOptions) → (race.ghosts).eq x y ≡ true → x ≡ y
 same_race x y e =
