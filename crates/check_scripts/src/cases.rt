@@ -1,106 +1,60 @@
 //! The cases of a folder.
 
 use anyhow::{Result, bail};
-use std::alloc::Global;
-use std::collections::{BTreeMap, BTreeSet};
+use std::collections::BTreeMap;
 use std::fs;
 use std::rt::Files;
 
 /// A file that may lie in a folder and is no part of a case.
 const README: &str = "README.md";
 
-/// What a file of a case is, by how its name ends.
-#[derive(Clone, Copy, PartialEq, Eq, PartialOrd, Ord)]
-pub enum Part {
-    /// The script.
-    Script,
+/// What lies beside a script.
+#[derive(Clone, Copy)]
+pub enum Partner {
     /// The text of its report.
     Report,
-    /// Its report, explained.
-    Explained,
-    /// Its report as lines of JSON.
-    Json,
-    /// Its report as a picture.
-    Picture,
     /// A line with the number and the name of its fault.
     Fault,
-    /// A table of changes of the script, each with its fault.
-    Changes,
-    /// The line that a check says of the script.
-    Located,
 }
 
-impl Part {
-    /// All of them.
-    const ALL: [Part; 8] = [
-        Part::Script,
-        Part::Report,
-        Part::Explained,
-        Part::Json,
-        Part::Picture,
-        Part::Fault,
-        Part::Changes,
-        Part::Located,
-    ];
-
+impl Partner {
     /// How the name of its file ends.
     pub fn ending(self) -> &'static str {
         match self {
-            Part::Script => "json",
-            Part::Report => "report",
-            Part::Explained => "explained",
-            Part::Json => "jsonl",
-            Part::Picture => "svg",
-            Part::Fault => "fault",
-            Part::Changes => "changes",
-            Part::Located => "located",
+            Partner::Report => "report",
+            Partner::Fault => "fault",
         }
     }
-
-    /// The part whose file ends so.
-    fn of(ending: &str) -> Option<Part> {
-        Part::ALL.into_iter().find(|part| part.ending() == ending)
-    }
 }
 
-/// What a script must come to.
-#[derive(Clone, Copy)]
-pub enum Partner {
-    /// A report.
-    Report,
-    /// A fault.
-    Fault,
-}
-
-/// The files of a folder that have one name.
+/// The files of a folder that have one name: which endings it has.
+#[derive(Clone, Copy, Default)]
 pub struct Case {
-    parts: BTreeSet<Part>,
-    has_other: bool,
+    script: bool,
+    report: bool,
+    explained: bool,
+    jsonl: bool,
+    svg: bool,
+    fault: bool,
+    changes: bool,
+    located: bool,
+    other: bool,
 }
 
 impl Case {
-    /// A case of no files.
-    fn new(alloc: Global) -> Case {
-        Case {
-            parts: BTreeSet::new(alloc),
-            has_other: false,
-        }
-    }
-
     /// Notes a file of this ending.
-    fn note(&mut self, ending: &str) -> Result<()> {
-        match Part::of(ending) {
-            Some(part) => {
-                self.parts.insert(part)?;
-            }
-            None => self.has_other = true,
+    fn note(&mut self, ending: &str) {
+        match ending {
+            "json" => self.script = true,
+            "report" => self.report = true,
+            "explained" => self.explained = true,
+            "jsonl" => self.jsonl = true,
+            "svg" => self.svg = true,
+            "fault" => self.fault = true,
+            "changes" => self.changes = true,
+            "located" => self.located = true,
+            _ => self.other = true,
         }
-        Ok(())
-    }
-
-    /// Whether there is a file of this part.
-    pub fn has(&self, part: Part) -> bool {
-        self.parts.contains(&part)
     }
 
     /// The one partner of the script.
@@ -108,34 +62,48 @@ impl Case {
     /// An error where the files are no case: there is no script, no partner or a second one, a report that isn't there
     /// in each format of lines, a picture or changes of a script that has no report, a line of a check without a fault,
     /// or a file of another ending.
-    pub fn partner(&self) -> Result<Partner> {
-        if self.has_other {
+    pub fn partner(self) -> Result<Partner> {
+        if self.other {
             bail!(
                 "a file's name ends in none of .json, .report, .explained, .jsonl, .svg, .fault, .changes, .located"
             );
         }
-        if !self.has(Part::Script) {
+        if !self.script {
             bail!("there is no script");
         }
-        let has_report = self.has(Part::Report);
-        if self.has(Part::Explained) != has_report || self.has(Part::Json) != has_report {
+        if self.explained != self.report || self.jsonl != self.report {
             bail!("of a report in three formats one is missing");
         }
-        if self.has(Part::Picture) && !has_report {
+        if self.svg && !self.report {
             bail!("there is a picture without a report");
         }
-        if self.has(Part::Changes) && !has_report {
+        if self.changes && !self.report {
             bail!("there are changes without a report");
         }
-        if self.has(Part::Located) && !self.has(Part::Fault) {
+        if self.located && !self.fault {
             bail!("there is a line of a check without a fault");
         }
-        match (has_report, self.has(Part::Fault)) {
+        match (self.report, self.fault) {
             (true, false) => Ok(Partner::Report),
             (false, true) => Ok(Partner::Fault),
             (true, true) => bail!("there is a report and a fault"),
             (false, false) => bail!("there is neither a report nor a fault"),
         }
+    }
+
+    /// Whether the line that a check says lies beside the script.
+    pub fn has_line(self) -> bool {
+        self.located
+    }
+
+    /// Whether a picture lies beside the script.
+    pub fn has_picture(self) -> bool {
+        self.svg
+    }
+
+    /// Whether a table of changes lies beside the script.
+    pub fn has_changes(self) -> bool {
+        self.changes
     }
 }
 
@@ -166,12 +134,8 @@ pub fn cases_of<R: Files + AllocGlobal + Clone + Drop>(
             .as_str()
             .rsplit_once('.')
             .unwrap_or((file.as_str(), ""));
-        if let Some(case) = cases.get_mut(name) {
-            case.note(ending)?;
-            continue;
-        }
-        let mut case = Case::new(rt.alloc());
-        case.note(ending)?;
+        let mut case = cases.get(name).copied().unwrap_or_default();
+        case.note(ending);
         cases.insert(String::from_str(rt.alloc(), name)?, case)?;
     }
     Ok(cases)

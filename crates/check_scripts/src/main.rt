@@ -17,7 +17,7 @@ mod told;
 mod way;
 
 use anyhow::{Context, Result};
-use cases::{Case, Part, Partner, cases_of, names_of};
+use cases::{Case, Partner, cases_of, names_of};
 use changes::check_changes;
 use checked::{check_accepted, check_located};
 use refused::check_fault;
@@ -31,9 +31,8 @@ use std::{env, fs};
 use tally::Tally;
 use told::check_told;
 
-/// The bytes of a part of a case.
-fn read<R: Files + AllocGlobal>(rt: &R, folder: &str, name: &str, part: Part) -> Result<Vec<u8>> {
-    let ending = part.ending();
+/// The file of a case that has this ending.
+fn part<R: Files + AllocGlobal>(rt: &R, folder: &str, name: &str, ending: &str) -> Result<Vec<u8>> {
     let path = format!(in rt.alloc(); "{folder}/{name}.{ending}")?;
     Ok(fs::read(rt, path.as_str())?)
 }
@@ -47,8 +46,8 @@ fn check_formats<R: Files + AllocGlobal>(
     plain: &[u8],
 ) -> Result<()> {
     let alloc = rt.alloc();
-    let explained = read(rt, folder, name, Part::Explained)?;
-    let json = read(rt, folder, name, Part::Json)?;
+    let explained = part(rt, folder, name, "explained")?;
+    let json = part(rt, folder, name, "jsonl")?;
     check_told(alloc, script, Format::Plain, plain)?;
     check_told(alloc, script, Format::Explained, explained.as_slice())?;
     check_told(alloc, script, Format::Json, json.as_slice())
@@ -59,39 +58,37 @@ fn check<R: Files + AllocGlobal + Threads + Wait + Sync>(
     rt: &R,
     folder: &str,
     name: &str,
-    case: &Case,
+    case: Case,
 ) -> Result<Tally> {
     let alloc = rt.alloc();
     let partner = case.partner()?;
-    let script = read(rt, folder, name, Part::Script)?;
-    let script = script.as_slice();
+    let script = part(rt, folder, name, "json")?;
+    let expected = part(rt, folder, name, partner.ending())?;
     match partner {
         Partner::Report => {
-            let report = read(rt, folder, name, Part::Report)?;
-            check_accepted(alloc, script)?;
-            check_formats(rt, folder, name, script, report.as_slice())?;
-            if case.has(Part::Picture) {
-                let picture = read(rt, folder, name, Part::Picture)?;
-                check_told(alloc, script, Format::Svg, picture.as_slice())?;
+            check_accepted(alloc, script.as_slice())?;
+            check_formats(rt, folder, name, script.as_slice(), expected.as_slice())?;
+            if case.has_picture() {
+                let picture = part(rt, folder, name, "svg")?;
+                check_told(alloc, script.as_slice(), Format::Svg, picture.as_slice())?;
             }
-            let cuts = check_report(rt, alloc, script, report.as_slice())?;
-            let changes = if case.has(Part::Changes) {
-                let table = read(rt, folder, name, Part::Changes)?;
-                check_changes(rt, alloc, script, table.as_slice())?
+            let cuts = check_report(rt, alloc, script.as_slice(), expected.as_slice())?;
+            let changes = if case.has_changes() {
+                let table = part(rt, folder, name, "changes")?;
+                check_changes(rt, alloc, script.as_slice(), table.as_slice())?
             } else {
                 0
             };
             Ok(Tally::of_report(cuts, changes))
         }
         Partner::Fault => {
-            let fault = read(rt, folder, name, Part::Fault)?;
-            check_fault(rt, alloc, script, fault.as_slice())?;
-            let line = match case.has(Part::Located) {
-                true => Some(read(rt, folder, name, Part::Located)?),
+            check_fault(rt, alloc, script.as_slice(), expected.as_slice())?;
+            let line = match case.has_line() {
+                true => Some(part(rt, folder, name, "located")?),
                 false => None,
             };
             let line = line.as_ref().map(|line| line.as_slice());
-            check_located(alloc, script, fault.as_slice(), line)?;
+            check_located(alloc, script.as_slice(), expected.as_slice(), line)?;
             Ok(Tally::of_fault())
         }
     }
@@ -106,7 +103,7 @@ fn go_over<R: Files + AllocGlobal + Print + Threads + Wait + Sync + Clone + Drop
     let folder = format!(in rt.alloc(); "{data}/{subject}")?;
     let mut tally = Tally::default();
     for (name, case) in cases_of(rt, folder.as_str())?.iter() {
-        match check(rt, folder.as_str(), name.as_str(), case) {
+        match check(rt, folder.as_str(), name.as_str(), *case) {
             Ok(checked) => tally.add(checked),
             Err(finding) => {
                 println!(rt; "{subject}/{name}: {finding:#}")?;
