@@ -6,7 +6,7 @@ ghost use Rattle.sab_plan.specs.Call.{items_of};
 use sab_block::Operand;
 
 /// An argument of a call.
-#[derive(Clone, Copy, Debug, PartialEq, Eq)]
+#[derive(Clone, Copy)]
 pub enum Argument {
     /// An operand.
     Value(Operand),
@@ -15,7 +15,7 @@ pub enum Argument {
 }
 
 /// The arguments of a call behind its index: at most two.
-#[derive(Clone, Copy, Debug, PartialEq, Eq)]
+#[derive(Clone, Copy)]
 pub enum Arguments {
     None,
     One([Argument; 1]),
