@@ -1,7 +1,8 @@
 //! The cases of a folder.
 
 use anyhow::{Result, bail};
-use std::collections::BTreeMap;
+use std::alloc::Global;
+use std::collections::{BTreeMap, BTreeSet};
 use std::fs;
 use std::rt::Files;
 
@@ -27,34 +28,54 @@ impl Partner {
     }
 }
 
-/// The files of a folder that have one name: which endings it has.
-#[derive(Clone, Copy, Default)]
+/// What a file of a case is, by how its name ends.
+#[derive(Clone, Copy, PartialEq, Eq, PartialOrd, Ord)]
+enum Part {
+    Script,
+    Report,
+    Explained,
+    Lines,
+    Picture,
+    Fault,
+    Changes,
+    Located,
+    Other,
+}
+
+impl Part {
+    /// What a file of this ending is.
+    fn of(ending: &str) -> Part {
+        match ending {
+            "json" => Part::Script,
+            "report" => Part::Report,
+            "explained" => Part::Explained,
+            "jsonl" => Part::Lines,
+            "svg" => Part::Picture,
+            "fault" => Part::Fault,
+            "changes" => Part::Changes,
+            "located" => Part::Located,
+            _ => Part::Other,
+        }
+    }
+}
+
+/// The files of a folder that have one name.
+#[derive(Drop)]
 pub struct Case {
-    script: bool,
-    report: bool,
-    explained: bool,
-    jsonl: bool,
-    svg: bool,
-    fault: bool,
-    changes: bool,
-    located: bool,
-    other: bool,
+    parts: BTreeSet<Part>,
 }
 
 impl Case {
-    /// Notes a file of this ending.
-    fn note(&mut self, ending: &str) {
-        match ending {
-            "json" => self.script = true,
-            "report" => self.report = true,
-            "explained" => self.explained = true,
-            "jsonl" => self.jsonl = true,
-            "svg" => self.svg = true,
-            "fault" => self.fault = true,
-            "changes" => self.changes = true,
-            "located" => self.located = true,
-            _ => self.other = true,
+    /// No file.
+    fn new(alloc: Global) -> Case {
+        Case {
+            parts: BTreeSet::new(alloc),
         }
+    }
+
+    /// Whether there is this file.
+    fn has(&self, part: Part) -> bool {
+        self.parts.contains(&part)
     }
 
     /// The one partner of the script.
@@ -62,28 +83,29 @@ impl Case {
     /// An error where the files are no case: there is no script, no partner or a second one, a report that isn't there
     /// in each format of lines, a picture or changes of a script that has no report, a line of a check without a fault,
     /// or a file of another ending.
-    pub fn partner(self) -> Result<Partner> {
-        if self.other {
+    pub fn partner(&self) -> Result<Partner> {
+        let report = self.has(Part::Report);
+        if self.has(Part::Other) {
             bail!(
                 "a file's name ends in none of .json, .report, .explained, .jsonl, .svg, .fault, .changes, .located"
             );
         }
-        if !self.script {
+        if !self.has(Part::Script) {
             bail!("there is no script");
         }
-        if self.explained != self.report || self.jsonl != self.report {
+        if self.has(Part::Explained) != report || self.has(Part::Lines) != report {
             bail!("of a report in three formats one is missing");
         }
-        if self.svg && !self.report {
+        if self.has(Part::Picture) && !report {
             bail!("there is a picture without a report");
         }
-        if self.changes && !self.report {
+        if self.has(Part::Changes) && !report {
             bail!("there are changes without a report");
         }
-        if self.located && !self.fault {
+        if self.has(Part::Located) && !self.has(Part::Fault) {
             bail!("there is a line of a check without a fault");
         }
-        match (self.report, self.fault) {
+        match (report, self.has(Part::Fault)) {
             (true, false) => Ok(Partner::Report),
             (false, true) => Ok(Partner::Fault),
             (true, true) => bail!("there is a report and a fault"),
@@ -92,18 +114,18 @@ impl Case {
     }
 
     /// Whether the line that a check says lies beside the script.
-    pub fn has_line(self) -> bool {
-        self.located
+    pub fn has_line(&self) -> bool {
+        self.has(Part::Located)
     }
 
     /// Whether a picture lies beside the script.
-    pub fn has_picture(self) -> bool {
-        self.svg
+    pub fn has_picture(&self) -> bool {
+        self.has(Part::Picture)
     }
 
     /// Whether a table of changes lies beside the script.
-    pub fn has_changes(self) -> bool {
-        self.changes
+    pub fn has_changes(&self) -> bool {
+        self.has(Part::Changes)
     }
 }
 
@@ -134,9 +156,12 @@ pub fn cases_of<R: Files + AllocGlobal + Clone + Drop>(
             .as_str()
             .rsplit_once('.')
             .unwrap_or((file.as_str(), ""));
-        let mut case = cases.get(name).copied().unwrap_or_default();
-        case.note(ending);
-        cases.insert(String::from_str(rt.alloc(), name)?, case)?;
+        if !cases.contains_key(name) {
+            cases.insert(String::from_str(rt.alloc(), name)?, Case::new(rt.alloc()))?;
+        }
+        if let Some(case) = cases.get_mut(name) {
+            case.parts.insert(Part::of(ending))?;
+        }
     }
     Ok(cases)
 }

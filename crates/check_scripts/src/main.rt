@@ -58,7 +58,7 @@ fn check<R: Files + AllocGlobal + Threads + Wait + Sync>(
     rt: &R,
     folder: &str,
     name: &str,
-    case: Case,
+    case: &Case,
 ) -> Result<Tally> {
     let alloc = rt.alloc();
     let partner = case.partner()?;
@@ -103,7 +103,7 @@ fn go_over<R: Files + AllocGlobal + Print + Threads + Wait + Sync + Clone + Drop
     let folder = format!(in rt.alloc(); "{data}/{subject}")?;
     let mut tally = Tally::default();
     for (name, case) in cases_of(rt, folder.as_str())?.iter() {
-        match check(rt, folder.as_str(), name.as_str(), *case) {
+        match check(rt, folder.as_str(), name.as_str(), case) {
             Ok(checked) => tally.add(checked),
             Err(finding) => {
                 println!(rt; "{subject}/{name}: {finding:#}")?;

@@ -42,9 +42,9 @@ use Rattle.sab_sim.specs.States.{IsOfWaits}
 use Rattle.sab_sim.specs.Sim.{SimParts}
 use Rattle.sab_sim.proofs.OnlyAct.{one_value}
 use Rattle.sab_sim.proofs.PlaceLine.{Reaches-one}
-use Rattle.sab_explain.specs.declared.fact.Found.{Found}
-use Rattle.sab_explain.specs.declared.fact.Found.TheVariants as F
-use Rattle.sab_explain.specs.declared.fact.Fact.{Fact}
+use Rattle.sab_plan.specs.declared.fact.Found.{Found}
+use Rattle.sab_plan.specs.declared.fact.Found.TheVariants as F
+use Rattle.sab_plan.specs.declared.fact.Fact.{Fact}
 use Rattle.sab_explain.specs.declared.sight.Sight.{Sight}
 use Rattle.sab_explain.specs.declared.before.Before.{Before}
 use Rattle.sab_explain.specs.Fact.{place_named, value_in, expects, found_by, IsOfAct, IsOfThrow, IsWaker, IsOfWoken, IsOfWaiting, Finds}

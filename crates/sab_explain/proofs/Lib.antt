@@ -7,4 +7,3 @@ mod Waking
 mod OneFact
 mod Stepping
 mod OneStanding
-mod Equality

@@ -25,9 +25,9 @@ use Rattle.sab_sim.proofs.OnlyAct.{one_value}
 use Rattle.sab_sim.proofs.PlaceLine.{Reaches-one}
 use Rattle.sab_sim.proofs.Fronts.{Reaches-front}
 use Rattle.sab_block.specs.declared.check.Check.{Check}
-use Rattle.sab_explain.specs.declared.fact.Found.{Found}
-use Rattle.sab_explain.specs.declared.fact.Found.TheVariants as F
-use Rattle.sab_explain.specs.declared.fact.Fact.{Fact}
+use Rattle.sab_plan.specs.declared.fact.Found.{Found}
+use Rattle.sab_plan.specs.declared.fact.Found.TheVariants as F
+use Rattle.sab_plan.specs.declared.fact.Fact.{Fact}
 use Rattle.sab_block.specs.Check.{first_failed}
 use Rattle.sab_explain.specs.Fact.{place_named, value_in, expects, found_by, IsOfAct, IsOfThrow, IsWaker, IsOfWoken, Finds, IsFact, HasWoken, NamesWaker, IsLast}
 use Rattle.sab_explain.proofs.Explaining.{Reaches-last}

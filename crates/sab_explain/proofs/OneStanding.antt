@@ -10,9 +10,9 @@ use Rattle.sab_plan.specs.Journal.{returned_of}
 use Rattle.sab_sim.specs.Run.{Reaches}
 use Rattle.sab_sim.proofs.OnlyAct.{one_value}
 use Rattle.sab_sim.proofs.PlaceLine.{Reaches-one}
-use Rattle.sab_explain.specs.declared.standing.Standing.{Standing}
-use Rattle.sab_explain.specs.declared.standing.At.{At}
-use Rattle.sab_explain.specs.declared.standing.At.TheVariants as T
+use Rattle.sab_plan.specs.declared.standing.Standing.{Standing}
+use Rattle.sab_plan.specs.declared.standing.At.{At}
+use Rattle.sab_plan.specs.declared.standing.At.TheVariants as T
 use Rattle.sab_explain.specs.Fact.{place_named, IsWaker}
 use Rattle.sab_explain.specs.Standing.{notifies, entries_after, what_at, by_last, IsAt, IsStanding}
 use Rattle.sab_explain.proofs.LastOnes.{IsLast-one}

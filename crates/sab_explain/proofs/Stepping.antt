@@ -13,10 +13,11 @@ use Rattle.sab_sim.specs.Fits.{FitsMoves}
 use Rattle.sab_sim.specs.Shown.{AtEnd}
 use Rattle.sab_sim.specs.States.{IsOfWaits}
 use Rattle.sab_sim.specs.Sim.{SimParts}
-use Rattle.sab_explain.specs.declared.fact.Fact.{Fact}
+use Rattle.sab_plan.specs.declared.fact.Fact.{Fact}
 use Rattle.sab_explain.specs.declared.sight.Sight.{Sight}
 use Rattle.sab_explain.specs.declared.before.Before.{Before}
-use Rattle.sab_explain.specs.Fact.{woken_in, Finds, IsFact, IsLast}
+use Rattle.sab_explain.specs.Fact.{Finds, IsFact, IsLast}
+use Rattle.sab_plan.specs.Fact.{woken_in}
 use Rattle.sab_explain.specs.Explainer.{IsSight, IsBefore, AreWakers, AreLast, IsNoted, concluded}
 use Rattle.sab_explain.proofs.Explaining.{AreWakers-push}
 use Rattle.sab_explain.proofs.Noting.{All-of_found}

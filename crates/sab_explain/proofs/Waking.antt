@@ -19,9 +19,10 @@ use Rattle.sab_plan.specs.Plan.{PlanParts, call_of}
 use Rattle.sab_sim.specs.Object.{State, waiters, Does}
 use Rattle.sab_sim.proofs.OnlyAct.{one_value}
 use Rattle.sab_block.specs.declared.check.Check.{Check}
-use Rattle.sab_explain.specs.declared.fact.Fact.{Fact}
+use Rattle.sab_plan.specs.declared.fact.Fact.{Fact}
 use Rattle.sab_explain.specs.declared.sight.Sight.{Sight}
-use Rattle.sab_explain.specs.Fact.{place_named, value_in, expects, found_by, woken_in, IsOfAct, Finds}
+use Rattle.sab_explain.specs.Fact.{place_named, value_in, expects, found_by, IsOfAct, Finds}
+use Rattle.sab_plan.specs.Fact.{woken_in}
 use Rattle.sab_explain.specs.Explainer.{IsNoted, failure, woken_by, found, concluded}
 use Rattle.sab_explain.proofs.Explaining.{AreNoted}
 use Rattle.sab_explain.proofs.Concluding.{WokenAt, DoesCall-notified, call_of-does}

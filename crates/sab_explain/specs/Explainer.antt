@@ -27,8 +27,8 @@ use Rattle.sab_plan.specs.declared.answer.Answer.TheVariants as A
 use Rattle.sab_plan.specs.declared.entry.Why.TheVariants as Y
 use Rattle.sab_plan.specs.declared.entry.What.{What}
 use Rattle.sab_plan.specs.declared.entry.What.TheVariants.{Acted, Enlisted, Left, Stuck}
-use Rattle.sab_explain.specs.declared.fact.Found.{Found}
-use Rattle.sab_explain.specs.declared.fact.Found.TheVariants as F
+use Rattle.sab_plan.specs.declared.fact.Found.{Found}
+use Rattle.sab_plan.specs.declared.fact.Found.TheVariants as F
 use Rattle.sab_explain.specs.declared.sight.Sight.{Sight}
 use Rattle.sab_explain.specs.declared.before.Before.{Before}
 use Rattle.sab_explain.specs.Fact.{place_named, found_by, IsWaker, IsLast}

@@ -21,12 +21,13 @@ use Rattle.sab_plan.specs.Call.{view_of, index_of}
 use Rattle.sab_plan.specs.Place.{place_of}
 use Rattle.sab_plan.specs.Plan.{PlanParts, call_of}
 use Rattle.sab_plan.specs.Check.{checks}
+use Rattle.sab_plan.specs.Fact.{woken_in}
 use Rattle.sab_sim.specs.Object.{State, bytes_of, element_at, waiters}
 use Rattle.sab_sim.specs.Run.{Reaches}
 use Rattle.sab_sim.specs.Shown.{AtEnd}
-use Rattle.sab_explain.specs.declared.fact.Found.{Found}
-use Rattle.sab_explain.specs.declared.fact.Found.TheVariants as F
-use Rattle.sab_explain.specs.declared.fact.Fact.{Fact}
+use Rattle.sab_plan.specs.declared.fact.Found.{Found}
+use Rattle.sab_plan.specs.declared.fact.Found.TheVariants as F
+use Rattle.sab_plan.specs.declared.fact.Fact.{Fact}
 
 -- ---- by the plan and the journal alone
 
@@ -150,11 +151,6 @@ pub record IsFact (plan : PlanParts) (journal : List Entry) (e : Entry) (fact : 
 -- the entry has no other fact
 abbrev pub IsOnlyFact : PlanParts → List Entry → Entry → Fact → Type 0
 IsOnlyFact plan journal e fact = (other : Fact) → IsFact plan journal e other → other ≡ fact
-
--- the agents that were woken, oldest first
-abbrev pub woken_in : Found → List ℕ
-woken_in (F.Notified woken waiting) = woken
-woken_in found = []
 
 -- the fact of entry j is that it woke the agent
 pub record HasWoken (plan : PlanParts) (journal : List Entry) (a j : ℕ) : Type 0 where

@@ -11,9 +11,9 @@ use Rattle.sab_plan.specs.Plan.{PlanParts, call_of}
 use Rattle.sab_sim.specs.Object.{State, stands}
 use Rattle.sab_plan.specs.Journal.{returned_of}
 use Rattle.sab_sim.specs.Run.{Reaches}
-use Rattle.sab_explain.specs.declared.standing.Standing.{Standing}
-use Rattle.sab_explain.specs.declared.standing.At.{At}
-use Rattle.sab_explain.specs.declared.standing.At.TheVariants as T
+use Rattle.sab_plan.specs.declared.standing.Standing.{Standing}
+use Rattle.sab_plan.specs.declared.standing.At.{At}
+use Rattle.sab_plan.specs.declared.standing.At.TheVariants as T
 use Rattle.sab_explain.specs.Fact.{place_named, IsLast, IsWaker}
 
 -- the two are one place

@@ -7,11 +7,10 @@ ghost use Rattle.sab_explain.specs.Explainer.{IsReadable, IsBefore, failed_of, f
 ghost use Rattle.sab_explain.specs.Fact as facts;
 ghost use Rattle.sab_explain.specs.Fact.{found_by};
 
-use crate::fact::Found;
 use crate::sight::{Sight, look, place_at, read, view_named};
 use sab_block::{Access, Check, Operand, from_raw};
-use sab_plan::failing_check;
-use sab_sim::{Answer, Call, Place, Plan, Sim, What, Why};
+use sab_plan::{Answer, Call, Found, Place, Plan, What, Why, failing_check};
+use sab_sim::Sim;
 
 /// What is known of an agent before its move.
 #[derive(Drop)]

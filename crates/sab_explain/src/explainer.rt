@@ -13,10 +13,10 @@ ghost use Rattle.sab_explain.specs.Standing as standings;
 ghost use Rattle.sab_explain.specs.Standing.{IsAt, IsStanding, IsOnlyStanding, what_at};
 
 use crate::before::{Before, before_move, conclude, place_named};
-use crate::fact::Fact;
 use crate::notes::{note_last, note_woken};
-use crate::standing::{At, Standing, by_last, is_notified};
-use sab_sim::{Entry, Move, Place, Plan, Report, Sim, SimFault};
+use crate::standing::{by_last, is_notified};
+use sab_plan::{At, Explained, Fact, Move, Place, Plan, Report, Standing};
+use sab_sim::{Sim, SimFault};
 use std::alloc::{AllocError, Global};
 use std::marker::Model;
 
@@ -39,13 +39,6 @@ impl Model for Explainer {
     ghost view = { λ x. x.sim };
 
     ghost invariant = { λ x. AreWakers x.sim.plan x.sim.journal x.wakers × AreLast x.sim.plan x.sim.journal x.last };
-}
-
-/// An entry with its fact.
-#[derive(Drop)]
-pub struct Explained {
-    pub entry: Entry,
-    pub fact: Fact,
 }
 
 impl Explainer {

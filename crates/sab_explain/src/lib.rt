@@ -5,11 +5,9 @@
 
 mod before;
 mod explainer;
-mod fact;
 mod notes;
 mod sight;
 mod standing;
 
-pub use explainer::{Explained, Explainer};
-pub use fact::{Fact, Found};
-pub use standing::{At, Standing};
+pub use explainer::Explainer;
+pub use sab_plan::{At, Explained, Fact, Found, Standing};

@@ -4,7 +4,7 @@ ghost use Rattle.std.specs.Prelude.{◌≡◌, ◌<◌, All, Some, slice_set, if
 ghost use Rattle.sab_plan.specs.Entry.{is_stuck};
 ghost use Rattle.sab_explain.specs.Explainer.{IsNoted};
 
-use sab_sim::What;
+use sab_plan::What;
 
 /// Notes that an entry woke these agents.
 pub fn note_woken(wakers: &mut [u32; 16], agents: &[u32], entry: u32)

@@ -11,7 +11,8 @@ ghost use Rattle.sab_explain.specs.Explainer as explaining;
 ghost use Rattle.sab_explain.specs.Explainer.{IsReadable, IsInside, IsSight, IsBlind};
 
 use sab_block::{Access, Operand, View, from_raw, to_raw};
-use sab_sim::{Call, Place, Plan, PlanView, Sim, Waiters};
+use sab_plan::{Call, Place, Plan, PlanView, Waiters};
+use sab_sim::Sim;
 
 /// A call with its place, the element there and the line there.
 #[derive(Drop)]

@@ -6,8 +6,4 @@ pub mod ReadingBack
 pub mod TreesRead
 pub mod ShortCalls
 pub mod ShortElements
-pub mod RunStates
-pub mod ShortAnswers
-pub mod ShortFacts
-pub mod LinesRead
 pub mod Telling

@@ -3,17 +3,11 @@ use Rattle.std.proofs.Common.{◌≡◌, ℕ, ◌+◌, ◌<◌, List, ◌++◌, 
 use Rattle.std.specs.Prelude.{Vec}
 use Rattle.std.specs.Io.KnownBytes.{Appends, Keeps, append_known}
 use Rattle.sab_plan.specs.declared.progress.Progress.{Progress}
-use Rattle.sab_plan.specs.declared.schedule.Move.{Move}
-use Rattle.sab_plan.specs.Plan.{PlanParts}
-use Rattle.sab_plan.specs.Report.{ReportParts, items_of_each}
-use Rattle.sab_explain.specs.declared.standing.Standing.{Standing}
-use Rattle.sab_text.specs.declared.lines.Lines.{Lines}
+use Rattle.sab_plan.specs.Report.{items_of_each}
+use Rattle.sab_plan.specs.declared.standing.Standing.{Standing}
 use Rattle.sab_text.proofs.Appending.{left_after, left_told}
-use Rattle.sab_words.specs.FactFormat.{TellsFacts}
 use Rattle.sab_json.specs.StandingData.{agent_data}
-use Rattle.sab_json.specs.Lines.{line, block_data, block_lines, agent_lines, json_texts}
-use Rattle.sab_json.specs.FactJson.{ExplainsAsJson}
-use Rattle.sab_json.proofs.LinesRead.{lines_read_back}
+use Rattle.sab_json.specs.Lines.{line, block_data, block_lines, agent_lines}
 
 blocks_left : (bs : List (Vec ℕ Global)) (k : ℕ) (d : Vec ℕ Global) → k < length bs
     → block_lines k (items_of_each (drop k bs)) ≡ line (block_data k (get_or bs k d).items)
@@ -43,10 +37,3 @@ agents_after a b y chunk names ss ps k d all h p q =
     left_after a b y chunk (line (agent_data names k (get_or ps k d) (slice_index_or ss k None)))
     (agent_lines names ss (k + 1) (drop (k + 1) ps)) all
     (rw (agents_left names ss ps k d h) at p) q
-
--- what was told reads back
-pub explains : (names : List (List ℕ)) (lines : Lines) (plan : PlanParts) (moves : List Move) (old new : Option (List ℕ))
-    (report : ReportParts) → TellsFacts (json_texts names lines) plan moves old new report
-    → ExplainsAsJson names lines plan moves old new report
-explains names lines plan moves old new report told =
-    record { told = told; read_back = lines_read_back names plan report told.fits }

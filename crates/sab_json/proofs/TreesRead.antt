@@ -16,12 +16,12 @@ use Rattle.sab_plan.specs.declared.entry.What.{What}
 use Rattle.sab_plan.specs.declared.entry.What.TheVariants.{Began, Acted, Enlisted, Left, Returned, Stuck}
 use Rattle.sab_plan.specs.declared.entry.Entry.{Entry}
 use Rattle.sab_plan.specs.declared.progress.Progress.{Progress}
-use Rattle.sab_explain.specs.declared.fact.Found.{Found}
-use Rattle.sab_explain.specs.declared.fact.Found.TheVariants as F
-use Rattle.sab_explain.specs.declared.fact.Fact.{Fact}
-use Rattle.sab_explain.specs.declared.standing.At.{At}
-use Rattle.sab_explain.specs.declared.standing.At.TheVariants as S
-use Rattle.sab_explain.specs.declared.standing.Standing.{Standing}
+use Rattle.sab_plan.specs.declared.fact.Found.{Found}
+use Rattle.sab_plan.specs.declared.fact.Found.TheVariants as F
+use Rattle.sab_plan.specs.declared.fact.Fact.{Fact}
+use Rattle.sab_plan.specs.declared.standing.At.{At}
+use Rattle.sab_plan.specs.declared.standing.At.TheVariants as S
+use Rattle.sab_plan.specs.declared.standing.Standing.{Standing}
 use Rattle.sab_json.specs.Members.{member_if}
 use Rattle.sab_json.specs.CallData.{natural, whole_data, operand_data, argument_data, argument_items, call_data}
 use Rattle.sab_json.specs.FactData.{answer_data, answer_in, why_in, place_data, agent_items, found_data, entry_data}

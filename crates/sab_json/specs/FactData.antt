@@ -10,9 +10,9 @@ use Rattle.sab_plan.specs.declared.place.Place.{Place}
 use Rattle.sab_plan.specs.declared.entry.What.{What}
 use Rattle.sab_plan.specs.declared.entry.What.TheVariants.{Began, Acted, Enlisted, Left, Returned, Stuck}
 use Rattle.sab_plan.specs.declared.entry.Entry.{Entry}
-use Rattle.sab_explain.specs.declared.fact.Found.{Found}
-use Rattle.sab_explain.specs.declared.fact.Found.TheVariants as F
-use Rattle.sab_explain.specs.declared.fact.Fact.{Fact}
+use Rattle.sab_plan.specs.declared.fact.Found.{Found}
+use Rattle.sab_plan.specs.declared.fact.Found.TheVariants as F
+use Rattle.sab_plan.specs.declared.fact.Fact.{Fact}
 use Rattle.sab_text.specs.Text.{why_text}
 use Rattle.sab_json.specs.Members.{member_if}
 use Rattle.sab_json.specs.CallData.{natural, operand_data, call_data}

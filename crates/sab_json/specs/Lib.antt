@@ -5,4 +5,3 @@ pub mod StandingData
 pub mod Lines
 pub mod SafeNumbers
 pub mod ReadsBack
-pub mod FactJson

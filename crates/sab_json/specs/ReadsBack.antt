@@ -1,29 +1,9 @@
--- What a reader of JSON makes of the lines.
-use Rattle.std.specs.Prelude.{◌≡◌, ℕ, List, take, Option, Some, slice_get}
+-- What a reader of JSON makes of a tree's text.
+use Rattle.std.specs.Prelude.{◌≡◌, Some}
 use Rattle.serde_json.specs.Data.{Data}
 use Rattle.serde_json.specs.Read.{read}
 use Rattle.serde_json.specs.Written.{compact_text}
-use Rattle.sab_plan.specs.Plan.{PlanParts}
-use Rattle.sab_plan.specs.declared.entry.Entry.{Entry}
-use Rattle.sab_plan.specs.declared.progress.Progress.{Progress}
-use Rattle.sab_plan.specs.Report.{ReportParts}
-use Rattle.sab_explain.specs.declared.fact.Fact.{Fact}
-use Rattle.sab_explain.specs.declared.standing.Standing.{Standing}
-use Rattle.sab_explain.specs.Fact.{IsFact}
-use Rattle.sab_words.specs.FactFormat.{IsStandingOf}
-use Rattle.sab_json.specs.FactData.{entry_data}
-use Rattle.sab_json.specs.StandingData.{agent_data}
-use Rattle.sab_json.specs.Lines.{block_data}
 
 -- the text of a tree is read as the tree
 abbrev pub ReadsBack : Data → Type 0
 ReadsBack d = read (compact_text d) ≡ Some d
-
--- so is each line of a report but for its line feed: of each entry with its fact, of each block, and of each agent with
--- where it stands
-pub record LinesReadBack (names : List (List ℕ)) (plan : PlanParts) (report : ReportParts) : Type 0 where
-  pub entries : (k : ℕ) (e : Entry) (fact : Fact) → slice_get report.journal k ≡ Some e
-      → IsFact plan (take k report.journal) e fact → ReadsBack (entry_data names k e fact)
-  pub blocks : (b : ℕ) (bytes : List ℕ) → slice_get report.blocks b ≡ Some bytes → ReadsBack (block_data b bytes)
-  pub agents : (a : ℕ) (p : Progress) (s : Option Standing) → slice_get report.agents a ≡ Some p
-      → IsStandingOf plan report.journal a s → ReadsBack (agent_data names a p s)

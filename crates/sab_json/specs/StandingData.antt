@@ -2,9 +2,9 @@
 use Rattle.std.specs.Prelude.{ℕ, List, Option, Some, None, codes, option_map}
 use Rattle.serde_json.specs.Data.{Data, boolean, string, object, no_members, member}
 use Rattle.sab_plan.specs.declared.progress.Progress.{Progress}
-use Rattle.sab_explain.specs.declared.standing.At.{At}
-use Rattle.sab_explain.specs.declared.standing.At.TheVariants as S
-use Rattle.sab_explain.specs.declared.standing.Standing.{Standing}
+use Rattle.sab_plan.specs.declared.standing.At.{At}
+use Rattle.sab_plan.specs.declared.standing.At.TheVariants as S
+use Rattle.sab_plan.specs.declared.standing.Standing.{Standing}
 use Rattle.sab_json.specs.Members.{member_if}
 use Rattle.sab_json.specs.CallData.{natural, call_data}
 use Rattle.sab_json.specs.FactData.{place_data}

@@ -13,8 +13,7 @@ use crate::call::{CALL_LEN, OPERAND_LEN, push_call_data, push_operand};
 use crate::found::{push_found, push_place, push_since};
 use crate::small::push_small;
 use sab_block::Thrown;
-use sab_explain::Fact;
-use sab_plan::{Answer, Call, Entry, What, Why};
+use sab_plan::{Answer, Call, Entry, Fact, What, Why};
 use sab_text::{Chunk, Lines};
 use sab_words::Name;
 

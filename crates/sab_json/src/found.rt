@@ -6,13 +6,12 @@ ghost use Rattle.serde_json.specs.Written.{compact_text, items_text};
 ghost use Rattle.sab_json.specs.Members.{member_text_if};
 ghost use Rattle.sab_json.specs.CallData.{natural};
 ghost use Rattle.sab_json.specs.FactData.{agent_items, place_data, found_data};
-ghost use Rattle.sab_explain.specs.declared.fact.Found.TheVariants as F;
+ghost use Rattle.sab_plan.specs.declared.fact.Found.TheVariants as F;
 
 use crate::call::{OPERAND_LEN, push_operand};
 use crate::small::push_small;
 use sab_block::{Check, Operand};
-use sab_explain::Found;
-use sab_plan::Place;
+use sab_plan::{Found, Place};
 use sab_text::Chunk;
 
 /// The most bytes of one more agent of several.

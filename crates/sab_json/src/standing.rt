@@ -10,8 +10,7 @@ ghost use Rattle.sab_json.specs.Lines.{line, agent_lines};
 
 use crate::call::{CALL_LEN, push_call_data};
 use crate::found::{PLACE_LEN, SINCE_LEN, push_place, push_since};
-use sab_explain::{At, Standing};
-use sab_plan::Progress;
+use sab_plan::{At, Progress, Standing};
 use sab_text::Chunk;
 use sab_words::{Name, standing_at};
 use std::io;

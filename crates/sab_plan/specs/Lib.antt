@@ -8,3 +8,4 @@ pub mod Entry
 pub mod Place
 pub mod Journal
 pub mod Report
+pub mod Fact

@@ -12,12 +12,13 @@ use Rattle.sab_plan.specs.Report.{ReportParts}
 use Rattle.sab_sim.specs.Fits.{Fits, IsOnly}
 use Rattle.sab_sim.proofs.ChangedLists.{slice_get-push}
 use Rattle.sab_explain.specs.Standing.{IsStanding, IsOnlyStanding}
-use Rattle.sab_explain.specs.declared.fact.Fact.{Fact}
-use Rattle.sab_explain.specs.declared.standing.Standing.{Standing}
+use Rattle.sab_plan.specs.declared.fact.Fact.{Fact}
+use Rattle.sab_plan.specs.declared.standing.Standing.{Standing}
 use Rattle.sab_text.proofs.Appending.{appends_both}
-use Rattle.sab_words.proofs.Noting.{notes_last}
+use Rattle.sab_report.proofs.LastNoted.{notes_last}
 use Rattle.sab_words.proofs.Telling.{appends_none, from_empty}
-use Rattle.sab_words.specs.FactFormat.{Texts, noted, sinces_after, no_sinces, entries_text, facts_text, IsTheFact, AreFacts, TellsEntries, IsStandingOf, AreStandings, TellsFacts}
+use Rattle.sab_words.specs.FactFormat.{Texts, noted, sinces_after, no_sinces, entries_text, facts_text}
+use Rattle.sab_report.specs.Facts.{IsTheFact, AreFacts, TellsEntries, IsStandingOf, AreStandings, TellsFacts}
 
 pub sinces_after-push : (sinces : List (Option ℕ)) (k : ℕ) (journal : List Entry) (e : Entry)
     → sinces_after sinces k (journal ++ e ∷ []) ≡ noted (sinces_after sinces k journal) (k + length journal) e

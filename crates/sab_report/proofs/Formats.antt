@@ -7,13 +7,16 @@ use Rattle.sab_plan.specs.Report.{ReportParts}
 use Rattle.sab_text.specs.declared.lines.Lines.{Lines}
 use Rattle.sab_text.specs.Text.{text_by}
 use Rattle.sab_words.specs.Column.{column_of}
-use Rattle.sab_words.specs.FactFormat.{Texts, facts_text, TellsFacts}
-use Rattle.sab_words.specs.Explained.{Explains, explained_text}
+use Rattle.sab_words.specs.FactFormat.{Texts, facts_text}
+use Rattle.sab_report.specs.Facts.{TellsFacts}
+use Rattle.sab_words.specs.Explained.{explained_text}
+use Rattle.sab_report.specs.Formats.{Explains}
 use Rattle.sab_words.proofs.Measuring.{has_room}
 use Rattle.sab_json.specs.SafeNumbers.{HasSafeNumbers}
-use Rattle.sab_json.specs.FactJson.{ExplainsAsJson}
+use Rattle.sab_report.specs.Formats.{ExplainsAsJson}
 use Rattle.sab_json.specs.Lines.{json_text}
-use Rattle.sab_svg.specs.Picture.{Draws, svg_text}
+use Rattle.sab_svg.specs.Picture.{svg_text}
+use Rattle.sab_report.specs.Formats.{Draws}
 use Rattle.sab_tool.specs.Replay.{IsReplayOf}
 use Rattle.sab_tool.specs.Racing.{IsRaceOf}
 use Rattle.sab_text.specs.declared.format.Format.TheVariants.{Plain, Explained, Json, Svg}

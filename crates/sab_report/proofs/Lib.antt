@@ -1,3 +1,9 @@
+pub mod RunStates
+pub mod ShortAnswers
+pub mod ShortFacts
+pub mod LinesRead
+pub mod LastNoted
+pub mod Pictures
 pub mod SpelledNumbers
 pub mod Formats
 pub mod ViewNames

@@ -1,3 +1,6 @@
+pub mod Facts
+pub mod ReadsBack
+pub mod Formats
 pub mod Telling
 pub mod Racing
 pub mod Reporting

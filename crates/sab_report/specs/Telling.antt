@@ -4,15 +4,15 @@ use Rattle.std.specs.Io.KnownBytes.{Appends, Keeps}
 use Rattle.sab_plan.specs.declared.schedule.Move.{Move}
 use Rattle.sab_plan.specs.Plan.{PlanParts}
 use Rattle.sab_plan.specs.Report.{ReportParts}
-use Rattle.sab_explain.specs.declared.fact.Fact.{Fact}
-use Rattle.sab_explain.specs.declared.standing.Standing.{Standing}
+use Rattle.sab_plan.specs.declared.fact.Fact.{Fact}
+use Rattle.sab_plan.specs.declared.standing.Standing.{Standing}
 use Rattle.sab_text.specs.declared.lines.Lines.{Lines}
 use Rattle.sab_text.specs.Text.{text_by}
 use Rattle.sab_words.specs.Column.{column_of, HasRoom}
-use Rattle.sab_words.specs.FactFormat.{AreFacts, AreStandings}
+use Rattle.sab_report.specs.Facts.{AreFacts, AreStandings}
 use Rattle.sab_words.specs.Explained.{explained_text}
 use Rattle.sab_json.specs.Lines.{json_text}
-use Rattle.sab_json.specs.ReadsBack.{LinesReadBack}
+use Rattle.sab_report.specs.ReadsBack.{LinesReadBack}
 use Rattle.sab_xml.specs.WellFormed.{IsDocument}
 use Rattle.sab_svg.specs.Picture.{svg_text}
 use Rattle.sab_tool.specs.declared.tool_fault.ToolFault.{ToolFault}

@@ -3,7 +3,7 @@
 ghost use Rattle.std.specs.Prelude.{◌≡◌, ◌^◌, ◌≤◌, [], length, IfOk, IfErr, OnOk};
 ghost use Rattle.std.specs.Io.KnownBytes.{append_known};
 ghost use Rattle.sab_plan.specs.Plan.{IsPlan};
-ghost use Rattle.sab_words.specs.FactFormat.{TellsEntries, TellsFacts};
+ghost use Rattle.sab_report.specs.Facts.{TellsEntries, TellsFacts};
 ghost use Rattle.sab_report.specs.Driver.{AreMovesOf, IsFreshFor};
 ghost use Rattle.sab_report.specs.Telling.{IsTellingFault};
 

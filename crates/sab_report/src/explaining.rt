@@ -3,10 +3,10 @@
 ghost use Rattle.std.specs.Prelude.{IfOk, IfErr};
 ghost use Rattle.sab_plan.specs.Plan.{IsPlan};
 ghost use Rattle.sab_words.specs.Column.{column_of};
-ghost use Rattle.sab_words.specs.Explained.{Explains};
+ghost use Rattle.sab_report.specs.Formats.{Explains};
 ghost use Rattle.sab_json.specs.CallData.{AreNames};
-ghost use Rattle.sab_json.specs.FactJson.{ExplainsAsJson};
-ghost use Rattle.sab_svg.specs.Picture.{Draws};
+ghost use Rattle.sab_report.specs.Formats.{ExplainsAsJson};
+ghost use Rattle.sab_report.specs.Formats.{Draws};
 ghost use Rattle.sab_report.specs.Driver.{AreMovesOf};
 ghost use Rattle.sab_report.specs.Telling.{IsColumnOf, IsTellingFault};
 

@@ -1,6 +1,6 @@
 //! Where agents stand at the end.
 
-ghost use Rattle.sab_words.specs.FactFormat.{AreStandings};
+ghost use Rattle.sab_report.specs.Facts.{AreStandings};
 
 use sab_explain::{Explainer, Standing};
 

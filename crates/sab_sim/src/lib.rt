@@ -10,13 +10,11 @@ mod room;
 mod runner;
 mod sim;
 mod sim_fault;
-mod waiters;
 
 pub use runner::replay;
 pub use sab_plan::{
-    Answer, Call, Entry, Move, Place, Plan, PlanFault, PlanView, Progress, Report, Script, What,
-    Why,
+    Answer, Call, Entry, Move, Place, Plan, PlanFault, PlanView, Progress, Report, Script, Waiters,
+    What, Why,
 };
 pub use sim::Sim;
 pub use sim_fault::SimFault;
-pub use waiters::Waiters;

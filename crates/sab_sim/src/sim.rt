@@ -17,9 +17,8 @@ use crate::lookup::call_at;
 use crate::machine::Machine;
 use crate::room::{hand_over, tell_progress};
 use crate::sim_fault::SimFault;
-use crate::waiters::Waiters;
 use sab_block::Block;
-use sab_plan::{Call, Entry, Move, Place, Plan, Progress, Report};
+use sab_plan::{Call, Entry, Move, Place, Plan, Progress, Report, Waiters};
 use std::alloc::{AllocError, Global};
 use std::marker::Model;
 

@@ -1,7 +1,7 @@
 -- The texts of who isn't done, and of blocks.
 use Rattle.std.proofs.Common.{◌≡◌, ℕ, ◌*◌, List, [], ◌∷◌, ◌++◌, length, take, refl, ap, ◌∙◌, arith, append_assoc, append-nil}
 use Rattle.std.specs.Prelude.{codes, decimal, flat_map}
-use Rattle.sab_explain.specs.declared.standing.Standing.{Standing}
+use Rattle.sab_plan.specs.declared.standing.Standing.{Standing}
 use Rattle.sab_text.specs.Text.{hex_byte}
 use Rattle.sab_words.specs.Explained.{standing_words}
 use Rattle.sab_xml.specs.Xml.{nodes, node_text, nodes_text}

@@ -8,13 +8,13 @@ use Rattle.sab_plan.specs.declared.entry.What.TheVariants.{Began, Acted, Enliste
 use Rattle.sab_plan.specs.declared.entry.Entry.{Entry}
 use Rattle.sab_plan.specs.Plan.{PlanParts}
 use Rattle.sab_plan.specs.Report.{ReportParts}
-use Rattle.sab_explain.specs.declared.fact.Fact.{Fact}
-use Rattle.sab_explain.specs.declared.fact.Found.{Found}
-use Rattle.sab_explain.specs.declared.fact.Found.TheVariants as F
-use Rattle.sab_explain.specs.Fact.{woken_in}
-use Rattle.sab_explain.specs.declared.standing.At.{At}
-use Rattle.sab_explain.specs.declared.standing.At.TheVariants as A
-use Rattle.sab_explain.specs.declared.standing.Standing.{Standing}
+use Rattle.sab_plan.specs.declared.fact.Fact.{Fact}
+use Rattle.sab_plan.specs.declared.fact.Found.{Found}
+use Rattle.sab_plan.specs.declared.fact.Found.TheVariants as F
+use Rattle.sab_plan.specs.Fact.{woken_in}
+use Rattle.sab_plan.specs.declared.standing.At.{At}
+use Rattle.sab_plan.specs.declared.standing.At.TheVariants as A
+use Rattle.sab_plan.specs.declared.standing.Standing.{Standing}
 use Rattle.sab_words.specs.FactText.{is_same, fact_words}
 use Rattle.sab_words.specs.Explained.{standing_words}
 use Rattle.sab_words.specs.FactFormat.{noted, no_sinces}

@@ -1,25 +1,20 @@
 -- What is drawn of entries, one after the other, and the whole picture.
-use Rattle.std.proofs.Common.{◌≡◌, ℕ, ◌+◌, List, [], ◌∷◌, ◌++◌, length, Option, refl, ap, sym, subst, ◌∙◌, append_assoc}
+use Rattle.std.proofs.Common.{◌≡◌, ℕ, ◌+◌, List, [], ◌∷◌, ◌++◌, Option, refl, ap, ◌∙◌, append_assoc}
 use Rattle.std.specs.Prelude.{codes}
-use Rattle.std.specs.Io.KnownBytes.{Appends}
 use Rattle.sab_plan.specs.declared.entry.Entry.{Entry}
-use Rattle.sab_plan.specs.declared.schedule.Move.{Move}
 use Rattle.sab_plan.specs.Plan.{PlanParts}
 use Rattle.sab_plan.specs.Report.{ReportParts}
-use Rattle.sab_explain.specs.declared.fact.Fact.{Fact}
-use Rattle.sab_explain.specs.declared.standing.Standing.{Standing}
-use Rattle.sab_words.specs.FactFormat.{noted, no_sinces, entries_text, facts_text, TellsFacts}
+use Rattle.sab_plan.specs.declared.fact.Fact.{Fact}
+use Rattle.sab_plan.specs.declared.standing.Standing.{Standing}
+use Rattle.sab_words.specs.FactFormat.{noted, no_sinces, entries_text, facts_text}
 use Rattle.sab_xml.specs.Xml.{Node, element, Attributes, attributes_text, nodes, nodes_text, node_text}
 use Rattle.sab_xml.proofs.Texts.{nodes_text_both}
 use Rattle.sab_svg.specs.declared.shape.Shape.{Shape}
-use Rattle.sab_svg.specs.Shape.{shape_of}
 use Rattle.sab_svg.specs.Pieces.{newline}
 use Rattle.sab_svg.specs.Moves.{drawn_entry, drawn_entries}
 use Rattle.sab_svg.specs.Ends.{drawn_ends, drawn_blocks}
 use Rattle.sab_svg.specs.Frame.{root_attributes, root_start, background, lanes, legend}
-use Rattle.sab_svg.specs.Picture.{drawn, picture_by, svg_text, svg_texts, Draws}
-use Rattle.sab_svg.proofs.Room.{calls_have_room}
-use Rattle.sab_svg.proofs.Named.{picture_document}
+use Rattle.sab_svg.specs.Picture.{drawn, picture_by, svg_texts}
 
 -- ---- entries
 
@@ -67,7 +62,7 @@ nodes_text_six a b c d e f =
       nodes_text_both a b,
     ) refl
 
-picture_text : (names : List (List ℕ)) (plan : PlanParts) (shape : Shape) (report : ReportParts) (facts : List Fact)
+pub picture_text : (names : List (List ℕ)) (plan : PlanParts) (shape : Shape) (report : ReportParts) (facts : List Fact)
     (standings : List (Option Standing)) → node_text (picture_by names plan shape report facts standings) ++ codes "\n"
     ≡ facts_text (svg_texts names shape) plan report facts standings
 unfolding root_start
@@ -83,27 +78,3 @@ picture_text names plan shape report facts standings =
     (nodes_text (nodes (legend shape))) (codes "</svg>\n")
     ∙ ap (λ (t : List ℕ). (svg_texts names shape).start ++ (t ++ (svg_texts names shape).finish report standings))
     (entries_drawn names plan shape no_sinces 0 report.journal facts)))
-
--- what was told is a picture
-pub draws : (names : List (List ℕ)) (plan : PlanParts) (moves : List Move) (old new : Option (List ℕ))
-    (report : ReportParts) → TellsFacts (svg_texts names (shape_of names plan (length moves))) plan moves old new report
-    → Draws names plan moves old new report
-draws names plan moves old new report told =
-    let same : shape_of names plan (length moves) ≡ shape_of names plan (length report.schedule) =
-    ap (λ (ms : List Move). shape_of names plan (length ms)) (sym told.schedule) in
-    let text : facts_text (svg_texts names (shape_of names plan (length moves))) plan report told.facts told.standings
-    ≡ svg_text names plan report told.facts told.standings =
-    ap (λ (shape : Shape). facts_text (svg_texts names shape) plan report told.facts told.standings) same
-    ∙ sym (picture_text names plan (shape_of names plan (length report.schedule)) report told.facts told.standings) in
-    record {
-      fits = told.fits;
-      one = told.one;
-      schedule = told.schedule;
-      facts = told.facts;
-      facts_are = told.facts_are;
-      standings = told.standings;
-      standings_are = told.standings_are;
-      written = subst (Appends old new) text told.written;
-      well_formed = picture_document names plan report told.facts told.standings;
-      room = calls_have_room names plan (length report.schedule);
-    }

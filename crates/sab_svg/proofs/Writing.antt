@@ -4,7 +4,7 @@ use Rattle.std.specs.Prelude.{Vec}
 use Rattle.std.proofs.lemmas.List.{drop_more}
 use Rattle.std.specs.Io.KnownBytes.{Appends, Keeps, append_known}
 use Rattle.sab_plan.specs.Report.{items_of_each}
-use Rattle.sab_explain.specs.declared.standing.Standing.{Standing}
+use Rattle.sab_plan.specs.declared.standing.Standing.{Standing}
 use Rattle.sab_text.proofs.Appending.{left_told, appends_last}
 use Rattle.sab_words.proofs.Telling.{room_then}
 use Rattle.sab_xml.specs.Xml.{nodes, nodes_text}

@@ -1,8 +1,8 @@
 -- What is drawn below the last row: who isn't done, and the blocks.
 use Rattle.std.specs.Prelude.{ℕ, zero, suc, ◌+◌, ◌-◌, nat_lt, if◌then◌else◌, List, [], ◌∷◌, ◌++◌, length, take, flat_map, Option, Some, None, codes, decimal, slice_index_or}
-use Rattle.sab_explain.specs.declared.standing.At.{At}
-use Rattle.sab_explain.specs.declared.standing.At.TheVariants as A
-use Rattle.sab_explain.specs.declared.standing.Standing.{Standing}
+use Rattle.sab_plan.specs.declared.standing.At.{At}
+use Rattle.sab_plan.specs.declared.standing.At.TheVariants as A
+use Rattle.sab_plan.specs.declared.standing.Standing.{Standing}
 use Rattle.sab_text.specs.Text.{field, hex_byte}
 use Rattle.sab_words.specs.Explained.{standing_words}
 use Rattle.sab_xml.specs.Xml.{Node}

@@ -9,10 +9,10 @@ use Rattle.sab_plan.specs.declared.entry.What.{What}
 use Rattle.sab_plan.specs.declared.entry.What.TheVariants.{Began, Acted, Enlisted, Left, Returned, Stuck}
 use Rattle.sab_plan.specs.declared.entry.Entry.{Entry}
 use Rattle.sab_plan.specs.Plan.{PlanParts}
-use Rattle.sab_explain.specs.declared.fact.Fact.{Fact}
-use Rattle.sab_explain.specs.declared.fact.Found.{Found}
-use Rattle.sab_explain.specs.declared.fact.Found.TheVariants as F
-use Rattle.sab_explain.specs.Fact.{woken_in}
+use Rattle.sab_plan.specs.declared.fact.Fact.{Fact}
+use Rattle.sab_plan.specs.declared.fact.Found.{Found}
+use Rattle.sab_plan.specs.declared.fact.Found.TheVariants as F
+use Rattle.sab_plan.specs.Fact.{woken_in}
 use Rattle.sab_text.specs.Text.{operand_text, answer_text, why_text}
 use Rattle.sab_words.specs.CallText.{call_text, element_text}
 use Rattle.sab_words.specs.FactText.{is_same, fact_words}

@@ -1,17 +1,13 @@
 -- The picture of a run.
-use Rattle.std.specs.Prelude.{◌≡◌, ℕ, List, [], ◌∷◌, ◌++◌, length, Option, codes}
-use Rattle.std.specs.Io.KnownBytes.{Appends}
-use Rattle.sab_plan.specs.declared.schedule.Move.{Move}
+use Rattle.std.specs.Prelude.{ℕ, List, [], ◌∷◌, ◌++◌, length, Option, codes}
 use Rattle.sab_plan.specs.Plan.{PlanParts}
 use Rattle.sab_plan.specs.Report.{ReportParts}
-use Rattle.sab_sim.specs.Fits.{Fits, IsOnly}
-use Rattle.sab_explain.specs.declared.fact.Fact.{Fact}
-use Rattle.sab_explain.specs.declared.standing.Standing.{Standing}
-use Rattle.sab_words.specs.FactFormat.{Texts, AreFacts, AreStandings, no_sinces}
+use Rattle.sab_plan.specs.declared.fact.Fact.{Fact}
+use Rattle.sab_plan.specs.declared.standing.Standing.{Standing}
+use Rattle.sab_words.specs.FactFormat.{Texts, no_sinces}
 use Rattle.sab_xml.specs.Xml.{Node, element, nodes, node_text, nodes_text}
-use Rattle.sab_xml.specs.WellFormed.{IsDocument}
 use Rattle.sab_svg.specs.declared.shape.Shape.{Shape}
-use Rattle.sab_svg.specs.Shape.{shape_of, HaveRoom}
+use Rattle.sab_svg.specs.Shape.{shape_of}
 use Rattle.sab_svg.specs.Pieces.{newline}
 use Rattle.sab_svg.specs.Moves.{drawn_entry, drawn_entries}
 use Rattle.sab_svg.specs.Ends.{drawn_ends, drawn_blocks}
@@ -49,18 +45,3 @@ svg_texts names shape = record {
       ++ (nodes_text (nodes (drawn_blocks shape 0 report.blocks))
       ++ (nodes_text (nodes (legend shape)) ++ codes "</svg>\n"));
 }
-
--- the one report of the moves fits, its picture came behind what the writer held, the text is a document of XML, and
--- no call runs into another lane
-pub record Draws (names : List (List ℕ)) (plan : PlanParts) (moves : List Move) (old new : Option (List ℕ))
-    (report : ReportParts) : Type 0 where
-  pub fits : Fits plan report
-  pub one : IsOnly plan report
-  pub schedule : report.schedule ≡ moves
-  pub facts : List Fact
-  pub facts_are : AreFacts plan report.journal facts
-  pub standings : List (Option Standing)
-  pub standings_are : AreStandings plan report.journal standings
-  pub written : Appends old new (svg_text names plan report facts standings)
-  pub well_formed : IsDocument (svg_text names plan report facts standings)
-  pub room : HaveRoom names plan (shape_of names plan (length report.schedule))

@@ -9,8 +9,7 @@ use crate::done::{ANSWERED_LEN, answered};
 use crate::measuring::CHAR_WIDTH;
 use crate::pieces::{LINE_LEN, push_across};
 use crate::shape::{Shape, row_middle};
-use sab_explain::Found;
-use sab_plan::{Entry, What};
+use sab_plan::{Entry, Found, What};
 use sab_text::Chunk;
 
 /// From the end of a text to an arrow's start.

@@ -12,7 +12,7 @@ use crate::pieces::{
     push_open_call_bar, push_open_wait_bar,
 };
 use crate::shape::{Shape, row_middle, row_text};
-use sab_explain::{At, Standing};
+use sab_plan::{At, Standing};
 use sab_text::Chunk;
 use sab_words::{Name, STANDING_LEN, push_standing_words, standing_at};
 use std::io;

@@ -15,8 +15,7 @@ use crate::pieces::{
     AGENT_LEN, GROUP_LEN, LABEL_END, LABEL_LEN, RECTANGLE_LEN, open_group, open_label, push_agent,
 };
 use crate::shape::{Shape, row_text};
-use sab_explain::{Explained, Fact};
-use sab_plan::{Entry, Plan};
+use sab_plan::{Entry, Explained, Fact, Plan};
 use sab_text::Chunk;
 use sab_words::{Name, WORDS_LEN, push_words};
 

@@ -3,8 +3,8 @@ use Rattle.std.proofs.Common.{◌≡◌, ℕ, List, Option, refl}
 use Rattle.std.specs.Prelude.{codes}
 use Rattle.sab_plan.specs.declared.call.Call.{Call}
 use Rattle.sab_plan.specs.declared.entry.Why.{Why}
-use Rattle.sab_explain.specs.declared.fact.Found.{Found}
-use Rattle.sab_explain.specs.declared.fact.Found.TheVariants as F
+use Rattle.sab_plan.specs.declared.fact.Found.{Found}
+use Rattle.sab_plan.specs.declared.fact.Found.TheVariants as F
 use Rattle.sab_words.specs.FactText.{stuck_text}
 
 pub not_waiting : (names : List (List ℕ)) (call : Call) (since : Option ℕ) (why : Why) (found : Found)

@@ -2,19 +2,18 @@
 use Rattle.std.specs.Prelude.{ℕ, ◌+◌, Bool, true, false, List, [], ◌∷◌, ◌++◌, Option, Some, None, codes, decimal, slice_index_or}
 use Rattle.sab_plan.specs.declared.entry.Entry.{Entry}
 use Rattle.sab_plan.specs.declared.progress.Progress.{Progress}
-use Rattle.sab_plan.specs.declared.schedule.Move.{Move}
 use Rattle.sab_plan.specs.Plan.{PlanParts}
 use Rattle.sab_plan.specs.Report.{ReportParts}
-use Rattle.sab_explain.specs.declared.fact.Fact.{Fact}
-use Rattle.sab_explain.specs.declared.standing.At.{At}
-use Rattle.sab_explain.specs.declared.standing.At.TheVariants as A
-use Rattle.sab_explain.specs.declared.standing.Standing.{Standing}
+use Rattle.sab_plan.specs.declared.fact.Fact.{Fact}
+use Rattle.sab_plan.specs.declared.standing.At.{At}
+use Rattle.sab_plan.specs.declared.standing.At.TheVariants as A
+use Rattle.sab_plan.specs.declared.standing.Standing.{Standing}
 use Rattle.sab_text.specs.declared.lines.Lines.{Lines}
 use Rattle.sab_text.specs.Lines.{line_if}
 use Rattle.sab_text.specs.Text.{entry_text, agent_text, agent_line, block_lines}
 use Rattle.sab_words.specs.CallText.{call_text, element_text}
 use Rattle.sab_words.specs.Column.{spaced}
-use Rattle.sab_words.specs.FactFormat.{Texts, facts_text, TellsFacts}
+use Rattle.sab_words.specs.FactFormat.{Texts, facts_text}
 use Rattle.sab_words.specs.FactText.{stand_text, fact_words}
 
 -- the line of entry k: its plain text, and from a column on its fact in words
@@ -81,9 +80,3 @@ words_texts column names lines = record {
 abbrev pub explained_text : ℕ → List (List ℕ) → PlanParts → Lines → ReportParts → List Fact → List (Option Standing)
     → List ℕ
 explained_text column names plan lines = facts_text (words_texts column names lines) plan
-
--- the one report of the moves fits, and its explained text came behind what the writer held; since when agents have
--- waited is told by their last entries
-abbrev pub Explains : ℕ → List (List ℕ) → PlanParts → Lines → List Move → Option (List ℕ) → Option (List ℕ)
-    → ReportParts → Type 0
-Explains column names plan lines = TellsFacts (words_texts column names lines) plan

@@ -1,17 +1,11 @@
 -- Formats that tell the facts of a run.
-use Rattle.std.specs.Prelude.{◌≡◌, ℕ, ◌+◌, ◌<◌, if◌then◌else◌, List, [], ◌∷◌, ◌++◌, length, replicate, Option, Some, None, slice_get, slice_set, slice_index_or, take}
-use Rattle.std.specs.Io.KnownBytes.{Appends}
+use Rattle.std.specs.Prelude.{ℕ, ◌+◌, if◌then◌else◌, List, [], ◌∷◌, ◌++◌, replicate, Option, Some, None, slice_set}
 use Rattle.sab_plan.specs.declared.entry.Entry.{Entry}
 use Rattle.sab_plan.specs.Entry.{is_stuck}
-use Rattle.sab_plan.specs.declared.schedule.Move.{Move}
-use Rattle.sab_plan.specs.Plan.{PlanParts, call_of}
-use Rattle.sab_plan.specs.Journal.{returned_of}
+use Rattle.sab_plan.specs.Plan.{PlanParts}
 use Rattle.sab_plan.specs.Report.{ReportParts}
-use Rattle.sab_sim.specs.Fits.{Fits, IsOnly}
-use Rattle.sab_explain.specs.declared.fact.Fact.{Fact}
-use Rattle.sab_explain.specs.declared.standing.Standing.{Standing}
-use Rattle.sab_explain.specs.Fact.{IsFact, IsOnlyFact, IsLast}
-use Rattle.sab_explain.specs.Standing.{IsStanding, IsOnlyStanding}
+use Rattle.sab_plan.specs.declared.fact.Fact.{Fact}
+use Rattle.sab_plan.specs.declared.standing.Standing.{Standing}
 
 -- what a format writes: a start, a text for each entry, by its plan, the position of each agent's last entry with an
 -- effect before it, and its own position, and an end by the report and where its agents stand
@@ -33,12 +27,6 @@ sinces_after sinces k (e ∷ journal) = sinces_after (noted sinces k e) (k + 1) 
 abbrev pub no_sinces : List (Option ℕ)
 no_sinces = replicate 16 None
 
--- whatever journal came before an entry, what is noted then of each agent is its last entry with an effect: a plan has at
--- most 16 agents
-abbrev pub NotesLast : Type 0
-NotesLast = (journal : List Entry) (a : ℕ) → a < 16
-    → IsLast journal a (slice_index_or (sinces_after no_sinces 0 journal) a None)
-
 -- the text of each entry of a journal with its fact, of which the first is entry k
 abbrev pub entries_text : Texts → PlanParts → List (Option ℕ) → ℕ → List Entry → List Fact → List ℕ
 entries_text texts plan sinces k [] facts = []
@@ -50,44 +38,3 @@ entries_text texts plan sinces k (e ∷ journal) (fact ∷ facts) =
 abbrev pub facts_text : Texts → PlanParts → ReportParts → List Fact → List (Option Standing) → List ℕ
 facts_text texts plan report facts standings =
     texts.start ++ (entries_text texts plan no_sinces 0 report.journal facts ++ texts.finish report standings)
-
--- the fact is that of an entry after a journal, and no other is
-pub record IsTheFact (plan : PlanParts) (journal : List Entry) (e : Entry) (fact : Fact) : Type 0 where
-  pub fact_is : IsFact plan journal e fact
-  pub only : IsOnlyFact plan journal e fact
-
--- these are the facts of the entries of a journal
-pub record AreFacts (plan : PlanParts) (journal : List Entry) (facts : List Fact) : Type 0 where
-  pub count : length facts ≡ length journal
-  pub each : (k : ℕ) (e : Entry) (fact : Fact) → slice_get journal k ≡ Some e → slice_get facts k ≡ Some fact
-      → IsTheFact plan (take k journal) e fact
-
--- the texts of a journal's entries came behind what was told
-pub record TellsEntries (texts : Texts) (plan : PlanParts) (journal : List Entry) (old new : Option (List ℕ)) : Type 0
-  where
-    pub facts : List Fact
-    pub are : AreFacts plan journal facts
-    pub written : Appends old new (entries_text texts plan no_sinces 0 journal facts)
-
--- where an agent stands after a journal, and in no other way; none where all its calls have returned
-abbrev pub IsStandingOf : PlanParts → List Entry → ℕ → Option Standing → Type 0
-IsStandingOf plan journal a None = call_of plan a (returned_of journal a) ≡ None
-IsStandingOf plan journal a (Some s) = IsStanding plan journal a s × IsOnlyStanding plan journal a s
-
--- where each agent stands: a plan has at most 16
-abbrev pub AreStandings : PlanParts → List Entry → List (Option Standing) → Type 0
-AreStandings plan journal standings = (a : ℕ) → a < 16 → IsStandingOf plan journal a (slice_index_or standings a None)
-
--- the one report of the moves fits, and its text with facts came behind what the writer held; the position that is
--- known of an agent is that of its last entry with an effect
-pub record TellsFacts (texts : Texts) (plan : PlanParts) (moves : List Move) (old new : Option (List ℕ))
-    (report : ReportParts) : Type 0 where
-  pub fits : Fits plan report
-  pub one : IsOnly plan report
-  pub schedule : report.schedule ≡ moves
-  pub facts : List Fact
-  pub facts_are : AreFacts plan report.journal facts
-  pub standings : List (Option Standing)
-  pub standings_are : AreStandings plan report.journal standings
-  pub written : Appends old new (facts_text texts plan report facts standings)
-  pub since : NotesLast

@@ -18,9 +18,9 @@ use Rattle.sab_plan.specs.declared.entry.What.TheVariants.{Began, Returned, Stuc
 use Rattle.sab_plan.specs.declared.entry.Entry.{Entry}
 use Rattle.sab_plan.specs.Call.{view_of}
 use Rattle.sab_plan.specs.Plan.{PlanParts}
-use Rattle.sab_explain.specs.declared.fact.Found.{Found}
-use Rattle.sab_explain.specs.declared.fact.Found.TheVariants as F
-use Rattle.sab_explain.specs.declared.fact.Fact.{Fact}
+use Rattle.sab_plan.specs.declared.fact.Found.{Found}
+use Rattle.sab_plan.specs.declared.fact.Found.TheVariants as F
+use Rattle.sab_plan.specs.declared.fact.Fact.{Fact}
 use Rattle.sab_text.specs.Text.{operand_text}
 use Rattle.sab_words.specs.CallText.{name_of, argument, call_text, element_text}
 

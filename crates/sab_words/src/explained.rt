@@ -12,8 +12,7 @@ use crate::column::Column;
 use crate::layout::Layout;
 use crate::name::Name;
 use crate::outcome_text::push_outcome;
-use sab_explain::{Explained, Fact, Found};
-use sab_plan::{Answer, Call, Entry, Plan, What, Why};
+use sab_plan::{Answer, Call, Entry, Explained, Fact, Found, Plan, What, Why};
 use sab_text::{Chunk, Line, prepend_entry};
 
 /// The most bytes of why a wait goes on.

@@ -3,8 +3,7 @@
 ghost use Rattle.std.specs.Prelude.{◌≡◌, ◌<◌, ◌^◌, length, OnOk};
 ghost use Rattle.std.specs.Io.KnownBytes.{Appends, append_known};
 
-use sab_explain::{Explained, Standing};
-use sab_plan::{Plan, Report};
+use sab_plan::{Explained, Plan, Report, Standing};
 use sab_text::Chunk;
 use std::io;
 use std::io::Write;

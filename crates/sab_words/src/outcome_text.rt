@@ -9,8 +9,7 @@ use crate::name::Name;
 use crate::reason_text::push_reason;
 use crate::waiting_text::{push_ahead, push_notified};
 use sab_block::Operand;
-use sab_explain::{Fact, Found};
-use sab_plan::{Call, Plan};
+use sab_plan::{Call, Fact, Found, Plan};
 use sab_text::Chunk;
 
 /// The most bytes of what an element is.

@@ -8,8 +8,7 @@ use crate::call_text::{push_call, push_element, push_stand};
 use crate::column::Column;
 use crate::explained::push_spaced;
 use crate::name::Name;
-use sab_explain::{At, Standing};
-use sab_plan::{Call, Progress};
+use sab_plan::{At, Call, Progress, Standing};
 use sab_text::{Chunk, Line, prepend_agent};
 
 /// The most bytes of whether a place was notified.

@@ -9,8 +9,7 @@ use crate::counts::{
     push_counted, push_next_agents, push_next_sleepers, push_since_of, push_sleeper,
 };
 use crate::name::Name;
-use sab_plan::Call;
-use sab_sim::Waiters;
+use sab_plan::{Call, Waiters};
 use sab_text::Chunk;
 
 /// The most bytes of who is ahead: words, and 16 agents.

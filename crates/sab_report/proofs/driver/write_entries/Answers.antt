@@ -5,7 +5,8 @@ use Rattle.std.specs.Io.KnownBytes.{Appends, append_known}
 use Rattle.sab_plan.specs.declared.schedule.Move.TheVariants.{Step}
 use Rattle.sab_plan.specs.Plan.{PlanParts}
 use Rattle.sab_sim.specs.Sim.{SimParts}
-use Rattle.sab_words.specs.FactFormat.{Texts, IsTheFact, no_sinces, noted}
+use Rattle.sab_words.specs.FactFormat.{Texts, no_sinces, noted}
+use Rattle.sab_report.specs.Facts.{IsTheFact}
 use Rattle.sab_report.proofs.Driving.{told_more, sinces_after-push}
 use Rattle.sab_report.proofs.driver.write_entries.Goals as goal
 

@@ -1,6 +1,7 @@
 use Rattle.std.proofs.Common.{◌≡◌, ◌≤◌, ◌+◌, length, take}
 use Rattle.std.specs.Io.KnownBytes.{append_known}
-use Rattle.sab_words.specs.FactFormat.{TellsEntries, no_sinces, sinces_after}
+use Rattle.sab_words.specs.FactFormat.{no_sinces, sinces_after}
+use Rattle.sab_report.specs.Facts.{TellsEntries}
 use Rattle.sab_report.proofs.driver.write_entries.Given as goal
 
 abbrev pub invariant-loop-k : goal.invariant-loop-k

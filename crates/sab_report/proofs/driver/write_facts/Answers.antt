@@ -2,7 +2,8 @@
 use Rattle.std.proofs.Common.{◌∙◌, subst, sym}
 use Rattle.std.specs.Io.KnownBytes.{Appends, append_known}
 use Rattle.sab_plan.specs.Plan.{IsPlan}
-use Rattle.sab_words.specs.FactFormat.{Texts, TellsEntries}
+use Rattle.sab_words.specs.FactFormat.{Texts}
+use Rattle.sab_report.specs.Facts.{TellsEntries}
 use Rattle.sab_report.proofs.Driving.{tells}
 use Rattle.sab_report.proofs.Memory.{few_blocks}
 use Rattle.sab_report.proofs.driver.write_facts.Goals as goal

@@ -1,9 +1,10 @@
 -- What was told is a picture.
 use Rattle.std.proofs.Common.{subst, ap₂}
 use Rattle.std.proofs.lemmas.Result.{IfOk-weaker}
-use Rattle.sab_words.specs.FactFormat.{Texts, TellsFacts}
+use Rattle.sab_words.specs.FactFormat.{Texts}
+use Rattle.sab_report.specs.Facts.{TellsFacts}
 use Rattle.sab_svg.specs.Picture.{svg_texts}
-use Rattle.sab_svg.proofs.Telling.{draws}
+use Rattle.sab_report.proofs.Pictures.{draws}
 use Rattle.sab_report.proofs.explaining.draw.Goals as goal
 
 pub returns-clause-ok : goal.returns-clause-ok

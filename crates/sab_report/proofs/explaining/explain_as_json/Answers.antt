@@ -1,6 +1,6 @@
 -- What was told reads back.
 use Rattle.std.proofs.lemmas.Result.{IfOk-weaker}
-use Rattle.sab_json.proofs.Telling.{explains}
+use Rattle.sab_report.proofs.LinesRead.{explains}
 use Rattle.sab_report.proofs.explaining.explain_as_json.Goals as goal
 
 pub returns-clause-ok : goal.returns-clause-ok

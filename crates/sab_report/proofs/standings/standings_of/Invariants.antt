@@ -1,5 +1,5 @@
 use Rattle.std.proofs.Common.{◌≡◌, ℕ, ◌<◌, None, length, slice_index_or}
-use Rattle.sab_words.specs.FactFormat.{IsStandingOf}
+use Rattle.sab_report.specs.Facts.{IsStandingOf}
 use Rattle.sab_report.proofs.standings.standings_of.Given as goal
 
 abbrev pub invariant-loop-a : goal.invariant-loop-a

@@ -5,7 +5,7 @@ use Rattle.sab_plan.specs.declared.entry.Entry.{Entry}
 use Rattle.sab_plan.specs.declared.entry.What.TheVariants.{Began}
 use Rattle.sab_plan.specs.Plan.{PlanParts}
 use Rattle.sab_sim.specs.Sim.{SimParts}
-use Rattle.sab_explain.specs.declared.fact.Fact.{Fact}
+use Rattle.sab_plan.specs.declared.fact.Fact.{Fact}
 use Rattle.sab_explain.specs.Fact.{IsFact}
 use Rattle.sab_explain.specs.Explainer.{IsNoted, concluded}
 use Rattle.sab_explain.proofs.Concluding.{fact_of}

@@ -28,7 +28,7 @@ use Rattle.sab_json.specs.SafeNumbers.{IsSafeArgument, IsSafeCall, HasSafeNumber
 use Rattle.sab_json.proofs.ShortNumbers.{HasShortNumbers}
 use Rattle.sab_json.proofs.ShortCalls.{All-at, operand_short}
 use Rattle.sab_json.proofs.ShortElements.{element_short}
-use Rattle.sab_json.proofs.RunStates.{IsSound, block_bytes, length-waiters, Does-sound, opening_sound, few_acts}
+use Rattle.sab_report.proofs.RunStates.{IsSound, block_bytes, length-waiters, Does-sound, opening_sound, few_acts}
 
 -- what is answered, where it is something, has short numbers
 abbrev pub HasShortAnswer : What → Type 0

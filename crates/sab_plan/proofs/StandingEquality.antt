@@ -5,11 +5,11 @@ use Rattle.std.proofs.lemmas.Bool.{false≢true, and_parts}
 use borrow.Author.Tests.{eqb-true}
 use Rattle.sab_plan.proofs.Equality.{same_call}
 use Rattle.sab_plan.proofs.EntryEquality.{same_place}
-use Rattle.sab_explain.specs.declared.standing.At.{At}
-use Rattle.sab_explain.specs.declared.standing.At.TheVariants as T
-use Rattle.sab_explain.specs.declared.standing.Standing.{Standing}
-use Rattle.sab_explain.specs.contracts.standing.AtPartialEq.TheImpl as at
-use Rattle.sab_explain.specs.contracts.standing.StandingPartialEq.TheImpl as standing
+use Rattle.sab_plan.specs.declared.standing.At.{At}
+use Rattle.sab_plan.specs.declared.standing.At.TheVariants as T
+use Rattle.sab_plan.specs.declared.standing.Standing.{Standing}
+use Rattle.sab_plan.specs.contracts.standing.AtPartialEq.TheImpl as at
+use Rattle.sab_plan.specs.contracts.standing.StandingPartialEq.TheImpl as standing
 
 same_option : {X : Type 0} {E : X → X → Bool} → ((x y : X) → E x y ≡ true → x ≡ y) → (t u : Option X)
     → option_eq E t u ≡ true → t ≡ u

@@ -23,7 +23,7 @@ impl Model for Waiters {
 
 impl Waiters {
     /// No agents.
-    pub(crate) fn new() -> Waiters
+    pub fn new() -> Waiters
         ensures { result ≡ [] }
     {
         Waiters {
@@ -33,7 +33,7 @@ impl Waiters {
     }
 
     /// Appends an agent.
-    pub(crate) fn push(&mut self, agent: u32)
+    pub fn push(&mut self, agent: u32)
         requires { length self.old < 16 }
         ensures { self.new ≡ self.old ++ agent ∷ [] }
     {

@@ -17,23 +17,25 @@ use Rattle.sab_plan.specs.Entry.{is_return}
 use Rattle.sab_plan.specs.Journal.{returned_of, Answers}
 use Rattle.sab_plan.specs.Report.{ReportParts, progress_from}
 use Rattle.sab_sim.specs.Fits.{Fits}
-use Rattle.sab_explain.specs.declared.fact.Fact.{Fact}
-use Rattle.sab_explain.specs.declared.standing.Standing.{Standing}
+use Rattle.sab_plan.specs.declared.fact.Fact.{Fact}
+use Rattle.sab_plan.specs.declared.standing.Standing.{Standing}
 use Rattle.sab_explain.specs.Fact.{IsFact}
-use Rattle.sab_words.specs.FactFormat.{IsStandingOf}
+use Rattle.sab_text.specs.declared.lines.Lines.{Lines}
 use Rattle.sab_json.specs.CallData.{natural, call_data}
 use Rattle.sab_json.specs.FactData.{answer_in, why_in, place_data, found_data, entry_data}
 use Rattle.sab_json.specs.StandingData.{standing_data, agent_data}
-use Rattle.sab_json.specs.Lines.{block_data}
+use Rattle.sab_json.specs.Lines.{block_data, json_texts}
 use Rattle.sab_json.specs.SafeNumbers.{HasSafeNumbers}
-use Rattle.sab_json.specs.ReadsBack.{LinesReadBack}
 use Rattle.sab_json.proofs.ReadingBack.{reads_back}
 use Rattle.sab_json.proofs.TreesRead.{entry_in_order, block_in_order, agent_in_order}
 use Rattle.sab_json.proofs.ShortNumbers.{HasShortNumbers, short_if}
 use Rattle.sab_json.proofs.ShortCalls.{All-at, does_short}
-use Rattle.sab_json.proofs.RunStates.{Reaches-sound}
-use Rattle.sab_json.proofs.ShortAnswers.{answer_short}
-use Rattle.sab_json.proofs.ShortFacts.{place_short, since_short, finds_short, standing_short}
+use Rattle.sab_report.specs.Facts.{IsStandingOf, TellsFacts}
+use Rattle.sab_report.specs.Formats.{ExplainsAsJson}
+use Rattle.sab_report.specs.ReadsBack.{LinesReadBack}
+use Rattle.sab_report.proofs.RunStates.{Reaches-sound}
+use Rattle.sab_report.proofs.ShortAnswers.{answer_short}
+use Rattle.sab_report.proofs.ShortFacts.{place_short, since_short, finds_short, standing_short}
 
 -- ---- what is known of a report's entries
 
@@ -194,3 +196,10 @@ lines_read_back names plan report fits is_plan safe = record {
       reads_back (agent_data names a p s) (agent_in_order 124 names a p s)
       (agent_short names plan report a p s is_plan safe fits at is);
 }
+
+-- what was told reads back
+pub explains : (names : List (List ℕ)) (lines : Lines) (plan : PlanParts) (moves : List Move) (old new : Option (List ℕ))
+    (report : ReportParts) → TellsFacts (json_texts names lines) plan moves old new report
+    → ExplainsAsJson names lines plan moves old new report
+explains names lines plan moves old new report told =
+    record { told = told; read_back = lines_read_back names plan report told.fits }

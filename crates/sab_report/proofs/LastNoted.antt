@@ -9,7 +9,8 @@ use Rattle.sab_plan.specs.Entry.{is_stuck}
 use Rattle.sab_explain.specs.Fact.{IsLast}
 use Rattle.sab_explain.specs.Explainer.{AreLast}
 use Rattle.sab_explain.proofs.LastOnes.{AreLast-push, last_kept}
-use Rattle.sab_words.specs.FactFormat.{noted, sinces_after, no_sinces, NotesLast}
+use Rattle.sab_words.specs.FactFormat.{noted, sinces_after, no_sinces}
+use Rattle.sab_report.specs.Facts.{NotesLast}
 
 -- as many agents as a plan can have
 abbrev sixteen : PlanParts

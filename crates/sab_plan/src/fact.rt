@@ -1,9 +1,19 @@
-//! Facts of entries.
+//! Entries with their facts.
 
 ghost use Rattle.std.specs.Prelude.{◌≡◌};
 
+use crate::call::Call;
+use crate::entry::Entry;
+use crate::place::Place;
+use crate::waiters::Waiters;
 use sab_block::{Check, Operand};
-use sab_sim::{Call, Place, Waiters};
+
+/// An entry with its fact.
+#[derive(Drop)]
+pub struct Explained {
+    pub entry: Entry,
+    pub fact: Fact,
+}
 
 /// What an entry found and changed, beyond what the entry itself tells.
 #[derive(Drop)]
@@ -64,7 +74,7 @@ pub enum Found {
 }
 
 impl Found {
-    ghost use Rattle.sab_explain.specs.Fact.{woken_in};
+    ghost use Rattle.sab_plan.specs.Fact.{woken_in};
 
     /// The agents that the entry woke, oldest first.
     pub fn woken(&self) -> &[u32]

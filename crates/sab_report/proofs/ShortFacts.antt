@@ -26,12 +26,12 @@ use Rattle.sab_plan.specs.declared.entry.What.TheVariants.{Began, Acted, Enliste
 use Rattle.sab_plan.specs.declared.entry.Entry.{Entry}
 use Rattle.sab_sim.specs.Object.{State, Waiter, is_at, waiters, stands}
 use Rattle.sab_sim.specs.Run.{Reaches}
-use Rattle.sab_explain.specs.declared.fact.Found.{Found}
-use Rattle.sab_explain.specs.declared.fact.Found.TheVariants as F
-use Rattle.sab_explain.specs.declared.fact.Fact.{Fact}
-use Rattle.sab_explain.specs.declared.standing.At.{At}
-use Rattle.sab_explain.specs.declared.standing.At.TheVariants as T
-use Rattle.sab_explain.specs.declared.standing.Standing.{Standing}
+use Rattle.sab_plan.specs.declared.fact.Found.{Found}
+use Rattle.sab_plan.specs.declared.fact.Found.TheVariants as F
+use Rattle.sab_plan.specs.declared.fact.Fact.{Fact}
+use Rattle.sab_plan.specs.declared.standing.At.{At}
+use Rattle.sab_plan.specs.declared.standing.At.TheVariants as T
+use Rattle.sab_plan.specs.declared.standing.Standing.{Standing}
 use Rattle.sab_explain.specs.Fact.{place_on, place_named, IsLast, value_in, found_by, IsOfAct, IsOfWoken, IsWaker, Finds}
 use Rattle.sab_explain.specs.Standing.{IsAt, by_last, what_at, notifies, entries_after, IsStanding}
 use Rattle.sab_json.specs.CallData.{natural, operand_data}
@@ -41,7 +41,7 @@ use Rattle.sab_json.specs.SafeNumbers.{HasSafeNumbers}
 use Rattle.sab_json.proofs.ShortNumbers.{HasShortNumbers, ItemsHaveShortNumbers, short_if}
 use Rattle.sab_json.proofs.ShortCalls.{All-at, call_short, call_safe}
 use Rattle.sab_json.proofs.ShortElements.{element_short}
-use Rattle.sab_json.proofs.RunStates.{block_bytes, length-waiters, Reaches-sound}
+use Rattle.sab_report.proofs.RunStates.{block_bytes, length-waiters, Reaches-sound}
 
 -- ---- places
 
