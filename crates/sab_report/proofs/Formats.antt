@@ -70,6 +70,7 @@ by_facts told = record {
   standings = told.standings;
   standings_are = told.standings_are;
   is_its = refl;
+  since = told.since;
 }
 
 pub told_explained : (telling : Telling) (names : List (List ℕ)) (plan : PlanParts) (moves : List Move)
@@ -111,6 +112,7 @@ told_as_picture telling names plan moves report old new is x = record {
         standings = x.standings;
         standings_are = x.standings_are;
         is_its = refl;
+        since = x.since;
       },
       x.well_formed,
     );

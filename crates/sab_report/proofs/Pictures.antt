@@ -35,4 +35,5 @@ draws names plan moves old new report told =
       written = subst (Appends old new) text told.written;
       well_formed = picture_document names plan report told.facts told.standings;
       room = calls_have_room names plan (length report.schedule);
+      since = told.since;
     }

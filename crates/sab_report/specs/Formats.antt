@@ -14,7 +14,7 @@ use Rattle.sab_json.specs.SafeNumbers.{HasSafeNumbers}
 use Rattle.sab_xml.specs.WellFormed.{IsDocument}
 use Rattle.sab_svg.specs.Shape.{shape_of, HaveRoom}
 use Rattle.sab_svg.specs.Picture.{svg_text}
-use Rattle.sab_report.specs.Facts.{AreFacts, AreStandings, TellsFacts}
+use Rattle.sab_report.specs.Facts.{NotesLast, AreFacts, AreStandings, TellsFacts}
 use Rattle.sab_report.specs.ReadsBack.{LinesReadBack}
 
 -- the one report of the moves fits, and its explained text came behind what the writer held; since when agents have
@@ -30,8 +30,8 @@ pub record ExplainsAsJson (names : List (List ℕ)) (lines : Lines) (plan : Plan
   pub told : TellsFacts (json_texts names lines) plan moves old new report
   pub read_back : IsPlan plan → HasSafeNumbers plan → LinesReadBack names plan report
 
--- the one report of the moves fits, its picture came behind what the writer held, the text is a document of XML, and
--- no call runs into another lane
+-- the one report of the moves fits, its picture came behind what the writer held, the text is a document of XML, no
+-- call runs into another lane, and since when an agent stood as it did is told by its last entry with an effect
 pub record Draws (names : List (List ℕ)) (plan : PlanParts) (moves : List Move) (old new : Option (List ℕ))
     (report : ReportParts) : Type 0 where
   pub fits : Fits plan report
@@ -44,3 +44,4 @@ pub record Draws (names : List (List ℕ)) (plan : PlanParts) (moves : List Move
   pub written : Appends old new (svg_text names plan report facts standings)
   pub well_formed : IsDocument (svg_text names plan report facts standings)
   pub room : HaveRoom names plan (shape_of names plan (length report.schedule))
+  pub since : NotesLast

@@ -9,7 +9,7 @@ use Rattle.sab_plan.specs.declared.standing.Standing.{Standing}
 use Rattle.sab_text.specs.declared.lines.Lines.{Lines}
 use Rattle.sab_text.specs.Text.{text_by}
 use Rattle.sab_words.specs.Column.{column_of, HasRoom}
-use Rattle.sab_report.specs.Facts.{AreFacts, AreStandings}
+use Rattle.sab_report.specs.Facts.{NotesLast, AreFacts, AreStandings}
 use Rattle.sab_words.specs.Explained.{explained_text}
 use Rattle.sab_json.specs.Lines.{json_text}
 use Rattle.sab_report.specs.ReadsBack.{LinesReadBack}
@@ -22,7 +22,8 @@ use Rattle.sab_text.specs.declared.format.Format.{Format}
 use Rattle.sab_text.specs.declared.format.Format.TheVariants.{Plain, Explained, Json, Svg}
 use Rattle.sab_text.specs.declared.format.Telling.{Telling}
 
--- the facts of the report's entries and where its agents stand in the end make this text
+-- the facts of the report's entries and where its agents stand in the end make this text; since when an agent stood as
+-- it did is told by its last entry with an effect
 pub record IsByFacts (text_of : List Fact → List (Option Standing) → List ℕ) (plan : PlanParts) (report : ReportParts)
     (text : List ℕ) : Type 0 where
   pub facts : List Fact
@@ -30,6 +31,7 @@ pub record IsByFacts (text_of : List Fact → List (Option Standing) → List �
   pub standings : List (Option Standing)
   pub standings_are : AreStandings plan report.journal standings
   pub is_its : text ≡ text_of facts standings
+  pub since : NotesLast
 
 -- the text of a report in a format, by the names of the plan's views; words stand in one column, each line of JSON
 -- reads back as its tree, and a picture is a document of XML
