@@ -4,6 +4,7 @@ ghost use Rattle.std.specs.Prelude.{◌≡◌, ◌<◌, ◌≤◌, ◌^◌, leng
 ghost use Rattle.sab_judge.specs.Trace.{IsInBlocks};
 ghost use Rattle.sab_plan.specs.declared.entry.Entry.{Entry};
 ghost use Rattle.sab_events.specs.Events.{event_of, events_of};
+ghost use Rattle.sab_sim.specs.declared.sim.TheConstants.Sim.{MAX_ENTRIES};
 
 use crate::target::target_of;
 use sab_judge::{Event, Trace, TraceFault};
@@ -16,7 +17,7 @@ use std::alloc::{AllocError, Global};
 /// The journal has at most 2^20 entries, of agents below 16, as each report of a plan has. An entry of a call that the
 /// plan hasn't is an event that accesses nothing.
 pub fn trace_of(alloc: Global, plan: &Plan, journal: &[Entry]) -> Result<Trace, AllocError>
-    requires few { length journal.now ≤ 2 ^ 20 }
+    requires few { length journal.now ≤ MAX_ENTRIES }
     requires agents { All (λ (e : Entry). e.agent < 16) journal.now }
     ensures { IfOk result (λ trace. trace ≡ events_of plan.now journal.now) }
 {

@@ -11,6 +11,7 @@ ghost use Rattle.sab_sim.specs.Fits.{Fits, IsOnly};
 ghost use Rattle.sab_explain.specs.Fact.{IsFact, IsOnlyFact, NamesWaker};
 ghost use Rattle.sab_explain.specs.Standing as standings;
 ghost use Rattle.sab_explain.specs.Standing.{IsAt, IsStanding, IsOnlyStanding, what_at};
+ghost use Rattle.sab_sim.specs.declared.sim.TheConstants.Sim.{MAX_ENTRIES};
 
 use crate::before::{Before, before_move, conclude, place_named};
 use crate::notes::{note_last, note_woken};
@@ -74,12 +75,12 @@ impl Explainer {
         ensures err { OnErr result (self.new ≡ self.old) }
 
         ensures no_agent { length self.old.plan.scripts ≤ agent_of m → result ≡ Err NoAgent }
-        ensures full { agent_of m < length self.old.plan.scripts → length self.old.journal ≡ 2 ^ 20 → result ≡ Err Full }
-        ensures memory { agent_of m < length self.old.plan.scripts → length self.old.journal < 2 ^ 20
+        ensures full { agent_of m < length self.old.plan.scripts → length self.old.journal ≡ MAX_ENTRIES → result ≡ Err Full }
+        ensures memory { agent_of m < length self.old.plan.scripts → length self.old.journal < MAX_ENTRIES
             → IsOkUnless result OutOfMemory }
 
         ensures reserved { self.old.reserved ≤ self.new.reserved + 1 }
-        ensures spare { agent_of m < length self.old.plan.scripts → length self.old.journal < 2 ^ 20
+        ensures spare { agent_of m < length self.old.plan.scripts → length self.old.journal < MAX_ENTRIES
             → 0 < self.old.reserved → IsOk result }
     {
         let agent = m.agent();
@@ -121,9 +122,9 @@ impl Explainer {
         ensures journal { self.new.journal ≡ self.old.journal }
         ensures blocks { self.new.blocks ≡ self.old.blocks }
 
-        ensures room { OnOk result (min n (2 ^ 20 - length self.old.journal) ≤ self.new.reserved) }
+        ensures room { OnOk result (min n (MAX_ENTRIES - length self.old.journal) ≤ self.new.reserved) }
         ensures kept { self.old.reserved ≤ self.new.reserved }
-        ensures spare { min n (2 ^ 20 - length self.old.journal) ≤ self.old.reserved → IsOk result }
+        ensures spare { min n (MAX_ENTRIES - length self.old.journal) ≤ self.old.reserved → IsOk result }
     {
         self.sim.reserve(n)
     }

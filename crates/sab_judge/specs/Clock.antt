@@ -1,9 +1,10 @@
 -- Vector clocks, and what they know.
-use Rattle.std.specs.Prelude.{◌≡◌, ◌⊎◌, ℕ, ◌<◌, ◌≤◌, ◌^◌, All, max, List, [], length, slice_index, slice_index_or, Option, Some, None}
+use Rattle.std.specs.Prelude.{◌≡◌, ◌⊎◌, ℕ, ◌<◌, ◌≤◌, All, max, List, [], length, slice_index, slice_index_or, Option, Some, None}
 use Rattle.sab_judge.specs.declared.clock.Clock.{Clock}
 use Rattle.sab_judge.specs.declared.event.Event.{Event}
 use Rattle.sab_judge.specs.Event.{agent_at}
 use Rattle.sab_judge.specs.HappensBefore.{HappensBefore, IsRead, IsHandedOn}
+use Rattle.sab_judge.specs.declared.trace.TheConstants.Trace.{MAX_EVENTS}
 
 -- ---- clocks as numbers
 
@@ -47,7 +48,7 @@ pub record IsClock (trace : List Event) (j : ℕ) (clock : Clock) : Type 0 where
 -- the j-th event of a trace within the limits, with its clock
 pub record HasClock (trace : List Event) (j : ℕ) (clock : Clock) : Type 0 where
   pub within : j < length trace
-  pub short : length trace ≤ 2 ^ 20
+  pub short : length trace ≤ MAX_EVENTS
   pub agents : All (λ (e : Event). e.agent < 16) trace
   pub known : IsClock trace j clock
 

@@ -1,9 +1,10 @@
 -- What is told of the races so far.
-use Rattle.std.specs.Prelude.{◌≡◌, ◌⊎◌, ℕ, ◌<◌, ◌≤◌, ◌+◌, ◌*◌, ◌^◌, List, All, length}
+use Rattle.std.specs.Prelude.{◌≡◌, ◌⊎◌, ℕ, ◌<◌, ◌≤◌, ◌+◌, ◌*◌, List, All, length}
 use Rattle.sab_judge.specs.declared.event.Event.{Event}
 use Rattle.sab_judge.specs.declared.race.Race.{Race}
 use Rattle.sab_judge.specs.Race.{IsRace, Counts, CountsRaces, ComesBefore}
 use Rattle.sab_judge.specs.Verdict.{IsTold, InOrder, IsAmong, IsLeft, ComesAfterAll}
+use Rattle.sab_judge.specs.declared.trace.TheConstants.Trace.{MAX_EVENTS}
 
 -- the races of the trace that come before i and j are told, or left
 pub record HasTold (trace : List Event) (j i most : ℕ) (told : List Race) (rest : ℕ) : Type 0 where
@@ -18,4 +19,4 @@ pub record HasTold (trace : List Event) (j i most : ℕ) (told : List Race) (res
   pub sum : length told + rest ≡ before + here
   pub few : length told ≤ most
   pub full : 0 < rest → length told ≡ most
-  pub small : rest ≤ j * 2 ^ 20 + i
+  pub small : rest ≤ j * MAX_EVENTS + i

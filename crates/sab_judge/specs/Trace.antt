@@ -6,6 +6,7 @@ use Rattle.sab_judge.specs.declared.event.Event.{Event}
 use Rattle.sab_judge.specs.declared.place.Place.{Place}
 use Rattle.sab_judge.specs.declared.trace_fault.TraceFault.{TraceFault}
 use Rattle.sab_judge.specs.declared.trace_fault.TraceFault.TheVariants.{Full, NoAgent, OutOfRange, OutOfMemory}
+use Rattle.sab_judge.specs.declared.trace.TheConstants.Trace.{MAX_EVENTS}
 
 -- there are so many bytes behind the place: there are 4 blocks of 65,536 bytes
 abbrev pub HasBytes : Place → ℕ → Type 0
@@ -23,12 +24,12 @@ pub record IsWithinLimits (event : Event) : Type 0 where
 
 -- at most 2^20 such events
 pub record IsTrace (trace : List Event) : Type 0 where
-  pub short : length trace ≤ 2 ^ 20
+  pub short : length trace ≤ MAX_EVENTS
   pub events : All IsWithinLimits trace
 
 -- the event is refused so: the first of these that holds
 abbrev pub Refuses : List Event → Event → TraceFault → Type 0
-Refuses trace event Full = length trace ≡ 2 ^ 20
-Refuses trace event NoAgent = (length trace < 2 ^ 20) × (16 ≤ event.agent)
-Refuses trace event OutOfRange = (length trace < 2 ^ 20) × (event.agent < 16) × (¬ IsInBlocks event)
-Refuses trace event OutOfMemory = (length trace < 2 ^ 20) × IsWithinLimits event
+Refuses trace event Full = length trace ≡ MAX_EVENTS
+Refuses trace event NoAgent = (length trace < MAX_EVENTS) × (16 ≤ event.agent)
+Refuses trace event OutOfRange = (length trace < MAX_EVENTS) × (event.agent < 16) × (¬ IsInBlocks event)
+Refuses trace event OutOfMemory = (length trace < MAX_EVENTS) × IsWithinLimits event

@@ -1,5 +1,6 @@
 //! Vector clocks.
 
+ghost use Rattle.sab_judge.specs.declared.trace.TheConstants.Trace.{MAX_EVENTS};
 /// How many agents there can be.
 pub(crate) const AGENTS: usize = 16;
 
@@ -10,7 +11,7 @@ pub(crate) struct Clock {
 }
 
 impl Clock {
-    ghost use Rattle.std.specs.Prelude.{◌≡◌, ◌+◌, ◌^◌, ◌<◌, ◌≢◌, ℕ, max, slice_index, nat_lt};
+    ghost use Rattle.std.specs.Prelude.{◌≡◌, ◌+◌, ◌<◌, ◌≢◌, ℕ, max, slice_index, nat_lt};
     ghost use Rattle.sab_judge.specs.Clock.{KnowsNothing, KnowsBoth};
 
     /// Nothing is known.
@@ -50,7 +51,7 @@ impl Clock {
     /// And the agent's events up to this one.
     pub(crate) fn up_to(mut self, agent: u32, i: usize) -> Clock
         requires agent { agent < 16 }
-        requires small { i < 2 ^ 20 }
+        requires small { i < MAX_EVENTS }
         ensures own { slice_index result.bounds agent ≡ i + 1 }
         ensures others { (b : ℕ) → b ≢ agent → slice_index result.bounds b ≡ slice_index self.bounds b }
     {

@@ -1,6 +1,6 @@
 //! The judge of a trace.
 
-ghost use Rattle.std.specs.Prelude.{◌+◌, ◌<◌, ◌≤◌, ◌^◌, ◌↔◌, ◌≢◌, All, IfOk, IsTrue, length};
+ghost use Rattle.std.specs.Prelude.{◌+◌, ◌<◌, ◌≤◌, ◌↔◌, ◌≢◌, All, IfOk, IsTrue, length};
 ghost use Rattle.sab_judge.specs.declared.event.Event.{Event};
 ghost use Rattle.sab_judge.specs.Clock.{HasClock};
 ghost use Rattle.sab_judge.specs.Past.{IsPast};
@@ -9,6 +9,7 @@ ghost use Rattle.sab_judge.specs.Sought.{IsLastBelow, OfAgent};
 ghost use Rattle.sab_judge.specs.Race.{Counts, IsRace};
 ghost use Rattle.sab_judge.specs.Verdict.{IsLastSeen, IsVerdict};
 ghost use Rattle.sab_judge.specs.Telling.{HasTold};
+ghost use Rattle.sab_judge.specs.declared.trace.TheConstants.Trace.{MAX_EVENTS};
 
 use crate::clock::Clock;
 use crate::clocks::clock_of;
@@ -37,7 +38,7 @@ pub fn judge(alloc: Global, trace: &Trace, most: usize) -> Result<Verdict, Alloc
 
 /// Judges the events of a trace.
 fn judge_events(alloc: Global, trace: &[Event], most: usize) -> Result<Verdict, AllocError>
-    requires short { length trace.now ≤ 2 ^ 20 }
+    requires short { length trace.now ≤ MAX_EVENTS }
     requires agents { All (λ (e : Event). e.agent < 16) trace.now }
     ensures { IfOk result (λ verdict. IsVerdict trace.now most verdict.races.items verdict.rest) }
 {

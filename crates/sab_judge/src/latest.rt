@@ -1,6 +1,6 @@
 //! The last of the events that are alike.
 
-ghost use Rattle.std.specs.Prelude.{◌≡◌, ◌+◌, ◌<◌, ◌≤◌, ◌^◌, ◌↔◌, ℕ, All, IfOk, IsTrue, MatchOption, Some, length, slice_get};
+ghost use Rattle.std.specs.Prelude.{◌≡◌, ◌+◌, ◌<◌, ◌≤◌, ◌↔◌, ℕ, All, IfOk, IsTrue, MatchOption, Some, length, slice_get};
 ghost use Rattle.sab_judge.specs.declared.cell.Cell.{Cell};
 ghost use Rattle.sab_judge.specs.declared.event.Event.{Event};
 ghost use Rattle.sab_judge.specs.declared.latest.Latest.{Latest};
@@ -9,6 +9,7 @@ ghost use Rattle.sab_judge.specs.Event.{event_at};
 ghost use Rattle.sab_judge.specs.Race.{Counts, IsRace};
 ghost use Rattle.sab_judge.specs.Link.{AreLinks, HasAccess, IsLike, IsLink};
 ghost use Rattle.sab_judge.specs.Cell.{AreLatest, BeginsIn, IsLatest};
+ghost use Rattle.sab_judge.specs.declared.trace.TheConstants.Trace.{MAX_EVENTS};
 
 use crate::access::Access;
 use crate::cell::Cell;
@@ -98,7 +99,7 @@ pub(crate) fn note_latest(
     cell: Cell,
 ) -> Result<Link, AllocError>
     requires within { j < length trace.now }
-    requires short { length trace.now ≤ 2 ^ 20 }
+    requires short { length trace.now ≤ MAX_EVENTS }
     requires begins { BeginsIn trace.now cell j }
     requires links { AreLinks trace.now j links.now }
     requires latest { AreLatest trace.now j cell list.old.items }

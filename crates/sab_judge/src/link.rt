@@ -1,9 +1,10 @@
 //! Links from events back to those like them.
 
-ghost use Rattle.std.specs.Prelude.{◌≡◌, ◌+◌, ◌≤◌, ◌<◌, ◌^◌, length};
+ghost use Rattle.std.specs.Prelude.{◌≡◌, ◌+◌, ◌≤◌, ◌<◌, length};
 ghost use Rattle.sab_judge.specs.declared.event.Event.{Event};
 ghost use Rattle.sab_judge.specs.Race.{Counts};
 ghost use Rattle.sab_judge.specs.Link.{AreLinks, HasAccess, IsEarliest, IsLast, IsLike, IsLink};
+ghost use Rattle.sab_judge.specs.declared.trace.TheConstants.Trace.{MAX_EVENTS};
 
 use crate::event::Event;
 
@@ -32,7 +33,7 @@ impl Link {
 
     /// That of the `i`-th event, of which the last one like it is known.
     pub(crate) fn behind(trace: &[Event], links: &[Link], i: usize, previous: u32) -> Link
-        requires small { i < 2 ^ 20 }
+        requires small { i < MAX_EVENTS }
         requires links { AreLinks trace.now i links.now }
         requires previous { IsLast trace.now i previous }
         requires access { HasAccess trace.now i }
@@ -49,7 +50,7 @@ impl Link {
 /// Where a link jumps to whose event stands behind this one: so that of two jumps of the same width there comes one that
 /// is twice as wide, and some 2 log n steps lead to any of n events (Myers, "An applicative random-access stack").
 fn jump_behind(trace: &[Event], links: &[Link], i: usize, previous: u32) -> u32
-    requires small { i < 2 ^ 20 }
+    requires small { i < MAX_EVENTS }
     requires links { AreLinks trace.now i links.now }
     requires previous { previous < i }
     requires access { HasAccess trace.now previous }
@@ -100,7 +101,7 @@ fn earliest_from(trace: &[Event], links: &[Link], position: u32, bound: usize) -
 pub(crate) fn count_from(trace: &[Event], links: &[Link], position: u32, bound: usize) -> u32
     requires links { AreLinks trace.now (length links.now) links.now }
     requires within { position < length links.now }
-    requires small { length links.now ≤ 2 ^ 20 }
+    requires small { length links.now ≤ MAX_EVENTS }
     requires access { HasAccess trace.now position }
     requires bound { bound ≤ position }
     ensures { Counts (λ i. IsLike trace.now position i × (bound ≤ i)) (position + 1) result }

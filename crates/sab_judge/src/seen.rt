@@ -8,6 +8,7 @@ ghost use Rattle.sab_judge.specs.Race.{Counts, IsRace};
 ghost use Rattle.sab_judge.specs.Link.{AreLinks, IsLink};
 ghost use Rattle.sab_judge.specs.Cell.{AreKept, BeginsIn, IsOfClass};
 ghost use Rattle.sab_judge.specs.Seen.{IsSeen};
+ghost use Rattle.sab_judge.specs.declared.trace.TheConstants.Trace.{MAX_EVENTS};
 
 use crate::access::Access;
 use crate::cell::{CLASSES, Cell};
@@ -51,7 +52,7 @@ impl Seen {
         j: usize,
     ) -> Result<(), AllocError>
         requires within { j < length trace.now }
-        requires short { length trace.now ≤ 2 ^ 20 }
+        requires short { length trace.now ≤ MAX_EVENTS }
         requires seen { IsSeen trace.now j self.old }
         ensures { IfOk result (λ _. IsSeen trace.now (j + 1) self.new) }
     {
@@ -73,7 +74,7 @@ impl Seen {
         access: Access,
     ) -> Result<(), AllocError>
         requires within { j < length trace.now }
-        requires short { length trace.now ≤ 2 ^ 20 }
+        requires short { length trace.now ≤ MAX_EVENTS }
         requires makes { (event_at trace.now j).access ≡ Some access }
         requires seen { IsSeen trace.now j self.old }
         ensures { IfOk result (λ _. IsSeen trace.now (j + 1) self.new) }
@@ -169,7 +170,7 @@ fn note(
     cell: Cell,
 ) -> Result<Link, AllocError>
     requires within { j < length trace.now }
-    requires short { length trace.now ≤ 2 ^ 20 }
+    requires short { length trace.now ≤ MAX_EVENTS }
     requires begins { BeginsIn trace.now cell j }
     requires few { cell.class < CLASSES }
     requires small { cell.index < 2 ^ 40 }

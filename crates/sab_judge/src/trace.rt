@@ -26,6 +26,9 @@ impl Model for Trace {
     ghost invariant = { λ t. IsTrace t.events.items };
 }
 
+// The clauses cite the constant: so its number is held here.
+const _: () = prove!(Trace::MAX_EVENTS == 1_048_576);
+
 impl Trace {
     /// How many events a trace can have.
     pub const MAX_EVENTS: usize = 1 << 20;

@@ -1,5 +1,5 @@
 -- Races of agents in threads.
-use Rattle.std.specs.Prelude.{◌≡◌, ℕ, ◌+◌, ◌<◌, ◌≤◌, ◌^◌, List, [], length, take, slice_get}
+use Rattle.std.specs.Prelude.{◌≡◌, ℕ, ◌+◌, ◌<◌, ◌≤◌, List, [], length, take, slice_get}
 use Rattle.sab_plan.specs.declared.schedule.Move.{Move}
 use Rattle.sab_plan.specs.Plan.{PlanParts, parts_of, calls_of, calls_in}
 use Rattle.sab_plan.specs.Script.{ScriptParts}
@@ -7,6 +7,7 @@ use Rattle.sab_plan.specs.Report.{ReportParts}
 use Rattle.sab_sim.specs.Fits.{Fits}
 use Rattle.sab_race.specs.Moves.{moves_of, part}
 use Rattle.sab_race.specs.Agenda.{AgendaParts, agenda_at, unmade, left_in, left_of}
+use Rattle.sab_sim.specs.declared.sim.TheConstants.Sim.{MAX_ENTRIES}
 
 -- each agent's part of the schedule is its moves, each once and in order
 abbrev pub HasAllMoves : PlanParts → ℕ → List Move → Type 0
@@ -36,7 +37,7 @@ pub record IsUnderWay (plan : PlanParts) (spins : ℕ) (schedule : List Move) (e
     (agendas : List AgendaParts) : Type 0 where
   pub count : length agendas ≡ length plan.scripts
   pub each : (a : ℕ) → a < length agendas → IsAgenda plan spins schedule a (agenda_at agendas a)
-  pub fits : entries + left_of agendas ≤ 2 ^ 20
+  pub fits : entries + left_of agendas ≤ MAX_ENTRIES
   pub room : left_of agendas ≤ reserved
 
 -- all moves of all agents were made

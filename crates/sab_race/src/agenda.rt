@@ -1,8 +1,9 @@
 //! What an agent still has to do.
 
-ghost use Rattle.std.specs.Prelude.{◌≡◌, ◌≤◌, ◌<◌, ◌^◌, length, slice_index_or, IfOk};
+ghost use Rattle.std.specs.Prelude.{◌≡◌, ◌≤◌, ◌<◌, length, slice_index_or, IfOk};
 ghost use Rattle.sab_race.specs.Moves.{moves_of};
 ghost use Rattle.sab_race.specs.Agenda.{unmade, after_next, left_in};
+ghost use Rattle.sab_sim.specs.declared.sim.TheConstants.Sim.{MAX_ENTRIES};
 
 use crate::script_moves::{MAX_SPINS, moves};
 use sab_sim::{Move, Plan, Script};
@@ -17,14 +18,14 @@ pub struct Agenda {
 }
 
 impl Model for Agenda {
-    ghost use Rattle.std.specs.Prelude.{◌≤◌, ◌^◌, length};
+    ghost use Rattle.std.specs.Prelude.{◌≤◌, length};
     ghost use Rattle.sab_race.specs.Agenda.{AgendaParts};
 
     ghost Value = { AgendaParts };
 
     ghost view = { λ agenda. record { moves = agenda.moves.items; made = agenda.made } };
 
-    ghost invariant = { λ agenda. length agenda.moves.items ≤ 2 ^ 20 };
+    ghost invariant = { λ agenda. length agenda.moves.items ≤ MAX_ENTRIES };
 }
 
 impl Agenda {
@@ -67,7 +68,7 @@ impl Agenda {
     /// All its moves, once more.
     pub fn copy_moves(&self, alloc: Global) -> Result<Vec<Move>, AllocError>
         ensures moves { IfOk result (λ moves. moves.items ≡ self.now.moves) }
-        ensures most { IfOk result (λ moves. length moves.items ≤ 2 ^ 20) }
+        ensures most { IfOk result (λ moves. length moves.items ≤ MAX_ENTRIES) }
     {
         self.moves.to_vec(alloc)
     }

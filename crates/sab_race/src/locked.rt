@@ -5,6 +5,7 @@ ghost use Rattle.sab_plan.specs.Plan.{PlanParts};
 ghost use Rattle.sab_sim.specs.Fits.{IsOnly};
 ghost use Rattle.sab_race.specs.Moves.{count_of};
 ghost use Rattle.sab_race.specs.Race.{IsRace, no_plan};
+ghost use Rattle.sab_sim.specs.declared.sim.TheConstants.Sim.{MAX_ENTRIES};
 
 use crate::gate::Gate;
 use crate::race::Race;
@@ -90,7 +91,7 @@ pub fn run_locked<R: Threads + Wait + Sync, G: Gate + 'static>(
     requires { spins ≤ MAX_SPINS }
     ensures race { IfOk result (λ report. IsRace plan spins report) }
     ensures only { IfOk result (λ report. IsOnly plan report) }
-    ensures too_many { IsErrOf result RaceFault.TooManyMoves ↔ (2 ^ 20 < count_of plan.scripts spins) }
+    ensures too_many { IsErrOf result RaceFault.TooManyMoves ↔ (MAX_ENTRIES < count_of plan.scripts spins) }
 {
     run_named::<Brand, R, G>(rt, alloc, plan, spins, &*gate)
 }
@@ -108,7 +109,7 @@ fn run_named<N: RaceName + Send + Sync, R: Threads + Wait + Sync, G: Gate>(
     requires is_spins { spins ≡ N.spins }
     ensures race { IfOk result (λ report. IsRace plan spins report) }
     ensures only { IfOk result (λ report. IsOnly plan report) }
-    ensures too_many { IsErrOf result RaceFault.TooManyMoves ↔ (2 ^ 20 < count_of plan.scripts spins) }
+    ensures too_many { IsErrOf result RaceFault.TooManyMoves ↔ (MAX_ENTRIES < count_of plan.scripts spins) }
 {
     let race = Race::new(alloc, plan, spins)?;
     let agents = race.agents();

@@ -1,12 +1,13 @@
 //! A race as far as it came.
 
-ghost use Rattle.std.specs.Prelude.{◌≡◌, ◌≢◌, ℕ, ◌<◌, ◌≤◌, ◌^◌, ◌↔◌, length, All, IsTrue, IsFalse, IfOk, IfSome, IfNone, IsErrOf, SomeIndex};
+ghost use Rattle.std.specs.Prelude.{◌≡◌, ◌≢◌, ℕ, ◌<◌, ◌≤◌, ◌↔◌, length, All, IsTrue, IsFalse, IfOk, IfSome, IfNone, IsErrOf, SomeIndex};
 ghost use Rattle.sab_plan.specs.Script.{ScriptParts};
 ghost use Rattle.sab_plan.specs.Plan.{calls_of};
 ghost use Rattle.sab_sim.specs.Fits.{IsOnly};
 ghost use Rattle.sab_race.specs.Moves.{moves_of, count_of};
 ghost use Rattle.sab_race.specs.Agenda.{agenda_at, left_in, advanced, HasNext, IsNext};
 ghost use Rattle.sab_race.specs.Race.{IsRace, IsDone, AreFresh};
+ghost use Rattle.sab_sim.specs.declared.sim.TheConstants.Sim.{MAX_ENTRIES};
 
 use crate::agenda::Agenda;
 use crate::count::count_moves;
@@ -60,7 +61,7 @@ impl Race {
         requires { spins ≤ MAX_SPINS }
         ensures plan { IfOk result (λ race. race.plan ≡ plan) }
         ensures spins { IfOk result (λ race. race.spins ≡ spins) }
-        ensures too_many { IsErrOf result RaceFault.TooManyMoves ↔ (2 ^ 20 < count_of plan.scripts spins) }
+        ensures too_many { IsErrOf result RaceFault.TooManyMoves ↔ (MAX_ENTRIES < count_of plan.scripts spins) }
     {
         let total = count_moves(plan.scripts(), spins);
         if total > Sim::MAX_ENTRIES {
@@ -111,7 +112,7 @@ impl Race {
     pub fn copy_moves(&self, alloc: Global, agent: u32) -> Result<Vec<Move>, AllocError>
         requires { agent < length self.now.plan.scripts }
         ensures moves { IfOk result (λ moves. moves.items ≡ moves_of (calls_of self.now.plan agent) agent self.now.spins) }
-        ensures most { IfOk result (λ moves. length moves.items ≤ 2 ^ 20) }
+        ensures most { IfOk result (λ moves. length moves.items ≤ MAX_ENTRIES) }
     {
         self.agendas[agent as usize].copy_moves(alloc)
     }

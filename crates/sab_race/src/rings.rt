@@ -5,6 +5,7 @@ ghost use Rattle.rtrb.specs.Ring.{known_free};
 ghost use Rattle.sab_sim.specs.Fits.{IsOnly};
 ghost use Rattle.sab_race.specs.Moves.{count_of};
 ghost use Rattle.sab_race.specs.Race.{IsRace};
+ghost use Rattle.sab_sim.specs.declared.sim.TheConstants.Sim.{MAX_ENTRIES};
 
 use crate::feeding::feed;
 use crate::gate::Gate;
@@ -40,7 +41,7 @@ pub fn run_rings<R: Threads, G: Gate + 'static>(
     requires { spins ≤ MAX_SPINS }
     ensures race { IfOk result (λ report. IsRace plan spins report) }
     ensures only { IfOk result (λ report. IsOnly plan report) }
-    ensures too_many { IsErrOf result RaceFault.TooManyMoves ↔ (2 ^ 20 < count_of plan.scripts spins) }
+    ensures too_many { IsErrOf result RaceFault.TooManyMoves ↔ (MAX_ENTRIES < count_of plan.scripts spins) }
 {
     run_rings_mixed(rt, alloc, plan, spins, patience, gate, 0)
 }
@@ -61,7 +62,7 @@ pub fn run_rings_mixed<R: Threads, G: Gate + 'static>(
     requires { spins ≤ MAX_SPINS }
     ensures race { IfOk result (λ report. IsRace plan spins report) }
     ensures only { IfOk result (λ report. IsOnly plan report) }
-    ensures too_many { IsErrOf result RaceFault.TooManyMoves ↔ (2 ^ 20 < count_of plan.scripts spins) }
+    ensures too_many { IsErrOf result RaceFault.TooManyMoves ↔ (MAX_ENTRIES < count_of plan.scripts spins) }
 {
     let mut race = Race::new(alloc, plan, spins)?;
     let mut lanes = Vec::with_capacity(alloc, race.agents() as usize)?;
@@ -138,7 +139,7 @@ fn start<R: Threads, G: Gate + 'static>(
     let (producer, ring) = RingBuffer::new(alloc, moves.len())?;
     let gate = Arc::try_clone(gate)?;
     let feeding = move ||
-        requires { (length moves.items ≤ 2 ^ 20) × (length moves.items ≤ known_free producer) }
+        requires { (length moves.items ≤ MAX_ENTRIES) × (length moves.items ≤ known_free producer) }
     { feed_own(producer, agent, moves, gate) };
     let lane = Lane::new(agent, ring);
     match thread::spawn(rt, feeding) {
@@ -149,7 +150,7 @@ fn start<R: Threads, G: Gate + 'static>(
 
 /// What an agent's thread does.
 fn feed_own<G: Gate>(mut ring: Producer<Move>, agent: u32, moves: Vec<Move>, gate: Arc<G>)
-    requires most { length moves.items ≤ 2 ^ 20 }
+    requires most { length moves.items ≤ MAX_ENTRIES }
     requires room { length moves.items ≤ known_free ring }
 {
     feed(&mut ring, agent, moves.as_slice(), &*gate);

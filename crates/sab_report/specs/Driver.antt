@@ -4,10 +4,11 @@ use Rattle.sab_plan.specs.declared.schedule.Move.{Move}
 use Rattle.sab_plan.specs.Schedule.{agent_of}
 use Rattle.sab_plan.specs.Plan.{PlanParts}
 use Rattle.sab_sim.specs.Sim.{SimParts}
+use Rattle.sab_sim.specs.declared.sim.TheConstants.Sim.{MAX_ENTRIES}
 
 -- there are at most 2^20 moves, each of an agent of the plan
 pub record AreMovesOf (plan : PlanParts) (moves : List Move) : Type 0 where
-  pub few : length moves ≤ 2 ^ 20
+  pub few : length moves ≤ MAX_ENTRIES
   pub named : All (λ m. agent_of m < length plan.scripts) moves
 
 -- the simulator has made no move, and has the room for these

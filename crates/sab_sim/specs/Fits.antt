@@ -10,12 +10,13 @@ use Rattle.sab_sim.specs.Object.{State}
 use Rattle.sab_plan.specs.Journal.{track, IsTrack, EachAnswers, EachAfter}
 use Rattle.sab_sim.specs.Run.{IsJustified, Reaches}
 use Rattle.sab_plan.specs.Report.{ReportParts, progress_from}
+use Rattle.sab_sim.specs.declared.sim.TheConstants.Sim.{MAX_ENTRIES}
 
 -- the journal and the bytes fit the plan and the moves
 pub record FitsMoves (plan : PlanParts) (moves : List Move) (journal : List Entry)
     (blocks : List (List ℕ)) : Type 0 where
   -- there are at most 2^20 moves, each of an agent of the plan
-  pub few : length moves ≤ 2 ^ 20
+  pub few : length moves ≤ MAX_ENTRIES
   pub named : All (λ m. agent_of m < length plan.scripts) moves
   -- each move has one entry
   pub one_each : length journal ≡ length moves
@@ -42,7 +43,7 @@ abbrev pub first_refusal : ℕ → ℕ → List Move → Option SimFault
 first_refusal agents k [] = None
 first_refusal agents k (m ∷ moves) =
     if nat_le agents (agent_of m) then Some NoAgent
-    else (if nat_le (2 ^ 20) k then Some Full else first_refusal agents (suc k) moves)
+    else (if nat_le MAX_ENTRIES k then Some Full else first_refusal agents (suc k) moves)
 
 -- the fault is the one that the schedule calls for, or want of memory
 abbrev pub IsRefusal : PlanParts → List Move → SimFault → Type 0

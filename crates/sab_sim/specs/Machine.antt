@@ -1,5 +1,5 @@
 -- All that moves change, and the state of the object that it represents.
-use Rattle.std.specs.Prelude.{◌≡◌, ℕ, suc, ◌<◌, ◌≤◌, ◌^◌, List, [], ◌∷◌, length, map, replicate, slice_get, slice_set, ⊤}
+use Rattle.std.specs.Prelude.{◌≡◌, ℕ, suc, ◌<◌, ◌≤◌, List, [], ◌∷◌, length, map, replicate, slice_get, slice_set, ⊤}
 use Rattle.sab_plan.specs.declared.place.Place.{Place}
 use Rattle.sab_sim.specs.declared.agent.Agent.{Agent}
 use Rattle.sab_sim.specs.declared.agent.Phase.{Phase}
@@ -8,6 +8,7 @@ use Rattle.sab_plan.specs.Plan.{PlanParts, IsPlan}
 use Rattle.sab_sim.specs.Object.{State, Waiter, zero_blocks, stands}
 use Rattle.sab_sim.specs.Agent.{newcomer, agent_at, is_woken, is_waiting, AllAtCalls}
 use Rattle.sab_sim.specs.Line.{WaitsAt}
+use Rattle.sab_sim.specs.declared.sim.TheConstants.Sim.{MAX_ENTRIES}
 
 pub record MachineParts : Type 0 where
   -- the bytes of each block
@@ -44,7 +45,7 @@ pub record IsReady (plan : PlanParts) (m : MachineParts) (a : ℕ) : Type 0 wher
   pub size : length m.agents ≡ length plan.scripts
   pub lens : map length m.blocks ≡ plan.lens
   pub at_calls : AllAtCalls plan m.agents
-  pub few_tickets : m.next_ticket ≤ 2 ^ 20
+  pub few_tickets : m.next_ticket ≤ MAX_ENTRIES
 
 -- the agent has begun a call
 abbrev pub IsBegun : MachineParts → ℕ → Type 0

@@ -1,5 +1,5 @@
 -- What a simulator tells, and what it keeps.
-use Rattle.std.specs.Prelude.{◌≡◌, ℕ, suc, ◌≤◌, ◌^◌, ◌-◌, List, [], ◌∷◌, length, map, take, Vec, vec_len, vec_capacity}
+use Rattle.std.specs.Prelude.{◌≡◌, ℕ, suc, ◌≤◌, ◌-◌, List, [], ◌∷◌, length, map, take, Vec, vec_len, vec_capacity}
 use Rattle.std.proofs.Common.{Global}
 use Rattle.sab_plan.specs.declared.schedule.Move.{Move}
 use Rattle.sab_plan.specs.declared.entry.Entry.{Entry}
@@ -10,6 +10,7 @@ use Rattle.sab_plan.specs.Script.{ScriptParts}
 use Rattle.sab_sim.specs.Agent.{agent_at}
 use Rattle.sab_sim.specs.Machine.{MachineParts}
 use Rattle.sab_sim.specs.Kept.{Kept}
+use Rattle.sab_sim.specs.declared.sim.TheConstants.Sim.{MAX_ENTRIES}
 
 -- a plan, the moves so far, what each did, the bytes of each block now, and how many steps have their room reserved
 pub record SimParts : Type 0 where
@@ -39,7 +40,7 @@ pub record WasKept (plan : PlanParts) (moves : List Move) (journal : List Entry)
 pub record IsKept (plan : PlanParts) (moves : List Move) (journal : List Entry) (m : MachineParts) : Type 0 where
   pub is_plan : IsPlan plan
   pub kept : Kept plan moves journal m
-  pub few : length journal ≤ 2 ^ 20
+  pub few : length journal ≤ MAX_ENTRIES
   pub few_tickets : m.next_ticket ≤ length journal
   pub lens : map length m.blocks ≡ plan.lens
   pub history : (k : ℕ) → k ≤ length journal → WasKept plan moves journal k

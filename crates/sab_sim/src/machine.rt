@@ -1,6 +1,6 @@
 //! Where everything stands, and what one move does to it.
 
-ghost use Rattle.std.specs.Prelude.{◌≡◌, ◌<◌, ◌≤◌, ◌^◌, length, true, IfOk};
+ghost use Rattle.std.specs.Prelude.{◌≡◌, ◌<◌, ◌≤◌, length, true, IfOk};
 ghost use Rattle.sab_plan.specs.declared.schedule.Move.TheVariants.{Step, TimeUp};
 ghost use Rattle.sab_plan.specs.declared.entry.What.TheVariants.{Acted, Enlisted};
 ghost use Rattle.sab_sim.specs.declared.agent.Phase.TheVariants.{Answered};
@@ -9,6 +9,7 @@ ghost use Rattle.sab_plan.specs.Journal.{answers_move};
 ghost use Rattle.sab_sim.specs.Agent.{agent_at};
 ghost use Rattle.sab_sim.specs.Machine.{IsReady, IsBegun, opening_machine, with_agent, with_phase, enlisted};
 ghost use Rattle.sab_sim.specs.Turn.{Turns, entry_of};
+ghost use Rattle.sab_sim.specs.declared.sim.TheConstants.Sim.{MAX_ENTRIES};
 
 use crate::act::{act_access, find_notify, find_wait};
 use crate::agent::{Agent, Phase};
@@ -197,7 +198,7 @@ impl Machine {
     /// Puts an agent at the end of the line.
     fn enlist(&mut self, a: u32, place: Place) -> What
         requires named { a < length self.old.agents }
-        requires few_tickets { self.old.next_ticket ≤ 2 ^ 20 }
+        requires few_tickets { self.old.next_ticket ≤ MAX_ENTRIES }
         ensures what { result ≡ Enlisted }
         ensures machine { self.new ≡ enlisted self.old a place }
     {

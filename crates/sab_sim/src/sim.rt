@@ -10,6 +10,7 @@ ghost use Rattle.sab_plan.specs.Journal.{returned_of};
 ghost use Rattle.sab_sim.specs.Shown.{AtEnd};
 ghost use Rattle.sab_sim.specs.States.{HasStates, IsOfWaits};
 ghost use Rattle.sab_sim.specs.Fits.{FitsMoves, Fits, IsOnly};
+ghost use Rattle.sab_sim.specs.declared.sim.TheConstants.Sim.{MAX_ENTRIES};
 
 use crate::agent::find_agent;
 use crate::line::line_at;
@@ -52,9 +53,12 @@ impl Model for Sim {
     ghost invariant = { λ s. IsKept s.plan s.moves.items s.journal.items s.machine × HasRoom s.plan s.block_room s.agent_room };
 }
 
+// The clauses cite the constant: so its number is held here.
+const _: () = prove!(Sim::MAX_ENTRIES == 1_048_576);
+
 impl Sim {
     /// How many entries a journal can have.
-    pub const MAX_ENTRIES: usize = 0x10_0000;
+    pub const MAX_ENTRIES: usize = 1 << 20;
 
     /// A simulator of the plan's agents, none of which has moved: zero blocks, no waiter and an empty journal.
     ///
@@ -91,12 +95,12 @@ impl Sim {
         ensures err { OnErr result (self.new ≡ self.old) }
 
         ensures no_agent { length self.old.plan.scripts ≤ agent_of m → result ≡ Err NoAgent }
-        ensures full { agent_of m < length self.old.plan.scripts → length self.old.journal ≡ 2 ^ 20 → result ≡ Err Full }
-        ensures memory { agent_of m < length self.old.plan.scripts → length self.old.journal < 2 ^ 20
+        ensures full { agent_of m < length self.old.plan.scripts → length self.old.journal ≡ MAX_ENTRIES → result ≡ Err Full }
+        ensures memory { agent_of m < length self.old.plan.scripts → length self.old.journal < MAX_ENTRIES
             → IsOkUnless result OutOfMemory }
 
         ensures reserved { self.old.reserved ≤ self.new.reserved + 1 }
-        ensures spare { agent_of m < length self.old.plan.scripts → length self.old.journal < 2 ^ 20
+        ensures spare { agent_of m < length self.old.plan.scripts → length self.old.journal < MAX_ENTRIES
             → 0 < self.old.reserved → IsOk result }
     {
         if self.plan.scripts().len() <= m.agent() as usize {
@@ -124,9 +128,9 @@ impl Sim {
         ensures journal { self.new.journal ≡ self.old.journal }
         ensures blocks { self.new.blocks ≡ self.old.blocks }
 
-        ensures room { OnOk result (min n (2 ^ 20 - length self.old.journal) ≤ self.new.reserved) }
+        ensures room { OnOk result (min n (MAX_ENTRIES - length self.old.journal) ≤ self.new.reserved) }
         ensures kept { self.old.reserved ≤ self.new.reserved }
-        ensures spare { min n (2 ^ 20 - length self.old.journal) ≤ self.old.reserved → IsOk result }
+        ensures spare { min n (MAX_ENTRIES - length self.old.journal) ≤ self.old.reserved → IsOk result }
     {
         let left = Self::MAX_ENTRIES - self.journal.len();
         let more = left.min(n as usize);

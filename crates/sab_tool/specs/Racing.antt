@@ -1,5 +1,5 @@
 -- What running the agents of a script in threads answers.
-use Rattle.std.specs.Prelude.{◌≡◌, ◌⊎◌, ℕ, ◌<◌, ◌^◌, List, Option, ⊤}
+use Rattle.std.specs.Prelude.{◌≡◌, ◌⊎◌, ℕ, ◌<◌, List, Option, ⊤}
 use Rattle.std.specs.Io.KnownBytes.{Appends, Keeps}
 use Rattle.sab_plan.specs.Plan.{PlanParts}
 use Rattle.sab_plan.specs.Report.{ReportParts}
@@ -13,6 +13,7 @@ use Rattle.sab_tool.specs.declared.tool_fault.ToolFault.TheVariants.{OutOfMemory
 use Rattle.sab_script.specs.Setup.{SetupParts}
 use Rattle.sab_tool.specs.Replay.{IsScriptOf, IsRefused}
 use Rattle.sab_text.specs.Text.{text}
+use Rattle.sab_sim.specs.declared.sim.TheConstants.Sim.{MAX_ENTRIES}
 -- how many steps an agent can make at a wait, for the crates above
 pub use Rattle.sab_race.specs.declared.script_moves.TheConstants.{MAX_SPINS}
 
@@ -29,7 +30,7 @@ pub record IsRaceOf (plan : PlanParts) (spins : ℕ) (report : ReportParts) : Ty
 
 -- what a race of a plan is refused for
 abbrev pub IsUnraced : PlanParts → ℕ → ToolFault → Type 0
-IsUnraced plan spins TooManyMoves = 2 ^ 20 < count_of plan.scripts spins
+IsUnraced plan spins TooManyMoves = MAX_ENTRIES < count_of plan.scripts spins
 IsUnraced plan spins OutOfMemory = ⊤
 IsUnraced plan spins NoThread = ⊤
 IsUnraced plan spins _ = ⊥

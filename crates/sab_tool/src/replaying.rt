@@ -3,6 +3,7 @@
 ghost use Rattle.std.specs.Prelude.{◌^◌, ◌<◌, ◌≤◌, length, All, IfOk, OnOk, IfErr};
 ghost use Rattle.sab_plan.specs.Schedule.{agent_of};
 ghost use Rattle.sab_tool.specs.Replay.{IsReplayOf, Replays, IsReplayFault};
+ghost use Rattle.sab_sim.specs.declared.sim.TheConstants.Sim.{MAX_ENTRIES};
 
 use crate::report::write_report;
 use crate::script::setup_of;
@@ -28,7 +29,7 @@ pub fn replay_bytes<W: Write>(alloc: Global, script: &[u8], w: &mut W) -> Result
 
 /// Makes the moves of a schedule, at most 2^20 and each of an agent of the plan, and answers their report.
 pub fn replay_moves(alloc: Global, plan: Plan, schedule: &[Move]) -> Result<Report, AllocError>
-    requires few { length schedule.now ≤ 2 ^ 20 }
+    requires few { length schedule.now ≤ MAX_ENTRIES }
     requires named { All (λ m. agent_of m < length plan.scripts) schedule.now }
     ensures { IfOk result (IsReplayOf plan schedule.now) }
 {

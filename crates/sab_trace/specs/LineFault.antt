@@ -1,5 +1,5 @@
 -- The faults of a line: their table, and when each comes.
-use Rattle.std.specs.Prelude.{ℕ, ◌<◌, ◌≤◌, ◌^◌, List, codes, length, IsTrue, ⊤}
+use Rattle.std.specs.Prelude.{ℕ, ◌<◌, ◌≤◌, List, codes, length, IsTrue, ⊤}
 use Rattle.serde_json.specs.Data.{Data}
 use Rattle.sab_judge.specs.declared.place.Place.{Place}
 use Rattle.sab_trace.specs.declared.line_fault.LineFault.{LineFault}
@@ -8,6 +8,7 @@ use Rattle.sab_trace.specs.declared.numbers.Numbers.{Numbers}
 use Rattle.sab_trace.specs.Members.{Values, IsShaped}
 use Rattle.sab_trace.specs.Numbers.{AreWhole, IsAgent, AreBytes}
 use Rattle.sab_trace.specs.Spelling.{needs_bytes, ReadsAs}
+use Rattle.sab_judge.specs.declared.trace.TheConstants.Trace.{MAX_EVENTS}
 
 -- the table of names
 abbrev pub name_of : LineFault → List ℕ
@@ -49,6 +50,6 @@ IsReadingFault position line fault = (tree : Data) × ReadsAs line tree × IsTre
 -- the first thing that is amiss with a line
 abbrev pub IsLineFault : ℕ → List ℕ → LineFault → Type 0
 IsLineFault position line TooLong = 1024 < length line
-IsLineFault position line TooMany = (length line ≤ 1024) × (2 ^ 20 ≤ position)
+IsLineFault position line TooMany = (length line ≤ 1024) × (MAX_EVENTS ≤ position)
 IsLineFault position line fault =
-    (length line ≤ 1024) × (position < 2 ^ 20) × IsReadingFault position line fault
+    (length line ≤ 1024) × (position < MAX_EVENTS) × IsReadingFault position line fault

@@ -1,5 +1,5 @@
 -- Which event a line of a trace spells.
-use Rattle.std.specs.Prelude.{◌≡◌, ℕ, ◌<◌, ◌≤◌, ◌^◌, ◌||◌, List, length, Bool, IsTrue, IsUtf8, Option, Some, None, if◌then◌else◌}
+use Rattle.std.specs.Prelude.{◌≡◌, ℕ, ◌<◌, ◌≤◌, ◌||◌, List, length, Bool, IsTrue, IsUtf8, Option, Some, None, if◌then◌else◌}
 use Rattle.serde_json.specs.Data.{Data}
 use Rattle.serde_json.specs.Read.{read}
 use Rattle.sab_judge.specs.declared.access.Access.{Access}
@@ -10,6 +10,7 @@ use Rattle.sab_judge.specs.declared.place.Place.{Place}
 use Rattle.sab_trace.specs.declared.numbers.Numbers.{Numbers}
 use Rattle.sab_trace.specs.Members.{Values, IsShaped}
 use Rattle.sab_trace.specs.Numbers.{AreWhole, IsAgent, AreBytes}
+use Rattle.sab_judge.specs.declared.trace.TheConstants.Trace.{MAX_EVENTS}
 
 -- the event accesses bytes
 abbrev pub accesses : Values → Bool
@@ -63,7 +64,7 @@ pub record ReadsAs (line : List ℕ) (tree : Data) : Type 0 where
 
 -- the line spells the event at this position
 pub record SpellsLine (position : ℕ) (line : List ℕ) (event : Event) : Type 0 where
-  pub few : position < 2 ^ 20
+  pub few : position < MAX_EVENTS
   pub short : length line ≤ 1024
   pub tree : Data
   pub reading : ReadsAs line tree

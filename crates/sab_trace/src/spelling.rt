@@ -1,10 +1,11 @@
 //! The event that a line spells.
 
-ghost use Rattle.std.specs.Prelude.{◌≡◌, ◌<◌, ◌≤◌, ◌^◌, IfOk, IfErr, length};
+ghost use Rattle.std.specs.Prelude.{◌≡◌, ◌<◌, ◌≤◌, IfOk, IfErr, length};
 ghost use Rattle.serde_json.specs.View.{view};
 ghost use Rattle.sab_trace.specs.Seen.{values_of};
 ghost use Rattle.sab_trace.specs.Spelling.{access_of, waiters_of, SpellsEvent, SpellsLine};
 ghost use Rattle.sab_trace.specs.LineFault.{IsTreeFault, IsReadingFault};
+ghost use Rattle.sab_judge.specs.declared.trace.TheConstants.Trace.{MAX_EVENTS};
 
 use crate::line_fault::LineFault;
 use crate::members::{Members, read_members};
@@ -74,7 +75,7 @@ fn event_of(position: u32, tree: &Value) -> Result<Event, LineFault>
 
 /// The event that a line spells, which stands at a position.
 pub(crate) fn read_line(alloc: Global, position: u32, line: &[u8]) -> Result<Event, LineFault>
-    requires few { position < 2 ^ 20 }
+    requires few { position < MAX_EVENTS }
     requires short { length line.now ≤ 1024 }
     ensures ok { IfOk result (SpellsLine position line.now) }
     ensures err { IfErr result (IsReadingFault position line.now) }

@@ -1,6 +1,7 @@
 //! The moves of a script, and what comes out of a ring that is fed with them.
 
-ghost use Rattle.std.specs.Prelude.{◌≡◌, ◌≤◌, ◌^◌, length, IfOk};
+ghost use Rattle.std.specs.Prelude.{◌≡◌, ◌≤◌, length, IfOk};
+ghost use Rattle.sab_sim.specs.declared.sim.TheConstants.Sim.{MAX_ENTRIES};
 
 use crate::run::wait;
 use rtrb::RingBuffer;
@@ -32,7 +33,7 @@ fn feed_through<G: Gate>(
     moves: &[Move],
     gate: &G,
 ) -> Result<Vec<Move>, AllocError>
-    requires { length moves.now ≤ 2 ^ 20 }
+    requires { length moves.now ≤ MAX_ENTRIES }
     ensures { IfOk result (λ received. received.items ≡ moves.now) }
 {
     let (mut producer, mut consumer) = RingBuffer::new(alloc, moves.len())?;
