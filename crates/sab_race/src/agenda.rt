@@ -19,6 +19,7 @@ pub struct Agenda {
 
 impl Model for Agenda {
     ghost use Rattle.std.specs.Prelude.{◌≤◌, length};
+    ghost use Rattle.sab_sim.specs.declared.sim.TheConstants.Sim.{MAX_ENTRIES};
     ghost use Rattle.sab_race.specs.Agenda.{AgendaParts};
 
     ghost Value = { AgendaParts };
