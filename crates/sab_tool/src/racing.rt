@@ -17,8 +17,8 @@ use std::thread::Threads;
 const PATIENCE: u32 = 1_000_000;
 
 /// After how many of 16 later moves the thread that made them yields, where threads are mixed that share one lock: so
-/// many that another one often takes it, and not so many that a race takes half as long again.
-const LOCK_RATE: u32 = 6;
+/// many that another one often takes it, and not so many that a race takes a third as long again.
+const LOCK_RATE: u32 = 4;
 
 /// After how many of 16 later moves the owner of the rings yields, where threads are mixed that send it their moves. It
 /// needs to yield seldom, since it draws from the seed whose move comes next.
