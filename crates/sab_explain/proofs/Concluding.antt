@@ -15,7 +15,7 @@ use Rattle.sab_block.specs.Kind.{is_atomic, is_waitable}
 use Rattle.sab_block.specs.Operand.{agrees}
 use Rattle.sab_block.specs.View.{kind_of}
 use Rattle.sab_block.specs.Check.{Checked, thrown_by, first_failed, first_thrown}
-use Rattle.sab_block.specs.Access.{kind_check, index_check, operand_check, value_at, raw_of, element}
+use Rattle.sab_block.specs.Access.{kind_check, index_check, operand_check, value_at, element}
 use Rattle.sab_plan.specs.declared.place.Place.{Place}
 use Rattle.sab_plan.specs.declared.plan_view.PlanView.{PlanView}
 use Rattle.sab_plan.specs.declared.call.Call.{Call}

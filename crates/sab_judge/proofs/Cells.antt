@@ -17,8 +17,8 @@ use Rattle.sab_judge.specs.Access.{overlap, conflict, are_atomic_alike}
 use Rattle.sab_judge.specs.Event.{event_at, both_are}
 use Rattle.sab_judge.specs.Lookups.{ByPlace, same_pair}
 use Rattle.sab_judge.specs.Race.{Counts, IsRace}
-use Rattle.sab_judge.specs.Cell.{class_of, key_of, IsIn, BeginsIn, AreLatest, IsKeptAt, AreKept, AreShort, AreUsed, BeginsBetween, IsOfClass, IsOfLowerClass}
-use Rattle.sab_judge.proofs.Counting.{counts_same, counts_none, counts_both}
+use Rattle.sab_judge.specs.Cell.{class_of, key_of, BeginsIn, AreLatest, IsKeptAt, AreKept, AreShort, AreUsed, BeginsBetween, IsOfClass, IsOfLowerClass}
+use Rattle.sab_judge.proofs.Counting.{counts_same, counts_both}
 use Rattle.sab_judge.proofs.KeptLatest.{latest_skipped, no_latest}
 use Rattle.sab_judge.proofs.Lists.{some_is_some}
 

@@ -4,9 +4,9 @@ use Rattle.std.proofs.lemmas.Bool.{cases_lt, cases_eq, cases_order}
 use Rattle.sab_judge.specs.declared.cell.Cell.{Cell}
 use Rattle.sab_judge.specs.declared.event.Event.{Event}
 use Rattle.sab_judge.specs.declared.latest.Latest.{Latest}
-use Rattle.sab_judge.specs.Event.{event_at, agent_at}
+use Rattle.sab_judge.specs.Event.{agent_at}
 use Rattle.sab_judge.specs.Link.{IsLast, IsLike}
-use Rattle.sab_judge.specs.Cell.{IsIn, BeginsIn, IsLatest, HasLatest, AreLatest}
+use Rattle.sab_judge.specs.Cell.{BeginsIn, IsLatest, HasLatest, AreLatest}
 use Rattle.sab_judge.proofs.Linking.{like_back, like_itself, like_through}
 use Rattle.sab_judge.proofs.Lists.{slice_get-push, slice_get-old, slice_get-new, slice_get-set, slice_get-set_other, some_is_some}
 

@@ -11,7 +11,7 @@ use Rattle.sab_judge.specs.Access.{conflict}
 use Rattle.sab_judge.specs.Event.{event_at, agent_at, both_are, do_conflict}
 use Rattle.sab_judge.specs.Clock.{IsClock}
 use Rattle.sab_judge.specs.Race.{Counts, IsRace}
-use Rattle.sab_judge.specs.Link.{HasAccess, IsLike}
+use Rattle.sab_judge.specs.Link.{IsLike}
 use Rattle.sab_judge.specs.Cell.{BeginsIn, IsLatest, HasLatest, AreLatest}
 use Rattle.sab_judge.proofs.Counting.{counts_same, counts_none, counts_both, counts_longer}
 use Rattle.sab_judge.proofs.KeptLatest.{begins_alike}

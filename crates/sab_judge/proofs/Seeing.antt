@@ -1,12 +1,12 @@
 -- What the later agent of a race has seen of the earlier one.
-use Rattle.std.proofs.Common.{◌≡◌, ◌≢◌, ap, ℕ, ◌<◌, ◌≤◌, List, length, Option, Some, None, inl, inr, sym, subst, ◌∙◌, arith, min, slice_index, true}
+use Rattle.std.proofs.Common.{◌≡◌, ◌≢◌, ap, ℕ, ◌<◌, List, Option, Some, None, inl, inr, sym, subst, ◌∙◌, arith, min, slice_index}
 use Rattle.std.proofs.lemmas.Bool.{false≢true, cases_lt, eq-eqb, eqb-true}
 use Rattle.sab_judge.specs.declared.event.Event.{Event}
 use Rattle.sab_judge.specs.declared.clock.Clock.{Clock}
-use Rattle.sab_judge.specs.Event.{event_at, agent_at}
+use Rattle.sab_judge.specs.Event.{agent_at}
 use Rattle.sab_judge.specs.HappensBefore.{HappensBefore}
 use Rattle.sab_judge.specs.Sought.{IsLastBelow, OfAgent}
-use Rattle.sab_judge.specs.Clock.{HasClock, IsAtOrBefore}
+use Rattle.sab_judge.specs.Clock.{HasClock}
 use Rattle.sab_judge.specs.Verdict.{IsLastSeen}
 use Rattle.sab_judge.proofs.LastSteps.{before_earlier}
 

@@ -1,5 +1,5 @@
 -- Traces, and their limits.
-use Rattle.std.specs.Prelude.{◌≡◌, ℕ, ◌+◌, ◌<◌, ◌≤◌, ◌^◌, All, List, length}
+use Rattle.std.specs.Prelude.{◌≡◌, ℕ, ◌+◌, ◌<◌, ◌≤◌, All, List, length}
 use Rattle.std.specs.Option.{ForSome}
 use Rattle.sab_judge.specs.declared.access.Access.{Access}
 use Rattle.sab_judge.specs.declared.event.Event.{Event}

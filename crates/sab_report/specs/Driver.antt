@@ -1,5 +1,5 @@
 -- What the driver of formats starts from.
-use Rattle.std.specs.Prelude.{◌≡◌, ◌<◌, ◌≤◌, ◌^◌, List, [], length, All}
+use Rattle.std.specs.Prelude.{◌≡◌, ◌<◌, ◌≤◌, List, [], length, All}
 use Rattle.sab_plan.specs.declared.schedule.Move.{Move}
 use Rattle.sab_plan.specs.Schedule.{agent_of}
 use Rattle.sab_plan.specs.Plan.{PlanParts}
