@@ -43,7 +43,8 @@ impl Reader for LenReader {
 
     ghost Knows = { λ _ root at. IsLenPlace at };
 
-    fn read(&self, at: Location, tree: &Value) -> Result<u32, Located> {
+    fn read(&self, list: Location, index: usize, tree: &Value) -> Result<u32, Located> {
+        let at = list.item(index);
         read_len(at, tree)
     }
 }

@@ -149,7 +149,8 @@ impl Reader for CallReader<'_> {
     ghost Knows = { λ reader root at. ((i : ℕ) × (j : ℕ) × (at ≡ L.Call M.Agents i M.Calls j))
         × HasNames root (view_names reader.views.now) };
 
-    fn read(&self, at: Location, tree: &Value) -> Result<Call, Located> {
+    fn read(&self, list: Location, index: usize, tree: &Value) -> Result<Call, Located> {
+        let at = list.item(index);
         read_call(at, self.views, tree)
     }
 }
