@@ -32,7 +32,7 @@ impl Waiters {
         }
     }
 
-    /// Appends an agent.
+    /// Appends an agent. There are fewer than 16 before.
     pub fn push(&mut self, agent: u32)
         requires { length self.old < 16 }
         ensures { self.new ≡ self.old ++ agent ∷ [] }

@@ -109,9 +109,7 @@ tells texts plan moves sim report standings a b c y chunk empty p m f t s fits o
     let entries = entries_text texts plan no_sinces 0 sim.journal t.facts in
     let end = texts.finish report standings in
     record {
-      fits = rw (← p) fits;
-      one = rw (← p) one;
-      schedule = schedule ∙ m;
+      is_its = record { fits = rw (← p) fits; schedule = schedule ∙ m; one = rw (← p) one };
       facts = t.facts;
       facts_are = rw journal t.are;
       standings = standings;

@@ -7,8 +7,9 @@ use Rattle.sab_plan.specs.Report.{ReportParts}
 use Rattle.sab_text.specs.declared.lines.Lines.{Lines}
 use Rattle.sab_text.specs.Text.{text_by}
 use Rattle.sab_words.specs.Column.{column_of}
-use Rattle.sab_words.specs.FactFormat.{Texts, facts_text}
-use Rattle.sab_report.specs.Facts.{TellsFacts}
+use Rattle.sab_plan.specs.declared.fact.Fact.{Fact}
+use Rattle.sab_plan.specs.declared.standing.Standing.{Standing}
+use Rattle.sab_report.specs.Facts.{TellsBy}
 use Rattle.sab_words.specs.Explained.{explained_text}
 use Rattle.sab_report.specs.Formats.{Explains}
 use Rattle.sab_words.proofs.Measuring.{has_room}
@@ -57,13 +58,13 @@ pub in_its_column : (column : ℕ) (names : List (List ℕ)) (plan : PlanParts) 
     → Explains column names plan lines moves old new report
     → Explains (column_of report) names plan lines moves old new report
 in_its_column column names plan lines moves old new report is x =
-    let its : column ≡ column_of report = is report (record { fits = x.fits; schedule = x.schedule; one = x.one }) in
+    let its : column ≡ column_of report = is report x.is_its in
     subst (λ (c : ℕ). Explains c names plan lines moves old new report) its x
 
 -- a text by facts that was written
-by_facts : {texts : Texts} {plan : PlanParts} {moves : List Move} {old new : Option (List ℕ)} {report : ReportParts}
-    → (told : TellsFacts texts plan moves old new report)
-    → IsByFacts (facts_text texts plan report) plan report (facts_text texts plan report told.facts told.standings)
+by_facts : {text_of : ReportParts → List Fact → List (Option Standing) → List ℕ} {plan : PlanParts} {moves : List Move}
+    {old new : Option (List ℕ)} {report : ReportParts} → (told : TellsBy text_of plan moves old new report)
+    → IsByFacts (text_of report) plan report (text_of report told.facts told.standings)
 by_facts told = record {
   facts = told.facts;
   facts_are = told.facts_are;
@@ -78,7 +79,7 @@ pub told_explained : (telling : Telling) (names : List (List ℕ)) (plan : PlanP
     → Explains (column_of report) names plan telling.lines moves old new report
     → TellsMoves telling names plan moves old new report
 told_explained telling names plan moves report old new is x = record {
-  is_its = record { fits = x.fits; schedule = x.schedule; one = x.one };
+  is_its = x.is_its;
   told = record {
     text = explained_text (column_of report) names plan telling.lines report x.facts x.standings;
     text_is = rw is (by_facts x, has_room report (column_of report) refl);
@@ -90,7 +91,7 @@ pub told_as_json : (telling : Telling) (names : List (List ℕ)) (plan : PlanPar
     (report : ReportParts) (old new : Option (List ℕ)) → telling.format ≡ Json → IsPlan plan → HasSafeNumbers plan
     → ExplainsAsJson names telling.lines plan moves old new report → TellsMoves telling names plan moves old new report
 told_as_json telling names plan moves report old new is is_plan safe x = record {
-  is_its = record { fits = x.told.fits; schedule = x.told.schedule; one = x.told.one };
+  is_its = x.told.is_its;
   told = record {
     text = json_text names plan telling.lines report x.told.facts x.told.standings;
     text_is = rw is (by_facts x.told, x.read_back is_plan safe);
@@ -102,21 +103,11 @@ pub told_as_picture : (telling : Telling) (names : List (List ℕ)) (plan : Plan
     (report : ReportParts) (old new : Option (List ℕ)) → telling.format ≡ Svg → Draws names plan moves old new report
     → TellsMoves telling names plan moves old new report
 told_as_picture telling names plan moves report old new is x = record {
-  is_its = record { fits = x.fits; schedule = x.schedule; one = x.one };
+  is_its = x.told.is_its;
   told = record {
-    text = svg_text names plan report x.facts x.standings;
-    text_is = rw is (
-      record {
-        facts = x.facts;
-        facts_are = x.facts_are;
-        standings = x.standings;
-        standings_are = x.standings_are;
-        is_its = refl;
-        since = x.since;
-      },
-      x.well_formed,
-    );
-    written = x.written;
+    text = svg_text names plan report x.told.facts x.told.standings;
+    text_is = rw is (by_facts x.told, x.well_formed);
+    written = x.told.written;
   };
 }
 

@@ -202,4 +202,4 @@ pub explains : (names : List (List ℕ)) (lines : Lines) (plan : PlanParts) (mov
     (report : ReportParts) → TellsFacts (json_texts names lines) plan moves old new report
     → ExplainsAsJson names lines plan moves old new report
 explains names lines plan moves old new report told =
-    record { told = told; read_back = lines_read_back names plan report told.fits }
+    record { told = told; read_back = lines_read_back names plan report told.is_its.fits }

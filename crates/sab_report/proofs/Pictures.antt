@@ -19,21 +19,21 @@ pub draws : (names : List (List ℕ)) (plan : PlanParts) (moves : List Move) (ol
     → Draws names plan moves old new report
 draws names plan moves old new report told =
     let same : shape_of names plan (length moves) ≡ shape_of names plan (length report.schedule) =
-    ap (λ (ms : List Move). shape_of names plan (length ms)) (sym told.schedule) in
+    ap (λ (ms : List Move). shape_of names plan (length ms)) (sym told.is_its.schedule) in
     let text : facts_text (svg_texts names (shape_of names plan (length moves))) plan report told.facts told.standings
     ≡ svg_text names plan report told.facts told.standings =
     ap (λ (shape : Shape). facts_text (svg_texts names shape) plan report told.facts told.standings) same
     ∙ sym (picture_text names plan (shape_of names plan (length report.schedule)) report told.facts told.standings) in
     record {
-      fits = told.fits;
-      one = told.one;
-      schedule = told.schedule;
-      facts = told.facts;
-      facts_are = told.facts_are;
-      standings = told.standings;
-      standings_are = told.standings_are;
-      written = subst (Appends old new) text told.written;
+      told = record {
+        is_its = told.is_its;
+        facts = told.facts;
+        facts_are = told.facts_are;
+        standings = told.standings;
+        standings_are = told.standings_are;
+        written = subst (Appends old new) text told.written;
+        since = told.since;
+      };
       well_formed = picture_document names plan report told.facts told.standings;
       room = calls_have_room names plan (length report.schedule);
-      since = told.since;
     }

@@ -8,7 +8,7 @@ use Rattle.sab_plan.specs.declared.schedule.Move.{Move}
 use Rattle.sab_plan.specs.Plan.{PlanParts, call_of}
 use Rattle.sab_plan.specs.Journal.{returned_of}
 use Rattle.sab_plan.specs.Report.{ReportParts}
-use Rattle.sab_sim.specs.Fits.{Fits, IsOnly}
+use Rattle.sab_tool.specs.Replay.{IsReplayOf}
 use Rattle.sab_explain.specs.Fact.{IsFact, IsOnlyFact, IsLast}
 use Rattle.sab_explain.specs.Standing.{IsStanding, IsOnlyStanding}
 use Rattle.sab_words.specs.FactFormat.{Texts, no_sinces, sinces_after, entries_text, facts_text}
@@ -46,16 +46,18 @@ IsStandingOf plan journal a (Some s) = IsStanding plan journal a s × IsOnlyStan
 abbrev pub AreStandings : PlanParts → List Entry → List (Option Standing) → Type 0
 AreStandings plan journal standings = (a : ℕ) → a < 16 → IsStandingOf plan journal a (slice_index_or standings a None)
 
--- the one report of the moves fits, and its text with facts came behind what the writer held; the position that is
--- known of an agent is that of its last entry with an effect
-pub record TellsFacts (texts : Texts) (plan : PlanParts) (moves : List Move) (old new : Option (List ℕ))
-    (report : ReportParts) : Type 0 where
-  pub fits : Fits plan report
-  pub one : IsOnly plan report
-  pub schedule : report.schedule ≡ moves
+-- the one report of the moves, and its text by facts and standings came behind what the writer held; the position that
+-- is known of an agent is that of its last entry with an effect
+pub record TellsBy (text_of : ReportParts → List Fact → List (Option Standing) → List ℕ) (plan : PlanParts)
+    (moves : List Move) (old new : Option (List ℕ)) (report : ReportParts) : Type 0 where
+  pub is_its : IsReplayOf plan moves report
   pub facts : List Fact
   pub facts_are : AreFacts plan report.journal facts
   pub standings : List (Option Standing)
   pub standings_are : AreStandings plan report.journal standings
-  pub written : Appends old new (facts_text texts plan report facts standings)
+  pub written : Appends old new (text_of report facts standings)
   pub since : NotesLast
+
+-- the same, where a format has a text for each part
+abbrev pub TellsFacts : Texts → PlanParts → List Move → Option (List ℕ) → Option (List ℕ) → ReportParts → Type 0
+TellsFacts texts plan = TellsBy (facts_text texts plan) plan

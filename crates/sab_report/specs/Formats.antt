@@ -1,12 +1,8 @@
 -- What telling facts in each format answers.
-use Rattle.std.specs.Prelude.{◌≡◌, ℕ, List, Option, length}
-use Rattle.std.specs.Io.KnownBytes.{Appends}
-use Rattle.sab_plan.specs.declared.fact.Fact.{Fact}
-use Rattle.sab_plan.specs.declared.standing.Standing.{Standing}
+use Rattle.std.specs.Prelude.{ℕ, List, Option, length}
 use Rattle.sab_plan.specs.declared.schedule.Move.{Move}
 use Rattle.sab_plan.specs.Plan.{PlanParts, IsPlan}
 use Rattle.sab_plan.specs.Report.{ReportParts}
-use Rattle.sab_sim.specs.Fits.{Fits, IsOnly}
 use Rattle.sab_text.specs.declared.lines.Lines.{Lines}
 use Rattle.sab_words.specs.Explained.{words_texts}
 use Rattle.sab_json.specs.Lines.{json_texts}
@@ -14,34 +10,26 @@ use Rattle.sab_json.specs.SafeNumbers.{HasSafeNumbers}
 use Rattle.sab_xml.specs.WellFormed.{IsDocument}
 use Rattle.sab_svg.specs.Shape.{shape_of, HaveRoom}
 use Rattle.sab_svg.specs.Picture.{svg_text}
-use Rattle.sab_report.specs.Facts.{NotesLast, AreFacts, AreStandings, TellsFacts}
+use Rattle.sab_report.specs.Facts.{TellsBy, TellsFacts}
 use Rattle.sab_report.specs.ReadsBack.{LinesReadBack}
 
--- the one report of the moves fits, and its explained text came behind what the writer held; since when agents have
+-- the one report of the moves, and its explained text came behind what the writer held; since when agents have
 -- waited is told by their last entries
 abbrev pub Explains : ℕ → List (List ℕ) → PlanParts → Lines → List Move → Option (List ℕ) → Option (List ℕ)
     → ReportParts → Type 0
 Explains column names plan lines = TellsFacts (words_texts column names lines) plan
 
--- the one report of the moves fits, its text as JSON came behind what the writer held, and its lines are read as their
+-- the one report of the moves, its text as JSON came behind what the writer held, and its lines are read as their
 -- trees, if the plan's Numbers are safe integers
 pub record ExplainsAsJson (names : List (List ℕ)) (lines : Lines) (plan : PlanParts) (moves : List Move)
     (old new : Option (List ℕ)) (report : ReportParts) : Type 0 where
   pub told : TellsFacts (json_texts names lines) plan moves old new report
   pub read_back : IsPlan plan → HasSafeNumbers plan → LinesReadBack names plan report
 
--- the one report of the moves fits, its picture came behind what the writer held, the text is a document of XML, no
--- call runs into another lane, and since when an agent stood as it did is told by its last entry with an effect
+-- the one report of the moves, its picture came behind what the writer held, the text is a document of XML, and no call
+-- runs into another lane
 pub record Draws (names : List (List ℕ)) (plan : PlanParts) (moves : List Move) (old new : Option (List ℕ))
     (report : ReportParts) : Type 0 where
-  pub fits : Fits plan report
-  pub one : IsOnly plan report
-  pub schedule : report.schedule ≡ moves
-  pub facts : List Fact
-  pub facts_are : AreFacts plan report.journal facts
-  pub standings : List (Option Standing)
-  pub standings_are : AreStandings plan report.journal standings
-  pub written : Appends old new (svg_text names plan report facts standings)
-  pub well_formed : IsDocument (svg_text names plan report facts standings)
+  pub told : TellsBy (svg_text names plan) plan moves old new report
+  pub well_formed : IsDocument (svg_text names plan report told.facts told.standings)
   pub room : HaveRoom names plan (shape_of names plan (length report.schedule))
-  pub since : NotesLast

@@ -1,3 +1,4 @@
+pub mod AnyOrder
 pub mod BigText
 pub mod CallParts
 pub mod Described
@@ -14,12 +15,19 @@ pub mod Scripts
 pub mod WholeCall
 pub mod WholeScript
 pub mod SameSpec
+pub mod WholeNumbers
 pub mod WholePlan
 pub mod OneOperand
 pub mod OneCall
 pub mod OnlySetup
 pub mod Equality
 pub mod KnownViews
+pub mod CallTokens
+pub mod ObjectTokens
+pub mod Shallow
+pub mod PlainScripts
+pub mod MemberTokens
+pub mod Tokens
 pub mod Unread
 pub mod ToldArguments
 pub mod ToldCalls

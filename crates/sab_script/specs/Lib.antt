@@ -5,6 +5,7 @@ pub mod Views
 pub mod Calls
 pub mod Agents
 pub mod Schedule
+pub mod Plain
 pub mod Setup
 pub mod Places
 pub mod Truth

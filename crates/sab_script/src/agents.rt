@@ -37,20 +37,6 @@ fn agent_members(at: Location, tree: &Value) -> Result<(&Value, &Value), Located
     Ok((block, calls))
 }
 
-/// What an agent is to do.
-fn read_agent(alloc: Global, at: Location, views: &Views, tree: &Value) -> Result<Script, Located>
-    ensures found { Finds (λ script. script) (SpellsScript (view_names views.now) (view tree.now)) result }
-    ensures told { IfErr result (IsTrueWhere at (view tree.now)
-        (λ root. ((i : ℕ) × (at ≡ Location.Item Member.Agents i)) × HasNames root (view_names views.now))) }
-{
-    let (block_tree, calls_tree) = agent_members(at, tree)?;
-    let can_block = flag(at.member(Member::Block), block_tree)?;
-    let at_calls = at.member(Member::Calls);
-    let trees = items(at_calls, calls_tree)?;
-    let calls = read_calls(alloc, at_calls, views, trees)?;
-    Ok(Script { can_block, calls })
-}
-
 /// Reads what an agent is to do, with the views that its calls are on.
 #[derive(Clone, Copy)]
 struct AgentReader<'a> {
@@ -66,8 +52,13 @@ impl Reader for AgentReader<'_> {
     ghost Knows = { λ reader root at. ((i : ℕ) × (at ≡ L.Item M.Agents i))
         × HasNames root (view_names reader.views.now) };
 
-    fn read(&self, list: Location, index: usize, tree: &Value) -> Result<Script, Located> {
-        read_agent(self.alloc, list.item(index), self.views, tree)
+    fn read(&self, at: Location, tree: &Value) -> Result<Script, Located> {
+        let (block_tree, calls_tree) = agent_members(at, tree)?;
+        let can_block = flag(at.member(Member::Block), block_tree)?;
+        let at_calls = at.member(Member::Calls);
+        let trees = items(at_calls, calls_tree)?;
+        let calls = read_calls(self.alloc, at_calls, self.views, trees)?;
+        Ok(Script { can_block, calls })
     }
 }
 

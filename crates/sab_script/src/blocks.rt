@@ -43,8 +43,7 @@ impl Reader for LenReader {
 
     ghost Knows = { λ _ root at. IsLenPlace at };
 
-    fn read(&self, list: Location, index: usize, tree: &Value) -> Result<u32, Located> {
-        let at = list.item(index);
+    fn read(&self, at: Location, tree: &Value) -> Result<u32, Located> {
         read_len(at, tree)
     }
 }

@@ -25,7 +25,7 @@ use serde_json::Value;
 use std::alloc::Global;
 
 /// The read-modify-write operation of a call's name.
-fn rmw_op(at: Location, name: &str) -> Result<RmwOp, Located>
+pub(crate) fn rmw_op(at: Location, name: &str) -> Result<RmwOp, Located>
     ensures found { Finds (λ op. op) (λ op. name.now ≡ function_of_op op) result }
     ensures told { IfErr result (λ e. (root : Data) (i j : ℕ) → at ≡ Location.Call M.Agents i M.Calls j
         → IsNamed root i j name.now → IsNameOfRmw name.now → IsTrueOf root e) }
@@ -149,8 +149,7 @@ impl Reader for CallReader<'_> {
     ghost Knows = { λ reader root at. ((i : ℕ) × (j : ℕ) × (at ≡ L.Call M.Agents i M.Calls j))
         × HasNames root (view_names reader.views.now) };
 
-    fn read(&self, list: Location, index: usize, tree: &Value) -> Result<Call, Located> {
-        let at = list.item(index);
+    fn read(&self, at: Location, tree: &Value) -> Result<Call, Located> {
         read_call(at, self.views, tree)
     }
 }

@@ -23,13 +23,10 @@ pub(crate) trait Reader {
     /// What has to be known of the script where an element stands.
     ghost Knows: { Self → Data → Place → Type 0 };
 
-    /// The element that a value spells, which is the item of this index of a list.
-    ///
-    /// Where it stands is found only for a refusal: most elements need no place.
-    fn read(&self, list: Location, index: usize, tree: &Value) -> Result<Self::Element, Located>
+    /// The element that a value spells, which stands there.
+    fn read(&self, at: Location, tree: &Value) -> Result<Self::Element, Located>
         ensures found { Finds (λ x. x) (Spells self.now (view tree.now)) result }
-        ensures told { IfErr result (IsTrueWhere (item_at list index) (view tree.now)
-            (λ root. Knows self.now root (item_at list index))) };
+        ensures told { IfErr result (IsTrueWhere at (view tree.now) (λ root. Knows self.now root at)) };
 }
 
 /// The elements that the items of an array spell, in order, of which there may be `most`.
@@ -52,7 +49,7 @@ pub(crate) fn read_each<R: Reader>(
     }
     let mut elements = Vec::with_capacity(alloc, trees.len())?;
     for tree in trees {
-        elements.push_reserved(reader.read(at, elements.len(), tree)?);
+        elements.push_reserved(reader.read(at.item(elements.len()), tree)?);
     }
     Ok(elements)
 }

@@ -1,4 +1,4 @@
-//! Reads scripts: from a JSON tree that says what agents do to blocks of bytes, and in which order, to a setup.
+//! Reads scripts: from JSON that says what agents do to blocks of bytes, and in which order, to a setup.
 #![tactic(auto)]
 
 mod agents;
@@ -9,6 +9,7 @@ mod form;
 mod misfit;
 mod names;
 mod operands;
+mod plain;
 mod schedule;
 mod script;
 mod setup;

@@ -51,7 +51,7 @@ fn wrong_count(at: Location, count: usize, least: usize, most: usize) -> Located
 }
 
 /// A BigInt of 128 bits, by its one spelling.
-fn big(at: Location, digits: &str) -> Result<i128, Located>
+pub(crate) fn big(at: Location, digits: &str) -> Result<i128, Located>
     ensures found { Finds (λ z. z) (SpellsBig digits.now) result }
     ensures told { IfErr result (IsTrueWhere at (string digits.now) (λ root. CallsFor root at Wanted.Operand)) }
 {

@@ -1,6 +1,6 @@
 //! Schedules.
 
-ghost use Rattle.std.specs.Prelude.{◌≡◌, ◌≤◌, ◌⊎◌, ℕ, IfErr, IfSome};
+ghost use Rattle.std.specs.Prelude.{◌≡◌, ◌≤◌, ◌⊎◌, ℕ, IfErr};
 ghost use Rattle.serde_json.specs.Data.{array};
 ghost use Rattle.serde_json.specs.View.{view, items_view};
 ghost use Rattle.sab_refusal.specs.declared.location.Location.TheVariants as L;
@@ -21,21 +21,6 @@ pub const MAX_MOVES: usize = 100_000;
 
 // The clauses cite the constant: so its number is held here.
 const _: () = prove!(MAX_MOVES == 100_000);
-
-/// The step of an agent, of which there are so many; none, where the value spells no such step.
-///
-/// Nearly all moves are steps. So they are read without the place at which they stand, which a refusal alone needs.
-fn step_of(agents: u32, tree: &Value) -> Option<Move>
-    ensures { IfSome result (SpellsMove agents (view tree.now)) }
-{
-    let Value::Number(number) = tree else {
-        return None;
-    };
-    match number.as_i64() {
-        Some(agent) if 0 <= agent && agent < i64::from(agents) => Some(Move::Step(agent as u32)),
-        _ => None,
-    }
-}
 
 /// A move of an agent, of which there are so many.
 fn read_move(at: Location, agents: u32, tree: &Value) -> Result<Move, Located>
@@ -69,11 +54,8 @@ impl Reader for MoveReader {
     ghost Knows = { λ reader root at. ((k : ℕ) × (at ≡ L.Item M.Schedule k))
         × HasItems root (L.Member M.Agents) reader.agents };
 
-    fn read(&self, list: Location, index: usize, tree: &Value) -> Result<Move, Located> {
-        match step_of(self.agents, tree) {
-            Some(step) => Ok(step),
-            None => read_move(list.item(index), self.agents, tree),
-        }
+    fn read(&self, at: Location, tree: &Value) -> Result<Move, Located> {
+        read_move(at, self.agents, tree)
     }
 }
 

@@ -1,8 +1,10 @@
 //! Scripts as bytes.
 
-ghost use Rattle.std.specs.Prelude.{IfOk, IfErr};
+ghost use Rattle.std.specs.Prelude.{◌≡◌, IfOk, IfErr};
+ghost use Rattle.sab_refusal.specs.declared.refusal.Refusal.TheVariants.{Tree};
 ghost use Rattle.sab_script.specs.Script.{IsScriptOf, IsRefusedBy, IsTrueRefusal};
 
+use crate::plain::{Miss, plain_setup};
 use crate::setup::{Setup, locate_setup};
 use sab_refusal::{Located, Location, Reason, Refusal};
 use serde_json::Value;
@@ -10,9 +12,33 @@ use std::alloc::Global;
 
 /// The setup that a script spells; or where the script is refused, and why.
 ///
-/// Other than for want of memory it is refused only where it isn't a JSON text, or one that spells no setup.
+/// Other than for want of memory it is refused only where it isn't a JSON text, or one that spells no setup. A plain
+/// script is read from its tokens; every other one, and each that is to be refused, is read from its tree.
 #[tactic(auto, using(crate::proofs::Scripts::no_reading, crate::proofs::Scripts::refused_tree))]
 pub fn read_script(alloc: Global, script: &[u8]) -> Result<Setup, Refusal>
+    ensures ok { IfOk result (IsScriptOf script.now) }
+    ensures err { IfErr result (IsRefusedBy script.now) }
+    ensures told { IfErr result (IsTrueRefusal script.now) }
+{
+    match plain_setup(alloc, script) {
+        Ok(setup) => Ok(setup),
+        Err(Miss::Memory) => Err(out_of_memory()),
+        Err(Miss::NotPlain) => read_tree(alloc, script),
+    }
+}
+
+/// A refusal for want of memory.
+fn out_of_memory() -> Refusal
+    ensures { result ≡ Tree (record { at = Location.Script; why = Reason.Memory }) }
+{
+    let at = Location::Script;
+    let why = Reason::Memory;
+    Refusal::Tree(Located { at, why })
+}
+
+/// The same by the tree of the script.
+#[tactic(auto, using(crate::proofs::Scripts::no_reading, crate::proofs::Scripts::refused_tree))]
+fn read_tree(alloc: Global, script: &[u8]) -> Result<Setup, Refusal>
     ensures ok { IfOk result (IsScriptOf script.now) }
     ensures err { IfErr result (IsRefusedBy script.now) }
     ensures told { IfErr result (IsTrueRefusal script.now) }
@@ -21,9 +47,7 @@ pub fn read_script(alloc: Global, script: &[u8]) -> Result<Setup, Refusal>
         Ok(tree) => tree,
         Err(error) => {
             if error.is_memory() {
-                let at = Location::Script;
-                let why = Reason::Memory;
-                return Err(Refusal::Tree(Located { at, why }));
+                return Err(out_of_memory());
             }
             return Err(Refusal::NotJson {
                 line: error.line(),

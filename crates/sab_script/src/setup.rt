@@ -7,7 +7,7 @@ ghost use Rattle.sab_plan.specs.Plan.{IsPlan, parts_of};
 ghost use Rattle.sab_refusal.specs.declared.read_fault.ReadFault.TheVariants.{OutOfMemory};
 ghost use Rattle.sab_refusal.specs.Reason.{fault_of};
 ghost use Rattle.sab_script.specs.Reading.{Refuses, Reads, Finds};
-ghost use Rattle.sab_script.specs.Views.{named_views};
+ghost use Rattle.sab_script.specs.Views.{named_views, AreDescribed};
 ghost use Rattle.sab_script.specs.Setup.{IsSetup, Spells, IsOnlySetup, script_object};
 ghost use Rattle.sab_script.specs.Places.{form_of};
 ghost use Rattle.sab_script.specs.Truth.{IsTrueOf, IsTrueFault};
@@ -145,6 +145,30 @@ fn plan_of(lens: Vec<u32>, views: Vec<PlanView>, scripts: Vec<Script>) -> Plan
     }
 }
 
+/// A setup of parts that make one.
+pub(crate) fn setup_of(
+    lens: Vec<u32>,
+    views: Views,
+    plan_views: Vec<PlanView>,
+    scripts: Vec<Script>,
+    schedule: Vec<Move>,
+) -> Setup
+    requires plan { IsPlan (parts_of lens.items plan_views.items scripts.items) }
+    requires made { AreDescribed lens.items views plan_views.items }
+    ensures { result ≡ record {
+      plan = parts_of lens.items plan_views.items scripts.items;
+      views = views;
+      schedule = schedule.items;
+    } }
+{
+    let plan = plan_of(lens, plan_views, scripts);
+    Setup {
+        plan,
+        views,
+        schedule,
+    }
+}
+
 /// The one setup that a JSON value spells, in either form of a script; or where it isn't one, and why.
 ///
 /// A fault other than OutOfMemory is answered only where the value spells none.
@@ -161,12 +185,7 @@ pub fn locate_setup(alloc: Global, tree: &Value) -> Result<Setup, Located>
     let (views, plan_views) = read_views(alloc, at_views, form, &lens, view_trees)?;
     let scripts = read_agents(alloc, at_agents, &views, agent_trees)?;
     let schedule = read_schedule(alloc, at_schedule, scripts.len() as u32, move_trees)?;
-    let plan = plan_of(lens, plan_views, scripts);
-    Ok(Setup {
-        plan,
-        views,
-        schedule,
-    })
+    Ok(setup_of(lens, views, plan_views, scripts, schedule))
 }
 
 /// The one setup that a JSON value spells, in either form of a script.

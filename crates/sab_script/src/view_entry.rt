@@ -64,7 +64,7 @@ fn description_members<'a>(
 }
 
 /// The view of a plan that is described, made on one of the blocks.
-fn plan_view(at: Location, lens: &[u32], spec: ViewSpec) -> Result<PlanView, Located>
+pub(crate) fn plan_view(at: Location, lens: &[u32], spec: ViewSpec) -> Result<PlanView, Located>
     requires { spec.block < length lens.now }
     ensures made { IfOk result (IsDescribed lens.now spec) }
     ensures err { OnErr result (count_on lens.now spec ≡ None) }

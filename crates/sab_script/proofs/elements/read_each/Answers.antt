@@ -55,7 +55,7 @@ returns-in_err-read-clause-told g c =
     let ts = c.args.trees.now in
     let i = c.loop-tree.tree-index in
     let t = c.tree-item.result in
-    let there : c.len.result ≡ i = cc in
+    let there : c.item.result ≡ item_at place i = cc in
     exit_told (IsTrueWhere place (array (items_view ts)) (λ root. IsListOf c.args.unit place
     × (c.args.most ≡ limit_of c.args.unit)
     × ((n : ℕ) → g.R.Reader.Knows c.args.reader.now root (item_at place n))))

@@ -10,21 +10,21 @@ use Rattle.sab_script.specs.Truth.{IsTrueWhere}
 use Rattle.sab_script.specs.Views.{view_names}
 use Rattle.sab_script.proofs.Standing.{part_of_item}
 use Rattle.sab_script.proofs.Telling.{exit_told}
-use Rattle.sab_script.proofs.agents.read_agent.Goals as goal
+use Rattle.sab_script.proofs.agents.AgentReaderReader.read.Goals as goal
 
 abbrev Known : Location → List (List ℕ) → Data → Type 0
 Known place names root = ((i : ℕ) × (place ≡ at.Item M.Agents i)) × HasNames root names
 
 pub returns-in_err-block_tree-clause-told : goal.returns-in_err-block_tree-clause-told
 returns-in_err-block_tree-clause-told c =
-    let names = view_names c.args.views.now in
+    let names = view_names c.args.self.now.views.now in
     exit_told (IsTrueWhere c.args.at (view c.args.tree.now) (Known c.args.at names)) c.from_residual.result
     c.in_err-block_tree.field-0.0 c.from_residual.ensures.1
     (λ root stands known. c.in_err-block_tree.ensures.told root stands known.0)
 
 pub returns-in_err-can_block-clause-told : goal.returns-in_err-can_block-clause-told
 returns-in_err-can_block-clause-told c =
-    let names = view_names c.args.views.now in
+    let names = view_names c.args.self.now.views.now in
     let d = view c.args.tree.now in
     let x = view c.in_ok-block_tree.block_tree.now in
     let below = c.member.ensures in
@@ -39,7 +39,7 @@ returns-in_err-can_block-clause-told c =
 
 pub returns-in_err-trees-clause-told : goal.returns-in_err-trees-clause-told
 returns-in_err-trees-clause-told c =
-    let names = view_names c.args.views.now in
+    let names = view_names c.args.self.now.views.now in
     let d = view c.args.tree.now in
     let x = view c.in_ok-block_tree.calls_tree.now in
     let below = c.member-at_calls.ensures in
@@ -54,7 +54,7 @@ returns-in_err-trees-clause-told c =
 
 pub returns-in_err-calls-clause-told : goal.returns-in_err-calls-clause-told
 returns-in_err-calls-clause-told c =
-    let names = view_names c.args.views.now in
+    let names = view_names c.args.self.now.views.now in
     let d = view c.args.tree.now in
     let x = view c.in_ok-block_tree.calls_tree.now in
     let below = c.member-at_calls.ensures in

@@ -1,6 +1,6 @@
 use Rattle.serde_json.specs.View.{view}
 use Rattle.sab_script.proofs.Scripts.{told_tree}
-use Rattle.sab_script.proofs.script.read_script.Goals as goal
+use Rattle.sab_script.proofs.script.read_tree.Goals as goal
 
 pub returns-clause-told : goal.returns-clause-told
 returns-clause-told c =

@@ -1,0 +1,7 @@
+use Rattle.sab_script.proofs.Tokens.{if_some, next_tells}
+use Rattle.sab_script.proofs.plain.operands.next_operand.Goals as goal
+
+pub returns : goal.returns
+returns c =
+    if_some c.operand.result (λ x h. next_tells c.args.rest.now c.in_ok-next.field-0 c.next.new.self c.in_ok-next.ensures.value h)
+    c.operand.ensures

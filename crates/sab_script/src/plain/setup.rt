@@ -1,0 +1,87 @@
+//! Setups, from the tokens of a script.
+
+ghost use Rattle.std.specs.Prelude.{◌≡◌, IfOk, IfSome};
+ghost use Rattle.json.specs.Json.{Json};
+ghost use Rattle.json.specs.Find.{BeginsWith, HasValue};
+ghost use Rattle.sab_script.specs.Plain.{Tells, IsObjectOf, script_members};
+ghost use Rattle.sab_script.specs.Script.{IsScriptOf};
+ghost use Rattle.sab_script.specs.Setup.{Spells};
+
+use crate::plain::agents::read_agents;
+use crate::plain::lists::Miss;
+use crate::plain::members::{are_named, only_member};
+use crate::plain::schedule::read_schedule;
+use crate::plain::views::{read_lens, read_views};
+use crate::setup::{Setup, setup_of};
+use json::{Element, Error, Scratch, Tape};
+use sab_refusal::Member;
+use std::alloc::Global;
+use std::str;
+
+/// The values of a script's members.
+#[derive(Drop)]
+struct ScriptParts<'t, 'a> {
+    agents: Element<'t, 'a>,
+    lens: Element<'t, 'a>,
+    schedule: Element<'t, 'a>,
+    views: Element<'t, 'a>,
+}
+
+/// The values of a script's members; `None` where the value has other members.
+fn parts_of<'t, 'a>(element: &Element<'t, 'a>) -> Option<ScriptParts<'t, 'a>>
+    ensures { IfSome result (λ p. (j : Json) → BeginsWith element.now j
+        → (a : Json) × (l : Json) × (s : Json) × (v : Json) × IsObjectOf (script_members a l s v) j
+        × BeginsWith p.agents a × BeginsWith p.lens l × BeginsWith p.schedule s × BeginsWith p.views v) }
+{
+    are_named(
+        element,
+        &[
+            Member::Agents,
+            Member::Blocks,
+            Member::Schedule,
+            Member::Views,
+        ],
+    )?;
+    let agents = only_member(element, Member::Agents)?;
+    let lens = only_member(element, Member::Blocks)?;
+    let schedule = only_member(element, Member::Schedule)?;
+    let views = only_member(element, Member::Views)?;
+    Some(ScriptParts {
+        agents,
+        lens,
+        schedule,
+        views,
+    })
+}
+
+/// The setup that a value spells.
+fn read_setup(alloc: Global, element: &Element<'_, '_>) -> Result<Setup, Miss>
+    requires { HasValue element.now }
+    ensures { IfOk result (λ setup. Tells 5 (λ d. Spells d setup) element.now) }
+{
+    let Some(parts) = parts_of(element) else {
+        return Err(Miss::NotPlain);
+    };
+    let lens = read_lens(alloc, &parts.lens)?;
+    let (views, plan_views) = read_views(alloc, &lens, &parts.views)?;
+    let scripts = read_agents(alloc, &views, &parts.agents)?;
+    let schedule = read_schedule(alloc, scripts.len() as u32, &parts.schedule)?;
+    Ok(setup_of(lens, views, plan_views, scripts, schedule))
+}
+
+/// The setup that a plain script spells.
+///
+/// NotPlain where it isn't plain, or isn't a script at all.
+pub(crate) fn plain_setup(alloc: Global, script: &[u8]) -> Result<Setup, Miss>
+    ensures { IfOk result (IsScriptOf script.now) }
+{
+    let Ok(text) = str::from_utf8(script) else {
+        return Err(Miss::NotPlain);
+    };
+    let mut scratch = Scratch::new(alloc);
+    match Tape::parse(text, &mut scratch, Vec::new(alloc)) {
+        Ok(tape) => read_setup(alloc, &tape.root()),
+        Err(Error::OutOfMemory) => Err(Miss::Memory),
+        Err(_) => Err(Miss::NotPlain),
+    }
+}
