@@ -11,16 +11,16 @@ use Rattle.sab_block.specs.Check.{thrown_by, first_failed}
 use Rattle.sab_plan.specs.declared.call.Call.{Call}
 use Rattle.sab_plan.specs.Call.{index_of}
 use Rattle.sab_plan.specs.Check.{checks}
-use Rattle.sab_check.specs.declared.cause.Reason.{Reason}
-use Rattle.sab_check.specs.declared.cause.Reason.TheVariants.{NotAtomic, NotWaitable, NoElement, NotNumber, NotBigInt, CannotBlock}
+use Rattle.sab_check.specs.declared.cause.ThrowReason.{ThrowReason}
+use Rattle.sab_check.specs.declared.cause.ThrowReason.TheVariants.{NotAtomic, NotWaitable, NoElement, NotNumber, NotBigInt, CannotBlock}
 use Rattle.sab_check.specs.declared.cause.Cause.{Cause}
 
 -- an operand of the wrong type
-abbrev pub operand_reason : Kind → Reason
+abbrev pub operand_reason : Kind → ThrowReason
 operand_reason kind = if is_big kind then NotBigInt kind else NotNumber kind
 
 -- what is amiss where a check of a call on its view fails
-abbrev pub reason_of : View → Call → Check → Reason
+abbrev pub reason_of : View → Call → Check → ThrowReason
 reason_of view call K.AtomicKind = NotAtomic (kind_of view)
 reason_of view call K.WaitableKind = NotWaitable (kind_of view)
 reason_of view call K.Index = NoElement (index_of call) (len_of view)

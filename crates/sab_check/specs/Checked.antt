@@ -7,7 +7,7 @@ use Rattle.sab_refusal.specs.Refusal.{IsMemory, refusal_text}
 use Rattle.sab_script.specs.Script.{IsScriptOf, IsRefusedBy, IsTrueRefusal}
 use Rattle.sab_check.specs.declared.check.Checked.{Checked}
 use Rattle.sab_check.specs.declared.check.Checked.TheVariants.{Accepted, Refused}
-use Rattle.sab_check.specs.declared.scanning.Found.{Found}
+use Rattle.sab_check.specs.declared.scanning.ForeignAt.{ForeignAt}
 use Rattle.sab_check.specs.declared.spot.Spot.{Spot}
 use Rattle.sab_check.specs.Foreign.{FindsFirst, spot_after, is_by, foreign_line}
 use Rattle.sab_check.specs.Text.{accepted_text}
@@ -23,7 +23,7 @@ spot line column = record { line = line; column = column }
 
 -- what is said of a refusal where this was found, which JSON hasn't: it is told where it stands where the reader ended,
 -- or before
-abbrev pub said_of : List ℕ → Refusal → Option Found → List ℕ
+abbrev pub said_of : List ℕ → Refusal → Option ForeignAt → List ℕ
 said_of script (NotJson line column is_cut) (Some found) =
     if is_by (spot_after (take found.at script)) (spot line column)
     then foreign_line (spot_after (take found.at script)) found.what
@@ -34,7 +34,7 @@ said_of script (Tree e) found = refusal_text (Tree e)
 -- what is said of a refusal: where the script is no JSON text, of the first thing in it that JSON hasn't
 abbrev pub Says : List ℕ → Refusal → List ℕ → Type 0
 Says script (NotJson line column is_cut) text =
-    (found : Option Found) × FindsFirst script found
+    (found : Option ForeignAt) × FindsFirst script found
     × (text ≡ said_of script (NotJson line column is_cut) found ++ codes "\n")
 Says script (Tree e) text = text ≡ refusal_text (Tree e) ++ codes "\n"
 

@@ -6,7 +6,7 @@ use Rattle.sab_check.specs.declared.foreign.Foreign.{Foreign}
 use Rattle.sab_check.specs.declared.foreign.Foreign.TheVariants.{Nan, Infinity, Undefined, Comment, SingleQuote, Mark, CommaBeforeBracket, CommaBeforeBrace}
 use Rattle.sab_check.specs.declared.scanning.Side.{Side}
 use Rattle.sab_check.specs.declared.scanning.Side.TheVariants.{Outside, Inside, Escaped}
-use Rattle.sab_check.specs.declared.scanning.Found.{Found}
+use Rattle.sab_check.specs.declared.scanning.ForeignAt.{ForeignAt}
 use Rattle.sab_check.specs.declared.spot.Spot.{Spot}
 
 -- Strings: a quote begins one, and the next quote that isn't behind a backslash ends it.
@@ -79,7 +79,7 @@ abbrev pub HasNoneBefore : List ℕ → ℕ → Type 0
 HasNoneBefore text n = (k : ℕ) → k < n → foreign_behind text k ≡ None
 
 -- the first thing outside of strings that JSON hasn't, or none where there is none
-abbrev pub FindsFirst : List ℕ → Option Found → Type 0
+abbrev pub FindsFirst : List ℕ → Option ForeignAt → Type 0
 FindsFirst text None = HasNoneBefore text (length text)
 FindsFirst text (Some found) =
     (foreign_behind text found.at ≡ Some found.what) × HasNoneBefore text found.at

@@ -12,13 +12,13 @@ use Rattle.sab_refusal.specs.declared.member.Member.TheVariants.{Agents, Calls}
 use Rattle.sab_refusal.specs.Location.{location_text}
 use Rattle.sab_script.specs.Views.{view_names}
 use Rattle.sab_script.specs.Setup.{SetupParts}
-use Rattle.sab_check.specs.declared.cause.Reason.{Reason}
-use Rattle.sab_check.specs.declared.cause.Reason.TheVariants.{NotAtomic, NotWaitable, NoElement, NotNumber, NotBigInt, CannotBlock}
+use Rattle.sab_check.specs.declared.cause.ThrowReason.{ThrowReason}
+use Rattle.sab_check.specs.declared.cause.ThrowReason.TheVariants.{NotAtomic, NotWaitable, NoElement, NotNumber, NotBigInt, CannotBlock}
 use Rattle.sab_check.specs.declared.cause.Cause.{Cause}
 use Rattle.sab_check.specs.Cause.{first_cause}
 
 -- what is amiss
-abbrev pub reason_text : Reason → List ℕ
+abbrev pub reason_text : ThrowReason → List ℕ
 reason_text (NotAtomic kind) = codes "Atomics doesn't take " ++ kind_name kind
 reason_text (NotWaitable kind) = kind_name kind ++ codes " isn't waitable"
 reason_text (NoElement index len) =

@@ -10,7 +10,7 @@ use std::fmt;
 
 /// What a call's check finds amiss.
 #[derive(Clone, Copy)]
-pub(crate) enum Reason {
+pub(crate) enum ThrowReason {
     /// The functions of `Atomics` don't take this kind.
     NotAtomic(Kind),
     /// `Atomics.wait` and `Atomics.notify` don't take this kind.
@@ -31,7 +31,7 @@ pub(crate) struct Cause {
     /// What it throws.
     pub thrown: Thrown,
     /// The first of its checks that fails.
-    pub reason: Reason,
+    pub reason: ThrowReason,
 }
 
 /// What a call throws whenever it acts, and why; none for a call that depends on the bytes alone.
@@ -42,28 +42,28 @@ pub(crate) fn cause_of(can_block: bool, view: View, call: &Call) -> Option<Cause
     let check = failing_check(view, *call, can_block)?;
     Some(Cause {
         thrown: check.thrown(),
-        reason: Reason::of(view, call, check),
+        reason: ThrowReason::of(view, call, check),
     })
 }
 
-impl Reason {
+impl ThrowReason {
     /// What is amiss where a check of a call on its view fails.
-    fn of(view: View, call: &Call, check: Check) -> Reason
+    fn of(view: View, call: &Call, check: Check) -> ThrowReason
         ensures { result ≡ reason_of view call.now check }
     {
         let kind = view.kind();
         match check {
-            Check::AtomicKind => Reason::NotAtomic(kind),
-            Check::WaitableKind => Reason::NotWaitable(kind),
-            Check::Index => Reason::NoElement(call.index(), view.len()),
-            Check::Operand if kind.is_big() => Reason::NotBigInt(kind),
-            Check::Operand => Reason::NotNumber(kind),
-            Check::CanBlock => Reason::CannotBlock,
+            Check::AtomicKind => ThrowReason::NotAtomic(kind),
+            Check::WaitableKind => ThrowReason::NotWaitable(kind),
+            Check::Index => ThrowReason::NoElement(call.index(), view.len()),
+            Check::Operand if kind.is_big() => ThrowReason::NotBigInt(kind),
+            Check::Operand => ThrowReason::NotNumber(kind),
+            Check::CanBlock => ThrowReason::CannotBlock,
         }
     }
 }
 
-impl fmt::Display for Reason {
+impl fmt::Display for ThrowReason {
     ghost use Rattle.std.specs.Prelude.{Some};
     ghost use Rattle.sab_check.specs.Text.{reason_text};
 
@@ -71,14 +71,14 @@ impl fmt::Display for Reason {
 
     fn fmt<W: fmt::Write>(&self, f: &mut fmt::Formatter<W>) -> fmt::Result {
         match self {
-            Reason::NotAtomic(kind) => write!(f, "Atomics doesn't take {kind}"),
-            Reason::NotWaitable(kind) => write!(f, "{kind} isn't waitable"),
-            Reason::NoElement(index, len) => {
+            ThrowReason::NotAtomic(kind) => write!(f, "Atomics doesn't take {kind}"),
+            ThrowReason::NotWaitable(kind) => write!(f, "{kind} isn't waitable"),
+            ThrowReason::NoElement(index, len) => {
                 write!(f, "there is no index {index}: the length is {len}")
             }
-            Reason::NotNumber(kind) => write!(f, "{kind} takes Numbers and no BigInts"),
-            Reason::NotBigInt(kind) => write!(f, "{kind} takes BigInts and no Numbers"),
-            Reason::CannotBlock => f.write_str("the agent can't block"),
+            ThrowReason::NotNumber(kind) => write!(f, "{kind} takes Numbers and no BigInts"),
+            ThrowReason::NotBigInt(kind) => write!(f, "{kind} takes BigInts and no Numbers"),
+            ThrowReason::CannotBlock => f.write_str("the agent can't block"),
         }
     }
 }

@@ -34,7 +34,7 @@ impl Side {
 
 /// What JSON hasn't, and how many bytes stand before it.
 #[derive(Clone, Copy)]
-pub(crate) struct Found {
+pub(crate) struct ForeignAt {
     /// How many bytes stand before it.
     pub at: usize,
     /// What it is.
@@ -43,14 +43,14 @@ pub(crate) struct Found {
 
 /// The first thing outside of a text's strings that JSON hasn't.
 #[tactic(auto, using(crate::proofs::Walk::found_here, crate::proofs::Walk::none_here, crate::proofs::Walk::none_at_all, crate::proofs::Walk::next_side))]
-pub(crate) fn first_foreign(text: &[u8]) -> Option<Found>
+pub(crate) fn first_foreign(text: &[u8]) -> Option<ForeignAt>
     ensures first { FindsFirst text.now result }
     ensures within { IfSome result (λ found. found.at < length text.now) }
 {
     let mut side = Side::Outside;
     for (at, byte) in text.iter().enumerate() {
         if let Some(what) = foreign_on(side, &text[at..]) {
-            return Some(Found { at, what });
+            return Some(ForeignAt { at, what });
         }
         side = side.behind(*byte);
     }

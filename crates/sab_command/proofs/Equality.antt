@@ -6,9 +6,9 @@ use borrow.Author.Tests.{eqb-true}
 use Rattle.std.proofs.lemmas.Bool.{and_parts, false≢true}
 use Rattle.sab_race.proofs.Equality.{same_share}
 use Rattle.sab_text.proofs.Equality.{same_telling, same_verdict_format}
-use Rattle.sab_command.specs.declared.job.Form.{Form}
-use Rattle.sab_command.specs.declared.job.Form.TheVariants.{Report, Script}
-use Rattle.sab_command.specs.contracts.job.FormPartialEq.TheImpl as form
+use Rattle.sab_command.specs.declared.job.RunForm.{RunForm}
+use Rattle.sab_command.specs.declared.job.RunForm.TheVariants.{Report, Script}
+use Rattle.sab_command.specs.contracts.job.RunFormPartialEq.TheImpl as form
 use Rattle.sab_command.specs.declared.job.Job.{Job}
 use Rattle.sab_command.specs.declared.job.Job.TheVariants.{Replay, Check, Judge, Race}
 use Rattle.sab_command.specs.contracts.job.JobPartialEq.TheImpl as job
@@ -22,7 +22,7 @@ same_seed None (Some m) e = absurd (false≢true e)
 same_seed (Some n) None e = absurd (false≢true e)
 same_seed (Some n) (Some m) e = ap Some (eqb-true n m e)
 
-same_form : (x y : Form) → (form.ghosts).eq x y ≡ true → x ≡ y
+same_form : (x y : RunForm) → (form.ghosts).eq x y ≡ true → x ≡ y
 same_form (Report t) (Report u) e = ap Report (same_telling t u e)
 same_form Script Script e = refl
 same_form _ _ e = absurd (false≢true e)

@@ -6,7 +6,7 @@ ghost use Rattle.sab_command.specs.Job.{IsOfTrace, IsTaskWithinLimits, IsWithinL
 ghost use Rattle.sab_command.specs.Source.{Names};
 
 use crate::help;
-use crate::job::{Form, Job};
+use crate::job::{Job, RunForm};
 use crate::request::{Request, Source, Task};
 use clap::{Arg, ArgAction, ArgMatches, Command, Error, value_parser};
 use sab_race::{MAX_SPINS, Share};
@@ -234,13 +234,13 @@ fn lines_of(matches: &ArgMatches<'_>) -> Lines
 }
 
 /// In which form a run is to be written.
-fn form_of(matches: &ArgMatches<'_>) -> Form
-    ensures script { first_value (found_of matches.now) (codes "format") ≡ Some (codes "script") → result ≡ Form.Script }
+fn form_of(matches: &ArgMatches<'_>) -> RunForm
+    ensures script { first_value (found_of matches.now) (codes "format") ≡ Some (codes "script") → result ≡ RunForm.Script }
 {
     if matches.get_str("format") == Some("script") {
-        return Form::Script;
+        return RunForm::Script;
     }
-    Form::Report(Telling {
+    RunForm::Report(Telling {
         format: format_of(matches),
         lines: lines_of(matches),
     })

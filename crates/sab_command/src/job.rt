@@ -5,7 +5,7 @@ use sab_text::{Telling, VerdictFormat};
 
 /// In which form a run is written.
 #[derive(Clone, Copy, Debug, PartialEq, Eq)]
-pub enum Form {
+pub enum RunForm {
     /// Its report, which is told so.
     Report(Telling),
     /// A script that replays to that report.
@@ -18,7 +18,7 @@ pub enum Job {
     /// To replay the script.
     Replay {
         /// In which form the run is written.
-        form: Form,
+        form: RunForm,
         /// Whether it is an answer of its own that some calls haven't returned.
         finish: bool,
     },
@@ -40,7 +40,7 @@ pub enum Job {
         /// The seed that the threads are mixed by, or none where each run takes another one.
         mix: Option<u64>,
         /// In which form the run is written.
-        form: Form,
+        form: RunForm,
         /// Whether it is an answer of its own that some calls haven't returned.
         finish: bool,
     },

@@ -6,8 +6,8 @@ use Rattle.sab_plan.specs.Report.{ReportParts}
 use Rattle.sab_script.specs.Setup.{SetupParts}
 use Rattle.sab_kept.specs.Keeping.{KeepsRun, IsRaceIn}
 use Rattle.sab_tool.specs.Replay.{IsReportOf}
-use Rattle.sab_command.specs.declared.job.Form.{Form}
-use Rattle.sab_command.specs.declared.job.Form.TheVariants.{Report, Script}
+use Rattle.sab_command.specs.declared.job.RunForm.{RunForm}
+use Rattle.sab_command.specs.declared.job.RunForm.TheVariants.{Report, Script}
 use Rattle.sab_tool.specs.declared.tool_fault.ToolFault.TheVariants.{WriteFailed}
 use Rattle.sab_run.specs.Running.{ReplaysIn, RacesIn, IsFaultOfReplay, IsFaultOfRace}
 use Rattle.sab_tool.specs.declared.ended.Ended.{Ended}
@@ -75,13 +75,13 @@ flushed_kept : (IsRun : SetupParts → ReportParts → Type 0) (old mid new : Op
     (report : ReportParts) → KeepsRun IsRun old mid script report → Keeps mid new → KeepsRun IsRun old new script report
 flushed_kept IsRun old mid new script report r k = (r.0, r.1, appends_kept old mid new (r.0) (r.2) k)
 
-pub flushed_replay : (form : Form) (old mid new : Option (List ℕ)) (script : List ℕ) (ended : Ended)
+pub flushed_replay : (form : RunForm) (old mid new : Option (List ℕ)) (script : List ℕ) (ended : Ended)
     → ReplaysIn form old mid script ended → Keeps mid new → ReplaysIn form old new script ended
 flushed_replay (Report telling) old mid new script ended r k = flushed telling old mid new script ended r k
 flushed_replay Script old mid new script ended r k =
     (r.0, flushed_kept IsReportOf old mid new script r.0 r.1 k, r.2)
 
-pub flushed_race : (form : Form) (old mid new : Option (List ℕ)) (script : List ℕ) (spins : ℕ) (ended : Ended)
+pub flushed_race : (form : RunForm) (old mid new : Option (List ℕ)) (script : List ℕ) (spins : ℕ) (ended : Ended)
     → RacesIn form spins old mid script ended → Keeps mid new → RacesIn form spins old new script ended
 flushed_race (Report telling) old mid new script spins ended r k =
     flushed_report telling old mid new script spins ended r k
@@ -89,12 +89,12 @@ flushed_race Script old mid new script spins ended r k =
     (r.0, flushed_kept (IsRaceIn spins) old mid new script r.0 r.1 k, r.2)
 
 -- where the flush fails, the script spells a setup all the same
-pub unflushed_replay : (form : Form) (old mid new : Option (List ℕ)) (script : List ℕ) (ended : Ended)
+pub unflushed_replay : (form : RunForm) (old mid new : Option (List ℕ)) (script : List ℕ) (ended : Ended)
     → ReplaysIn form old mid script ended → IsFaultOfReplay form old new script WriteFailed
 unflushed_replay (Report telling) old mid new script ended r = inr (refl, (r.setup, r.spelled))
 unflushed_replay Script old mid new script ended r = inr (refl, (r.1.1.setup, r.1.1.spelled))
 
-pub unflushed_race : (form : Form) (old mid new : Option (List ℕ)) (script : List ℕ) (spins : ℕ) (ended : Ended)
+pub unflushed_race : (form : RunForm) (old mid new : Option (List ℕ)) (script : List ℕ) (spins : ℕ) (ended : Ended)
     → RacesIn form spins old mid script ended → IsFaultOfRace form spins old new script WriteFailed
 unflushed_race (Report telling) old mid new script spins ended r = inr (refl, (r.setup, r.spelled))
 unflushed_race Script old mid new script spins ended r = inr (refl, (r.1.1.setup, r.1.1.spelled))

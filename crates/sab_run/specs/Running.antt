@@ -16,8 +16,8 @@ use Rattle.sab_report.specs.declared.judging.Judged.{Judged}
 use Rattle.sab_report.specs.Judging.{JudgesAs}
 use Rattle.sab_kept.specs.Keeping.{KeepsRun, IsRaceIn, IsReplayUnkept, IsRaceUnkept, IsKeepFault}
 use Rattle.sab_check.specs.Checked.{IsAccepted, IsRefused}
-use Rattle.sab_command.specs.declared.job.Form.{Form}
-use Rattle.sab_command.specs.declared.job.Form.TheVariants.{Report, Script}
+use Rattle.sab_command.specs.declared.job.RunForm.{RunForm}
+use Rattle.sab_command.specs.declared.job.RunForm.TheVariants.{Report, Script}
 use Rattle.sab_command.specs.declared.job.Job.{Job}
 use Rattle.sab_command.specs.declared.job.Job.TheVariants.{Replay, Check, Judge, Race}
 use Rattle.sab_ending.specs.declared.outcome.Outcome.{Outcome}
@@ -37,12 +37,12 @@ KeepsAs IsRun old new script ended =
     (report : ReportParts) × KeepsRun IsRun old new script report × (ended ≡ ended_of report)
 
 -- just the report of the script's replay, or the script that keeps the replay, came behind what the writer held
-abbrev pub ReplaysIn : Form → Option (List ℕ) → Option (List ℕ) → List ℕ → Ended → Type 0
+abbrev pub ReplaysIn : RunForm → Option (List ℕ) → Option (List ℕ) → List ℕ → Ended → Type 0
 ReplaysIn (Report telling) old new script ended = ReplaysAs telling old new script ended
 ReplaysIn Script old new script ended = KeepsAs IsReportOf old new script ended
 
 -- the same of a race of the script with so many steps at a wait
-abbrev pub RacesIn : Form → ℕ → Option (List ℕ) → Option (List ℕ) → List ℕ → Ended → Type 0
+abbrev pub RacesIn : RunForm → ℕ → Option (List ℕ) → Option (List ℕ) → List ℕ → Ended → Type 0
 RacesIn (Report telling) spins old new script ended = RacesAs telling old new script spins ended
 RacesIn Script spins old new script ended = KeepsAs (IsRaceIn spins) old new script ended
 
@@ -63,12 +63,12 @@ abbrev pub IsCheckFault : Option (List ℕ) → Option (List ℕ) → ToolFault 
 IsCheckFault old new fault = (Keeps old new × (fault ≡ OutOfMemory)) ⊎ (fault ≡ WriteFailed)
 
 -- what a replay is refused for that is written in this form
-abbrev pub IsFaultOfReplay : Form → Option (List ℕ) → Option (List ℕ) → List ℕ → ToolFault → Type 0
+abbrev pub IsFaultOfReplay : RunForm → Option (List ℕ) → Option (List ℕ) → List ℕ → ToolFault → Type 0
 IsFaultOfReplay (Report telling) old new script fault = IsReplayFault old new script fault
 IsFaultOfReplay Script old new script fault = IsKeepFault IsReplayUnkept old new script fault
 
 -- what a race is refused for
-abbrev pub IsFaultOfRace : Form → ℕ → Option (List ℕ) → Option (List ℕ) → List ℕ → ToolFault → Type 0
+abbrev pub IsFaultOfRace : RunForm → ℕ → Option (List ℕ) → Option (List ℕ) → List ℕ → ToolFault → Type 0
 IsFaultOfRace (Report telling) spins old new script fault = IsRaceFault old new script spins fault
 IsFaultOfRace Script spins old new script fault = IsKeepFault (IsRaceUnkept spins) old new script fault
 

@@ -9,7 +9,7 @@ ghost use Rattle.sab_run.specs.Running.{ReplaysIn, RacesIn, Runs, RunsGiven, IsF
 use crate::explaining::explanation_of;
 use crate::failure::Failure;
 use sab_check::{Checked, check_script};
-use sab_command::{Form, Job};
+use sab_command::{Job, RunForm};
 use sab_ending::Outcome;
 use sab_kept::{keep_race, keep_replay};
 use sab_report::{Ended, RaceOptions, VerdictFormat, judge_as, race_as, replay_as};
@@ -105,7 +105,7 @@ fn flush<W: Write>(output: &mut W) -> Result<(), ToolFault>
 /// Replays a script, writes the run in its form, and answers how it ended.
 fn replay<W: Write>(
     alloc: Global,
-    form: Form,
+    form: RunForm,
     script: &[u8],
     output: &mut W,
 ) -> Result<Ended, ToolFault>
@@ -114,8 +114,8 @@ fn replay<W: Write>(
     ensures unwritten { IfErr result (IsUnwritten (W.contents output.old) (W.contents output.new)) }
 {
     match form {
-        Form::Report(telling) => replay_as(alloc, script, telling, output),
-        Form::Script => {
+        RunForm::Report(telling) => replay_as(alloc, script, telling, output),
+        RunForm::Script => {
             let report = keep_replay(alloc, script, output)?;
             Ok(Ended::of(&report))
         }
@@ -193,7 +193,7 @@ fn seed_of(rt: &impl RandomSource, mix: Option<u64>) -> u64
 fn race<T: Threads + Wait + Sync + AllocGlobal, W: Write>(
     rt: &T,
     how: RaceOptions,
-    form: Form,
+    form: RunForm,
     script: &[u8],
     output: &mut W,
 ) -> Result<Ended, ToolFault>
@@ -205,8 +205,8 @@ fn race<T: Threads + Wait + Sync + AllocGlobal, W: Write>(
 {
     let alloc = rt.alloc();
     match form {
-        Form::Report(telling) => race_as(rt, alloc, script, how, telling, output),
-        Form::Script => {
+        RunForm::Report(telling) => race_as(rt, alloc, script, how, telling, output),
+        RunForm::Script => {
             let RaceOptions { share, spins, seed } = how;
             let report = keep_race(rt, alloc, script, share, spins, seed, output)?;
             Ok(Ended::of(&report))

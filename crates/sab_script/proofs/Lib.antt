@@ -15,7 +15,6 @@ pub mod Scripts
 pub mod WholeCall
 pub mod WholeScript
 pub mod SameSpec
-pub mod WholeNumbers
 pub mod WholePlan
 pub mod OneOperand
 pub mod OneCall

@@ -45,6 +45,7 @@ HasOnly name value text.no_members = ⊥
 HasOnly name value (text.member other j more) =
     ((other ≡ name) × (j ≡ value) × HasNone name more) ⊎ ((other ≡ name → ⊥) × HasOnly name value more)
 
+-- each of these names has just one member, and that has its value
 abbrev pub HasEach : List (List ℕ × text.Json) → text.Members → Type 0
 HasEach [] ms = Unit {0}
 HasEach (p ∷ ps) ms = HasOnly p.0 p.1 ms × HasEach ps ms

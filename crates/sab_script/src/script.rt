@@ -1,14 +1,13 @@
 //! Scripts as bytes.
 
-ghost use Rattle.std.specs.Prelude.{◌≡◌, IfOk, IfErr};
-ghost use Rattle.sab_refusal.specs.declared.refusal.Refusal.TheVariants.{Tree};
+ghost use Rattle.std.specs.Prelude.{IfOk, IfErr};
 ghost use Rattle.sab_script.specs.Script.{IsScriptOf, IsRefusedBy, IsTrueRefusal};
 
 use crate::plain::{Miss, plain_setup};
 use crate::setup::{Setup, locate_setup};
-use sab_refusal::{Located, Location, Reason, Refusal};
+use sab_refusal::Refusal;
 use serde_json::Value;
-use std::alloc::Global;
+use std::alloc::{AllocError, Global};
 
 /// The setup that a script spells; or where the script is refused, and why.
 ///
@@ -22,18 +21,9 @@ pub fn read_script(alloc: Global, script: &[u8]) -> Result<Setup, Refusal>
 {
     match plain_setup(alloc, script) {
         Ok(setup) => Ok(setup),
-        Err(Miss::Memory) => Err(out_of_memory()),
+        Err(Miss::Memory) => Err(Refusal::Tree(AllocError.into())),
         Err(Miss::NotPlain) => read_tree(alloc, script),
     }
-}
-
-/// A refusal for want of memory.
-fn out_of_memory() -> Refusal
-    ensures { result ≡ Tree (record { at = Location.Script; why = Reason.Memory }) }
-{
-    let at = Location::Script;
-    let why = Reason::Memory;
-    Refusal::Tree(Located { at, why })
 }
 
 /// The same by the tree of the script.
@@ -47,7 +37,7 @@ fn read_tree(alloc: Global, script: &[u8]) -> Result<Setup, Refusal>
         Ok(tree) => tree,
         Err(error) => {
             if error.is_memory() {
-                return Err(out_of_memory());
+                return Err(Refusal::Tree(AllocError.into()));
             }
             return Err(Refusal::NotJson {
                 line: error.line(),

@@ -146,7 +146,7 @@ fn plan_of(lens: Vec<u32>, views: Vec<PlanView>, scripts: Vec<Script>) -> Plan
 }
 
 /// A setup of parts that make one.
-pub(crate) fn setup_of(
+pub(crate) fn setup_by_parts(
     lens: Vec<u32>,
     views: Views,
     plan_views: Vec<PlanView>,
@@ -185,7 +185,7 @@ pub fn locate_setup(alloc: Global, tree: &Value) -> Result<Setup, Located>
     let (views, plan_views) = read_views(alloc, at_views, form, &lens, view_trees)?;
     let scripts = read_agents(alloc, at_agents, &views, agent_trees)?;
     let schedule = read_schedule(alloc, at_schedule, scripts.len() as u32, move_trees)?;
-    Ok(setup_of(lens, views, plan_views, scripts, schedule))
+    Ok(setup_by_parts(lens, views, plan_views, scripts, schedule))
 }
 
 /// The one setup that a JSON value spells, in either form of a script.

@@ -1,7 +1,7 @@
 //! Command lines that are read or refused.
 
 use clap::error::ErrorKind;
-use sab_command::{Form, Job, Source, Task, request_of};
+use sab_command::{Job, RunForm, Source, Task, request_of};
 use sab_report::{Format, Lines, Telling, VerdictFormat};
 use sab_tool::Share;
 use std::alloc::Global;
@@ -68,14 +68,14 @@ fn a_command_line_says_where_the_script_is(rt: HostRuntime) {
 #[test]
 fn a_command_line_is_read(rt: HostRuntime) {
     let replay = |format, lines, finish| Job::Replay {
-        form: Form::Report(Telling { format, lines }),
+        form: RunForm::Report(Telling { format, lines }),
         finish,
     };
     let race = |share, spins, mix| Job::Race {
         share,
         spins,
         mix,
-        form: Form::Report(PLAIN),
+        form: RunForm::Report(PLAIN),
         finish: false,
     };
     let table: [(&[&str], Job); 12] = [
@@ -94,7 +94,7 @@ fn a_command_line_is_read(rt: HostRuntime) {
         (
             &["sabsim", "replay", "--format", "script"],
             Job::Replay {
-                form: Form::Script,
+                form: RunForm::Script,
                 finish: false,
             },
         ),

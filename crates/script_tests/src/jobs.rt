@@ -3,7 +3,7 @@
 ghost use Rattle.sab_command.specs.Job.{IsWithinLimits};
 
 use crate::scripts::{STORE_AND_LOAD, STORED_AND_LOADED};
-use sab_command::{Form, Job, Source};
+use sab_command::{Job, RunForm, Source};
 use sab_ending::Outcome;
 use sab_report::{Format, Lines, Telling, VerdictFormat};
 use sab_run::{Failure, judge_trace, run};
@@ -81,21 +81,21 @@ fn writes<R: AllocGlobal + Threads + Wait + Sync + RandomSource>(
 fn a_job_flushes_its_report(rt: HostRuntime) {
     let jobs = [
         Job::Replay {
-            form: Form::Report(PLAIN),
+            form: RunForm::Report(PLAIN),
             finish: true,
         },
         Job::Race {
             share: Share::Lock,
             spins: 0,
             mix: None,
-            form: Form::Report(PLAIN),
+            form: RunForm::Report(PLAIN),
             finish: false,
         },
         Job::Race {
             share: Share::Ring,
             spins: 0,
             mix: Some(7),
-            form: Form::Report(PLAIN),
+            form: RunForm::Report(PLAIN),
             finish: true,
         },
     ];
@@ -111,12 +111,12 @@ fn a_job_flushes_the_script_that_it_keeps(rt: HostRuntime) {
         share,
         spins: 0,
         mix,
-        form: Form::Script,
+        form: RunForm::Script,
         finish,
     };
     let jobs = [
         Job::Replay {
-            form: Form::Script,
+            form: RunForm::Script,
             finish: true,
         },
         race(Share::Lock, None, false),
@@ -260,7 +260,7 @@ fn complaint<R: AllocGlobal + Threads + Wait + Sync + RandomSource>(
     let mut input = script.as_bytes();
     let mut output = Vec::new(rt.alloc());
     let job = Job::Replay {
-        form: Form::Report(PLAIN),
+        form: RunForm::Report(PLAIN),
         finish: false,
     };
     match run(rt, job, explain, &mut input, &mut output) {

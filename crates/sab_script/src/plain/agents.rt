@@ -8,8 +8,8 @@ ghost use Rattle.sab_script.specs.Agents.{SpellsScript, SpellsScripts};
 ghost use Rattle.sab_script.specs.Plain.{Tells, IsObjectOf, agent_members};
 ghost use Rattle.sab_script.specs.Views.{view_names};
 
-use crate::plain::calls::read_calls;
-use crate::plain::lists::{Miss, PlainReader, read_items};
+use crate::plain::calls::scan_calls;
+use crate::plain::lists::{Miss, Scanner, scan_items};
 use crate::plain::members::{are_named, only_member};
 use crate::views::Views;
 use json::Element;
@@ -18,7 +18,7 @@ use sab_refusal::Member;
 use std::alloc::Global;
 
 /// The values of an agent's members: whether it can block, and its calls; `None` where the value has other members.
-fn parts_of<'t, 'a>(element: &Element<'t, 'a>) -> Option<(Element<'t, 'a>, Element<'t, 'a>)>
+fn agent_values<'t, 'a>(element: &Element<'t, 'a>) -> Option<(Element<'t, 'a>, Element<'t, 'a>)>
     ensures { IfSome result (λ p. (j : Json) → BeginsWith element.now j
         → (b : Json) × (c : Json) × IsObjectOf (agent_members b c) j × BeginsWith p.0 b × BeginsWith p.1 c) }
 {
@@ -29,7 +29,7 @@ fn parts_of<'t, 'a>(element: &Element<'t, 'a>) -> Option<(Element<'t, 'a>, Eleme
 }
 
 /// `true` or `false`; `None` where the value is neither.
-fn flag(element: &Element<'_, '_>) -> Option<bool>
+fn scan_flag(element: &Element<'_, '_>) -> Option<bool>
     ensures { IfSome result (λ b. Tells 0 (λ d. d ≡ boolean b) element.now) }
 {
     let flag = element.as_bool()?;
@@ -38,32 +38,32 @@ fn flag(element: &Element<'_, '_>) -> Option<bool>
 
 /// Reads what an agent is to do, with the views that its calls are on.
 #[derive(Clone, Copy)]
-struct AgentReader<'v> {
+struct AgentScanner<'v> {
     alloc: Global,
     views: &'v Views,
 }
 
-impl PlainReader for AgentReader<'_> {
+impl Scanner for AgentScanner<'_> {
     type Item = Script;
 
     ghost nests = { λ _. 3 };
 
-    ghost Spells = { λ reader. SpellsScript (view_names reader.views.now) };
+    ghost Spells = { λ scanner. SpellsScript (view_names scanner.views.now) };
 
-    fn read(&self, element: &Element<'_, '_>) -> Result<Script, Miss> {
-        let Some((block, calls)) = parts_of(element) else {
+    fn scan(&self, element: &Element<'_, '_>) -> Result<Script, Miss> {
+        let Some((block, calls)) = agent_values(element) else {
             return Err(Miss::NotPlain);
         };
-        let Some(can_block) = flag(&block) else {
+        let Some(can_block) = scan_flag(&block) else {
             return Err(Miss::NotPlain);
         };
-        let calls = read_calls(self.alloc, self.views, &calls)?;
+        let calls = scan_calls(self.alloc, self.views, &calls)?;
         Ok(Script { can_block, calls })
     }
 }
 
 /// What the agents are to do, in order.
-pub(crate) fn read_agents(
+pub(crate) fn scan_agents(
     alloc: Global,
     views: &Views,
     element: &Element<'_, '_>,
@@ -71,6 +71,6 @@ pub(crate) fn read_agents(
     ensures { IfOk result (λ scripts. Tells 4 (λ d. (ds : Trees) × (d ≡ array ds)
         × SpellsScripts (view_names views.now) ds scripts.items) element.now) }
 {
-    let reader = AgentReader { alloc, views };
-    read_items(alloc, &reader, Plan::MAX_AGENTS, element)
+    let scanner = AgentScanner { alloc, views };
+    scan_items(alloc, &scanner, Plan::MAX_AGENTS, element)
 }

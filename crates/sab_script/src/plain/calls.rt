@@ -8,7 +8,7 @@ ghost use Rattle.sab_script.specs.Plain.{Tells, TellsItems};
 ghost use Rattle.sab_script.specs.Views.{view_names};
 
 use crate::calls::rmw_op;
-use crate::plain::lists::{Miss, PlainReader, read_items};
+use crate::plain::lists::{Miss, Scanner, scan_items};
 use crate::plain::operands::{
     last_limit, last_operand, next_operand, next_text, next_whole, no_more_items,
 };
@@ -27,7 +27,7 @@ fn op_of(name: &str) -> Option<RmwOp>
 }
 
 /// A read-modify-write call, by its operation and its parts.
-fn rmw_of(op: RmwOp, view: u32, index: i64, rest: &mut Items<'_, '_>) -> Option<Call>
+fn rmw_call(op: RmwOp, view: u32, index: i64, rest: &mut Items<'_, '_>) -> Option<Call>
     ensures { IfSome result
         (λ c. TellsItems 0 (λ ds. SpellsParts (function_of_op op) view index ds (spelling_of c)) rest.old) }
 {
@@ -37,7 +37,7 @@ fn rmw_of(op: RmwOp, view: u32, index: i64, rest: &mut Items<'_, '_>) -> Option<
 }
 
 /// A wait, by its parts.
-fn wait_of(view: u32, index: i64, rest: &mut Items<'_, '_>) -> Option<Call>
+fn wait_call(view: u32, index: i64, rest: &mut Items<'_, '_>) -> Option<Call>
     ensures { IfSome result
         (λ c. TellsItems 0 (λ ds. SpellsParts (codes "wait") view index ds (spelling_of c)) rest.old) }
 {
@@ -52,7 +52,7 @@ fn wait_of(view: u32, index: i64, rest: &mut Items<'_, '_>) -> Option<Call>
 }
 
 /// A compare-exchange, by its parts.
-fn compare_exchange_of(view: u32, index: i64, rest: &mut Items<'_, '_>) -> Option<Call>
+fn compare_exchange_call(view: u32, index: i64, rest: &mut Items<'_, '_>) -> Option<Call>
     ensures { IfSome result
         (λ c. TellsItems 0 (λ ds. SpellsParts (codes "compareExchange") view index ds (spelling_of c)) rest.old) }
 {
@@ -67,7 +67,7 @@ fn compare_exchange_of(view: u32, index: i64, rest: &mut Items<'_, '_>) -> Optio
 }
 
 /// A call, by its parts.
-fn call_of(name: &str, view: u32, index: i64, rest: &mut Items<'_, '_>) -> Option<Call>
+fn named_call(name: &str, view: u32, index: i64, rest: &mut Items<'_, '_>) -> Option<Call>
     ensures { IfSome result
         (λ c. TellsItems 0 (λ ds. SpellsParts name.now view index ds (spelling_of c)) rest.old) }
 {
@@ -82,47 +82,47 @@ fn call_of(name: &str, view: u32, index: i64, rest: &mut Items<'_, '_>) -> Optio
             let access = Access::Store { index, value };
             Some(Call::Access { view, access })
         }
-        "compareExchange" => compare_exchange_of(view, index, rest),
-        "wait" => wait_of(view, index, rest),
+        "compareExchange" => compare_exchange_call(view, index, rest),
+        "wait" => wait_call(view, index, rest),
         "notify" => {
             let count = last_limit(rest)?;
             Some(Call::Notify { view, index, count })
         }
-        _ => rmw_of(op_of(name)?, view, index, rest),
+        _ => rmw_call(op_of(name)?, view, index, rest),
     }
 }
 
 /// A call on one of the views; `None` where it is none.
-fn call(views: &Views, element: &Element<'_, '_>) -> Option<Call>
+fn scan_call(views: &Views, element: &Element<'_, '_>) -> Option<Call>
     ensures { IfSome result (λ c. Tells 1 (λ d. SpellsCall (view_names views.now) d c) element.now) }
 {
     let mut rest = element.items()?;
     let name = next_text(&mut rest)?;
     let view = views.position(next_text(&mut rest)?)?;
     let index = next_whole(&mut rest)?;
-    call_of(name, view, index, &mut rest)
+    named_call(name, view, index, &mut rest)
 }
 
 /// Reads a call on one of the views.
 #[derive(Clone, Copy)]
-struct CallReader<'v> {
+struct CallScanner<'v> {
     views: &'v Views,
 }
 
-impl PlainReader for CallReader<'_> {
+impl Scanner for CallScanner<'_> {
     type Item = Call;
 
     ghost nests = { λ _. 1 };
 
-    ghost Spells = { λ reader. SpellsCall (view_names reader.views.now) };
+    ghost Spells = { λ scanner. SpellsCall (view_names scanner.views.now) };
 
-    fn read(&self, element: &Element<'_, '_>) -> Result<Call, Miss> {
-        call(self.views, element).ok_or(Miss::NotPlain)
+    fn scan(&self, element: &Element<'_, '_>) -> Result<Call, Miss> {
+        scan_call(self.views, element).ok_or(Miss::NotPlain)
     }
 }
 
 /// The calls of an agent, in order.
-pub(crate) fn read_calls(
+pub(crate) fn scan_calls(
     alloc: Global,
     views: &Views,
     element: &Element<'_, '_>,
@@ -130,6 +130,6 @@ pub(crate) fn read_calls(
     ensures { IfOk result (λ calls. Tells 2 (λ d. (ds : Trees) × (d ≡ array ds)
         × SpellsCalls (view_names views.now) ds calls.items) element.now) }
 {
-    let reader = CallReader { views };
-    read_items(alloc, &reader, Plan::MAX_CALLS, element)
+    let scanner = CallScanner { views };
+    scan_items(alloc, &scanner, Plan::MAX_CALLS, element)
 }

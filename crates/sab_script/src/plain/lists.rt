@@ -24,7 +24,7 @@ impl From<AllocError> for Miss {
 }
 
 /// Reads an item of an array.
-pub(crate) trait PlainReader {
+pub(crate) trait Scanner {
     /// What an item is read as.
     type Item: Drop;
 
@@ -35,26 +35,26 @@ pub(crate) trait PlainReader {
     ghost Spells: { Self → Data → Self.Item → Type 0 };
 
     /// The item that a value spells.
-    fn read(&self, element: &Element<'_, '_>) -> Result<Self::Item, Miss>
+    fn scan(&self, element: &Element<'_, '_>) -> Result<Self::Item, Miss>
         ensures { IfOk result (λ x. Tells (nests self.now) (λ d. Spells self.now d x) element.now) };
 }
 
 /// What the items of an array spell, in order, of which there may be `most`.
-pub(crate) fn read_items<R: PlainReader>(
+pub(crate) fn scan_items<R: Scanner>(
     alloc: Global,
-    reader: &R,
+    scanner: &R,
     most: usize,
     element: &Element<'_, '_>,
 ) -> Result<Vec<R::Item>, Miss>
-    ensures { IfOk result (λ found. Tells (suc (R.nests reader.now)) (λ d. (ds : Trees) × (d ≡ array ds)
-        × SpellsUpTo most (R.Spells reader.now) ds found.items) element.now) }
+    ensures { IfOk result (λ found. Tells (suc (R.nests scanner.now)) (λ d. (ds : Trees) × (d ≡ array ds)
+        × SpellsUpTo most (R.Spells scanner.now) ds found.items) element.now) }
 {
     let Some(mut items) = element.items() else {
         return Err(Miss::NotPlain);
     };
     let mut found = Vec::new(alloc);
     while let Some(item) = items.next() {
-        if let Err(e) = found.push(reader.read(&item)?) {
+        if let Err(e) = found.push(scanner.scan(&item)?) {
             return Err(AllocError::from(e).into());
         }
     }

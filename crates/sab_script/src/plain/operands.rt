@@ -9,7 +9,7 @@ ghost use Rattle.sab_script.specs.Numbers.{SpellsOperand, SpellsWhole, whole as 
 ghost use Rattle.sab_script.specs.Plain.{Tells, TellsItems, TellsNext};
 
 use crate::operands::big;
-use crate::plain::numbers::whole;
+use crate::plain::numbers::scan_whole;
 use json::{Element, Items};
 use sab_block::Operand;
 use sab_refusal::Location;
@@ -29,12 +29,12 @@ fn number_operand(number: i64) -> Option<Operand>
 }
 
 /// An operand: a whole number is a Number, and a string is a BigInt; `None` where it is neither.
-fn operand(element: &Element<'_, '_>) -> Option<Operand>
+fn scan_operand(element: &Element<'_, '_>) -> Option<Operand>
     ensures { IfSome result (λ x. Tells 0 (λ d. SpellsOperand d x) element.now) }
 {
     match element.as_str() {
         Some(digits) => big_operand(digits),
-        None => number_operand(whole(element)?),
+        None => number_operand(scan_whole(element)?),
     }
 }
 
@@ -49,14 +49,14 @@ pub(crate) fn next_text<'a>(rest: &mut Items<'_, 'a>) -> Option<&'a str>
 pub(crate) fn next_whole(rest: &mut Items<'_, '_>) -> Option<i64>
     ensures { IfSome result (λ z. TellsNext 0 (λ d. SpellsWhole d z) rest.old rest.new) }
 {
-    whole(&rest.next()?)
+    scan_whole(&rest.next()?)
 }
 
 /// The next item, an operand; `None` where it is none.
 pub(crate) fn next_operand(rest: &mut Items<'_, '_>) -> Option<Operand>
     ensures { IfSome result (λ x. TellsNext 0 (λ d. SpellsOperand d x) rest.old rest.new) }
 {
-    operand(&rest.next()?)
+    scan_operand(&rest.next()?)
 }
 
 /// That there is no further item; else `None`.
@@ -85,7 +85,7 @@ pub(crate) fn last_limit(rest: &mut Items<'_, '_>) -> Option<Option<i64>>
     match rest.next() {
         None => Some(None),
         Some(item) => {
-            let limit = whole(&item)?;
+            let limit = scan_whole(&item)?;
             no_more_items(rest)?;
             Some(Some(limit))
         }

@@ -5,9 +5,9 @@ ghost use Rattle.serde_json.specs.Data.{Items as Trees, array};
 ghost use Rattle.sab_script.specs.Plain.{Tells};
 ghost use Rattle.sab_script.specs.Schedule.{SpellsMove, SpellsSchedule};
 
-use crate::plain::lists::{Miss, PlainReader, read_items};
+use crate::plain::lists::{Miss, Scanner, scan_items};
 use crate::plain::members::{are_named, only_member};
-use crate::plain::numbers::position;
+use crate::plain::numbers::scan_position;
 use crate::schedule::MAX_MOVES;
 use json::Element;
 use sab_plan::Move;
@@ -15,44 +15,44 @@ use sab_refusal::Member;
 use std::alloc::Global;
 
 /// The end of the time of an agent, of which there are so many; `None` where the value spells none.
-fn time_up(agents: u32, element: &Element<'_, '_>) -> Option<Move>
+fn scan_time_up(agents: u32, element: &Element<'_, '_>) -> Option<Move>
     ensures { IfSome result (λ m. Tells 1 (λ d. SpellsMove agents d m) element.now) }
 {
     are_named(element, &[Member::Timeout])?;
     let timeout = only_member(element, Member::Timeout)?;
-    Some(Move::TimeUp(position(agents, &timeout)?))
+    Some(Move::TimeUp(scan_position(agents, &timeout)?))
 }
 
 /// A move of an agent, of which there are so many; `None` where the value spells none.
-fn one_move(agents: u32, element: &Element<'_, '_>) -> Option<Move>
+fn scan_move(agents: u32, element: &Element<'_, '_>) -> Option<Move>
     ensures { IfSome result (λ m. Tells 1 (λ d. SpellsMove agents d m) element.now) }
 {
-    match position(agents, element) {
+    match scan_position(agents, element) {
         Some(agent) => Some(Move::Step(agent)),
-        None => time_up(agents, element),
+        None => scan_time_up(agents, element),
     }
 }
 
 /// Reads a move of one of the agents.
 #[derive(Clone, Copy)]
-struct MoveReader {
+struct MoveScanner {
     agents: u32,
 }
 
-impl PlainReader for MoveReader {
+impl Scanner for MoveScanner {
     type Item = Move;
 
     ghost nests = { λ _. 1 };
 
-    ghost Spells = { λ reader. SpellsMove reader.agents };
+    ghost Spells = { λ scanner. SpellsMove scanner.agents };
 
-    fn read(&self, element: &Element<'_, '_>) -> Result<Move, Miss> {
-        one_move(self.agents, element).ok_or(Miss::NotPlain)
+    fn scan(&self, element: &Element<'_, '_>) -> Result<Move, Miss> {
+        scan_move(self.agents, element).ok_or(Miss::NotPlain)
     }
 }
 
 /// The moves of so many agents, in order.
-pub(crate) fn read_schedule(
+pub(crate) fn scan_schedule(
     alloc: Global,
     agents: u32,
     element: &Element<'_, '_>,
@@ -60,6 +60,6 @@ pub(crate) fn read_schedule(
     ensures { IfOk result (λ moves. Tells 2 (λ d. (ds : Trees) × (d ≡ array ds)
         × SpellsSchedule agents ds moves.items) element.now) }
 {
-    let reader = MoveReader { agents };
-    read_items(alloc, &reader, MAX_MOVES, element)
+    let scanner = MoveScanner { agents };
+    scan_items(alloc, &scanner, MAX_MOVES, element)
 }

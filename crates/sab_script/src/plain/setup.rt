@@ -7,12 +7,12 @@ ghost use Rattle.sab_script.specs.Plain.{Tells, IsObjectOf, script_members};
 ghost use Rattle.sab_script.specs.Script.{IsScriptOf};
 ghost use Rattle.sab_script.specs.Setup.{Spells};
 
-use crate::plain::agents::read_agents;
+use crate::plain::agents::scan_agents;
 use crate::plain::lists::Miss;
 use crate::plain::members::{are_named, only_member};
-use crate::plain::schedule::read_schedule;
-use crate::plain::views::{read_lens, read_views};
-use crate::setup::{Setup, setup_of};
+use crate::plain::schedule::scan_schedule;
+use crate::plain::views::{scan_lens, scan_views};
+use crate::setup::{Setup, setup_by_parts};
 use json::{Element, Error, Scratch, Tape};
 use sab_refusal::Member;
 use std::alloc::Global;
@@ -20,7 +20,7 @@ use std::str;
 
 /// The values of a script's members.
 #[derive(Drop)]
-struct ScriptParts<'t, 'a> {
+struct ScriptValues<'t, 'a> {
     agents: Element<'t, 'a>,
     lens: Element<'t, 'a>,
     schedule: Element<'t, 'a>,
@@ -28,7 +28,7 @@ struct ScriptParts<'t, 'a> {
 }
 
 /// The values of a script's members; `None` where the value has other members.
-fn parts_of<'t, 'a>(element: &Element<'t, 'a>) -> Option<ScriptParts<'t, 'a>>
+fn script_values<'t, 'a>(element: &Element<'t, 'a>) -> Option<ScriptValues<'t, 'a>>
     ensures { IfSome result (λ p. (j : Json) → BeginsWith element.now j
         → (a : Json) × (l : Json) × (s : Json) × (v : Json) × IsObjectOf (script_members a l s v) j
         × BeginsWith p.agents a × BeginsWith p.lens l × BeginsWith p.schedule s × BeginsWith p.views v) }
@@ -46,7 +46,7 @@ fn parts_of<'t, 'a>(element: &Element<'t, 'a>) -> Option<ScriptParts<'t, 'a>>
     let lens = only_member(element, Member::Blocks)?;
     let schedule = only_member(element, Member::Schedule)?;
     let views = only_member(element, Member::Views)?;
-    Some(ScriptParts {
+    Some(ScriptValues {
         agents,
         lens,
         schedule,
@@ -55,18 +55,18 @@ fn parts_of<'t, 'a>(element: &Element<'t, 'a>) -> Option<ScriptParts<'t, 'a>>
 }
 
 /// The setup that a value spells.
-fn read_setup(alloc: Global, element: &Element<'_, '_>) -> Result<Setup, Miss>
+fn scan_setup(alloc: Global, element: &Element<'_, '_>) -> Result<Setup, Miss>
     requires { HasValue element.now }
     ensures { IfOk result (λ setup. Tells 5 (λ d. Spells d setup) element.now) }
 {
-    let Some(parts) = parts_of(element) else {
+    let Some(parts) = script_values(element) else {
         return Err(Miss::NotPlain);
     };
-    let lens = read_lens(alloc, &parts.lens)?;
-    let (views, plan_views) = read_views(alloc, &lens, &parts.views)?;
-    let scripts = read_agents(alloc, &views, &parts.agents)?;
-    let schedule = read_schedule(alloc, scripts.len() as u32, &parts.schedule)?;
-    Ok(setup_of(lens, views, plan_views, scripts, schedule))
+    let lens = scan_lens(alloc, &parts.lens)?;
+    let (views, plan_views) = scan_views(alloc, &lens, &parts.views)?;
+    let scripts = scan_agents(alloc, &views, &parts.agents)?;
+    let schedule = scan_schedule(alloc, scripts.len() as u32, &parts.schedule)?;
+    Ok(setup_by_parts(lens, views, plan_views, scripts, schedule))
 }
 
 /// The setup that a plain script spells.
@@ -80,7 +80,7 @@ pub(crate) fn plain_setup(alloc: Global, script: &[u8]) -> Result<Setup, Miss>
     };
     let mut scratch = Scratch::new(alloc);
     match Tape::parse(text, &mut scratch, Vec::new(alloc)) {
-        Ok(tape) => read_setup(alloc, &tape.root()),
+        Ok(tape) => scan_setup(alloc, &tape.root()),
         Err(Error::OutOfMemory) => Err(Miss::Memory),
         Err(_) => Err(Miss::NotPlain),
     }

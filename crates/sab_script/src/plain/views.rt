@@ -12,9 +12,9 @@ ghost use Rattle.sab_script.specs.Views.{IsName, SpellsView, SpellsViews, IsDesc
 
 use crate::form::Form;
 use crate::names::{is_name, kind};
-use crate::plain::lists::{Miss, PlainReader, read_items};
+use crate::plain::lists::{Miss, Scanner, scan_items};
 use crate::plain::members::{are_named, only_member};
-use crate::plain::numbers::{position, whole};
+use crate::plain::numbers::{scan_position, scan_whole};
 use crate::view_entry::plan_view;
 use crate::view_spec::ViewSpec;
 use crate::views::Views;
@@ -26,17 +26,17 @@ use std::alloc::{AllocError, Global};
 
 /// Reads the length of a block.
 #[derive(Clone, Copy)]
-struct LenReader;
+struct LenScanner;
 
-impl PlainReader for LenReader {
+impl Scanner for LenScanner {
     type Item = u32;
 
     ghost nests = { λ _. 0 };
 
     ghost Spells = { λ _. SpellsLen };
 
-    fn read(&self, element: &Element<'_, '_>) -> Result<u32, Miss> {
-        match position(Plan::MAX_BLOCK_LEN + 1, element) {
+    fn scan(&self, element: &Element<'_, '_>) -> Result<u32, Miss> {
+        match scan_position(Plan::MAX_BLOCK_LEN + 1, element) {
             Some(len) => Ok(len),
             None => Err(Miss::NotPlain),
         }
@@ -44,10 +44,10 @@ impl PlainReader for LenReader {
 }
 
 /// The lengths of the blocks, in order.
-pub(crate) fn read_lens(alloc: Global, element: &Element<'_, '_>) -> Result<Vec<u32>, Miss>
+pub(crate) fn scan_lens(alloc: Global, element: &Element<'_, '_>) -> Result<Vec<u32>, Miss>
     ensures { IfOk result (λ lens. Tells 1 (λ d. SpellsLens Form.Blocks d lens.items) element.now) }
 {
-    let lens = read_items(alloc, &LenReader, Plan::MAX_BLOCKS, element)?;
+    let lens = scan_items(alloc, &LenScanner, Plan::MAX_BLOCKS, element)?;
     if lens.is_empty() {
         return Err(Miss::NotPlain);
     }
@@ -56,7 +56,7 @@ pub(crate) fn read_lens(alloc: Global, element: &Element<'_, '_>) -> Result<Vec<
 
 /// The values of a view's members.
 #[derive(Drop)]
-struct ViewParts<'t, 'a> {
+struct ViewValues<'t, 'a> {
     block: Element<'t, 'a>,
     kind: Element<'t, 'a>,
     length: Element<'t, 'a>,
@@ -65,7 +65,7 @@ struct ViewParts<'t, 'a> {
 }
 
 /// The values of a view's members; `None` where the value has other members.
-fn parts_of<'t, 'a>(element: &Element<'t, 'a>) -> Option<ViewParts<'t, 'a>>
+fn view_values<'t, 'a>(element: &Element<'t, 'a>) -> Option<ViewValues<'t, 'a>>
     ensures { IfSome result (λ p. (j : Json) → BeginsWith element.now j
         → (b : Json) × (k : Json) × (l : Json) × (n : Json) × (o : Json) × IsObjectOf (view_members b k l n o) j
         × BeginsWith p.block b × BeginsWith p.kind k × BeginsWith p.length l × BeginsWith p.name n
@@ -86,7 +86,7 @@ fn parts_of<'t, 'a>(element: &Element<'t, 'a>) -> Option<ViewParts<'t, 'a>>
     let length = only_member(element, Member::Length)?;
     let name = only_member(element, Member::Name)?;
     let offset = only_member(element, Member::Offset)?;
-    Some(ViewParts {
+    Some(ViewValues {
         block,
         kind,
         length,
@@ -103,25 +103,25 @@ fn kind_named(name: &str) -> Option<Kind>
 }
 
 /// The kind that a value names; `None` where it names none.
-fn kind_of(element: &Element<'_, '_>) -> Option<Kind>
+fn scan_kind(element: &Element<'_, '_>) -> Option<Kind>
     ensures { IfSome result (λ k. Tells 0 (λ d. d ≡ string (kind_name k)) element.now) }
 {
     kind_named(element.as_str()?)
 }
 
 /// The length of a view, or null for none; `None` where the value is neither.
-fn length_of(element: &Element<'_, '_>) -> Option<Option<i64>>
+fn scan_length(element: &Element<'_, '_>) -> Option<Option<i64>>
     ensures { IfSome result (λ o. Tells 0 (λ d. SpellsOptional d o) element.now) }
 {
     if element.is_null() {
         Some(None)
     } else {
-        Some(Some(whole(element)?))
+        Some(Some(scan_whole(element)?))
     }
 }
 
 /// The name of a view; `None` where the value is none that a view can have.
-fn name_of<'a>(element: &Element<'_, 'a>) -> Option<&'a str>
+fn scan_name<'a>(element: &Element<'_, 'a>) -> Option<&'a str>
     ensures { IfSome result (λ s. Tells 0 (λ d. d ≡ string s.now) element.now × IsName s.now) }
 {
     let name = element.as_str()?;
@@ -137,26 +137,26 @@ fn view_on(lens: &[u32], spec: ViewSpec) -> Option<PlanView>
 }
 
 /// A view's name, what it is, and the view of a plan; `None` where the value spells none.
-fn read_view<'a>(lens: &[u32], element: &Element<'_, 'a>) -> Option<(&'a str, ViewSpec, PlanView)>
+fn scan_view<'a>(lens: &[u32], element: &Element<'_, 'a>) -> Option<(&'a str, ViewSpec, PlanView)>
     requires { count lens.now ≤ Plan.MAX_BLOCKS }
     ensures read { IfSome result
         (λ p. Tells 1 (λ d. SpellsView Form.Blocks lens.now d (p.0.now, p.1)) element.now) }
     ensures made { IfSome result (λ p. IsDescribed lens.now p.1 p.2) }
 {
-    let parts = parts_of(element)?;
+    let parts = view_values(element)?;
     let spec = ViewSpec {
-        kind: kind_of(&parts.kind)?,
-        offset: whole(&parts.offset)?,
-        length: length_of(&parts.length)?,
-        block: position(lens.len() as u32, &parts.block)?,
+        kind: scan_kind(&parts.kind)?,
+        offset: scan_whole(&parts.offset)?,
+        length: scan_length(&parts.length)?,
+        block: scan_position(lens.len() as u32, &parts.block)?,
     };
-    let name = name_of(&parts.name)?;
+    let name = scan_name(&parts.name)?;
     let plan_view = view_on(lens, spec)?;
     Some((name, spec, plan_view))
 }
 
 /// The views by name, and as a plan's on blocks of these lengths, in order.
-pub(crate) fn read_views(
+pub(crate) fn scan_views(
     alloc: Global,
     lens: &[u32],
     element: &Element<'_, '_>,
@@ -172,7 +172,7 @@ pub(crate) fn read_views(
     let mut views = Views::new(alloc);
     let mut plan_views = Vec::new(alloc);
     while let Some(item) = items.next() {
-        let Some((name, spec, plan_view)) = read_view(lens, &item) else {
+        let Some((name, spec, plan_view)) = scan_view(lens, &item) else {
             return Err(Miss::NotPlain);
         };
         if plan_views.len() >= Plan::MAX_VIEWS || views.position(name).is_some() {

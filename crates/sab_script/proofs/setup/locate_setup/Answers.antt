@@ -65,8 +65,8 @@ returns-in_err-schedule-clause-spelled c =
     (λ p h. rw count at (schedule_part d c.in_ok-form.form c.in_ok-form.agent_trees.now _ _ _
     (view_names c.in_ok-views.views) ss tree c.in_ok-scripts.ensures.found p h))
 
-pub setup_of-requires-clause-plan : goal.setup_of-requires-clause-plan
-setup_of-requires-clause-plan c =
+pub setup_by_parts-requires-clause-plan : goal.setup_by_parts-requires-clause-plan
+setup_by_parts-requires-clause-plan c =
     makes_plan c.in_ok-form.form (view c.in_ok-form.lens_tree.now) c.in_ok-lens.lens.items _ _ c.in_ok-views.views
     c.in_ok-views.plan_views.items c.in_ok-scripts.scripts.items
     c.in_ok-lens.ensures.found (rw c.deref.ensures.value at c.in_ok-views.ensures.read)

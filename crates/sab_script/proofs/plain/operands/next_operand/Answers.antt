@@ -3,5 +3,5 @@ use Rattle.sab_script.proofs.plain.operands.next_operand.Goals as goal
 
 pub returns : goal.returns
 returns c =
-    if_some c.operand.result (λ x h. next_tells c.args.rest.now c.in_ok-next.field-0 c.next.new.self c.in_ok-next.ensures.value h)
-    c.operand.ensures
+    if_some c.scan_operand.result (λ x h. next_tells c.args.rest.now c.in_ok-next.field-0 c.next.new.self c.in_ok-next.ensures.value h)
+    c.scan_operand.ensures

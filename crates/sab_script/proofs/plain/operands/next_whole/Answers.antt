@@ -3,5 +3,5 @@ use Rattle.sab_script.proofs.plain.operands.next_whole.Goals as goal
 
 pub returns : goal.returns
 returns c =
-    if_some c.whole.result (λ z h. next_tells c.args.rest.now c.in_ok-next.field-0 c.next.new.self c.in_ok-next.ensures.value h)
-    c.whole.ensures
+    if_some c.scan_whole.result (λ z h. next_tells c.args.rest.now c.in_ok-next.field-0 c.next.new.self c.in_ok-next.ensures.value h)
+    c.scan_whole.ensures

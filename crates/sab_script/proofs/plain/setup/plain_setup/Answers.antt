@@ -6,6 +6,6 @@ pub returns-in-Ok-parse : goal.returns-in-Ok-parse
 returns-in-Ok-parse c =
     let is = c.in-Ok.ensures.cases in
     let parsed = c.in-Ok-parse.ensures in
-    if_ok c.read_setup.result
+    if_ok c.scan_setup.result
     (λ setup tells. plain_read c.args.script.now setup c.root.result is.1 (rw is.0 at parsed.ok.1)
-    (rw (← is.0, c.root.ensures.same) parsed.value) tells) c.read_setup.ensures
+    (rw (← is.0, c.root.ensures.same) parsed.value) tells) c.scan_setup.ensures
