@@ -1,0 +1,47 @@
+"""Unpacks what a crate's own proof has checked, which its library holds, as a folder that a further check begins with."""
+import os
+import re
+from collections import namedtuple
+
+Member = namedtuple("Member", "name data")
+
+
+class NoModules(Exception):
+    """The library holds its statements alone, or nothing that was checked."""
+
+
+def unpack_modules(crate, folder):
+    """Writes the checked modules of the crate's library into a folder, as `rattle check --incremental` keeps them."""
+    with open(f"{crate.rlib}/toolchain/checked.a", "rb") as it:
+        modules = [member for member in members_of(it.read()) if member.name.endswith(".oantt") and "/" not in member.name]
+    if not any(it.name.startswith(f"Rattle-{crate.name}-proofs.") for it in modules):
+        raise NoModules(crate.name)
+    inside = f"{folder}/{build_of(modules[0].data)}"
+    os.makedirs(inside)
+    longest = os.pathconf(inside, "PC_NAME_MAX")
+    for module in modules:
+        # A module of too long a name is checked again.
+        if len(module.name.encode()) <= longest:
+            with open(f"{inside}/{module.name}", "wb") as it:
+                it.write(module.data)
+
+
+def build_of(data):
+    """Returns the name that a folder of modules gives the build of rattle, from a module that this build has checked."""
+    line = next(it for it in data.split(b"\n", 5) if it.startswith(b"--@ kernel "))
+    return line.split()[2].decode().replace("/", "_")
+
+
+def members_of(data):
+    """Yields the members of an archive of `ar`: a head of 60 bytes before each one; long names are in a member `//`."""
+    names, at = b"", 8
+    while data[:8] == b"!<arch>\n" and at + 60 <= len(data):
+        name, size = data[at : at + 16].decode().strip(), int(data[at + 48 : at + 58])
+        body = data[at + 60 : at + 60 + size]
+        at += 60 + size + size % 2
+        if name == "//":
+            names = body
+        elif re.fullmatch(r"/\d+", name):
+            yield Member(names[int(name[1:]) :].split(b"/\n", 1)[0].decode(), body)
+        else:
+            yield Member(name.rstrip("/"), body)

@@ -1,0 +1,171 @@
+"""Makes tasks of proving crates, of running what was made of them, and of trying their edits; and counts what passed."""
+import os
+import shutil
+import threading
+import time
+import traceback
+
+from .crates import Proving, why_refused
+from .kit import rt, rtlib
+from .lanes import Task
+from .store import Sums, sum_of
+from .trial import BAD, REFUSED, Result, Trial
+
+
+class Tally:
+    """What passed, what failed, and how much of it was known from earlier runs on this machine."""
+
+    def __init__(self):
+        self.passed, self.failed, self.lock = 0, [], threading.Lock()
+        self.proofs = self.known_proofs = self.edits = self.known_edits = 0
+
+    def say(self, text):
+        with self.lock:
+            print(text, flush=True)
+
+    def add(self, passed, failed=()):
+        with self.lock:
+            self.passed += passed
+            self.failed += failed
+
+    def reused(self):
+        """Returns a sentence about what earlier runs on this machine have proved."""
+        return f"{self.known_proofs} of {self.proofs} proofs and {self.known_edits} of {self.edits} edits were known from earlier runs on this machine"
+
+
+class Proofs:
+    """The proofs of crates, what is made of them, and their edits."""
+
+    def __init__(self, crates, store, tally):
+        self.crates, self.store, self.tally = crates, store, tally
+        self.sums, self.scripts = Sums(), sum_of_scripts()
+        self.paths, self.tasks, self.proofs = {}, {}, 0
+
+    def add_proof(self, crate, is_of_tests=False):
+        """Adds the task of proving a crate, or its tests, after those below it."""
+        proving, seconds = Proving(crate, is_of_tests), seconds_of(crate)
+        waits_for = [self.tasks[below.name] for below in crate.below()]
+        run = lambda jobs: self.guarded(proving.name, lambda: self.prove(proving, jobs))
+        task = Task(proving.name, run, waits_for, seconds, rt.need(crate), most_jobs=4)
+        self.tasks[proving.name] = task
+        self.proofs += 1
+        return task
+
+    def add_run(self, crate, is_of_tests=False):
+        """Adds the task of running a program, or the tests of a crate, once it is proved."""
+        name = f"{crate.name}_tests" if is_of_tests else crate.name
+        run = lambda _: self.guarded(name, lambda: self.run(crate, is_of_tests))
+        self.tasks[f"run {name}"] = Task(f"run {name}", run, [self.tasks[name]], seconds=20)
+
+    def add_edits(self, crate, names=None, alone=False):
+        """Adds the task of trying a crate's must-fail edits, or those of some names, once it is proved."""
+        files, misplaced = rt.edits_of(crate)
+        files = [file for file in files if names is None or os.path.basename(file) in names]
+        for file in misplaced:
+            label = f"{crate.name}/{os.path.basename(file)}"
+            self.tally.say(f"  {label}: {BAD}: its name ends in .edit, and it is right in must-fail/")
+            self.tally.add(0, [label])
+        if files:
+            name, waits_for = f"edits of {crate.name}", [self.tasks[crate.name]]
+            run = lambda _: self.guarded(name, lambda: self.try_edits(crate, files, alone))
+            self.tasks[name] = Task(name, run, waits_for, 20 + 8 * len(files), rt.need(crate))
+
+    def guarded(self, name, call):
+        """Makes a call, and counts its failure: it returns whether all is well."""
+        try:
+            is_well = call()
+        except Exception:
+            is_well = False
+            self.tally.say(f"{name}: {traceback.format_exc()}")
+        if not is_well:
+            self.tally.add(0, [name])
+        return is_well
+
+    def prove(self, proving, jobs):
+        """Proves a crate, unless that is known; and has its library, or its program, found by what is above it."""
+        crate, begun = proving.crate, time.monotonic()
+        why = why_refused(crate)
+        if why:
+            self.tally.say(f"{crate.name}: {why}")
+            return False
+        key = sum_of(self.sums.of(crate), proving.made)
+        path = known = self.store.find(crate.name, key)
+        path = path or self.store.keep(crate.name, key, lambda folder: proving.make(folder, jobs))
+        if not path:
+            self.tally.say(f"{proving.said}{proving.name} isn't proved, or isn't built")
+            return False
+        self.tally.proofs += 1
+        self.tally.known_proofs += bool(known)
+        self.put(proving, path)
+        took = "known" if known else f"{time.monotonic() - begun:.0f} s"
+        self.tally.say(f"{self.tally.proofs:2} of {self.proofs}: {proving.name}, {took}")
+        self.tally.add(1)
+        return True
+
+    def put(self, proving, path):
+        """Puts what was made of a crate where others look for it."""
+        crate = next(it for it in self.crates if it.name == proving.crate.name)
+        self.paths[proving.made] = path
+        if proving.made.endswith(".rlib"):
+            crate.rlib = f"{path}/{proving.made}"
+            return
+        to = f"{crate.folder}/out/{proving.made}"
+        os.makedirs(os.path.dirname(to), exist_ok=True)
+        shutil.copy2(f"{path}/{proving.made}", f"{to}.new")
+        os.replace(f"{to}.new", to)
+        if not proving.is_of_tests:
+            with open(f"{to}.made-of", "w", encoding="utf-8") as it:
+                it.write(made_of(crate, self.sums))
+
+    def run(self, crate, is_of_tests):
+        """Runs a program, or a crate's tests, as rt does, and returns whether it wrote what it has to."""
+        is_well = rt.run(crate, is_of_tests)
+        self.tally.add(is_well)
+        return is_well
+
+    def try_edits(self, crate, files, alone):
+        """Tries a crate's edits, except those that are known to be refused, and counts them."""
+        path, begun = self.paths[f"{crate.name}.rlib"], time.monotonic()
+        sums = {os.path.basename(file): sum_of(self.scripts, alone, rtlib.sum_of(file)) for file in files}
+        kept = self.store.results(path)
+        results = {name: Result(*kept[sums[name]]) for name in sums if sums[name] in kept}
+        known, left = len(results), [file for file in files if os.path.basename(file) not in results]
+        for name, result in Trial(crate, left, self.tally.say, alone).results() if left else ():
+            results[name] = result
+            if result.kind == REFUSED:
+                kept[sums[name]] = result
+                self.store.keep_results(path, kept)
+        for name in sums:
+            self.report(f"{crate.name}/{name}", results[name])
+        self.tally.edits += len(files)
+        self.tally.known_edits += known
+        self.tally.say(f"tried: {len(files)} edits of {crate.name} ({known} known, {time.monotonic() - begun:.0f} s)")
+        return True
+
+    def report(self, label, result):
+        """Reports and counts what an edit came to."""
+        is_refused = result.kind == REFUSED
+        kind = f"{result.kind} alone" if is_refused and result.is_alone else result.kind
+        self.tally.say(f"  {label}: {kind}: {' '.join(result.said.split())[:160]}")
+        self.tally.add(is_refused, [] if is_refused else [label])
+
+
+def made_of(crate, sums):
+    """Returns a sum of all that a program was made of, and of the program itself."""
+    return sum_of(sums.of(crate), rtlib.sum_of(f"{crate.folder}/out/{crate.name}"))
+
+
+def is_made_of(crate, sums):
+    """Returns whether a crate's program is there, and was proved and made of the files as they are."""
+    return rtlib.text_of(f"{crate.folder}/out/{crate.name}.made-of") == made_of(crate, sums)
+
+
+def seconds_of(crate):
+    """Returns about how many seconds of one processor the proof of a crate takes: measured, by its lines."""
+    return 20 + crate.count(rb"\n") / 20
+
+
+def sum_of_scripts():
+    """Returns a sum of the scripts that try edits: with other scripts, all edits are tried anew."""
+    folder = os.path.dirname(os.path.realpath(__file__))
+    return sum_of([(name, rtlib.sum_of(f"{folder}/{name}")) for name in sorted(os.listdir(folder)) if name.endswith(".py")])

@@ -1,0 +1,97 @@
+"""Keeps what this machine has proved: libraries, programs, tests and the results of edits, each by a sum of all that it
+rests on. So a later run, also one in another clone, proves what has changed."""
+import hashlib
+import json
+import os
+import shutil
+import tempfile
+import threading
+
+from .kit import kit_sum, rt, rtlib
+
+# So many versions of a crate are kept: those that were used last. A crate with tests has two for each of its states.
+MOST_VERSIONS = 3
+# The file beside a library that has what its edits came to.
+RESULTS = "edits.json"
+
+
+def default_folder():
+    """Returns the folder of the store: the user's own folder for what can be made anew."""
+    cache = os.environ.get("XDG_CACHE_HOME", "")
+    return f"{cache if os.path.isabs(cache) else os.path.expanduser('~/.cache')}/sabsim"
+
+
+def sum_of(*parts):
+    return hashlib.sha256(repr(parts).encode()).hexdigest()
+
+
+class Sums:
+    """Sums of crates: of their files, of those below them, of the kit, and of what HANDLES allows."""
+
+    def __init__(self):
+        self.base, self.known = sum_of(kit_sum(), rt.Crate.allowed), {}
+
+    def of(self, crate):
+        if crate.name not in self.known:
+            files = [(os.path.relpath(file, crate.folder), rtlib.sum_of(file)) for file in rtlib.files_of(crate.folder)]
+            below = [self.of(dep) for dep in crate.deps]
+            self.known[crate.name] = sum_of(self.base, crate.said, files, below)
+        return self.known[crate.name]
+
+
+class Store:
+    """A folder of what was proved: for each crate a folder of its versions, by keys."""
+
+    def __init__(self, folder):
+        self.folder, self.used, self.lock = folder, set(), threading.Lock()
+
+    def path(self, name, key):
+        return f"{self.folder}/{name}/{key[:32]}"
+
+    def find(self, name, key):
+        """Returns the folder of what was kept of a crate under a key, or None."""
+        path = self.path(name, key)
+        if not os.path.isdir(path):
+            return None
+        os.utime(path)
+        self.used.add(path)
+        return path
+
+    def keep(self, name, key, make):
+        """Has what a call makes in an empty folder kept under a key, and returns that folder; None if the call fails."""
+        path = self.path(name, key)
+        os.makedirs(os.path.dirname(path), exist_ok=True)
+        room = tempfile.mkdtemp(prefix=".new-", dir=os.path.dirname(path))
+        try:
+            if not make(room):
+                return None
+            with self.lock:
+                shutil.rmtree(path, ignore_errors=True)
+                os.replace(room, path)
+                self.used.add(path)
+            return path
+        finally:
+            shutil.rmtree(room, ignore_errors=True)
+
+    def results(self, path):
+        """Returns what tries of a crate's edits came to, by their sums, as `keep_results` has written it."""
+        try:
+            with open(f"{path}/{RESULTS}", encoding="utf-8") as it:
+                return json.load(it)
+        except (OSError, ValueError):
+            return {}
+
+    def keep_results(self, path, results):
+        """Writes what tries of a crate's edits came to beside what was proved of it."""
+        with tempfile.NamedTemporaryFile("w", dir=path, delete=False, encoding="utf-8") as it:
+            json.dump(results, it)
+        os.replace(it.name, f"{path}/{RESULTS}")
+
+    def prune(self):
+        """Removes all but the last versions of each crate that was used."""
+        for folder in {os.path.dirname(path) for path in self.used}:
+            found = sorted((f"{folder}/{it}" for it in os.listdir(folder)), key=os.path.getmtime, reverse=True)
+            for path in found[MOST_VERSIONS:]:
+                if path not in self.used:
+                    shutil.rmtree(path, ignore_errors=True)
+

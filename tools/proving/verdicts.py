@@ -1,0 +1,93 @@
+"""Reads what a check of a crate with twins says, and decides which twins were refused for a reason of their own."""
+import re
+
+from .kit import rt, rtlib
+from .twins import proof_folder
+
+# A line about an item, and a line about a place in a file.
+ITEM = re.compile(r"(?:fn|struct|enum|impl|trait|closure|union|type|const|static|mod) (\S+): (.*)")
+PLACE = re.compile(r"(?:(note|warning|help): )?(?:\./)?((?:src|specs|proofs)/\S+?):(\d+):\d+: (.*)")
+# What says that a proof file names what went, and not that a goal is false.
+NAME_IS_GONE = re.compile(r"has no field|is not in scope|has no `|is no name|was not admitted")
+# What a line says of an item that isn't proved since another one isn't, or that wasn't tried.
+IS_ABOUT_OTHERS = re.compile(r"waits? for|has not tried")
+
+
+class Reading:
+    """What a check said: a line for each item, and the places of errors and of goals that aren't proved."""
+
+    def __init__(self, status, text):
+        self.status, self.lines = status, text.rstrip("\n").split("\n")
+        self.items, self.places = {}, []
+        for line in self.lines:
+            item, place = ITEM.fullmatch(line), PLACE.match(line)
+            if item:
+                self.items.setdefault(item[1], item[2])
+            elif place and self.is_refusal(place[1], place[2], place[4]):
+                self.places.append((place[2], int(place[3]), line))
+
+    @staticmethod
+    def is_refusal(kind, file, said):
+        """Returns whether a line about a place says that something is refused there."""
+        is_open_goal = kind == "note" and file.startswith("src/") and "it is not proved that" in said
+        return said.startswith("error: ") or is_open_goal
+
+    def why_no_verdict(self):
+        """Returns why the check has no verdict on the twins, or nothing."""
+        unread = next((line for line in self.lines if rt.unread(line, ())), "")
+        stale = next((line for line in self.lines if rtlib.STALE.search(line)), "")
+        is_ended = self.status in (0, 1) and self.lines[-1].startswith("only=")
+        return unread or stale or ("" if is_ended else f"status {self.status}: {self.lines[-1]}")
+
+
+class Judge:
+    """Judges twins by what a check said of the text that has them, given the functions of that text."""
+
+    def __init__(self, reading, twins, functions, sources):
+        self.reading, self.twins = reading, twins
+        place = {function.name: function for function in functions}
+        self.lines = {twin: lines_of(place[twin.name], sources) for twin in twins}
+
+    def is_about(self, twin, name):
+        """Returns whether an item is a twin, or is inside one, as a closure is."""
+        return re.search(rf"(?<!\w){re.escape(twin.short)}(?!\w)", name) is not None
+
+    def refusals(self, twin):
+        """Returns the lines about places in a twin, or in its own proof files."""
+        first, last = self.lines[twin]
+        folder = f"{proof_folder(twin.name)}/"
+        is_own = lambda file, line: file == twin.function.file and first <= line <= last or file.startswith(folder)
+        return [said for file, line, said in self.reading.places if is_own(file, line)]
+
+    def why_spoiled(self):
+        """Returns what else is refused than the twins, which says that the check tells nothing of any of them."""
+        own = {said for twin in self.twins for said in self.refusals(twin)}
+        place = next((said for _, _, said in self.reading.places if said not in own), "")
+        others = ((name, said) for name, said in self.reading.items.items() if not any(self.is_about(it, name) for it in self.twins))
+        return place or next((f"{name}: {said}" for name, said in others if not said.startswith(("proved", "assumed"))), "")
+
+    def verdict(self, twin):
+        """Returns the line that refuses a twin for a reason of its own, or nothing and why there is none."""
+        said, refusals = self.reading.items.get(twin.name, "no line says anything of it"), self.refusals(twin)
+        named = re.findall(r"`([^`]*::[^`]*)`", said)
+        if any(copy.function == twin.function and not self.is_proved(copy) for copy in self.twins if not copy.edit):
+            return "", "a copy of the function as it is isn't proved"
+        if not said.startswith(("no proof", "not proved")):
+            return "", said
+        if IS_ABOUT_OTHERS.search(said) or not all(self.is_about(twin, name) for name in named):
+            return "", f"another one isn't proved: {said}"
+        if not refusals:
+            return "", f"nothing in it is refused: {said}"
+        if any("not admitted" in line for line in refusals):
+            return "", f"it rests on what isn't admitted: {refusals[0]}"
+        line = next((it for it in refusals if not NAME_IS_GONE.search(it)), "")
+        return line, "" if line else f"only names are lacking: {refusals[0]}"
+
+    def is_proved(self, twin):
+        return self.reading.items.get(twin.name, "").startswith("proved")
+
+
+def lines_of(function, sources):
+    """Returns the numbers of the first and the last line of a function."""
+    text = sources[function.file]
+    return text.count("\n", 0, function.begin) + 1, text.count("\n", 0, function.end) + 1
