@@ -124,7 +124,11 @@ test("runs aren't made far ahead of who takes them", async () => {
   const runs = explore({ ...cases("addition"), seeds: 100_000, init: () => void (made += 1) });
   try {
     await runs.next();
-    for (let before = -1; before !== made; await sleep(300)) before = made;
+    // On a busy machine no run may be made for a while.
+    for (let looks = 0, before = -1; looks < 100 && (made < 16 || made !== before); looks += 1) {
+      before = made;
+      await sleep(300);
+    }
     assert.ok(made >= 16 && made <= 32, `${made} were made`);
     for (let seed = 2; seed <= 50; seed += 1) assert.equal((await runs.next()).value.seed, seed);
   } finally {
