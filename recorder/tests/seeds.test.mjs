@@ -75,7 +75,7 @@ test("a run among others is the run that is recorded by itself, in fresh workers
   const { outcomes } = await outcomesOf("cases", { args: ["racy"], agents: 3, buffers: [12], checkEvery: 1, last: 6 });
   const options = { args: ["racy"], agents: 3, buffers: [12], checkEvery: 1, last: 6, fresh: true };
   assert.deepEqual((await outcomesOf("cases", options)).outcomes, outcomes);
-  const { checked, ...alone } = await recordCase("racy", { agents: 3, seed: 5, sabsim: CHECKER });
+  const { checked, unchecked: _, ...alone } = await recordCase("racy", { agents: 3, seed: 5, sabsim: CHECKER });
   assert.deepEqual([alone, checked], [outcomes[4], hasSabsim]);
 });
 
