@@ -5,17 +5,17 @@
  * COUNT_TOLD=FILE   at the end this file gets one line, "N N N.. apart A": how often the program's first thread
  *                   yielded, then each other one, in the order in which they were started; and how many of these ended
  *                   before the next one was started, where that was asked for
- * COUNT_APART=1     who starts a thread waits until that thread has ended: so all that it sends is there before
- *                   anybody looks. Where it hasn't ended after some seconds, it waits for others, and no start waits
- *                   any more
+ * COUNT_APART=N     who starts a thread waits until that thread has ended: so all that it sends is there before
+ *                   anybody looks. Where it hasn't ended after N seconds, it waits for others, and no start waits any
+ *                   more
  * COUNT_LATE=1      a thread begins only when the first thread waits for one to end
  * COUNT_TURNS=N     the first thread and the one other thread take turns: each time the other one yields, it waits
  *                   until the first one has yielded N times, and this waits then until the other one yields again or
  *                   has ended
  * COUNT_RANDOM=HEX  the system's random bytes are these, two digits each, again and again; with `none` it has none
  *
- * Yields are counted from the start of the program's own code on. A program that hasn't ended after a minute is ended
- * by a signal.
+ * Yields are counted from the start of the program's own code on. A program that hasn't ended after five minutes is
+ * ended by a signal.
  */
 #define _GNU_SOURCE
 #include <dlfcn.h>
@@ -31,12 +31,11 @@
 #include <unistd.h>
 
 #define MOST_THREADS 64
-#define SECONDS_APART 5
 
 static atomic_ulong yields[MOST_THREADS];
 static atomic_int has_ended[MOST_THREADS];
 static atomic_int threads = 1, counts, joins, apart;
-static int starts_apart, starts_late;
+static int seconds_apart, starts_late;
 static unsigned long turn;
 static const char *random_bytes;
 
@@ -69,10 +68,11 @@ __attribute__((constructor)) static void begin(void)
 {
     const char *text = getenv("COUNT_TURNS");
     turn = text ? strtoul(text, NULL, 10) : 0;
-    starts_apart = getenv("COUNT_APART") != NULL;
+    text = getenv("COUNT_APART");
+    seconds_apart = text ? atoi(text) : 0;
     starts_late = getenv("COUNT_LATE") != NULL;
     random_bytes = getenv("COUNT_RANDOM");
-    alarm(60);
+    alarm(300);
     counts = 1;
 }
 
@@ -128,12 +128,12 @@ static void *run_job(void *with)
 /* Waits until a thread has ended, and notes whether it has. */
 static void await_end(int thread)
 {
-    time_t last = time(NULL) + SECONDS_APART;
+    time_t last = time(NULL) + seconds_apart;
     while (!has_ended[thread] && time(NULL) <= last) usleep(50);
     if (has_ended[thread]) {
         apart++;
     } else {
-        starts_apart = 0;
+        seconds_apart = 0;
     }
 }
 
@@ -145,7 +145,7 @@ int pthread_create(pthread_t *thread, const pthread_attr_t *how, void *(*run)(vo
     if (!job || number >= MOST_THREADS) abort();
     *job = (struct job){run, with, number};
     int status = next(thread, how, run_job, job);
-    if (status == 0 && starts_apart) await_end(number);
+    if (status == 0 && seconds_apart) await_end(number);
     return status;
 }
 

@@ -4,6 +4,7 @@ import { spawn, spawnSync } from "node:child_process";
 import { mkdtempSync, rmSync } from "node:fs";
 import { tmpdir } from "node:os";
 import { join } from "node:path";
+import { hasSabsim, needing } from "./needs.mjs";
 
 const NAMES = ["chromium", "chromium-browser", "google-chrome", "google-chrome-stable"];
 const MOST_MILLISECONDS = 30_000;
@@ -11,8 +12,8 @@ const MOST_MILLISECONDS = 30_000;
 /** The browser of this machine, or undefined. */
 export const BROWSER = NAMES.find((name) => spawnSync(name, ["--version"]).status === 0);
 
-/** For tests that need a browser. */
-export const withBrowser = { skip: BROWSER === undefined ? "there is no Chromium on this machine" : false };
+/** For tests that need a browser, which tests of the recorder alone never start. */
+export const withBrowser = needing("a browser", hasSabsim && BROWSER !== undefined);
 
 const WORDS = [
   "--headless", "--no-sandbox", "--disable-gpu", "--disable-dev-shm-usage", "--force-device-scale-factor=1",

@@ -4,7 +4,7 @@
 import assert from "node:assert/strict";
 import { readFileSync } from "node:fs";
 import { test } from "node:test";
-import { SABSIM, withSabsim } from "./common.mjs";
+import { SABSIM, withSabsim } from "./needs.mjs";
 import { start } from "./programs.mjs";
 import { slowJudge } from "./slow-judge.mjs";
 import { jsonText, statusOf } from "./verdict-texts.mjs";

@@ -8,12 +8,13 @@ import { join } from "node:path";
 import { describe, it } from "node:test";
 import { Refused, record } from "../recorder.mjs";
 import { sabsim } from "../lib/check/sabsim.mjs";
-import { RECORD, SABSIM, agentsPath, temporaryFolder, withSabsim } from "./common.mjs";
+import { RECORD, agentsPath, temporaryFolder } from "./common.mjs";
+import { CHECKER, SABSIM, withSabsim } from "./needs.mjs";
 import { different, recorded, seedsTo } from "./recorded.mjs";
 
 const program = (name, options = {}) => ({ module: agentsPath("checked"), args: [name], ...options });
 
-describe("init and check", { concurrency: 2, ...withSabsim }, () => {
+describe("init and check", { concurrency: 2 }, () => {
   it("a lost update is one line to find: a run fails by its check just where the count is wrong", async () => {
     const outcomes = await recorded(program("lost"), seedsTo(20));
     assert.deepEqual(different(outcomes, "ending"), ["check", "finished"]);
@@ -27,7 +28,7 @@ describe("init and check", { concurrency: 2, ...withSabsim }, () => {
     }
   });
 
-  it("what fails by its check is kept, and replays", async (context) => {
+  it("what fails by its check is kept, and replays", withSabsim, async (context) => {
     const out = temporaryFolder(context);
     const words = [RECORD, agentsPath("checked"), "--seeds", "1..20", "--out", out, "--sabsim", SABSIM, "--", "lost"];
     const { code, stdout } = await new Promise((done) => {
@@ -141,10 +142,10 @@ describe("init and check", { concurrency: 2, ...withSabsim }, () => {
     const told = [["7", "finished", ""], ["8", "check", "check answered false"],
       ["error", "check", "check answered RangeError: lost"]];
     for (const [what, ending, detail] of told) {
-      const outcome = await record({ module: path, args: [what], sabsim: SABSIM });
+      const outcome = await record({ module: path, args: [what], sabsim: CHECKER });
       assert.deepEqual([outcome.ending, outcome.detail], [ending, detail]);
     }
-    const outcome = await record({ module: path, args: ["7"], sabsim: SABSIM, check: () => false });
+    const outcome = await record({ module: path, args: ["7"], sabsim: CHECKER, check: () => false });
     assert.deepEqual([outcome.ending, outcome.detail], ["check", "check answered false"]);
   });
 
@@ -159,14 +160,14 @@ describe("init and check", { concurrency: 2, ...withSabsim }, () => {
       module.exports = agent;
     `);
     write("{ agents: 2, buffers: [4] }");
-    const outcome = await record({ module: path, sabsim: SABSIM });
+    const outcome = await record({ module: path, sabsim: CHECKER });
     assert.equal(outcome.ending, "check");
     assert.match(outcome.detail, /^check threw Error: 5\n/);
     const wrong = { block: /`setup` can't have a member block: is noBlock meant\?$/,
       count: /`setup` can't have a member count: there are agents, buffers, noBlock, names$/ };
     for (const [name, refused] of Object.entries(wrong)) {
       write(`{ agents: 2, buffers: [4], ${name}: [0] }`);
-      await assert.rejects(record({ module: path, sabsim: SABSIM }), refused);
+      await assert.rejects(record({ module: path, sabsim: CHECKER }), refused);
     }
   });
 

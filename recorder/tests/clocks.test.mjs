@@ -3,7 +3,7 @@
 
 import assert from "node:assert/strict";
 import { describe, it } from "node:test";
-import { agentsPath, withSabsim } from "./common.mjs";
+import { agentsPath } from "./common.mjs";
 import { recorded, seedsTo } from "./recorded.mjs";
 
 /** The outcomes of one program. */
@@ -23,7 +23,7 @@ function timesUp({ script }) {
   return schedule.slice(0, schedule.lastIndexOf(1)).filter((move) => move.timeout === 0).length;
 }
 
-describe("the time of a run and its random numbers", { concurrency: 2, ...withSabsim }, () => {
+describe("the time of a run and its random numbers", { concurrency: 2 }, () => {
   it("the same seed gives the same run, whatever was before it, and other seeds give others", async () => {
     const some = await outcomesOf("acts", [5, 6, 7, 8]);
     const others = await outcomesOf("acts", [8, 5]);

@@ -1,26 +1,11 @@
 // What the tests share.
 
-import { existsSync, mkdtempSync, rmSync, writeFileSync } from "node:fs";
+import { mkdtempSync, rmSync, writeFileSync } from "node:fs";
 import { tmpdir } from "node:os";
 import { join } from "node:path";
 import { fileURLToPath } from "node:url";
 import { record } from "../recorder.mjs";
-import { DEFAULT_SABSIM } from "../lib/check/sabsim.mjs";
-
-/** The built program that checks are made with. */
-export const SABSIM = process.env.SABSIM ?? DEFAULT_SABSIM;
-
-const missing = !existsSync(SABSIM);
-
-/**
- * For tests that need sabsim: where it isn't built they fail, as it has to be, unless SABSIM_OPTIONAL is 1.
- */
-export const withSabsim = {
-  skip: missing && process.env.SABSIM_OPTIONAL === "1" ? `sabsim isn't at ${SABSIM}` : false,
-};
-
-/** Where sabsim certainly isn't. */
-export const NOWHERE = "/nowhere/sabsim";
+import { NOWHERE } from "./needs.mjs";
 
 /** An environment in which sabsim is looked for where it isn't. */
 export const WITHOUT_SABSIM = Object.freeze({ ...process.env, SABSIM: NOWHERE });

@@ -3,13 +3,15 @@
 
 import assert from "node:assert/strict";
 import { readdirSync, readFileSync } from "node:fs";
-import { after, describe, test } from "node:test";
+import { after, before, describe, test } from "node:test";
 import { Crew, EngineFault } from "../engine/crew.mjs";
 import { replay } from "../engine/replay.mjs";
 import { summary } from "../engine/report.mjs";
 import { readScript, ScriptFault } from "../engine/script.mjs";
+import { withSabsim } from "./needs.mjs";
 import { Opinions } from "./opinions.mjs";
-import { pathOf, replayBySabsim, runNode, start, withSabsim } from "./programs.mjs";
+import { pathOf, replayBySabsim, runNode, start } from "./programs.mjs";
+import { seedsTo } from "./recorded.mjs";
 import { generatedScript, timedScript } from "./scripts.mjs";
 
 const DATA = pathOf("crates/check_scripts/data");
@@ -30,33 +32,43 @@ async function entriesOf(script) {
   return (await replay(readScript(Buffer.from(JSON.stringify(script))), crew)).entries;
 }
 
-describe("generated scripts", withSabsim, () => {
-  const seen = new Map();
-  const count = (text) => seen.set(text, (seen.get(text) ?? 0) + 1);
-
-  /** Asks both for the scripts of the seeds from 1 on. */
-  async function compare(scriptOf, last) {
-    const seeds = Array.from({ length: last }, (_, position) => position + 1);
-    const compareOne = async (seed) => {
+describe("generated scripts", () => {
+  /** The engine's opinions on the scripts of the seeds from 1 on. */
+  function opinionsOn(scriptOf, last) {
+    return Promise.all(seedsTo(last).map(async (seed) => {
       const text = JSON.stringify(scriptOf(seed));
-      const { report, lines } = await opinions.of(text);
-      const expected = await replayBySabsim(text);
-      assert.equal(report, expected, `the engine (actual) and sabsim (expected) differ on the script of seed ${seed}`);
-      lines.forEach(count);
-    };
-    await Promise.all(seeds.map(compareOne));
+      return { seed, text, ...await opinions.of(text) };
+    }));
   }
 
-  test(`the engine and sabsim answer the same to each of ${SCRIPTS} scripts`, () => compare(generatedScript, SCRIPTS));
+  /** Sabsim says the same. */
+  async function compare(all) {
+    await Promise.all(all.map(async ({ seed, text, report }) => {
+      const expected = await replayBySabsim(text);
+      assert.equal(report, expected, `the engine (actual) and sabsim (expected) differ on the script of seed ${seed}`);
+    }));
+  }
+
+  let untimed;
+
+  before(async () => {
+    untimed = await opinionsOn(generatedScript, SCRIPTS);
+  });
+
+  test(`the engine and sabsim answer the same to each of ${SCRIPTS} scripts`, withSabsim, () => compare(untimed));
 
   test("the scripts have of everything many", () => {
+    const seen = new Map();
+    for (const line of untimed.flatMap((opinion) => opinion.lines)) seen.set(line, (seen.get(line) ?? 0) + 1);
     const lines = ["wait", "leave ok", "leave timed-out", "act not-equal", "act TypeError", "act RangeError", "act 2"];
     const stuck = ["done", "waiting", "not-waiting", "endless"].map((why) => `stuck ${why}`);
     for (const line of [...lines, ...stuck]) assert.ok(seen.get(line) >= 10, `${line}: ${seen.get(line)}`);
     assert.ok([...seen.keys()].filter((line) => /^act -?\d+n$/.test(line)).length >= 5, "BigInts");
   });
 
-  test(`and to each of ${TIMED_SCRIPTS} in which times end in every order`, () => compare(timedScript, TIMED_SCRIPTS));
+  test(`and to each of ${TIMED_SCRIPTS} in which times end in every order`, withSabsim, async () => {
+    await compare(await opinionsOn(timedScript, TIMED_SCRIPTS));
+  });
 });
 
 describe("scripts with their reports", () => {

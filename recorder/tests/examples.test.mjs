@@ -1,6 +1,6 @@
-// Each example is recorded under 200 seeds: sabsim replays every script to the same answers, the naive mutex is found,
-// no other run fails, and what is found is what the examples' README says. The engine's own waits and notifies agree
-// with some of the scripts of each.
+// Each example is recorded under 200 seeds: the naive mutex is found, no other run fails, and what is found is what the
+// examples' README says. The engine's own waits and notifies agree with some of the scripts of each. Sabsim, where it is
+// given, replays every script to the same answers.
 
 import assert from "node:assert/strict";
 import { mkdtempSync, readFileSync, readdirSync, rmSync, writeFileSync } from "node:fs";
@@ -9,8 +9,9 @@ import { join } from "node:path";
 import { after, describe, test } from "node:test";
 import { pathToFileURL } from "node:url";
 import { recordSeeds } from "../lib/seeds/seeds.mjs";
+import { CHECKER, hasSabsim } from "./needs.mjs";
 import { Opinions } from "./opinions.mjs";
-import { pathOf, SABSIM, withSabsim } from "./programs.mjs";
+import { pathOf } from "./programs.mjs";
 
 const FOLDER = pathOf("recorder/examples");
 const SEEDS = 200;
@@ -22,10 +23,10 @@ after(() => opinions.end());
 /** The outcomes of a module of agents under the seeds from 1 on, in the order of the seeds. */
 async function outcomesOf(module, last, checkEvery) {
   const outcomes = [];
-  const fixed = { args: [], jobs: 2, maxMoves: 100_000, seconds: 10, fresh: false, sabsim: SABSIM };
+  const fixed = { args: [], jobs: 2, maxMoves: 100_000, seconds: 10, fresh: false, sabsim: CHECKER };
   const options = { ...fixed, module: pathToFileURL(module).href, first: 1, last, checkEvery };
   const { checked } = await recordSeeds(options, (outcome) => outcomes.push(outcome));
-  assert.equal(checked, checkEvery === 0 ? 0 : last);
+  assert.equal(checked, hasSabsim ? checkEvery * last : 0);
   return outcomes.sort((one, other) => one.seed - other.seed);
 }
 
@@ -104,7 +105,7 @@ describe("examples", () => {
   });
 
   for (const name of NAMES) {
-    test(`${name} under ${SEEDS} seeds`, withSabsim, async () => {
+    test(`${name} under ${SEEDS} seeds`, async () => {
       const outcomes = await outcomesOf(join(FOLDER, `${name}.agents.mjs`), SEEDS, 1);
       const failing = outcomes.filter(({ ending }) => ending !== "finished");
       if (name === "mutex-naive") {
@@ -124,7 +125,7 @@ describe("examples", () => {
     });
   }
 
-  test("README counts their scripts, waits and moves", withSabsim, () => {
+  test("README counts their scripts, waits and moves", () => {
     const counted = /All ([\d,]+) scripts .* ([\d,]+) waits that joined a line and ([\d,]+) that .* ([\d,]+) moves/s;
     const said = counted.exec(README).slice(1).map((text) => Number(text.replaceAll(",", "")));
     assert.deepEqual(said, [all.scripts, all.waits, all.timeOuts, all.moves]);

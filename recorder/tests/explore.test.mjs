@@ -3,13 +3,14 @@
 import assert from "node:assert/strict";
 import { spawn } from "node:child_process";
 import { randomUUID } from "node:crypto";
-import { existsSync, readFileSync, readdirSync, writeFileSync } from "node:fs";
+import { readFileSync, readdirSync, writeFileSync } from "node:fs";
 import { join } from "node:path";
 import { test } from "node:test";
 import { setTimeout as sleep } from "node:timers/promises";
 import { Difference, LostJob, NoSabsim, Refused, explore, record } from "../recorder.mjs";
 import { Delivery } from "../lib/seeds/delivery.mjs";
-import { NOWHERE, SABSIM, agentsOf, agentsPath, temporaryFolder, withSabsim } from "./common.mjs";
+import { agentsOf, agentsPath, temporaryFolder } from "./common.mjs";
+import { CHECKER, NOWHERE, SABSIM, onLinux, withSabsim } from "./needs.mjs";
 
 const LIBRARY = new URL("../recorder.mjs", import.meta.url).href;
 /** Drawn for before each call, so that there are no pilots, which call `init` too. */
@@ -26,23 +27,27 @@ async function allOf(runs) {
   return all;
 }
 
-test("outcomes come in the order of the seeds, and are those of record, whatever the jobs", withSabsim, async () => {
-  const options = { ...naive, sabsim: SABSIM };
+test("outcomes come in the order of the seeds, and are those of record, whatever the jobs", async () => {
+  const options = { ...naive, sabsim: CHECKER };
   const one = await allOf(explore({ ...options, seeds: "20..60", checkEvery: 4 }));
   assert.deepEqual(one.map(({ seed }) => seed), Array.from({ length: 41 }, (_, at) => at + 20));
   const three = await allOf(explore({ ...options, seeds: { first: 20, last: 60 }, checkEvery: 4, jobs: 3 }));
   // Each job tells the trace of its own first failing run, and the code that it names.
   const untraced = (outcomes) => outcomes.map((outcome) => ({ ...outcome, trace: undefined, sources: undefined }));
   assert.deepEqual(untraced(three), untraced(one));
-  for (const { seed, fails, checked, unchecked, script } of one) {
-    assert.equal(checked, fails || (seed - 20) % 4 === 0);
-    assert.equal(unchecked, checked ? undefined : "of runs that don't fail one in 4 is checked");
-    assert.equal(script !== undefined, checked);
-  }
   const first = one.find(({ fails }) => fails);
   assert.equal(first.seed, 29);
   assert.notEqual(first.trace, undefined);
   assert.deepEqual(first, await record({ ...options, seed: 29 }));
+});
+
+test("each outcome says whether sabsim has checked it: those that fail, and one in so many", withSabsim, async () => {
+  for (const outcome of await allOf(explore({ ...naive, sabsim: SABSIM, seeds: "20..60", checkEvery: 4 }))) {
+    const { seed, fails, checked, unchecked, script } = outcome;
+    assert.equal(checked, fails || (seed - 20) % 4 === 0);
+    assert.equal(unchecked, checked ? undefined : "of runs that don't fail one in 4 is checked");
+    assert.equal(script !== undefined, checked);
+  }
 });
 
 test("which seeds are meant", async () => {
@@ -119,7 +124,11 @@ test("runs aren't made far ahead of who takes them", async () => {
   const runs = explore({ ...cases("addition"), seeds: 100_000, init: () => void (made += 1) });
   try {
     await runs.next();
-    for (let before = -1; before !== made; await sleep(300)) before = made;
+    // On a busy machine no run may be made for a while.
+    for (let looks = 0, before = -1; looks < 100 && (made < 16 || made !== before); looks += 1) {
+      before = made;
+      await sleep(300);
+    }
     assert.ok(made >= 16 && made <= 32, `${made} were made`);
     for (let seed = 2; seed <= 50; seed += 1) assert.equal((await runs.next()).value.seed, seed);
   } finally {
@@ -185,14 +194,13 @@ const WAYS_OUT = {
     '{ if (error.message !== "mine") throw error; }',
   "an end that it comes to": "for await (const { fails } of runs);",
 };
-const onLinux = { skip: withSabsim.skip || (existsSync("/proc/self/environ") ? false : "there is no /proc") };
 
 for (const [what, code] of Object.entries(WAYS_OUT)) {
   test(`${what} leaves no worker and no process behind`, onLinux, async (context) => {
     const folder = temporaryFolder(context);
     await Promise.all([1, 2].map(async (jobs) => {
       const mark = randomUUID();
-      const options = { module: agentsPath("naive-mutex"), sabsim: SABSIM, checkEvery: 1, seeds: 40, jobs };
+      const options = { module: agentsPath("naive-mutex"), sabsim: CHECKER, checkEvery: 1, seeds: 40, jobs };
       const file = join(folder, `${jobs}.mjs`);
       writeFileSync(file, `
         import { explore } from "${LIBRARY}";
@@ -224,7 +232,7 @@ test("where a signal is aborted while nobody takes, all is ended all the same", 
     writeFileSync(file, `
       import { explore } from "${LIBRARY}";
       const controller = new AbortController();
-      const options = ${JSON.stringify({ module: agentsPath("naive-mutex"), sabsim: SABSIM, seeds: 1_000_000, jobs })};
+      const options = ${JSON.stringify({ module: agentsPath("naive-mutex"), sabsim: CHECKER, seeds: 1_000_000, jobs })};
       await explore({ ...options, signal: controller.signal }).next();
       controller.abort();
     `);

@@ -2,13 +2,14 @@
 
 import assert from "node:assert/strict";
 import { spawn, spawnSync } from "node:child_process";
-import { existsSync, readFileSync, readdirSync, writeFileSync } from "node:fs";
+import { readFileSync, readdirSync, writeFileSync } from "node:fs";
 import { randomUUID } from "node:crypto";
 import { join } from "node:path";
 import { test } from "node:test";
 import { InOrder } from "../lib/seeds/in-order.mjs";
 import { jobWords } from "../lib/seeds/node-words.mjs";
-import { RECORD, SABSIM, agentsOf, agentsPath, temporaryFolder, withSabsim } from "./common.mjs";
+import { RECORD, agentsOf, agentsPath, temporaryFolder } from "./common.mjs";
+import { CHECKING, hasSabsim, onLinux } from "./needs.mjs";
 
 /**
  * Runs the command line to its end.
@@ -22,7 +23,6 @@ function run(words, nodeWords = [], options = {}) {
   return { status, stdout, stderr };
 }
 
-const onLinux = { skip: existsSync("/proc/self/environ") ? false : "there is no /proc" };
 const small = (folder, body) => [agentsOf(folder, body), "--agents", "2", "--buffers", "8", "--check", "0"];
 
 /** The processes whose environment has a word, which all children of a process inherit. */
@@ -64,15 +64,15 @@ test("what is loaded before the program is loaded for agents too, whatever the n
   assert.deepEqual(two, one);
 });
 
-test("one job and several tell the same", withSabsim, () => {
-  const words = [agentsPath("naive-mutex"), "--seeds", "1..150", "--sabsim", SABSIM];
+test("one job and several tell the same", () => {
+  const words = [agentsPath("naive-mutex"), "--seeds", "1..150", ...CHECKING];
   const [one, four] = ["1", "4"].map((jobs) => run([...words, "--jobs", jobs]));
   assert.equal(one.status, 1);
   assert.deepEqual(four, one);
 });
 
-test("with --fail-fast the first failing run is the last, whatever the number of jobs", withSabsim, () => {
-  const words = [agentsPath("naive-mutex"), "--seeds", "1..1000000", "--sabsim", SABSIM, "--check", "7"];
+test("with --fail-fast the first failing run is the last, whatever the number of jobs", () => {
+  const words = [agentsPath("naive-mutex"), "--seeds", "1..1000000", "--check", "7", ...CHECKING];
   const [one, three] = ["1", "3"].map((jobs) => run([...words, "--fail-fast", "--jobs", jobs]));
   assert.equal(one.status, 1);
   assert.deepEqual(three, one);
@@ -81,7 +81,8 @@ test("with --fail-fast the first failing run is the last, whatever the number of
   assert.equal(runs.replaceAll(",", ""), seed);
   // Of the seeds 1, 8, 15, .. each is checked, and the last one, since it failed.
   const checked = Math.ceil(Number(seed) / 7) + ((Number(seed) - 1) % 7 === 0 ? 0 : 1);
-  assert.match(one.stdout, new RegExp(`^${checked} runs checked: sabsim says the same$`, "m"));
+  const told = hasSabsim ? `${checked} runs checked: sabsim says the same` : "no run was checked";
+  assert.match(one.stdout, new RegExp(`^${told}$`, "m"));
 });
 
 /** What is told of outcomes that come in some order: seeds that fail are negative, and those lost are texts. */

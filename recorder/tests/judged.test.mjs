@@ -7,7 +7,8 @@ import { join } from "node:path";
 import { describe, it } from "node:test";
 import { fileURLToPath } from "node:url";
 import { Difference, NoSabsim, record } from "../recorder.mjs";
-import { RECORD, SABSIM, agentsPath, recordCase, temporaryFolder, withSabsim } from "./common.mjs";
+import { RECORD, agentsPath, recordCase, temporaryFolder } from "./common.mjs";
+import { SABSIM, withSabsim } from "./needs.mjs";
 import { eventsOfTrace, slowJudge } from "./slow-judge.mjs";
 import { plainText, statusOf } from "./verdict-texts.mjs";
 
@@ -43,8 +44,8 @@ function run(...words) {
 
 const addition = ["--agents", "2", "--buffers", "12", "--seeds", "7", "--", "addition"];
 
-describe("the judge of checked runs", withSabsim, () => {
-  it("is given the run's trace, and says what the slow judge finds in it", async (context) => {
+describe("the judge of checked runs", () => {
+  it("is given the run's trace, and says what the slow judge finds in it", withSabsim, async (context) => {
     const folder = temporaryFolder(context);
     for (const seed of [1, RACING_SEED]) {
       const sabsim = judging(folder, `${SABSIM} judge --trace < ${folder}/given > ${folder}/said; exit $?`);
@@ -59,14 +60,14 @@ describe("the judge of checked runs", withSabsim, () => {
     }
   });
 
-  it("is given the same calls as are told in the outcome's trace, without their lines of code", async (context) => {
+  it("is given the calls of the outcome's trace, without their lines of code", withSabsim, async (context) => {
     const folder = temporaryFolder(context);
     const { trace } = await recordCase("addition", { sabsim: judging(folder, FINDS_NONE), trace: true });
     const without = trace.replaceAll(/"source":"[^"]*"/g, '"source":null');
     assert.equal(readFileSync(join(folder, "given"), "utf8"), without);
   });
 
-  it("says that there is a race, and the recorder has found none: both sides are told", async (context) => {
+  it("says that there is a race, and the recorder found none: both are told", withSabsim, async (context) => {
     const sabsim = judging(temporaryFolder(context), FINDS_ONE);
     await assert.rejects(recordCase("addition", { sabsim, seed: 9 }), (error) => {
       assert.ok(error instanceof Difference);
@@ -82,7 +83,7 @@ describe("the judge of checked runs", withSabsim, () => {
     });
   });
 
-  it("says that there is none, and the recorder has found a race: both sides are told", async (context) => {
+  it("says that there is none, and the recorder found a race: both are told", withSabsim, async (context) => {
     const found = /^ {2}the recorder: agent 1 reads slots\[0\] at ring-frees-first\.mjs:32:17, .*; agent 0 writes /;
     const sabsim = judging(temporaryFolder(context), FINDS_NONE);
     for (const races of ["fail", "allow"]) {
@@ -97,7 +98,7 @@ describe("the judge of checked runs", withSabsim, () => {
     }
   });
 
-  it("refuses the trace: that is a difference too", async (context) => {
+  it("refuses the trace: that is a difference too", withSabsim, async (context) => {
     const sabsim = judging(temporaryFolder(context), "echo 'sabsim: 10 BadShape: line 12' >&2; exit 1");
     await assert.rejects(recordCase("addition", { sabsim, seed: 9 }), (error) => {
       assert.ok(error instanceof Difference);
@@ -106,7 +107,7 @@ describe("the judge of checked runs", withSabsim, () => {
     });
   });
 
-  it("differs under the command line: status 3, and what both went by is kept", (context) => {
+  it("differs under the command line: status 3, and what both went by is kept", withSabsim, (context) => {
     const folder = temporaryFolder(context);
     const out = join(folder, "out");
     const sabsim = ["--sabsim", judging(folder, FINDS_ONE), "--out", out];
@@ -121,7 +122,7 @@ describe("the judge of checked runs", withSabsim, () => {
     assert.match(stdout, /^no run was checked$/m);
   });
 
-  it("isn't asked where ordinary accesses aren't watched, since the recorder looks for no races then", (context) => {
+  it("isn't asked where ordinary accesses aren't watched: no races are looked for", withSabsim, (context) => {
     const sabsim = judging(temporaryFolder(context), FINDS_ONE);
     for (const ordinary of ["store", "refuse"]) {
       const words = ["--sabsim", sabsim, "--ordinary", ordinary, ...addition];
@@ -132,7 +133,7 @@ describe("the judge of checked runs", withSabsim, () => {
     }
   });
 
-  it("isn't there in a sabsim that is older: that is told, with status 3", async (context) => {
+  it("isn't there in a sabsim that is older: that is told, with status 3", withSabsim, async (context) => {
     const folder = temporaryFolder(context);
     const sabsim = judging(folder, "echo \"error: unrecognized subcommand 'judge'\" >&2; exit 2");
     const told = /judging can't judge data races, so it is older than the recorder: `\.\/build`, .*, builds sabsim$/;
@@ -146,7 +147,7 @@ describe("the judge of checked runs", withSabsim, () => {
     assert.match(stderr.trimEnd(), told);
   });
 
-  it("is asked by a process of its own; where that is ended, it is told", (context) => {
+  it("is asked by a process of its own; where that is ended, it is told", withSabsim, (context) => {
     const folder = temporaryFolder(context);
     const { status, stderr } = run(agentsPath("cases"), "--sabsim", judging(folder, "kill -9 $PPID"), ...addition);
     assert.equal(status, 3);
@@ -160,7 +161,7 @@ describe("the judge of checked runs", withSabsim, () => {
     assert.ok(!readdirSync(folder).includes("given"));
   });
 
-  it("judges what init left as no access, and of a run whose init throws nothing", async (context) => {
+  it("judges what init left as no access, and of a run whose init throws nothing", withSabsim, async (context) => {
     const folder = temporaryFolder(context);
     const options = { sabsim: judging(folder, `exec ${SABSIM} judge --trace < ${folder}/given`) };
     const given = () => readFileSync(join(folder, "given"), "utf8");

@@ -7,7 +7,8 @@ import { join } from "node:path";
 import { test } from "node:test";
 import { Keeper, NotKept } from "../lib/command/keep.mjs";
 import { Refused } from "../lib/run/plan.mjs";
-import { RECORD, SABSIM, agentsPath, temporaryFolder, withSabsim } from "./common.mjs";
+import { RECORD, agentsPath, temporaryFolder } from "./common.mjs";
+import { CHECKING, hasSabsim } from "./needs.mjs";
 
 const run = (seed, parts) => ({ seed, script: `script ${seed}`, report: `report ${seed}`, ...parts });
 const filesOf = (seed) => [`seed-${seed}.json`, `seed-${seed}.report`];
@@ -128,9 +129,9 @@ test("--out is tried before anything runs", () => {
 });
 
 for (const signal of ["SIGINT", "SIGTERM"]) {
-  test(`${signal} ends it when what was found is told, and kept`, withSabsim, async (context) => {
+  test(`${signal} ends it when what was found is told, and kept`, async (context) => {
     const out = join(temporaryFolder(context), "out");
-    const { child, ended } = started(["--seeds", "1..10000000", "--out", out, "--sabsim", SABSIM]);
+    const { child, ended } = started(["--seeds", "1..10000000", "--out", out, ...CHECKING]);
     const kept = () => {
       try {
         return readdirSync(out).some((name) => /^seed-\d+\.report$/.test(name));
@@ -147,7 +148,8 @@ for (const signal of ["SIGINT", "SIGTERM"]) {
     assert.match(second, /^[\d,]+ of [\d,]+ runs failed: /);
     const [, seed] = /^first failing seed: (\d+), /m.exec(stdout);
     const files = readdirSync(out).sort();
-    for (const ending of ["explained", "html", "json", "report", "svg"]) assert.ok(files.includes(`seed-${seed}.${ending}`));
+    const endings = ["json", "report", ...(hasSabsim ? ["explained", "html", "svg"] : [])];
+    for (const ending of endings) assert.ok(files.includes(`seed-${seed}.${ending}`), ending);
     assert.ok(files.every((name) => name.startsWith(`seed-${seed}.`)), files.join());
     const [, names] = /^kept in .*: (.*)$/m.exec(stdout);
     assert.deepEqual(names.split(", ").sort(), files);

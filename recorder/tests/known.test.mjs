@@ -7,7 +7,7 @@ import { readFileSync, readdirSync } from "node:fs";
 import { describe, it } from "node:test";
 import { RemoteJob } from "../lib/seeds/remote-job.mjs";
 import { keptScript } from "../lib/shorter/kept-script.mjs";
-import { SABSIM, withSabsim } from "./common.mjs";
+import { SABSIM, hasSabsim } from "./needs.mjs";
 
 const FOLDER = new URL("./known/", import.meta.url);
 const NAMES = readdirSync(FOLDER).filter((name) => name.endsWith(".mjs"));
@@ -39,7 +39,7 @@ async function runsOf(name) {
     return outcomes;
   };
   try {
-    await job.open({ module, args: [], checks: true, sabsim: SABSIM, maxMoves: 100_000, seconds: 5, fresh: false });
+    await job.open({ module, args: [], checks: hasSabsim, sabsim: SABSIM, maxMoves: 100_000, seconds: 5, fresh: false });
     const seeds = Array.from({ length: SEEDS }, (_, at) => ({ seed: at + 1, whole: at % CHECKED === 0 }));
     const outcomes = await made(seeds);
     const counted = checked;
@@ -101,12 +101,12 @@ function demandRaces({ races = [] }, outcomes) {
   assert.deepEqual(shown(found), [], "races that aren't known");
 }
 
-/** Every run that was told whole has a script with all of its ordinary writes, which sabsim has replayed. */
+/** Every run that was told whole has a script with all of its ordinary writes. Sabsim has replayed it where it is given. */
 function demandChecks(outcomes, checked) {
   const whole = outcomes.filter(({ bytes }) => bytes !== undefined);
   assert.deepEqual(whole.filter(({ scriptHolds }) => scriptHolds !== "all").map(({ noScript }) => noScript), []);
-  assert.equal(checked, whole.length);
-  assert.ok(checked >= SEEDS / CHECKED);
+  assert.ok(whole.length >= SEEDS / CHECKED);
+  assert.equal(checked, hasSabsim ? whole.length : 0);
 }
 
 /** A run that is made by its row is the same run, and the row of its script is that row. */
@@ -117,7 +117,7 @@ function demandRows(free, forced) {
   }
 }
 
-describe("programs with known answers", { concurrency: SIDE_BY_SIDE, ...withSabsim }, () => {
+describe("programs with known answers", { concurrency: SIDE_BY_SIDE }, () => {
   it("are many", () => assert.ok(NAMES.length >= LEAST_PROGRAMS));
 
   for (const name of NAMES) {

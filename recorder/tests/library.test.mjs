@@ -7,7 +7,8 @@ import { join } from "node:path";
 import { test } from "node:test";
 import { pathToFileURL } from "node:url";
 import { Difference, NoSabsim, Refused, record } from "../recorder.mjs";
-import { NOWHERE, SABSIM, agentsOf, agentsPath, recordCase, temporaryFolder, withSabsim } from "./common.mjs";
+import { agentsOf, agentsPath, recordCase, temporaryFolder } from "./common.mjs";
+import { CHECKER, NOWHERE, SABSIM, withSabsim } from "./needs.mjs";
 
 const module = agentsPath("cases");
 
@@ -91,12 +92,16 @@ test("a module may be given by a path or a URL", async () => {
   }
 });
 
-test("the outcome is whole", withSabsim, async () => {
-  const { seed, ending, fails, calls, bytes, answers, script, report, state, races, scriptHolds, trace } =
-    await recordCase("addition", { sabsim: SABSIM, seed: 9 });
+test("the outcome is whole", async () => {
+  const { seed, ending, fails, calls, bytes, answers, state, races, scriptHolds, trace } =
+    await recordCase("addition", { sabsim: CHECKER, seed: 9 });
   assert.deepEqual([seed, ending, fails, calls, trace], [9, "finished", false, 6, undefined]);
   assert.deepEqual([bytes, state.shown], [["030000000300000000000000"], ["030000000300000000000000"]]);
   assert.deepEqual([answers, races, scriptHolds], [[["0", "1", "2"], ["0", "1", "2"]], [], "all"]);
+});
+
+test("the outcome's report is what sabsim replays of its script", withSabsim, async () => {
+  const { script, report } = await recordCase("addition", { sabsim: SABSIM, seed: 9 });
   const replayed = spawnSync(SABSIM, ["replay"], { input: script, encoding: "utf8" });
   assert.equal(replayed.stdout, report);
 });
@@ -148,8 +153,6 @@ test("the outcome says whether sabsim has checked the run", withSabsim, async ()
     const found = await withSabsimAt(SABSIM, () => recordAddition({ sabsim }));
     assert.deepEqual([found.checked, found.unchecked], [true, undefined]);
   }
-  const left = await recordAddition({ sabsim: false });
-  assert.deepEqual([left.checked, left.unchecked], [false, "the options say that sabsim isn't asked"]);
   // More is written between two calls than a script has calls for.
   const { checked, unchecked, noScript } = await record({
     module: agentsPath("big-writes"), args: ["overwhelms 400"], agents: 2, buffers: [65_536], sabsim: SABSIM,
@@ -157,13 +160,18 @@ test("the outcome says whether sabsim has checked the run", withSabsim, async ()
   assert.deepEqual([checked, unchecked], [false, `the run has no script: ${noScript}`]);
 });
 
-test("`init` fills the buffers before the run, and the script has what it wrote", withSabsim, async () => {
+test("a run of which sabsim isn't asked says so", async () => {
+  const { checked, unchecked } = await recordAddition({ sabsim: false });
+  assert.deepEqual([checked, unchecked], [false, "the options say that sabsim isn't asked"]);
+});
+
+test("`init` fills the buffers before the run, and the script has what it wrote", async () => {
   const seen = [];
   const init = (buffers, run) => {
     seen.push([buffers.map((buffer) => buffer.byteLength), run]);
     new Int32Array(buffers[0]).set([40, 50, 60]);
   };
-  const { bytes, script } = await recordCase("addition", { sabsim: SABSIM, init, everywhere: true });
+  const { bytes, script } = await recordCase("addition", { sabsim: CHECKER, init, everywhere: true });
   assert.deepEqual(seen, [[[12], { agents: 2, args: ["addition"] }]]);
   // Three is added to the first two words.
   assert.deepEqual(bytes, [Buffer.from(Int32Array.of(43, 53, 60).buffer).toString("hex")]);
@@ -191,7 +199,7 @@ test("what `init` throws fails the run", async () => {
   assert.match(detail, /nothing to begin with/);
 });
 
-test("a function `check` is called after a run that finished; what it throws fails the run", withSabsim, async () => {
+test("a function `check` is called after a run that finished; what it throws fails the run", async () => {
   const seen = [];
   const check = (buffers, run) => {
     seen.push([[...new Int32Array(buffers[0])], run]);

@@ -5,7 +5,7 @@ import assert from "node:assert/strict";
 import { fileURLToPath } from "node:url";
 import { before, describe, it } from "node:test";
 import { PROGRAMS } from "./agents/modes.mjs";
-import { agentsPath, withSabsim } from "./common.mjs";
+import { agentsPath } from "./common.mjs";
 import { different, hexOf, placesOf, recorded, seedsTo, summaryLines } from "./recorded.mjs";
 
 const MODES = ["watch", "store", "refuse"];
@@ -34,7 +34,7 @@ function ordinaryViews({ script }) {
 const ordinaryCalls = ({ script }, agent) =>
   JSON.parse(script).agents[agent].calls.filter(([, view]) => view.startsWith("ordinary"));
 
-describe("ordinary accesses in each mode", withSabsim, () => {
+describe("ordinary accesses in each mode", () => {
   let outcomesOf;
 
   before(async () => {

@@ -9,13 +9,14 @@ import { test } from "node:test";
 import { checkedNames, Names } from "../lib/run/names.mjs";
 import { Refused } from "../lib/run/refused.mjs";
 import { KINDS } from "../script/kinds.mjs";
-import { SABSIM, temporaryFolder, withSabsim } from "./common.mjs";
+import { temporaryFolder } from "./common.mjs";
+import { SABSIM, withSabsim } from "./needs.mjs";
 import { recorded, seedsTo } from "./recorded.mjs";
 
 const INT32 = KINDS.indexOf("Int32");
 const UINT8 = KINDS.indexOf("Uint8");
 
-/** Records a module of agents, whose every script sabsim replays to the same. */
+/** Records a module of agents, whose every script sabsim replays to the same where it is given. */
 async function recordedModule(context, setup, body, { seeds = [1], ...options } = {}) {
   const path = join(temporaryFolder(context), "agents.mjs");
   const code = `export const setup = ${JSON.stringify(setup)};\n` +
@@ -125,9 +126,10 @@ test("scripts and reports have the names, from whichever view a call comes", wit
   ]);
 });
 
-test("an index that isn't its view's throws by that view, though a word stands there", withSabsim, async (context) => {
+/** The run of an agent whose indices aren't those of its views, though a named word stands there. */
+async function throwingRun(context) {
   const setup = { agents: 1, buffers: [16], names: { LOCK: 0, WAKE: 1, low: ["Float64", 0, 1] } };
-  const [{ script, answers, ending }] = await recordedModule(context, setup, `
+  const [outcome] = await recordedModule(context, setup, `
     const one = new Int32Array(buffers[0], 0, 1);
     const thrown = [];
     for (const call of [() => Atomics.load(one, 1), () => Atomics.wait(one, 1, 0, 0), () => Atomics.load(one, -1),
@@ -140,8 +142,17 @@ test("an index that isn't its view's throws by that view, though a word stands t
     }
     if (thrown.join() !== "RangeError,RangeError,RangeError,TypeError,TypeError") throw new Error(thrown.join());
   `);
+  return outcome;
+}
+
+test("an index that isn't its view's throws, though a word stands there", async (context) => {
+  const { answers, ending } = await throwingRun(context);
   assert.equal(ending, "finished");
   assert.deepEqual(answers, [["RangeError", "RangeError", "RangeError", "TypeError", "TypeError"]]);
+});
+
+test("sabsim explains such a call by that view", withSabsim, async (context) => {
+  const { script } = await throwingRun(context);
   assert.deepEqual(explained(script).filter((line) => / act /.test(line)).map((line) => line.split("  ")[1]), [
     "load(Int32_x1, 1) throws: Int32_x1 has 1 element",
     "wait(Int32_x1, 1, 0, 0) throws: Int32_x1 has 1 element",
@@ -151,7 +162,7 @@ test("an index that isn't its view's throws by that view, though a word stands t
   ]);
 });
 
-test("a deadlock and a race are told by names", withSabsim, async (context) => {
+test("a deadlock and a race are told by names", async (context) => {
   const setup = { agents: 2, buffers: [12], names: { LOCK: 0, WAKE: 1, data: ["Uint8", 0] } };
   const [deadlock] = await recordedModule(context, setup, `
     const words = new Int32Array(buffers[0]);
@@ -174,7 +185,7 @@ test("a deadlock and a race are told by names", withSabsim, async (context) => {
   assert.deepEqual(sides.map(({ element }) => element), ["data[9]", "data[9]"]);
 });
 
-test("with names, runs of all seeds come to the same as without", withSabsim, async (context) => {
+test("with names, runs of all seeds come to the same as without", async (context) => {
   const setup = { agents: 3, buffers: [12] };
   const body = `
     const words = new Int32Array(buffers[0]);
@@ -194,7 +205,7 @@ test("with names, runs of all seeds come to the same as without", withSabsim, as
     || /\{"name": "LOCK", "kind": "Int32"/.test(script)), "no view has the kind's name");
 });
 
-test("where names would take too many views, a script goes without them", withSabsim, async (context) => {
+test("where names would take too many views, a script goes without them", async (context) => {
   // 40 words, named, of which each is used by calls and by ordinary writes: 80 views, where a script has 64.
   const names = Object.fromEntries(Array.from({ length: 40 }, (_, at) => [`word${at}`, at]));
   const [{ ending, script, noScript }] = await recordedModule(context, { agents: 1, buffers: [160], names }, `

@@ -4,7 +4,7 @@
 import assert from "node:assert/strict";
 import { describe, it } from "node:test";
 import { SCRIPT_LIMITS } from "../script/limits.mjs";
-import { agentsPath, withSabsim } from "./common.mjs";
+import { agentsPath } from "./common.mjs";
 import { hexOf, recorded, seedsTo, summaryLines } from "./recorded.mjs";
 
 const MOST = SCRIPT_LIMITS.calls;
@@ -42,7 +42,7 @@ function demandFilled(outcome, ordinary) {
   assert.ok(summaryLines([outcome], { ordinary, checks: true }).includes(told));
 }
 
-describe("ordinary writes that don't all fit into a script", { concurrency: 2, ...withSabsim }, () => {
+describe("ordinary writes that don't all fit into a script", { concurrency: 2 }, () => {
   for (const ordinary of ["watch", "store"]) {
     it(`a loop over 64 KiB ends no run, and what calls come to is there: ${ordinary}`, async () => {
       const [filled, refilled] = await outcomesOf(["fills", `refills ${ROUNDS}`], { ordinary });

@@ -1,5 +1,5 @@
 // The page of a run in a real browser: keys, pointer, what is highlighted, what readers of screens are told, colours.
-// Where there is no Chromium on the machine this is said, and the tests are skipped.
+// Without sabsim or a Chromium on the machine the tests are skipped.
 
 import assert from "node:assert/strict";
 import { writeFileSync } from "node:fs";
@@ -28,7 +28,7 @@ const SHOWN = `(() => {
   };
 })()`;
 
-describe("the page of a run, in a browser", { ...withBrowser, timeout: 120_000 }, () => {
+describe("the page of a run, in a browser", { timeout: 120_000 }, () => {
   /** @type {Browser} */
   let browser;
   before(() => {
@@ -43,7 +43,7 @@ describe("the page of a run, in a browser", { ...withBrowser, timeout: 120_000 }
     return browser.open(pathToFileURL(path).href, window);
   }
 
-  it("opens at what fails, with the line of code, and the browser has nothing to complain of", async (context) => {
+  it("opens at what fails, with the line of code, and the browser has nothing to complain of", withBrowser, async (context) => {
     const page = await opened(context);
     assert.deepEqual(await page.value(SHOWN), {
       step: "step-8", line: "7", word: "Atomics", file: "Code of a.mjs", here: "0,1",
@@ -54,7 +54,7 @@ describe("the page of a run, in a browser", { ...withBrowser, timeout: 120_000 }
     assert.deepEqual(page.complaints(), []);
   });
 
-  it("goes by keys, and the highlighted line with it", async (context) => {
+  it("goes by keys, and the highlighted line with it", withBrowser, async (context) => {
     const page = await opened(context);
     const at = async (...keys) => {
       await page.press(...keys);
@@ -78,7 +78,7 @@ describe("the page of a run, in a browser", { ...withBrowser, timeout: 120_000 }
     assert.deepEqual(page.complaints(), []);
   });
 
-  it("goes by pointer: by rows, by buttons, and to where an agent is", async (context) => {
+  it("goes by pointer: by rows, by buttons, and to where an agent is", withBrowser, async (context) => {
     const page = await opened(context);
     await page.click("#step-3 .does");
     assert.equal((await page.value(SHOWN)).step, "step-3");
@@ -94,7 +94,7 @@ describe("the page of a run, in a browser", { ...withBrowser, timeout: 120_000 }
     assert.deepEqual([step, line, here], ["step-8", "5", "0,1"]);
   });
 
-  it("can be used by keys alone: nothing holds the focus, and it is seen", async (context) => {
+  it("can be used by keys alone: nothing holds the focus, and it is seen", withBrowser, async (context) => {
     const page = await opened(context);
     const focused = [];
     const where = `(() => {
@@ -116,7 +116,7 @@ describe("the page of a run, in a browser", { ...withBrowser, timeout: 120_000 }
     assert.equal((await page.value(SHOWN)).step, "step-6");
   });
 
-  it("tells readers of screens its parts, the chosen entry and its sentence", async (context) => {
+  it("tells readers of screens its parts, the chosen entry and its sentence", withBrowser, async (context) => {
     const page = await opened(context);
     await page.press("ArrowUp", "ArrowUp");
     const nodes = await page.accessible();
@@ -142,7 +142,7 @@ describe("the page of a run, in a browser", { ...withBrowser, timeout: 120_000 }
   });
 
   for (const background of ["light", "dark"]) {
-    it(`can be read on a ${background} background`, async (context) => {
+    it(`can be read on a ${background} background`, withBrowser, async (context) => {
       const page = await opened(context, { background });
       const ground = await page.value("getComputedStyle(document.body).backgroundColor");
       assert.equal(ground === "rgb(255, 255, 255)", background === "light", ground);
@@ -153,7 +153,7 @@ describe("the page of a run, in a browser", { ...withBrowser, timeout: 120_000 }
     });
   }
 
-  it("fits a narrow window", async (context) => {
+  it("fits a narrow window", withBrowser, async (context) => {
     const page = await opened(context, { width: 400, height: 800 });
     const beyond = "document.scrollingElement.scrollWidth - document.scrollingElement.clientWidth";
     assert.equal(await page.value(beyond), 0);
@@ -161,7 +161,7 @@ describe("the page of a run, in a browser", { ...withBrowser, timeout: 120_000 }
     assert.equal((await page.value(SHOWN)).line, "6");
   });
 
-  it("shows texts that look like code as they are", async (context) => {
+  it("shows texts that look like code as they are", withBrowser, async (context) => {
     const evil = '</script><script>document.title = "broken"</script><!-- <img src=x onerror=alert(1)>';
     const sources = [{ file: "a.mjs", text: evil.concat("\n").repeat(8) }];
     const page = await opened(context, { parts: { detail: evil, sources }, data: { module: "<b>&amp;" } });
@@ -172,7 +172,7 @@ describe("the page of a run, in a browser", { ...withBrowser, timeout: 120_000 }
     assert.deepEqual(page.complaints(), []);
   });
 
-  it("is fast with 3,000 steps", async (context) => {
+  it("is fast with 3,000 steps", withBrowser, async (context) => {
     const [, , store] = FACTS;
     const facts = Array.from({ length: 3_000 }, (_, at) => ({ ...store, entry: 3 * at + 1, agent: at % 2,
       found: { before: at - 1, after: at } }));

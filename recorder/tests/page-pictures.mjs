@@ -1,7 +1,7 @@
 // Draws the pictures of recorder/README.md: the page of the ring that frees its slots first, at each of the two
 // accesses that race. It needs a browser and sabsim.
 //
-// usage: node recorder/tests/page-pictures.mjs
+// usage: SABSIM=crates/sabsim/out/sabsim node recorder/tests/page-pictures.mjs
 
 import { spawnSync } from "node:child_process";
 import { mkdirSync, mkdtempSync, readdirSync, rmSync, writeFileSync } from "node:fs";
@@ -10,7 +10,8 @@ import { join } from "node:path";
 import { fileURLToPath, pathToFileURL } from "node:url";
 import { deflateSync, inflateSync } from "node:zlib";
 import { Browser } from "./browser.mjs";
-import { RECORD, SABSIM } from "./common.mjs";
+import { RECORD } from "./common.mjs";
+import { SABSIM } from "./needs.mjs";
 
 const PICTURES = fileURLToPath(new URL("../pictures/", import.meta.url));
 const RING = fileURLToPath(new URL("./known/ring-frees-first.mjs", import.meta.url));

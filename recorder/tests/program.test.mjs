@@ -3,14 +3,14 @@
 import assert from "node:assert/strict";
 import { execFile, spawn, spawnSync } from "node:child_process";
 import { randomUUID } from "node:crypto";
-import { closeSync, existsSync, mkdirSync, openSync, readFileSync, readdirSync, writeFileSync } from "node:fs";
+import { closeSync, mkdirSync, openSync, readFileSync, readdirSync, writeFileSync } from "node:fs";
 import { join } from "node:path";
 import { test } from "node:test";
 import { fileURLToPath } from "node:url";
 import { optionsOf, USAGE } from "../lib/command/options.mjs";
 import { Refused } from "../lib/run/plan.mjs";
-import { NOWHERE, RECORD, SABSIM, WITHOUT_SABSIM } from "./common.mjs";
-import { agentsOf, agentsPath, temporaryFolder, withSabsim } from "./common.mjs";
+import { RECORD, WITHOUT_SABSIM, agentsOf, agentsPath, temporaryFolder } from "./common.mjs";
+import { CHECKING, NOWHERE, SABSIM, onLinux, withSabsim } from "./needs.mjs";
 
 /**
  * Runs the command line to its end.
@@ -23,10 +23,9 @@ function run(words, options = {}) {
 }
 
 const cases = (name, ...words) => [agentsPath("cases"), "--agents", "2", "--buffers", "12", ...words, "--", name];
-const sabsim = ["--sabsim", SABSIM];
 
 test("where no run fails, the status is 0", withSabsim, () => {
-  assert.deepEqual(run(cases("addition", "--seeds", "1..20", ...sabsim)), {
+  assert.deepEqual(run(cases("addition", "--seeds", "1..20", ...CHECKING)), {
     status: 0,
     stdout: [
       "20 runs: 20 finished",
@@ -45,7 +44,7 @@ test("where no run fails, the status is 0", withSabsim, () => {
 test("where some fail, the status is 1, and the first is kept in --out", withSabsim, (context) => {
   const folder = temporaryFolder(context);
   const out = join(folder, "a", "b");
-  const { status, stdout, stderr } = run([agentsPath("naive-mutex"), "--seeds", "1..100", "--out", out, ...sabsim]);
+  const { status, stdout, stderr } = run([agentsPath("naive-mutex"), "--seeds", "1..100", "--out", out, ...CHECKING]);
   assert.deepEqual([status, stderr], [1, ""]);
   const [, seed] = /^first failing seed: (\d+), deadlock\n  agent \d waits at byte 4 /m.exec(stdout);
   assert.match(stdout, /^\d+ of 100 runs failed: \d+ deadlock; \d+ finished\n/);
@@ -66,7 +65,7 @@ test("where some fail, the status is 1, and the first is kept in --out", withSab
 test("the explained report that is kept ends with the agents that wait", withSabsim, (context) => {
   const out = temporaryFolder(context);
   const alike = ["--strategy", "uniform", "--everywhere", "--no-shorten"];
-  const { stdout } = run([agentsPath("naive-mutex"), "--seeds", "93", ...alike, "--out", out, ...sabsim]);
+  const { stdout } = run([agentsPath("naive-mutex"), "--seeds", "93", ...alike, "--out", out, ...CHECKING]);
   const waiting = [...stdout.matchAll(/^  agent (\d) waits at byte 4 of block 0: its call (\d+), /gm)];
   assert.deepEqual(waiting.map(([, agent, call]) => [agent, call]), [["1", "3"], ["0", "8"]]);
   const lines = readFileSync(join(out, "seed-93.explained"), "utf8").split("\n");
@@ -80,14 +79,14 @@ test("the explained report that is kept ends with the agents that wait", withSab
   ]);
 });
 
-test("nothing is written outside of --out, and without it nothing at all", withSabsim, (context) => {
+test("nothing is written outside of --out, and without it nothing at all", (context) => {
   const folder = temporaryFolder(context);
   const places = ["here", "home", "temporary"];
   for (const place of places) mkdirSync(join(folder, place));
   const [cwd, HOME, TMPDIR] = places.map((place) => join(folder, place));
   const options = { cwd, env: { PATH: process.env.PATH, HOME, TMPDIR } };
-  assert.equal(run(cases("waitsForEver", "--seeds", "1..3", ...sabsim), options).status, 1);
-  assert.equal(run(cases("waitsForEver", "--seeds", "1..3", "--out", "kept", ...sabsim), options).status, 1);
+  assert.equal(run(cases("waitsForEver", "--seeds", "1..3", ...CHECKING), options).status, 1);
+  assert.equal(run(cases("waitsForEver", "--seeds", "1..3", "--out", "kept", ...CHECKING), options).status, 1);
   assert.deepEqual(places.map((place) => readdirSync(join(folder, place))), [["kept"], [], []]);
   assert.deepEqual(readdirSync(folder).sort(), places);
 });
@@ -239,7 +238,7 @@ test("the worked commands of recorder/README.md print what it says", withSabsim,
   const commands = workedCommands("recorder/README.md");
   assert.equal(commands.length, 2);
   for (const { words: [module, ...words], printed } of commands) {
-    const { stdout } = run([join(ROOT, module), ...words, ...sabsim], { cwd: temporaryFolder(context) });
+    const { stdout } = run([join(ROOT, module), ...words, ...CHECKING], { cwd: temporaryFolder(context) });
     assert.equal(stdout, printed);
   }
 });
@@ -368,14 +367,14 @@ test("arguments after -- go to the agents, and what they print goes to standard 
   assert.match(run([agents, ...words]).stdout, /agent 0 threw Error: \[0,1,\["--seeds","--","x y"\]\]/);
 });
 
-test("a module's own setup serves, and the command line goes before it", withSabsim, () => {
+test("a module's own setup serves, and the command line goes before it", () => {
   const module = agentsPath("setup");
-  assert.match(run([module, "--seeds", "1", ...sabsim]).stdout, /: 02000000 \| 0200000001000000$/m);
-  const longer = run([module, "--seeds", "1", "--buffers", "8,8", ...sabsim]);
+  assert.match(run([module, "--seeds", "1", ...CHECKING]).stdout, /: 02000000 \| 0200000001000000$/m);
+  const longer = run([module, "--seeds", "1", "--buffers", "8,8", ...CHECKING]);
   assert.match(longer.stdout, /: 0200000000000000 \| 0200000001000000$/m);
   const three = [module, "--seeds", "1", "--agents", "3", "--buffers", "4,8,4", "--no-block", "0"];
-  assert.match(run([...three, ...sabsim]).stdout, /^1 of 1 run failed: 1 deadlock$/m);
-  assert.match(run([...three, "--no-block", "1", ...sabsim]).stdout, /^1 run: 1 finished$/m);
+  assert.match(run([...three, ...CHECKING]).stdout, /^1 of 1 run failed: 1 deadlock$/m);
+  assert.match(run([...three, "--no-block", "1", ...CHECKING]).stdout, /^1 run: 1 finished$/m);
 });
 
 test("a module that can't be loaded is refused with status 2", (context) => {
@@ -424,19 +423,19 @@ const soon = async (holds, milliseconds = 20_000) => {
   return holds();
 };
 
-const onLinux = { skip: existsSync("/proc/self/environ") ? false : "there is no /proc" };
-
-// What the recorder is busy with in two processes when it is killed, and what it has printed by then.
-const BUSY = { "agents that loop": ["loops", /(it loops\s+){2}/], checks: ["prints", /(agent \d says \d+\s+){100}/] };
+// What the recorder is busy with in two processes when it is killed, what it has printed by then, and what that needs.
+const BUSY = {
+  "agents that loop": ["loops", /(it loops\s+){2}/, onLinux],
+  checks: ["prints", /(agent \d says \d+\s+){100}/, { skip: withSabsim.skip || onLinux.skip }],
+};
 
 for (const signal of ["SIGINT", "SIGTERM", "SIGKILL"]) {
-  for (const [what, [name, printed]] of Object.entries(BUSY)) {
-    const options = { skip: withSabsim.skip || onLinux.skip };
-    test(`${signal} amid ${what} leaves no worker and no sabsim behind`, options, async (context) => {
+  for (const [what, [name, printed, needs]] of Object.entries(BUSY)) {
+    test(`${signal} amid ${what} leaves no worker and no sabsim behind`, needs, async (context) => {
       const mark = randomUUID();
       context.after(() => processesWith(mark).forEach((id) => process.kill(Number(id), "SIGKILL")));
       const seeds = ["--seeds", "1..1000000", "--check", "1", "--seconds", "3600"];
-      const words = cases(name, "--jobs", "2", ...seeds, ...sabsim);
+      const words = cases(name, "--jobs", "2", ...seeds, ...CHECKING);
       const env = { ...process.env, RECORDER_TEST: mark };
       const child = spawn(process.execPath, [RECORD, ...words], { env, stdio: ["ignore", "ignore", "pipe"] });
       const ended = new Promise((done) => {

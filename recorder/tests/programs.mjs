@@ -1,19 +1,11 @@
 // Runs programs in tests: sabsim and those of this folder.
 
 import { spawn } from "node:child_process";
-import { existsSync } from "node:fs";
 import { fileURLToPath } from "node:url";
+import { SABSIM } from "./needs.mjs";
 
 /** The path of something in this repository. */
 export const pathOf = (path) => fileURLToPath(new URL(`../../${path}`, import.meta.url));
-
-/** Where the built sabsim is: the environment's SABSIM, or its place in this repository. */
-export const SABSIM = process.env.SABSIM ?? pathOf("crates/sabsim/out/sabsim");
-
-/** For tests that need sabsim: where it isn't built they fail, as it has to be, unless SABSIM_OPTIONAL is 1. */
-export const withSabsim = {
-  skip: !existsSync(SABSIM) && process.env.SABSIM_OPTIONAL === "1" ? `there is no sabsim at ${SABSIM}` : false,
-};
 
 /** @typedef {{ status: number | null, signal: string | null, output: string, errors: string }} Ended */
 
@@ -48,7 +40,6 @@ export const runNode = (program, args, input) => start(process.execPath, [pathOf
  * @returns {Promise<string>}
  */
 export async function replayBySabsim(script) {
-  if (!existsSync(SABSIM)) throw new Error(`there is no sabsim at ${SABSIM}: build it, or name it in SABSIM`);
   const { status, output, errors } = await start(SABSIM, ["replay"], script).ended;
   if (status !== 0) throw new Error(`sabsim ended with status ${status}: ${errors}`);
   return output;

@@ -7,7 +7,8 @@ import { test } from "node:test";
 import { moduleUrl, record } from "../lib/recorder.mjs";
 import { recordSeeds } from "../lib/seeds/seeds.mjs";
 import { CONSTRUCTORS, KINDS } from "../script/kinds.mjs";
-import { SABSIM, agentsPath, withSabsim } from "./common.mjs";
+import { agentsPath } from "./common.mjs";
+import { CHECKER, hasSabsim } from "./needs.mjs";
 import { slowRaces } from "./second-detector.mjs";
 
 /**
@@ -32,10 +33,10 @@ async function recorded(way, options) {
   const outcomes = [];
   const all = {
     module: moduleUrl(agentsPath("random-ordinary")), args: [way], first: 1, last: 500, jobs: 2, checkEvery: 1,
-    sabsim: SABSIM, maxMoves: 100_000, seconds: 10, fresh: false, ordinary: "watch", trace: true, ...options,
+    sabsim: CHECKER, maxMoves: 100_000, seconds: 10, fresh: false, ordinary: "watch", trace: true, ...options,
   };
   const { checked } = await recordSeeds(all, (outcome) => outcomes.push(outcome));
-  assert.equal(checked, all.checkEvery * outcomes.length);
+  assert.equal(checked, hasSabsim ? all.checkEvery * outcomes.length : 0);
   return outcomes.sort((one, other) => one.seed - other.seed);
 }
 
@@ -95,7 +96,7 @@ function effectOf(does, Kind, expected, answer) {
 }
 
 for (const { way, options, racy: [least, most] } of WAYS) {
-  test(`clocks and the search agree on 500 random programs: ${way}`, withSabsim, async () => {
+  test(`clocks and the search agree on 500 random programs: ${way}`, async () => {
     let racy = 0;
     for (const { seed, ending, races, trace, script, report } of await recorded(way, options)) {
       const events = eventsOf(trace);

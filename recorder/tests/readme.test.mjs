@@ -6,14 +6,15 @@ import { mkdirSync, readFileSync, readdirSync, symlinkSync, writeFileSync } from
 import { delimiter, join } from "node:path";
 import { test } from "node:test";
 import { fileURLToPath } from "node:url";
-import { SABSIM, WITHOUT_SABSIM, temporaryFolder, withSabsim } from "./common.mjs";
+import { WITHOUT_SABSIM, temporaryFolder } from "./common.mjs";
+import { SABSIM, hasSabsim, needing, withSabsim } from "./needs.mjs";
 
 const TOP = fileURLToPath(new URL("../../", import.meta.url));
 const README = readFileSync(join(TOP, "README.md"), "utf8");
 
-/** The kit's `rt`, which compiles what it tries. */
-const hasKit = spawnSync("rt", ["version"]).status === 0;
-const withKit = { skip: hasKit ? false : "there is no rt on this machine", timeout: 600_000 };
+/** The kit's `rt`, which compiles what it tries. Tests of the recorder alone never start it. */
+const hasKit = hasSabsim && spawnSync("rt", ["version"]).status === 0;
+const withKit = { ...needing("rt", hasKit), timeout: 600_000 };
 
 /**
  * How each command is tried: here, with the status that it ends with, behind another one where it needs what that one

@@ -9,7 +9,8 @@ import { describe, test } from "node:test";
 import { pathToFileURL } from "node:url";
 import { Refused, record } from "../recorder.mjs";
 import { Group } from "../lib/run/group.mjs";
-import { SABSIM, agentsOf, agentsPath, temporaryFolder, withSabsim } from "./common.mjs";
+import { agentsOf, temporaryFolder } from "./common.mjs";
+import { CHECKER } from "./needs.mjs";
 
 const AT_ONCE = 4;
 
@@ -159,18 +160,18 @@ describe("work that goes on later", () => {
   });
 });
 
-describe("a patched language", withSabsim, () => {
+describe("a patched language", () => {
   const GLOBALS = [
     "Int32Array", "Uint8Array", "BigInt64Array", "Error", "TypeError", "RangeError", "Map", "WeakMap", "Proxy",
     "Symbol", "String", "Number", "BigInt", "Array", "Object", "Promise", "Math", "JSON", "Reflect",
     "SharedArrayBuffer", "ArrayBuffer", "DataView", "Buffer", "TextEncoder", "performance", "process",
   ];
 
-  /** What is told of a run under a patch, checked by sabsim. */
+  /** What is told of a run under a patch. Sabsim checks the run where it is given. */
   async function patched([what, when, how], end, ordinary) {
     const agents = new URL("./agents/patched.mjs", import.meta.url);
     agents.search = new URLSearchParams({ what, when, how });
-    const options = { module: agents, args: [end], seed: 7, seconds: 5, ordinary, sabsim: SABSIM };
+    const options = { module: agents, args: [end], seed: 7, seconds: 5, ordinary, sabsim: CHECKER };
     const { trace, races, ...outcome } = await record(options);
     // The stack of an error has the module's name.
     return { ...outcome, detail: outcome.detail.split("\n")[0] };
@@ -205,7 +206,7 @@ describe("a patched language", withSabsim, () => {
   });
 });
 
-test("messages to whoever started the worker change nothing", withSabsim, async (context) => {
+test("messages to whoever started the worker change nothing", async (context) => {
   const text = (top, body) => `
     import { parentPort } from "node:worker_threads";
     ${top}
@@ -215,7 +216,7 @@ test("messages to whoever started the worker change nothing", withSabsim, async 
     }`;
   const messages = ["hello", null, undefined, { finished: true }, { failed: "no" }, { ready: true }, { ended: "no" }];
   const posts = messages.map((message) => `parentPort.postMessage(${JSON.stringify(message)});`).join(" ");
-  const options = { sabsim: SABSIM };
+  const options = { sabsim: CHECKER };
   const expected = await recordText(context, text("", ""), options);
   assert.equal(expected.ending, "finished");
   const cases = [[posts, ""], ["", posts], ["", "parentPort.close();"], ["parentPort.on('message', () => {});", posts]];

@@ -1,11 +1,13 @@
-// Runs of one program under several seeds, by one group of workers, each told whole, and replayed and judged by sabsim.
+// Runs of one program under several seeds, by one group of workers, each told whole. Sabsim replays and judges them too
+// where it is given.
 
 import { readFileSync } from "node:fs";
 import { check as checkWithSabsim, checkable } from "../lib/check/sabsim.mjs";
 import { Summary } from "../lib/command/summary.mjs";
 import { checkedOptions } from "../lib/library-options.mjs";
 import { Group } from "../lib/run/group.mjs";
-import { SABSIM, agentsPath } from "./common.mjs";
+import { agentsPath } from "./common.mjs";
+import { SABSIM, hasSabsim } from "./needs.mjs";
 
 /** @typedef {import("../lib/run/group.mjs").Outcome} Outcome */
 
@@ -23,7 +25,7 @@ export async function recorded(options, seeds = [1]) {
     await group.close();
   }
   for (const [outcome, judgement] of runs) {
-    if (outcome.script !== undefined) checkWithSabsim(SABSIM, checkable(outcome, judgement));
+    if (hasSabsim && outcome.script !== undefined) checkWithSabsim(SABSIM, checkable(outcome, judgement));
   }
   return runs.map(([outcome]) => outcome);
 }

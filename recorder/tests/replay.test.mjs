@@ -13,7 +13,8 @@ import { Refused } from "../lib/run/plan.mjs";
 import { NoLongerTheSame } from "../lib/shorter/differing.mjs";
 import { keptScript } from "../lib/shorter/kept-script.mjs";
 import { record } from "../recorder.mjs";
-import { RECORD, SABSIM, agentsPath, temporaryFolder, withSabsim } from "./common.mjs";
+import { RECORD, temporaryFolder } from "./common.mjs";
+import { CHECKING, hasSabsim } from "./needs.mjs";
 
 // A relay with an `init`, ordinary writes, waits with and without a time, and an end that its `check` may find wrong.
 const CODE = `
@@ -63,9 +64,9 @@ function replay(words, options = {}) {
   return { status, stdout, stderr };
 }
 
-test("a kept run is made again, and sabsim says the same of it", withSabsim, async (context) => {
+test("a kept run is made again, and sabsim, where it is given, says the same of it", async (context) => {
   const { module, file, outcome } = await keptRun(context);
-  const { status, stdout, stderr } = replay([module, "--replay", file, "--sabsim", SABSIM]);
+  const { status, stdout, stderr } = replay([module, "--replay", file, ...CHECKING]);
   assert.deepEqual([status, stderr], [1, ""], stderr);
   const lines = stdout.trimEnd().split("\n");
   assert.deepEqual(lines.slice(0, 6), [
@@ -77,7 +78,7 @@ test("a kept run is made again, and sabsim says the same of it", withSabsim, asy
     // What agent 1 has added is a random number of the seed.
     `  1 run check, seed 4 the first: ${outcome.bytes[0].slice(0, 48)}…`,
   ]);
-  assert.equal(lines[6], "1 run checked: sabsim says the same");
+  assert.equal(lines[6], hasSabsim ? "1 run checked: sabsim says the same" : "no run was checked");
 });
 
 test("the seed is that of the file's name, or of --seeds, or else 1", async (context) => {

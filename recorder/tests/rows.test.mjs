@@ -10,8 +10,9 @@ import { PHASE } from "../lib/board/layout.mjs";
 import { check as checkWithSabsim, checkable } from "../lib/check/sabsim.mjs";
 import { keptScript } from "../lib/shorter/kept-script.mjs";
 import { shorten } from "../lib/shorter/shorten.mjs";
-import { SABSIM, agentsPath, withSabsim } from "./common.mjs";
+import { agentsPath } from "./common.mjs";
 import { firstFailing, groupOf } from "./groups.mjs";
+import { SABSIM, hasSabsim } from "./needs.mjs";
 
 const { ASKS, WAITS, WAITS_TIMED, WOKEN, DONE } = PHASE;
 
@@ -122,7 +123,7 @@ async function demandSame(group) {
   assert.deepEqual(keptScript(free.script, "it").draws.map(({ agent }) => agent), free.row);
 }
 
-/** The shortest run ends as the first one did, isn't longer, and sabsim says the same of it. */
+/** The shortest run ends as the first one did, isn't longer, and where sabsim is given it says the same of it. */
 async function demandShorter(group) {
   const first = await firstFailing(group);
   const { shortest, shortened: { runs, changes, calls, unchanged } } = await shorten(group, first);
@@ -138,10 +139,10 @@ async function demandShorter(group) {
   assert.equal(outcome.row.filter((agent, at) => at > 0 && agent !== outcome.row[at - 1]).length, changes.after);
   assert.deepEqual([calls.before, calls.after], [first.calls, outcome.calls]);
   assert.deepEqual([typeof outcome.trace, outcome.seed], ["string", first.seed]);
-  checkWithSabsim(SABSIM, checkable(outcome, judgement));
+  if (hasSabsim) checkWithSabsim(SABSIM, checkable(outcome, judgement));
 }
 
-describe("examples and wrong programs by their rows", { concurrency: 3, ...withSabsim }, () => {
+describe("examples and wrong programs by their rows", { concurrency: 3 }, () => {
   for (const name of readdirSync(EXAMPLES).filter((each) => each.endsWith(".agents.mjs"))) {
     it(`${name} does the same again`, async (context) => demandSame(await groupOf(context, new URL(name, EXAMPLES))));
   }

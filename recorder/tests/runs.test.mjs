@@ -6,21 +6,22 @@ import { test } from "node:test";
 import { Difference, NoSabsim, Refused, record } from "../recorder.mjs";
 import { Group } from "../lib/run/group.mjs";
 import { NAMES } from "./agents/refused.mjs";
-import { SABSIM, agentsOf, agentsPath, recordCase, temporaryFolder, withSabsim } from "./common.mjs";
+import { agentsOf, agentsPath, recordCase, temporaryFolder } from "./common.mjs";
+import { CHECKER } from "./needs.mjs";
 
-/** Records a module of the tests, checked by sabsim. */
+/** Records a module of the tests. Sabsim checks the run where it is given. */
 function recordChecked(name, options) {
-  return record({ module: agentsPath(name), sabsim: SABSIM, ...options });
+  return record({ module: agentsPath(name), sabsim: CHECKER, ...options });
 }
 
 for (const part of ["accesses", "errors"]) {
-  test(`${part} are answered by the standard's rules, and sabsim agrees`, withSabsim, async () => {
+  test(`${part} are answered by the standard's rules, and sabsim agrees`, async () => {
     const outcome = await recordChecked("answers", { args: [part], agents: 1, buffers: [32] });
     assert.deepEqual([outcome.ending, outcome.detail], ["finished", ""]);
   });
 }
 
-test("waits are answered by the standard's rules, and sabsim agrees", withSabsim, async () => {
+test("waits are answered by the standard's rules, and sabsim agrees", async () => {
   for (const seed of [1, 2, 3]) {
     const outcome = await recordChecked("answers", { args: ["waits"], agents: 2, buffers: [16], seed });
     assert.deepEqual([outcome.ending, outcome.detail], ["finished", ""]);
@@ -28,7 +29,7 @@ test("waits are answered by the standard's rules, and sabsim agrees", withSabsim
   }
 });
 
-test("an agent that can't block gets a TypeError of its wait, and the others wait", withSabsim, async () => {
+test("an agent that can't block gets a TypeError of its wait, and the others wait", async () => {
   const [first] = (await recordChecked("setup")).answers;
   assert.deepEqual(first, ["2"]);
   const outcome = await recordChecked("setup", { args: ["one more"] });
@@ -39,8 +40,8 @@ test("an agent that can't block gets a TypeError of its wait, and the others wai
   assert.deepEqual((await recordChecked("setup", { noBlock: [] })).ending, "deadlock");
 });
 
-test("a run in which all agents come to their end has finished", withSabsim, async () => {
-  const outcome = await recordCase("addition", { sabsim: SABSIM });
+test("a run in which all agents come to their end has finished", async () => {
+  const outcome = await recordCase("addition", { sabsim: CHECKER });
   assert.equal(outcome.ending, "finished");
   assert.equal(outcome.detail, "");
   assert.deepEqual(outcome.answers, [["0", "1", "2"], ["0", "1", "2"]]);
@@ -53,33 +54,33 @@ test("a run in which all agents come to their end has finished", withSabsim, asy
   assert.deepEqual(agents[1].calls, Array(3).fill(["add", "Int32", 1, 1]));
 });
 
-test("a run in which no agent calls Atomics is no pass, and its script has no calls", withSabsim, async () => {
-  const outcome = await recordCase("nothing", { sabsim: SABSIM });
+test("a run in which no agent calls Atomics is no pass, and its script has no calls", async () => {
+  const outcome = await recordCase("nothing", { sabsim: CHECKER });
   assert.equal(outcome.ending, "failed");
   assert.match(outcome.detail, /^no agent has made a call of Atomics on the recorded buffers/);
   assert.deepEqual(JSON.parse(outcome.script).agents.map((agent) => agent.calls), [[], []]);
 });
 
-test("a wait that nobody ends is a deadlock, which tells who waits where", withSabsim, async () => {
-  const outcome = await recordCase("waitsForEver", { sabsim: SABSIM });
+test("a wait that nobody ends is a deadlock, which tells who waits where", async () => {
+  const outcome = await recordCase("waitsForEver", { sabsim: CHECKER });
   assert.equal(outcome.ending, "deadlock");
   assert.equal(outcome.detail, 'agent 0 waits at byte 4 of block 0: its call 0, ["wait", "Int32", 1, 0]');
   assert.deepEqual(outcome.answers, [[null], ["0"]]);
   assert.deepEqual(outcome.progress[0], { returned: 0, calls: 1 });
 });
 
-test("a wait with a timeout ends; its fraction has no effect, and isn't in the script", withSabsim, async () => {
-  const outcome = await recordCase("waitsWithTime", { sabsim: SABSIM, agents: 1 });
+test("a wait with a timeout ends; its fraction has no effect, and isn't in the script", async () => {
+  const outcome = await recordCase("waitsWithTime", { sabsim: CHECKER, agents: 1 });
   assert.equal(outcome.ending, "finished");
   assert.deepEqual(JSON.parse(outcome.script).schedule, [0, 0, { timeout: 0 }, 0]);
   assert.deepEqual(JSON.parse(outcome.script).agents[0].calls, [["wait", "Int32", 0, 0, 0]]);
 });
 
-test("an agent that throws fails the run, with its message and stack", withSabsim, async () => {
-  const atOnce = await recordCase("throwsAtOnce", { sabsim: SABSIM });
+test("an agent that throws fails the run, with its message and stack", async () => {
+  const atOnce = await recordCase("throwsAtOnce", { sabsim: CHECKER });
   assert.equal(atOnce.ending, "failed");
   assert.match(atOnce.detail, /^agent 1 threw RangeError: no such luck\n +at .*cases\.mjs/);
-  const later = await recordCase("throwsLater", { sabsim: SABSIM });
+  const later = await recordCase("throwsLater", { sabsim: CHECKER });
   assert.match(later.detail, /^agent 1 threw Error: after a call\n/);
   const noError = await recordCase("throwsNoError");
   assert.equal(noError.detail, "agent 0 threw an object");
@@ -104,34 +105,34 @@ test("an agent that answers a promise fails the run", async () => {
     ["failed", "agent 0 answered a promise, but an agent must be synchronous"]);
 });
 
-test("an agent that spins for ever comes to the bound of calls, or of moves", withSabsim, async () => {
-  const calls = await recordCase("spins", { sabsim: SABSIM });
+test("an agent that spins for ever comes to the bound of calls, or of moves", async () => {
+  const calls = await recordCase("spins", { sabsim: CHECKER });
   assert.equal(calls.ending, "bound");
   assert.match(calls.detail, /^agent [01] spins at cases\.mjs:\d+:\d+: it has made 1000 calls, and goes on$/);
   assert.equal(Math.max(...calls.progress.map((agent) => agent.calls)), 1_000);
-  const moves = await recordCase("spins", { sabsim: SABSIM, maxMoves: 100 });
+  const moves = await recordCase("spins", { sabsim: CHECKER, maxMoves: 100 });
   assert.deepEqual([moves.ending, moves.detail, moves.moves], ["bound", "more than 100 moves would be made", 99]);
 });
 
-test("an agent that makes no call comes to the bound of seconds", withSabsim, async () => {
-  const outcome = await recordCase("loops", { sabsim: SABSIM, seconds: 1.5 });
+test("an agent that makes no call comes to the bound of seconds", async () => {
+  const outcome = await recordCase("loops", { sabsim: CHECKER, seconds: 1.5 });
   assert.deepEqual([outcome.ending, outcome.detail], ["bound", "agent 1 has made no call for 1.5 s"]);
 });
 
-test("more typed arrays than a script can have are a bound", withSabsim, async () => {
-  const outcome = await recordCase("manyViews", { sabsim: SABSIM, agents: 1, buffers: [70] });
+test("more typed arrays than a script can have are a bound", async () => {
+  const outcome = await recordCase("manyViews", { sabsim: CHECKER, agents: 1, buffers: [70] });
   assert.deepEqual([outcome.ending, outcome.detail], ["bound", "more than 64 different typed arrays were used"]);
   assert.equal(JSON.parse(outcome.script).views.length, 64);
 });
 
-test("a script that would be too long is a bound", withSabsim, async () => {
-  const outcome = await recordCase("longCalls", { sabsim: SABSIM, agents: 16, buffers: [65_536] });
+test("a script that would be too long is a bound", async () => {
+  const outcome = await recordCase("longCalls", { sabsim: CHECKER, agents: 16, buffers: [65_536] });
   assert.deepEqual([outcome.ending, outcome.detail], ["bound", "the script would be longer than 1048576 bytes"]);
   assert.ok(outcome.script.length > 900_000 && outcome.script.length <= 1_048_576, `${outcome.script.length} bytes`);
 });
 
-test("where ordinary writes are refused they are found, with the agent and the place", withSabsim, async () => {
-  const outcome = await recordCase("writesPlainly", { sabsim: SABSIM, ordinary: "refuse" });
+test("where ordinary writes are refused they are found, with the agent and the place", async () => {
+  const outcome = await recordCase("writesPlainly", { sabsim: CHECKER, ordinary: "refuse" });
   assert.equal(outcome.ending, "failed");
   assert.equal(outcome.detail, "agent 1 changed byte 6 of block 0 from 0 to 5 without a call of Atomics,"
     + ' after its call 0, ["add", "Int32", 0, 1]');
@@ -140,31 +141,31 @@ test("where ordinary writes are refused they are found, with the agent and the p
     + " before its first call");
 });
 
-test("a worker that dies fails the run", withSabsim, async () => {
-  const outcome = await recordCase("exits", { sabsim: SABSIM });
+test("a worker that dies fails the run", async () => {
+  const outcome = await recordCase("exits", { sabsim: CHECKER });
   assert.equal(outcome.ending, "failed");
   assert.match(outcome.detail, /^agent 1's worker died: .*exit code 7$/);
 });
 
-test("what an agent does when its run is over changes nothing that is told", withSabsim, async () => {
-  const outcome = await recordCase("cleansUp", { sabsim: SABSIM });
+test("what an agent does when its run is over changes nothing that is told", async () => {
+  const outcome = await recordCase("cleansUp", { sabsim: CHECKER });
   assert.equal(outcome.ending, "deadlock");
   assert.deepEqual(outcome.bytes, ["000000000000000000000000"]);
   assert.equal(outcome.answers.flat().length, 2);
-  const endless = await recordCase("catchesAll", { sabsim: SABSIM });
+  const endless = await recordCase("catchesAll", { sabsim: CHECKER });
   assert.match(endless.detail, /^agent 1 threw Error: the end/);
 });
 
-test("an ordinary write that the end of the stack has kept off is seen when it is made again", withSabsim, async () => {
+test("an ordinary write that the end of the stack has kept off is seen when it is made again", async () => {
   for (const seed of [1, 2, 3]) {
-    const { ending, detail, bytes, ordinary } = await record({ module: agentsPath("retried"), seed, sabsim: SABSIM });
+    const { ending, detail, bytes, ordinary } = await record({ module: agentsPath("retried"), seed, sabsim: CHECKER });
     assert.deepEqual([ending, detail, bytes], ["finished", "", ["01000000", "01".repeat(60)]]);
     assert.ok(ordinary >= 60);
   }
 });
 
-test("an agent whose stack comes to its end amid a call is told of, or not harmed", withSabsim, async () => {
-  const outcome = await recordCase("deep", { sabsim: SABSIM, agents: 1, seconds: 1 });
+test("an agent whose stack comes to its end amid a call is told of, or not harmed", async () => {
+  const outcome = await recordCase("deep", { sabsim: CHECKER, agents: 1, seconds: 1 });
   const told = /^agent 0 (ran out of stack in|didn't come out of) a call/;
   if (outcome.ending === "failed") assert.match(outcome.detail, told);
   else assert.equal(outcome.bytes[0].slice(0, 8), "01000000");
@@ -195,8 +196,8 @@ test("the agents' Atomics look like the engine's", async (context) => {
   assert.equal(detail.split("\n")[0], `agent 0 threw Error: ${JSON.stringify(["[object Atomics]", told, true])}`);
 });
 
-test("sixteen agents, four buffers and the greatest buffer are served", withSabsim, async () => {
-  const outcome = await recordCase("addition", { sabsim: SABSIM, agents: 16, buffers: [65_536, 0, 8, 1] });
+test("sixteen agents, four buffers and the greatest buffer are served", async () => {
+  const outcome = await recordCase("addition", { sabsim: CHECKER, agents: 16, buffers: [65_536, 0, 8, 1] });
   assert.equal(outcome.ending, "finished");
   assert.equal(outcome.bytes[0].slice(0, 128), "03000000".repeat(16));
 });
@@ -243,7 +244,7 @@ test("a difference shows both sides", async (context) => {
   const folder = temporaryFolder(context);
   const lying = `${folder}/lying`;
   writeFileSync(lying, "#!/bin/sh\ncat > /dev/null\nprintf '0 0 0 begin\\n1 0 0 act 5\\n'\n", { mode: 0o755 });
-  await assert.rejects(recordCase("addition", { sabsim: SABSIM, agents: 1, sabsim: lying }), (error) => {
+  await assert.rejects(recordCase("addition", { agents: 1, sabsim: lying }), (error) => {
     assert.ok(error instanceof Difference);
     assert.equal(error.message, [
       "seed 1: the code and sabsim differ, in line 2 of the report",

@@ -5,7 +5,8 @@ import { test } from "node:test";
 import { optionsOf } from "../lib/command/options.mjs";
 import { moduleUrl } from "../lib/recorder.mjs";
 import { recordSeeds } from "../lib/seeds/seeds.mjs";
-import { SABSIM, agentsPath, recordCase, withSabsim } from "./common.mjs";
+import { agentsPath, recordCase } from "./common.mjs";
+import { CHECKER, hasSabsim } from "./needs.mjs";
 
 /**
  * The outcomes of some seeds, in the order of the seeds.
@@ -15,7 +16,7 @@ import { SABSIM, agentsPath, recordCase, withSabsim } from "./common.mjs";
 async function outcomesOf(name, options) {
   const outcomes = [];
   const all = {
-    ...optionsOf([agentsPath(name)]), module: moduleUrl(agentsPath(name)), last: 40, checkEvery: 0, sabsim: SABSIM,
+    ...optionsOf([agentsPath(name)]), module: moduleUrl(agentsPath(name)), last: 40, checkEvery: 0, sabsim: CHECKER,
     seconds: 5, ...options,
   };
   const { checked } = await recordSeeds(all, (outcome) => outcomes.push(outcome));
@@ -29,7 +30,7 @@ const bytesOf = (outcomes) => outcomes.map((outcome) => outcome.state.shown[0]);
 
 const endingsOf = (outcomes) => new Set(outcomes.map((outcome) => outcome.ending));
 
-test("the lost wake-up of a naive mutex is found within 200 seeds, and sabsim agrees", withSabsim, async () => {
+test("the lost wake-up of a naive mutex is found within 200 seeds, and sabsim agrees", async () => {
   const { outcomes, checked } = await outcomesOf("naive-mutex", { last: 200, checkEvery: 10 });
   const failing = outcomes.filter((outcome) => outcome.ending !== "finished");
   assert.ok(failing.length > 0);
@@ -37,21 +38,21 @@ test("the lost wake-up of a naive mutex is found within 200 seeds, and sabsim ag
   const waits = /^agent \d waits at byte 4 of block 0: its call \d+, \["wait", /;
   for (const { detail } of failing) assert.match(detail, waits);
   const others = outcomes.filter((outcome, at) => outcome.ending === "finished" && at % 10 === 0);
-  assert.equal(checked, failing.length + others.length);
+  assert.equal(checked, hasSabsim ? failing.length + others.length : 0);
 });
 
-test("the mutex of three states comes to its end under 200 seeds, each checked", withSabsim, async () => {
+test("the mutex of three states comes to its end under 200 seeds, each checked", async () => {
   const { outcomes, checked } = await outcomesOf("three-state-mutex", { last: 200, checkEvery: 1, jobs: 2 });
   assert.deepEqual([...endingsOf(outcomes)], ["finished"]);
   assert.deepEqual([...new Set(bytesOf(outcomes))], ["0000000009000000"]);
-  assert.equal(checked, 200);
+  assert.equal(checked, hasSabsim ? 200 : 0);
 });
 
-test("random calls of all kinds, right and wrong, are answered as sabsim answers them", withSabsim, async () => {
+test("random calls of all kinds, right and wrong, are answered as sabsim answers them", async () => {
   const seen = new Set();
   for (const start of ["1", "2"]) {
     const { outcomes, checked } = await outcomesOf("random", { args: [start], last: 60, checkEvery: 1 });
-    assert.equal(checked, 60);
+    assert.equal(checked, hasSabsim ? 60 : 0);
     for (const outcome of outcomes) for (const answer of outcome.answers.flat()) seen.add(answer);
   }
   for (const answer of ["ok", "not-equal", "timed-out", "TypeError", "RangeError", "1", "2", "0n", "-1n", null]) {
@@ -59,7 +60,7 @@ test("random calls of all kinds, right and wrong, are answered as sabsim answers
   }
 });
 
-test("the same seeds give the same scripts byte for byte, whatever the jobs", withSabsim, async () => {
+test("the same seeds give the same scripts byte for byte, whatever the jobs", async () => {
   const one = await outcomesOf("naive-mutex", { checkEvery: 1, jobs: 1 });
   const again = await outcomesOf("naive-mutex", { checkEvery: 1, jobs: 1 });
   const four = await outcomesOf("naive-mutex", { checkEvery: 1, jobs: 4 });
@@ -70,12 +71,12 @@ test("the same seeds give the same scripts byte for byte, whatever the jobs", wi
   assert.ok(new Set(one.outcomes.map((outcome) => outcome.script)).size > 30);
 });
 
-test("a run among others is the run that is recorded by itself, in fresh workers too", withSabsim, async () => {
+test("a run among others is the run that is recorded by itself, in fresh workers too", async () => {
   const { outcomes } = await outcomesOf("cases", { args: ["racy"], agents: 3, buffers: [12], checkEvery: 1, last: 6 });
   const options = { args: ["racy"], agents: 3, buffers: [12], checkEvery: 1, last: 6, fresh: true };
   assert.deepEqual((await outcomesOf("cases", options)).outcomes, outcomes);
-  const { checked, ...alone } = await recordCase("racy", { agents: 3, seed: 5, sabsim: SABSIM });
-  assert.deepEqual([alone, checked], [outcomes[4], true]);
+  const { checked, unchecked: _, ...alone } = await recordCase("racy", { agents: 3, seed: 5, sabsim: CHECKER });
+  assert.deepEqual([alone, checked], [outcomes[4], hasSabsim]);
 });
 
 test("a value that is read and written gets lost under some seeds, and under others not", async () => {
@@ -101,7 +102,7 @@ test("state of a module stays from seed to seed, and with fresh workers it doesn
   assert.ok(count >= 5 && count <= 10, `it counted ${count} runs`);
 });
 
-test("after an agent that has gone astray the next seeds are recorded all the same", withSabsim, async () => {
+test("after an agent that has gone astray the next seeds are recorded all the same", async () => {
   const astray = { exits: "failed", catchesAll: "failed", loops: "bound", manyViews: "bound" };
   for (const [name, ending] of Object.entries(astray)) {
     const options = { args: [name], agents: 2, buffers: [72], last: 2, seconds: 1, checkEvery: 1 };

@@ -12,7 +12,8 @@ import { optionsOf } from "../lib/command/options.mjs";
 import { Refused } from "../lib/run/plan.mjs";
 import { Coverage } from "../lib/seeds/coverage.mjs";
 import { shardOf, united, without } from "../lib/seeds/ranges.mjs";
-import { RECORD, SABSIM, agentsOf, agentsPath, temporaryFolder, withSabsim } from "./common.mjs";
+import { RECORD, agentsOf, agentsPath, temporaryFolder } from "./common.mjs";
+import { CHECKING, SABSIM, hasSabsim, needing } from "./needs.mjs";
 
 const MERGE = fileURLToPath(new URL("../merge.mjs", import.meta.url));
 const known = (name) => fileURLToPath(new URL(`./known/${name}.mjs`, import.meta.url));
@@ -86,12 +87,12 @@ const MODULES = [
 ];
 
 for (const [what, of, module, words, endings] of MODULES) {
-  test(`the summary of ${of} shards is that of one run: ${what}`, withSabsim, async () => {
-    const { one, joined } = await bothWays([module, ...words, "--sabsim", SABSIM], of);
+  test(`the summary of ${of} shards is that of one run: ${what}`, async () => {
+    const { one, joined } = await bothWays([module, ...words, ...CHECKING], of);
     assert.deepEqual(joined, one);
     const found = [...one.endings.failing, ...one.endings.passing].map(({ ending }) => ending);
     assert.deepEqual(found, endings);
-    assert.ok(one.sabsim.checked > 0);
+    assert.equal(one.sabsim.checked > 0, hasSabsim);
   });
 }
 
@@ -237,7 +238,7 @@ test("what went wrong is a member of the summary too", async (context) => {
 });
 
 const hasParallel = spawnSync("parallel", ["--version"]).status === 0;
-const withParallel = { skip: withSabsim.skip || (hasParallel ? false : "there is no GNU parallel on this machine") };
+const withParallel = needing("GNU parallel", hasParallel);
 
 test("GNU parallel runs the shards, as recorder/README.md shows it", withParallel, (context) => {
   const folder = temporaryFolder(context);
@@ -247,7 +248,7 @@ test("GNU parallel runs the shards, as recorder/README.md shows it", withParalle
   const env = { ...process.env, SABSIM, PARALLEL_HOME: folder };
   const { status, stdout, stderr } = spawnSync("sh", ["-c", command], { cwd, env, encoding: "utf8" });
   assert.equal(status, 1, stderr);
-  const words = [RECORD, agentsPath("naive-mutex"), "--seeds", "1..200", "--sabsim", SABSIM];
+  const words = [RECORD, agentsPath("naive-mutex"), "--seeds", "1..200"];
   assert.equal(stdout, spawnSync(process.execPath, words, { encoding: "utf8" }).stdout);
 });
 

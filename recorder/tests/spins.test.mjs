@@ -3,7 +3,7 @@
 import assert from "node:assert/strict";
 import { before, describe, it } from "node:test";
 import { SCRIPT_LIMITS } from "../script/limits.mjs";
-import { agentsPath, withSabsim } from "./common.mjs";
+import { agentsPath } from "./common.mjs";
 import { placesOf, recorded, seedsTo, summaryLines } from "./recorded.mjs";
 
 /** The outcomes of some ways to go on, by their names. With a trace each run is made once, and is the next way. */
@@ -39,7 +39,7 @@ const SPINS = {
   ordinary: ["[1] === 0", "it reads the same bytes again and again without a call of Atomics"],
 };
 
-describe("agents that go on and on", withSabsim, () => {
+describe("agents that go on and on", () => {
   let outcomes;
 
   before(async () => {

@@ -6,7 +6,8 @@ import { existsSync, mkdirSync, readFileSync, readdirSync, writeFileSync } from 
 import { join } from "node:path";
 import { test } from "node:test";
 import { assertAgents } from "../testing.mjs";
-import { SABSIM, WITHOUT_SABSIM, agentsPath, temporaryFolder, withSabsim } from "./common.mjs";
+import { WITHOUT_SABSIM, agentsPath, temporaryFolder } from "./common.mjs";
+import { SABSIM, hasSabsim, withSabsim } from "./needs.mjs";
 
 const HELPER = new URL("../testing.mjs", import.meta.url).href;
 
@@ -87,19 +88,20 @@ test("without sabsim it shows what is known, and a passing test says that nothin
   assert.deepEqual(readdirSync(temporary), []);
 });
 
-test("the shortest run that fails so is shown and kept, with the original beside it", withSabsim, async (the) => {
+test("the shortest run that fails so is shown and kept, with the original beside it", async (the) => {
   const { temporary, output, status } = await suite(the, `testAgents("shorter", { ${ALIKE}, seeds: "29" });`);
   assert.equal(status, 1);
   assert.match(output, /^ +agent 0 waits at byte 4 of block 0: its call 1, \["wait", "Int32", 1, 0\]$/m);
   const place = join(temporary, readdirSync(temporary)[0]);
   const texts = ["json", "report", "trace.jsonl"];
-  const endings = [...texts, ...texts.map((ending) => `original.${ending}`), "explained", "svg", "html"];
+  const endings = [...texts, ...texts.map((ending) => `original.${ending}`)];
+  if (hasSabsim) endings.push("explained", "svg", "html");
   assert.deepEqual(readdirSync(place).sort(), endings.map((ending) => `seed-29.${ending}`).sort());
   const callsOf = (name) => JSON.parse(readFileSync(join(place, name), "utf8")).agents.flatMap(({ calls }) => calls);
   assert.ok(callsOf("seed-29.json").length < callsOf("seed-29.original.json").length);
 });
 
-test("options that can't be fail their test, and others go on", withSabsim, async (the) => {
+test("options that can't be fail their test, and others go on", async (the) => {
   const { output, temporary } = await suite(the, `
     testAgents("wrong", { module: "./agents.mjs", seed: 1 });
     testAgents("none", { module: "./none.mjs" });
@@ -111,7 +113,7 @@ test("options that can't be fail their test, and others go on", withSabsim, asyn
   }
   assert.match(output, /error: .*there is no file .*none\.mjs/);
   assert.match(output, /^ok 4 - right$/m);
-  assert.match(output, /^# 20 runs passed, 2 checked by sabsim$/m);
+  assert.match(output, hasSabsim ? /^# 20 runs passed, 2 checked by sabsim$/m : /^# 20 runs passed, none checked: /m);
   assert.match(output, /^# fail 3$/m);
   assert.deepEqual(readdirSync(temporary), []);
 });

@@ -6,9 +6,10 @@ import { readFileSync } from "node:fs";
 import { join } from "node:path";
 import { fileURLToPath } from "node:url";
 import { describe, it } from "node:test";
-import { RECORD, SABSIM, agentsPath, temporaryFolder, withSabsim } from "./common.mjs";
+import { RECORD, agentsPath, temporaryFolder } from "./common.mjs";
 import { checkedOptions } from "../lib/library-options.mjs";
 import { Group } from "../lib/run/group.mjs";
+import { CHECKING } from "./needs.mjs";
 import { recorded } from "./recorded.mjs";
 import { slowRaces } from "./second-detector.mjs";
 
@@ -40,10 +41,10 @@ const ran = (words) => new Promise((done) => {
   execFile(process.execPath, [RECORD, ...words], (error, stdout) => done({ status: error?.code ?? 0, stdout }));
 });
 
-describe("traces", { concurrency: 2, ...withSabsim }, () => {
+describe("traces", { concurrency: 2 }, () => {
   it("beside the script of a racing run lies its trace, in which the same races are found", async (context) => {
     const out = temporaryFolder(context);
-    const words = [knownPath("ring-frees-first"), "--seeds", "1..40", "--out", out, "--sabsim", SABSIM];
+    const words = [knownPath("ring-frees-first"), "--seeds", "1..40", "--out", out, ...CHECKING];
     const { status, stdout } = await ran(words);
     assert.equal(status, 1);
     const [, seed] = /^first failing seed: (\d+), race$/m.exec(stdout) ?? assert.fail(stdout);

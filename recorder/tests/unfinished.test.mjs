@@ -4,10 +4,10 @@ import assert from "node:assert/strict";
 import { it } from "node:test";
 import { EARLIER, NOTHING_AFTER } from "./agents/unfinished-earlier.mjs";
 import { WAYS } from "./agents/unfinished.mjs";
-import { agentsPath, withSabsim } from "./common.mjs";
+import { agentsPath } from "./common.mjs";
 import { recorded, seedsTo } from "./recorded.mjs";
 
-it("an agent that leaves something for later fails its run, and one that doesn't passes", withSabsim, async () => {
+it("an agent that leaves something for later fails its run, and one that doesn't passes", async () => {
   // With a trace each run is made once: so each is the next way.
   const outcomes = await recorded({ module: agentsPath("unfinished"), trace: true }, seedsTo(WAYS.length));
   assert.equal(outcomes.length, WAYS.length);
@@ -22,7 +22,7 @@ it("an agent that leaves something for later fails its run, and one that doesn't
   }
 });
 
-it("what comes after a promise from before is left too, where the run settles the promise", withSabsim, async () => {
+it("what comes after a promise from before is left too, where the run settles the promise", async () => {
   // The module says at once what comes after, as in `promise.then`, an `await` or a combination of promises.
   for (const way of EARLIER) {
     const options = { module: agentsPath("unfinished-earlier"), args: [way], trace: true };

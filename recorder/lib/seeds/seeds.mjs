@@ -15,7 +15,8 @@ export { LostJob } from "./remote-job.mjs";
  * @property {number} last seed
  * @property {number} jobs how many groups work side by side, each in a process of its own
  * @property {number} checkEvery every run that fails is checked, and one in so many of the others; 0: none at all
- * @property {string} [sabsim] the program's path; it isn't needed where nothing is checked
+ * @property {string | false} [sabsim] the program's path; it isn't needed where nothing is checked; false: nothing is
+ * checked, and the runs are told all the same as if they were
  * @property {number} [origin] the seed from which one in so many is counted; the first if it isn't given
  * @property {boolean} [failFast] whether the first failing run is the last
  * @property {boolean} [trials] whether only their endings are wanted, which takes less time: no script is told
@@ -104,7 +105,8 @@ class Row {
 export async function recordSeeds(options, onOutcome, listening = {}) {
   const { onCheck = () => {}, signal, pace = UNHINDERED, coverage } = listening;
   const { first, last, checkEvery, sabsim, origin = first, failFast = false, trials = false } = options;
-  if (checkEvery > 0) foundSabsim(sabsim);
+  const checks = checkEvery > 0 && sabsim !== false;
+  const program = checks ? foundSabsim(sabsim) : undefined;
   let checked = 0;
   const count = last - first + 1;
   const batch = failFast ? 1 : Math.max(1, Math.min(BATCH, Math.ceil(count / options.jobs)));
@@ -117,7 +119,7 @@ export async function recordSeeds(options, onOutcome, listening = {}) {
   const OneJob = options.here ? LocalJob : RemoteJob;
   const jobs = Array.from({ length: needed }, () => new OneJob(told.addCheck));
   try {
-    const opening = { ...options, checks: checkEvery > 0, tellsMeetings: coverage !== undefined };
+    const opening = { ...options, sabsim: program, checks, tellsMeetings: coverage !== undefined };
     await unlessStopped(signal, recordAll(jobs, opening, row, told, pace));
   } finally {
     await Promise.all(jobs.map((job) => job.close()));
