@@ -1,5 +1,5 @@
-// The commands of README.md, CONTRIBUTING.md and recorder/README.md. Each is run in a copy of the repository, and prints
-// what the document shows below it. For a command that isn't run, the reason or another test is named here.
+// The commands of README.md, CONTRIBUTING.md and recorder/README.md. Each is run in a copy of the repository, and
+// prints what the document shows below it. If one isn't run, the reason or another test is named here.
 
 import assert from "node:assert/strict";
 import { spawnSync } from "node:child_process";
@@ -7,7 +7,7 @@ import { cpSync, mkdirSync, mkdtempSync, rmSync, symlinkSync, writeFileSync } fr
 import { tmpdir } from "node:os";
 import { basename, join } from "node:path";
 import { after, test } from "node:test";
-import { LEFT_OUT, TOP, textOf } from "./documents.mjs";
+import { LEFT_OUT, TOP, spansOf, textOf } from "./documents.mjs";
 
 const { SABSIM } = process.env;
 const built = { isBuilt: true, when: { skip: SABSIM === undefined ? "the program wasn't given" : false } };
@@ -20,9 +20,18 @@ const RUNS_THIS = { notRun: "it runs this test" };
 const INSTALLS = "tests/install/install.test.mjs";
 
 /**
- * How each command is tried, in the order in which they are run: with the status that it ends with, or by another test,
- * which has these words, or not at all.
- * @type {[string, { status?: number, isBuilt?: boolean, when?: object, by?: string, words?: string, notRun?: string }][]}
+ * @typedef {object} Trial how a command is tried
+ * @property {number} [status] the status that it ends with
+ * @property {boolean} [isBuilt] whether the program is there
+ * @property {object} [when] what it needs
+ * @property {string} [by] another test that runs it
+ * @property {string} [words] what that test has
+ * @property {string} [notRun] why it isn't run
+ */
+
+/**
+ * How each command is tried, in the order in which they are run.
+ * @type {[string, Trial][]}
  */
 const COMMANDS = [
   ["node recorder/record.mjs recorder/examples/mutex-naive.agents.mjs --seeds 1..200 --out found", { status: 1 }],
@@ -31,6 +40,7 @@ const COMMANDS = [
   ["crates/sabsim/out/sabsim replay --format explained --acts script.json", { status: 0, ...built }],
   ["npm pack", { by: INSTALLS, words: '"npm", ["pack",' }],
   ["npm install ./sabsim-0.1.0.tgz", { by: INSTALLS, words: '"--no-fund", `./sabsim-${version}.tgz`' }],
+  ["node --test", { by: INSTALLS, words: '"node", ["--test", "--test-reporter=tap", "readme.mjs"]' }],
   ["npm test", { notRun: "tests/recorder runs the same tests" }],
   ["node recorder/record.mjs recorder/tests/agents/naive-mutex.mjs --seeds 1..200", { status: 1, ...built }],
   ["node recorder/record.mjs recorder/tests/known/ring-frees-first.mjs --seeds 1..200", { status: 1, ...built }],
@@ -51,14 +61,14 @@ const COMMANDS = [
   ["./check --anew", RUNS_THIS],
 ];
 
-/** The words with which a command begins that stands amid text. */
-const IN_TEXT = /`((?:\.\/build|\.\/check|(?:cd|npm|npx|node|rt|SABSIM=\S+|tools\/edits|crates\/sabsim\/out\/sabsim) )[^`\n]*)`/g;
+/** How a command begins that stands in backticks. */
+const COMMAND = /^(?:\.\/(?:build|check)\b|SABSIM=|(?:cd|npm|npx|node|rt|tools\/edits|crates\/sabsim\/out\/sabsim) )/;
 
-/** The commands in a document's blocks, each with the lines that are shown below it. @param {string} text */
-function commandsIn(text) {
+/** The commands in a document's blocks, each with the lines that are shown below it. @param {string} path */
+function blocksOf(path) {
   const found = [];
   let isOpen = false;
-  for (const line of text.split("\n")) {
+  for (const line of textOf(path).split("\n")) {
     const command = /^ {4}\$ (.*)$/.exec(line)?.[1];
     if (command !== undefined) found.push({ command, shown: [] });
     else if (isOpen && line.startsWith("    ")) found.at(-1).shown.push(line.slice(4));
@@ -112,11 +122,11 @@ function run(command, isBuilt) {
   return spawnSync("sh", ["-c", command], { cwd: copy, env, encoding: "utf8", maxBuffer: 2 ** 26 });
 }
 
-const inBlocks = ["README.md", "CONTRIBUTING.md", "recorder/README.md"].flatMap((path) => commandsIn(textOf(path)));
-const inText = ["README.md", "CONTRIBUTING.md"].flatMap((path) => [...textOf(path).matchAll(IN_TEXT)]);
+const inBlocks = ["README.md", "CONTRIBUTING.md", "recorder/README.md"].flatMap(blocksOf);
+const inText = ["README.md", "CONTRIBUTING.md"].flatMap(spansOf).filter((span) => COMMAND.test(span));
 
 test("the commands of the documents are those of the list", () => {
-  const commands = new Set([...inBlocks.map(({ command }) => command), ...inText.map(([, command]) => command)]);
+  const commands = new Set([...inBlocks.map(({ command }) => command), ...inText]);
   assert.deepEqual([...commands].sort(), COMMANDS.map(([command]) => command).sort());
 });
 

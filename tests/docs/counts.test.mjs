@@ -15,12 +15,13 @@ const WITH_COUNTS = DOCUMENTS.filter((path) => path !== "docs/DECISIONS.md");
 /** The number that a constant of a test has. @param {string} path @param {RegExp} constant */
 const constantOf = (path, constant) => Number(constant.exec(textOf(path))[1].replaceAll("_", ""));
 
-const benchPrograms = () => readdirSync(join(TOP, "recorder/bench/programs")).filter((name) => name.endsWith(".mjs")).length;
+/** How many files a folder has. @param {string} folder */
+const filesIn = (folder) => readdirSync(join(TOP, folder)).length;
 
 /** How many there are, by the words that documents have for them. */
 const COUNTED = new Map([
-  ["programs", benchPrograms],
-  ["classic wrong programs", benchPrograms],
+  ["programs", () => filesIn("recorder/bench/programs")],
+  ["classic wrong programs", () => filesIn("recorder/bench/programs")],
   ["random traces", () => constantOf("recorder/tests/judge.test.mjs", /^const RANDOM = ([\d_]+);$/m)],
 ]);
 
@@ -32,8 +33,10 @@ test("README.md has at most 130 lines and 900 words", () => {
 
 test("each count of the documents is that of the repository", () => {
   const counts = WITH_COUNTS.flatMap((path) => {
-    return [...proseOf(textOf(path)).replaceAll("\n", " ").matchAll(COUNT)].map(([, number, what]) => ({ path, number, what }));
+    const found = [...proseOf(path).replaceAll("\n", " ").matchAll(COUNT)];
+    return found.map(([, number, what]) => ({ path, number, what }));
   });
+  assert.ok(counts.length > 2);
   const wrong = counts.filter(({ number, what }) => COUNTED.get(what)?.() !== Number(number.replaceAll(",", "")));
   assert.deepEqual(wrong, []);
 });

@@ -18,5 +18,8 @@ export const DOCUMENTS = [
 /** What no copy of the repository needs: what tools have made, and the history. */
 export const LEFT_OUT = new Set([".git", "out", "node_modules", "found"]);
 
-/** A document without its indented blocks. @param {string} text */
-export const proseOf = (text) => text.split("\n").filter((line) => !line.startsWith("    ")).join("\n");
+/** A document without its indented blocks. @param {string} path */
+export const proseOf = (path) => textOf(path).split("\n").filter((line) => !line.startsWith("    ")).join("\n");
+
+/** What stands in backticks in a document's prose. @param {string} path */
+export const spansOf = (path) => [...proseOf(path).matchAll(/`([^`\n]+)`/g)].map(([, span]) => span);
