@@ -95,7 +95,7 @@ function filesShown() {
   let name;
   for (const line of textOf("README.md").split("\n")) {
     if (line.startsWith('    {"blocks"')) name = "script.json";
-    else if (line !== "" && !line.startsWith("    ")) name = undefined;
+    else if (/^ {4}\$ |^\S/.test(line)) name = undefined;
     name = /^ {4}\/\/ ([\w.]+\.mjs)$/.exec(line)?.[1] ?? name;
     if (name !== undefined) files.set(name, `${files.get(name) ?? ""}${line.slice(4)}\n`);
   }
