@@ -6,7 +6,6 @@ import { randomUUID } from "node:crypto";
 import { closeSync, mkdirSync, openSync, readFileSync, readdirSync, writeFileSync } from "node:fs";
 import { join } from "node:path";
 import { test } from "node:test";
-import { fileURLToPath } from "node:url";
 import { optionsOf, USAGE } from "../lib/command/options.mjs";
 import { Refused } from "../lib/run/plan.mjs";
 import { RECORD, WITHOUT_SABSIM, agentsOf, agentsPath, temporaryFolder } from "./common.mjs";
@@ -221,26 +220,6 @@ test("a wrong command line is refused with status 2 and one line", async (contex
     assert.match(stderr, /^record: [^\n]+\n$/, words.join(" "));
     assert.match(stderr, why);
   });
-});
-
-const ROOT = fileURLToPath(new URL("../../", import.meta.url));
-const textOf = (path) => readFileSync(join(ROOT, path), "utf8");
-
-/** The recorder's commands in a document, with what they print. @param {string} path */
-function workedCommands(path) {
-  const commands = textOf(path).matchAll(/^ {4}\$ node recorder\/record\.mjs (.*)\n((?: {4}.*\n)+)/gm);
-  return [...commands].map(([, words, printed]) => {
-    return { words: words.split(" "), printed: printed.replaceAll(/^ {4}/gm, "") };
-  });
-}
-
-test("the worked commands of recorder/README.md print what it says", withSabsim, (context) => {
-  const commands = workedCommands("recorder/README.md");
-  assert.equal(commands.length, 2);
-  for (const { words: [module, ...words], printed } of commands) {
-    const { stdout } = run([join(ROOT, module), ...words, ...CHECKING], { cwd: temporaryFolder(context) });
-    assert.equal(stdout, printed);
-  }
 });
 
 test("help is on standard output, with status 0", () => {

@@ -1,0 +1,154 @@
+// The commands of README.md, CONTRIBUTING.md and recorder/README.md. Each is run in a copy of the repository, and
+// prints what the document shows below it. If one isn't run, the reason or another test is named here.
+
+import assert from "node:assert/strict";
+import { spawnSync } from "node:child_process";
+import { cpSync, mkdirSync, mkdtempSync, rmSync, symlinkSync, writeFileSync } from "node:fs";
+import { tmpdir } from "node:os";
+import { basename, join } from "node:path";
+import { after, test } from "node:test";
+import { LEFT_OUT, TOP, spansOf, textOf } from "./documents.mjs";
+
+const { SABSIM } = process.env;
+const built = { isBuilt: true, when: { skip: SABSIM === undefined ? "the program wasn't given" : false } };
+
+const hasKit = spawnSync("rt", ["version"]).status === 0;
+const withKit = { when: { skip: hasKit ? false : "there is no rt on this machine", timeout: 600_000 } };
+
+const PROVES = { notRun: "a proof takes minutes, and ./check proves each crate" };
+const RUNS_THIS = { notRun: "it runs this test" };
+const INSTALLS = "tests/install/install.test.mjs";
+
+/**
+ * @typedef {object} Trial how a command is tried
+ * @property {number} [status] the status that it ends with
+ * @property {boolean} [isBuilt] whether the program is there
+ * @property {object} [when] what it needs
+ * @property {string} [by] another test that runs it
+ * @property {string} [words] what that test has
+ * @property {string} [notRun] why it isn't run
+ */
+
+/**
+ * How each command is tried, in the order in which they are run.
+ * @type {[string, Trial][]}
+ */
+const COMMANDS = [
+  ["node recorder/record.mjs recorder/examples/mutex-naive.agents.mjs --seeds 1..200 --out found", { status: 1 }],
+  ["node recorder/record.mjs counter.agents.mjs --seeds 1..50", { status: 1 }],
+  ["crates/sabsim/out/sabsim replay --format explained --acts found/seed-13.json", { status: 0, ...built }],
+  ["crates/sabsim/out/sabsim replay --format explained --acts script.json", { status: 0, ...built }],
+  ["npm pack", { by: INSTALLS, words: '"npm", ["pack",' }],
+  ["npm install ./sabsim-0.1.0.tgz", { by: INSTALLS, words: '"--no-fund", `./sabsim-${version}.tgz`' }],
+  ["node --test", { by: INSTALLS, words: '"node", ["--test", "--test-reporter=tap", "readme.mjs"]' }],
+  ["npm test", { notRun: "tests/recorder runs the same tests" }],
+  ["node recorder/record.mjs recorder/tests/agents/naive-mutex.mjs --seeds 1..200", { status: 1, ...built }],
+  ["node recorder/record.mjs recorder/tests/known/ring-frees-first.mjs --seeds 1..200", { status: 1, ...built }],
+  ["node recorder/record.mjs recorder/tests/known/ring-frees-first.mjs --seeds 1..200 --out found",
+    { status: 1, ...built }],
+  ["crates/sabsim/out/sabsim judge --trace found/seed-3.trace.jsonl", { status: 5, ...built }],
+  ["node --test recorder/tests/nearest.test.mjs", { status: 0 }],
+  ["SABSIM=crates/sabsim/out/sabsim node --test recorder/tests/traces.test.mjs", { status: 0, ...built }],
+  ["cd crates/sabsim && rt try -- replay --format explained --acts < ../../examples/lost-wake-up.json",
+    { status: 0, ...withKit }],
+  ["cd crates/sab_refusal && rt check", PROVES],
+  ["cd crates/sab_refusal && rt check --only FUNCTION", PROVES],
+  ["tools/edits sab_refusal", PROVES],
+  ["cd crates/check_scripts && rt run -- data", PROVES],
+  ["rt doc", { status: 0, ...withKit }],
+  ["rt version", { status: 0, ...withKit }],
+  ["./build", { by: "tests/build", words: "building\n" }],
+  ["./build --package", { by: "tests/build", words: "building --package\n" }],
+  ["./check", RUNS_THIS],
+  ["./check --quick", RUNS_THIS],
+  ["./check --anew", RUNS_THIS],
+];
+
+/** How a command begins that stands in backticks. */
+const COMMAND = /^(?:\.\/(?:build|check)\b|SABSIM=|(?:cd|npm|npx|node|rt|tools\/edits|crates\/sabsim\/out\/sabsim) )/;
+
+/** The commands in a document's blocks, each with the lines that are shown below it. @param {string} path */
+function blocksOf(path) {
+  const found = [];
+  let isOpen = false;
+  for (const line of textOf(path).split("\n")) {
+    const command = /^ {4}\$ (.*)$/.exec(line)?.[1];
+    if (command !== undefined) found.push({ command, shown: [] });
+    else if (isOpen && line.startsWith("    ")) found.at(-1).shown.push(line.slice(4));
+    isOpen = command !== undefined || (isOpen && line.startsWith("    "));
+  }
+  return found;
+}
+
+/**
+ * Whether the lines printed are those shown. A line `..` stands for any number of lines.
+ * @param {string[]} shown
+ * @param {string[]} printed
+ */
+function areShown(shown, printed) {
+  if (shown.length === 0) return printed.length === 0;
+  const [first, ...rest] = shown;
+  if (first === "..") return printed.some((_, at) => areShown(rest, printed.slice(at))) || areShown(rest, []);
+  return printed.length > 0 && printed[0] === first && areShown(rest, printed.slice(1));
+}
+
+/** The files that README shows, by their names: a script, and modules whose first line is their name. */
+function filesShown() {
+  const files = new Map();
+  let name;
+  for (const line of textOf("README.md").split("\n")) {
+    if (line.startsWith('    {"blocks"')) name = "script.json";
+    else if (/^ {4}\$ |^\S/.test(line)) name = undefined;
+    name = /^ {4}\/\/ ([\w.]+\.mjs)$/.exec(line)?.[1] ?? name;
+    if (name !== undefined) files.set(name, `${files.get(name) ?? ""}${line.slice(4)}\n`);
+  }
+  return files;
+}
+
+const copy = mkdtempSync(join(tmpdir(), "sabsim documents "));
+after(() => rmSync(copy, { recursive: true, force: true }));
+const PROGRAM = join(copy, "crates/sabsim/out/sabsim");
+
+cpSync(TOP, copy, { recursive: true, verbatimSymlinks: true, filter: (from) => !LEFT_OUT.has(basename(from)) });
+for (const [name, text] of filesShown()) writeFileSync(join(copy, name), text);
+
+/** What a user's shell has: nothing of this test's own run. */
+const env = Object.fromEntries(Object.entries(process.env).filter(([name]) => !/^(NODE_|npm_|SABSIM)/i.test(name)));
+
+/** Runs a command in the copy, where the program is there only if it is built. */
+function run(command, isBuilt) {
+  rmSync(PROGRAM, { force: true });
+  if (isBuilt) {
+    mkdirSync(join(PROGRAM, ".."), { recursive: true });
+    symlinkSync(SABSIM, PROGRAM);
+  }
+  return spawnSync("sh", ["-c", command], { cwd: copy, env, encoding: "utf8", maxBuffer: 2 ** 26 });
+}
+
+const inBlocks = ["README.md", "CONTRIBUTING.md", "recorder/README.md"].flatMap(blocksOf);
+const inText = ["README.md", "CONTRIBUTING.md"].flatMap(spansOf).filter((span) => COMMAND.test(span));
+
+test("the commands of the documents are those of the list", () => {
+  const commands = new Set([...inBlocks.map(({ command }) => command), ...inText]);
+  assert.deepEqual([...commands].sort(), COMMANDS.map(([command]) => command).sort());
+});
+
+for (const [command, { status, isBuilt = false, when = {}, by, words, notRun }] of COMMANDS) {
+  if (by !== undefined) {
+    test(`${command} is run by ${by}`, () => assert.ok(textOf(by).includes(words)));
+    continue;
+  }
+  test(command, notRun === undefined ? when : { skip: notRun }, () => {
+    const ran = run(command, isBuilt);
+    assert.equal(ran.status, status, ran.stderr);
+    for (const { shown } of inBlocks.filter((it) => it.command === command && it.shown.length > 0)) {
+      const isAsShown = areShown(shown, ran.stdout.trimEnd().split("\n"));
+      assert.ok(isAsShown, `shown is\n${shown.join("\n")}\nand printed\n${ran.stdout}`);
+    }
+  });
+}
+
+test("README names the kit that is here", withKit.when, () => {
+  const { stdout } = spawnSync("rt", ["version"], { encoding: "utf8" });
+  assert.equal(stdout.trimEnd().split(" ").slice(-2).join(" "), /`(logic [0-9a-f]+)`/.exec(textOf("README.md"))?.[1]);
+});

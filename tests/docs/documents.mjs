@@ -1,0 +1,25 @@
+// What the tests of the documents share.
+
+import { readFileSync, readdirSync } from "node:fs";
+import { join } from "node:path";
+import { fileURLToPath } from "node:url";
+
+export const TOP = fileURLToPath(new URL("../../", import.meta.url));
+
+/** @param {string} path from the top of the repository */
+export const textOf = (path) => readFileSync(join(TOP, path), "utf8");
+
+/** The documents of the repository, by their paths from its top. */
+export const DOCUMENTS = [
+  "README.md", "CONTRIBUTING.md", "recorder/README.md", "recorder/bench/README.md",
+  ...readdirSync(join(TOP, "docs")).filter((name) => name.endsWith(".md")).map((name) => `docs/${name}`),
+];
+
+/** What no copy of the repository needs: what tools have made, and the history. */
+export const LEFT_OUT = new Set([".git", "out", "node_modules", "found"]);
+
+/** A document without its indented blocks. @param {string} path */
+export const proseOf = (path) => textOf(path).split("\n").filter((line) => !line.startsWith("    ")).join("\n");
+
+/** What stands in backticks in a document's prose. @param {string} path */
+export const spansOf = (path) => [...proseOf(path).matchAll(/`([^`\n]+)`/g)].map(([, span]) => span);
