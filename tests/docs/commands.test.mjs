@@ -49,8 +49,6 @@ const COMMANDS = [
   ["crates/sabsim/out/sabsim judge --trace found/seed-3.trace.jsonl", { status: 5, ...built }],
   ["node --test recorder/tests/nearest.test.mjs", { status: 0 }],
   ["SABSIM=crates/sabsim/out/sabsim node --test recorder/tests/traces.test.mjs", { status: 0, ...built }],
-  ["cd crates/sabsim && rt try -- replay --format explained --acts < ../../examples/lost-wake-up.json",
-    { status: 0, ...withKit }],
   ["cd crates/sab_refusal && rt check", PROVES],
   ["cd crates/sab_refusal && rt check --only FUNCTION", PROVES],
   ["tools/edits sab_refusal", PROVES],
