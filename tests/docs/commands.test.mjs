@@ -50,9 +50,9 @@ const COMMANDS = [
   ["node --test recorder/tests/nearest.test.mjs", { status: 0 }],
   ["SABSIM=crates/sabsim/out/sabsim node --test recorder/tests/traces.test.mjs", { status: 0, ...built }],
   ["cd crates/sab_refusal && rt check", PROVES],
-  ["cd crates/sab_refusal && rt check --only FUNCTION", PROVES],
+  ["cd crates/sab_refusal && rt check --only ReadFault::number", PROVES],
   ["tools/edits sab_refusal", PROVES],
-  ["cd crates/check_scripts && rt run -- data", PROVES],
+  ["tests/cases crates/sabsim/out/sabsim", { notRun: "./check runs it" }],
   ["rt doc", { status: 0, ...withKit }],
   ["rt version", { status: 0, ...withKit }],
   ["./build", { by: "tests/build", words: "building\n" }],
@@ -63,7 +63,7 @@ const COMMANDS = [
 ];
 
 /** How a command begins that stands in backticks. */
-const COMMAND = /^(?:\.\/(?:build|check)\b|SABSIM=|(?:cd|npm|npx|node|rt|tools\/edits|crates\/sabsim\/out\/sabsim) )/;
+const COMMAND = /^(?:\.\/(?:build|check)\b|SABSIM=|(?:cd|npm|npx|node|rt|(?:tools|tests)\/\w+|crates\/\S+\/sabsim) )/;
 
 /** The commands in a document's blocks, each with the lines that are shown below it. @param {string} path */
 function blocksOf(path) {
