@@ -43,7 +43,8 @@ class Proofs:
 
     def add_proof(self, crate, is_of_tests=False):
         """Adds the task of proving a crate, or its tests, after those below it."""
-        proving, seconds = Proving(crate, is_of_tests), seconds_of(crate)
+        # Code of all crates below is compiled for a program.
+        proving, seconds = Proving(crate, is_of_tests), seconds_of(crate) * (2 if is_of_tests or crate.is_program else 1)
         waits_for = [self.tasks[below.name] for below in crate.below()]
         run = lambda jobs: self.guarded(proving.name, lambda: self.prove(proving, jobs))
         task = Task(proving.name, run, waits_for, seconds, rt.need(crate), most_jobs=4)
@@ -161,8 +162,10 @@ def is_made_of(crate, sums):
 
 
 def seconds_of(crate):
-    """Returns about how many seconds of one processor the proof of a crate takes: measured, by its lines."""
-    return 20 + crate.count(rb"\n") / 20
+    """Returns about how many seconds of one processor the proof of a crate takes: fitted to what was measured."""
+    definitions = sum(rtlib.text_of(file).count("\n") for file in rtlib.files_of(crate.folder) if file.endswith(".antt"))
+    below = sum(it.count(rb"\n") for it in crate.below())
+    return 25 + crate.count(rb"\n") / 12 + definitions / 80 + below / 250 + 15 * len(crate.of_kit)
 
 
 def sum_of_scripts():

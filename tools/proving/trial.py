@@ -75,15 +75,16 @@ class Trial:
 
     def results_of(self, judge, twins):
         """Returns the results of the edits that are refused: one is refused if one of its twins is."""
-        found = {}
+        found, left = {}, {}
         for twin in (it for it in twins if it.edit):
             line, why = judge.verdict(twin)
             if line:
                 found.setdefault(twin.edit.name, Result(REFUSED, line, False))
-            else:
-                self.report(f"{self.crate.name}/{twin.edit.name}: not refused in a twin: {why[:300]}")
+            left.setdefault(twin.edit.name, why)
             if judge.is_proved(twin):
                 self.proved.add(twin.edit.name)
+        for name in left.keys() - found.keys():
+            self.report(f"{self.crate.name}/{name}: not refused in a twin: {left[name][:300]}")
         return found
 
     def try_alone(self, edit, kept):
