@@ -12,6 +12,10 @@ from .store import Sums, sum_of
 from .trial import BAD, REFUSED, Result, Trial
 
 
+# A proof takes at most this part of the memory that rt foresees; one of a program, or of tests, can take all of it.
+NEEDED = 0.6
+
+
 class Tally:
     """What passed, what failed, and how much of it was known from earlier runs on this machine."""
 
@@ -43,11 +47,12 @@ class Proofs:
 
     def add_proof(self, crate, is_of_tests=False):
         """Adds the task of proving a crate, or its tests, after those below it."""
+        proving, is_compiled = Proving(crate, is_of_tests), is_of_tests or crate.is_program
         # Code of all crates below is compiled for a program.
-        proving, seconds = Proving(crate, is_of_tests), seconds_of(crate) * (2 if is_of_tests or crate.is_program else 1)
+        seconds, memory = seconds_of(crate) * (2 if is_compiled else 1), rt.need(crate) * (1 if is_compiled else NEEDED)
         waits_for = [self.tasks[below.name] for below in crate.below()]
         run = lambda jobs: self.guarded(proving.name, lambda: self.prove(proving, jobs))
-        task = Task(proving.name, run, waits_for, seconds, rt.need(crate), most_jobs=4)
+        task = Task(proving.name, run, waits_for, seconds, memory, most_jobs=4)
         self.tasks[proving.name] = task
         self.proofs += 1
         return task
@@ -69,7 +74,7 @@ class Proofs:
         if files:
             name, waits_for = f"edits of {crate.name}", [self.tasks[crate.name]]
             run = lambda _: self.guarded(name, lambda: self.try_edits(crate, files, alone))
-            self.tasks[name] = Task(name, run, waits_for, 20 + 8 * len(files), rt.need(crate))
+            self.tasks[name] = Task(name, run, waits_for, 20 + 8 * len(files), rt.need(crate) * NEEDED)
 
     def guarded(self, name, call):
         """Makes a call, and counts its failure: it returns whether all is well."""
