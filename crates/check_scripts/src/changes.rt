@@ -2,7 +2,7 @@
 
 use crate::refused::check_number;
 use anyhow::{Context, Result, ensure};
-use serde_json::{Map, Value};
+use serde_json::Value;
 use std::alloc::Global;
 use std::sync::Wait;
 use std::thread::Threads;
@@ -10,36 +10,24 @@ use std::thread::Threads;
 /// The word that takes a member out of its object.
 const OUT: &str = "-";
 
-/// The object that a path leads into, and the name of the path's last member.
-fn members_of<'a, 'p>(
-    tree: &'a mut Value,
-    path: &'p str,
-) -> Result<(&'a mut Map<String, Value>, &'p str)> {
+/// A script with what a word says where a path leads: a JSON value, as a further member of an object if nothing is
+/// there, or nothing.
+fn changed(alloc: Global, script: &[u8], path: &str, word: &str) -> Result<Vec<u8>> {
+    let mut tree = Value::from_slice(alloc, script)?;
+    if word != OUT {
+        if let Some(place) = tree.pointer_mut(path) {
+            *place = Value::from_str(alloc, word)?;
+            return Ok(tree.to_vec(alloc)?);
+        }
+    }
     let (above, name) = path.rsplit_once('/').context("no path")?;
     let object = tree.pointer_mut(above).context("nothing is there")?;
     let members = object.as_object_mut().context("no object is there")?;
-    Ok((members, name))
-}
-
-/// Puts a value where a path leads, as a further member of an object if nothing is there.
-fn put(alloc: Global, tree: &mut Value, path: &str, value: Value) -> Result<()> {
-    if let Some(place) = tree.pointer_mut(path) {
-        *place = value;
-        return Ok(());
-    }
-    let (members, name) = members_of(tree, path)?;
-    members.insert(String::from_str(alloc, name)?, value)?;
-    Ok(())
-}
-
-/// A script with what a word says where a path leads: a JSON value, or nothing.
-fn changed(alloc: Global, script: &[u8], path: &str, word: &str) -> Result<Vec<u8>> {
-    let mut tree = Value::from_slice(alloc, script)?;
     if word == OUT {
-        let (members, name) = members_of(&mut tree, path)?;
         members.remove(name).context("no such member")?;
     } else {
-        put(alloc, &mut tree, path, Value::from_str(alloc, word)?)?;
+        let value = Value::from_str(alloc, word)?;
+        members.insert(String::from_str(alloc, name)?, value)?;
     }
     Ok(tree.to_vec(alloc)?)
 }

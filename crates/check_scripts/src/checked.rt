@@ -13,22 +13,13 @@ pub fn check_accepted(alloc: Global, script: &[u8]) -> Result<()> {
     Ok(())
 }
 
-/// Checks that a check says of a script where it is refused, with the fault of this line; and just the line that is
-/// given.
-pub fn check_located(
-    alloc: Global,
-    script: &[u8],
-    fault: &[u8],
-    line: Option<&[u8]>,
-) -> Result<()> {
+/// Checks that a check says of a script where it is refused, with the fault of this line; answers what it says.
+pub fn check_located(alloc: Global, script: &[u8], fault: &[u8]) -> Result<String> {
     let Checked::Refused(text) = check_script(alloc, script)? else {
         bail!("check: it isn't refused");
     };
     let fault = std::str::from_utf8(fault)?.trim_end();
     let label = format!(in alloc; ": {fault}: ")?;
     ensure!(text.contains(label.as_str()), "check: {text}");
-    if let Some(line) = line {
-        ensure!(text.as_bytes() == line, "check: {text}");
-    }
-    Ok(())
+    Ok(text)
 }

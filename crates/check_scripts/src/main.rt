@@ -1,8 +1,10 @@
 //! Goes over cases: each is a script that lies beside its report in each format, or beside the fault that it is
 //! refused with. Beside a report there may be a table of changes of the script, each with the fault that it leads to.
+//! Then it makes calls, which `tests/refusals` refuses memory and threads to.
 //!
 //! Its argument is a folder that has a folder of cases for each subject; without one it is the folder where it runs. It
-//! tells of each subject, and of each finding by the case's name. It ends with status 1 if there is a finding.
+//! tells of each subject, of each finding by the case's name, and of each call. With `--calls` it makes the calls alone,
+//! or the one that is named behind. It ends with status 1 if there is a finding.
 #![tactic(auto)]
 
 mod cases;
@@ -10,24 +12,27 @@ mod changes;
 mod checked;
 mod cuts;
 mod raced;
+mod refusals;
 mod refused;
-mod reported;
 mod tally;
 mod told;
 mod way;
 
-use anyhow::{Context, Result};
+use anyhow::{Context, Result, ensure};
 use cases::{Case, Partner, cases_of, names_of};
 use changes::check_changes;
 use checked::{check_accepted, check_located};
+use cuts::check_cuts;
+use raced::check_races;
+use refusals::run_calls;
 use refused::check_fault;
-use reported::check_report;
 use sab_report::Format;
+use sab_tool::replay_bytes;
 use std::process::ExitCode;
 use std::rt::{Env, Files};
 use std::sync::Wait;
 use std::thread::Threads;
-use std::{env, fs};
+use std::{env, fs, io};
 use tally::Tally;
 use told::check_told;
 
@@ -37,61 +42,62 @@ fn part<R: Files + AllocGlobal>(rt: &R, folder: &str, name: &str, ending: &str) 
     Ok(fs::read(rt, path.as_str())?)
 }
 
-/// Checks that a script's report is told in each format as it lies beside the script.
-fn check_formats<R: Files + AllocGlobal>(
+/// Checks that a script has the report that lies beside it, in each format, replayed and raced, and each of its cuts
+/// and changes a fault.
+fn check_report<R: Files + AllocGlobal + Threads + Wait + Sync>(
     rt: &R,
     folder: &str,
-    name: &str,
+    case: &Case,
     script: &[u8],
-    plain: &[u8],
-) -> Result<()> {
-    let alloc = rt.alloc();
+) -> Result<Tally> {
+    let (alloc, name) = (rt.alloc(), case.name.as_str());
+    let expected = part(rt, folder, name, "report")?;
     let explained = part(rt, folder, name, "explained")?;
     let json = part(rt, folder, name, "jsonl")?;
-    check_told(alloc, script, Format::Plain, plain)?;
+    check_accepted(alloc, script)?;
+    check_told(alloc, script, Format::Plain, expected.as_slice())?;
     check_told(alloc, script, Format::Explained, explained.as_slice())?;
-    check_told(alloc, script, Format::Json, json.as_slice())
+    check_told(alloc, script, Format::Json, json.as_slice())?;
+    if case.has_picture() {
+        let picture = part(rt, folder, name, "svg")?;
+        check_told(alloc, script, Format::Svg, picture.as_slice())?;
+    }
+    let mut report = Vec::new(alloc);
+    replay_bytes(alloc, script, &mut report)?;
+    ensure!(report == expected, "another report");
+    check_races(rt, alloc, script)?;
+    let mut tally = Tally::default();
+    tally.reports = 1;
+    tally.cuts = check_cuts(alloc, script)?;
+    if case.has_changes() {
+        let table = part(rt, folder, name, "changes")?;
+        tally.changes = check_changes(rt, alloc, script, table.as_slice())?;
+    }
+    Ok(tally)
 }
 
 /// Checks a case of a folder, and answers what it adds to a tally.
 fn check<R: Files + AllocGlobal + Threads + Wait + Sync>(
     rt: &R,
     folder: &str,
-    name: &str,
     case: &Case,
 ) -> Result<Tally> {
-    let alloc = rt.alloc();
+    let (alloc, name) = (rt.alloc(), case.name.as_str());
     let partner = case.partner()?;
     let script = part(rt, folder, name, "json")?;
-    let expected = part(rt, folder, name, partner.ending())?;
-    match partner {
-        Partner::Report => {
-            check_accepted(alloc, script.as_slice())?;
-            check_formats(rt, folder, name, script.as_slice(), expected.as_slice())?;
-            if case.has_picture() {
-                let picture = part(rt, folder, name, "svg")?;
-                check_told(alloc, script.as_slice(), Format::Svg, picture.as_slice())?;
-            }
-            let cuts = check_report(rt, alloc, script.as_slice(), expected.as_slice())?;
-            let changes = if case.has_changes() {
-                let table = part(rt, folder, name, "changes")?;
-                check_changes(rt, alloc, script.as_slice(), table.as_slice())?
-            } else {
-                0
-            };
-            Ok(Tally::of_report(cuts, changes))
-        }
-        Partner::Fault => {
-            check_fault(rt, alloc, script.as_slice(), expected.as_slice())?;
-            let line = match case.has_line() {
-                true => Some(part(rt, folder, name, "located")?),
-                false => None,
-            };
-            let line = line.as_ref().map(|line| line.as_slice());
-            check_located(alloc, script.as_slice(), expected.as_slice(), line)?;
-            Ok(Tally::of_fault())
-        }
+    if let Partner::Report = partner {
+        return check_report(rt, folder, case, script.as_slice());
     }
+    let fault = part(rt, folder, name, "fault")?;
+    check_fault(rt, alloc, script.as_slice(), fault.as_slice())?;
+    let told = check_located(alloc, script.as_slice(), fault.as_slice())?;
+    if case.has_line() {
+        let line = part(rt, folder, name, "located")?;
+        ensure!(told.as_bytes() == line.as_slice(), "check: {told}");
+    }
+    let mut tally = Tally::default();
+    tally.faults = 1;
+    Ok(tally)
 }
 
 /// Goes over the cases of a subject, and prints a line for each finding and one for all.
@@ -102,12 +108,12 @@ fn go_over<R: Files + AllocGlobal + Print + Threads + Wait + Sync + Clone + Drop
 ) -> Result<Tally> {
     let folder = format!(in rt.alloc(); "{data}/{subject}")?;
     let mut tally = Tally::default();
-    for (name, case) in cases_of(rt, folder.as_str())?.iter() {
-        match check(rt, folder.as_str(), name.as_str(), case) {
+    for case in cases_of(rt, folder.as_str())?.iter() {
+        match check(rt, folder.as_str(), case) {
             Ok(checked) => tally.add(checked),
             Err(finding) => {
-                println!(rt; "{subject}/{name}: {finding:#}")?;
-                tally.add(Tally::of_finding());
+                println!(rt; "{subject}/{}: {finding:#}", case.name)?;
+                tally.findings = tally.findings.saturating_add(1);
             }
         }
     }
@@ -115,25 +121,46 @@ fn go_over<R: Files + AllocGlobal + Print + Threads + Wait + Sync + Clone + Drop
     Ok(tally)
 }
 
-/// The folder that the command line names.
-fn data_folder(rt: &(impl Env + AllocGlobal)) -> Result<String> {
-    match env::args(rt)?.nth(1) {
-        Some(folder) => Ok(folder),
-        None => Ok(String::from_str(rt.alloc(), ".")?),
+/// Goes over the cases of all subjects, and answers whether there is no finding.
+fn go_over_all<R: Files + AllocGlobal + Print + Threads + Wait + Sync + Clone + Drop>(
+    rt: &R,
+    data: &str,
+) -> Result<bool> {
+    let mut total = Tally::default();
+    for subject in names_of(rt, data)? {
+        total.add(go_over(rt, data, subject.as_str()).context(subject.as_str())?);
     }
+    let (scripts, cuts) = (total.scripts(), total.cuts);
+    println!(rt; "{scripts} scripts: {total}, {cuts} cuts")?;
+    Ok(total.findings == 0)
+}
+
+/// A word of the command line.
+fn word(rt: &(impl Env + AllocGlobal), position: usize) -> io::Result<Option<String>> {
+    Ok(env::args(rt)?.nth(position))
 }
 
 fn main(rt: HostRuntime) -> Result<ExitCode> {
-    let data = data_folder(&rt)?;
-    let mut total = Tally::default();
-    for subject in names_of(&rt, data.as_str())? {
-        total.add(go_over(&rt, data.as_str(), subject.as_str()).context(subject.as_str())?);
-    }
-    let (scripts, cuts) = (total.scripts(), total.cuts());
-    println!(rt; "{scripts} scripts: {total}, {cuts} cuts")?;
-    if total.is_right() {
-        Ok(ExitCode::SUCCESS)
+    let (first, second) = match (word(&rt, 1), word(&rt, 2)) {
+        (Ok(first), Ok(second)) => (first, second),
+        (Err(error), _) | (_, Err(error)) => {
+            ensure!(error.kind() == io::ErrorKind::OutOfMemory, "{error}");
+            println!(rt; "refused before the call")?;
+            return Ok(ExitCode::SUCCESS);
+        }
+    };
+    let first = first.as_ref().map(|word| word.as_str());
+    let name = second.as_ref().map(|word| word.as_str());
+    let is_right = match first {
+        Some("--calls") => run_calls(&rt, name)?,
+        folder => {
+            let is_found = go_over_all(&rt, folder.unwrap_or("."))?;
+            run_calls(&rt, None)? && is_found
+        }
+    };
+    Ok(if is_right {
+        ExitCode::SUCCESS
     } else {
-        Ok(ExitCode::FAILURE)
-    }
+        ExitCode::FAILURE
+    })
 }

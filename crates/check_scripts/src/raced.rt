@@ -1,7 +1,7 @@
 //! Races of a script, and the scripts that keep them.
 
-use crate::way::SPINS;
-use anyhow::Result;
+use crate::way::{SPINS, Way};
+use anyhow::{Context, Result, ensure};
 use sab_kept::keep_race;
 use sab_tool::{Share, replay_bytes, write_report};
 use std::alloc::Global;
@@ -9,7 +9,7 @@ use std::sync::Wait;
 use std::thread::Threads;
 
 /// Whether the script that keeps a race of a script replays to the report of the race.
-pub fn replays<R: Threads + Wait + Sync>(
+fn replays<R: Threads + Wait + Sync>(
     rt: &R,
     alloc: Global,
     script: &[u8],
@@ -22,4 +22,17 @@ pub fn replays<R: Threads + Wait + Sync>(
     let mut replayed = Vec::new(alloc);
     replay_bytes(alloc, kept.as_slice(), &mut replayed)?;
     Ok(replayed == raced)
+}
+
+/// Checks that the script that keeps a race of a script replays to the text of that race, by each way to share.
+pub fn check_races<R: Threads + Wait + Sync>(rt: &R, alloc: Global, script: &[u8]) -> Result<()> {
+    for share in [Share::Lock, Share::Ring] {
+        let how = Way::Race(share).name();
+        let is_same = replays(rt, alloc, script, share).context(how)?;
+        ensure!(
+            is_same,
+            "{how}: the replay of its schedule gives another report"
+        );
+    }
+    Ok(())
 }

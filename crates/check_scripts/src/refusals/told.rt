@@ -1,23 +1,28 @@
-//! Runs that are told in other ways than by a plain report.
+//! Runs of scripts that are told into an array.
 
-use crate::found::Found;
-use crate::scripts::{ROOM, STORE_AND_LOAD, is_text, is_unwritten, refused};
+use crate::refusals::found::Found;
+use crate::refusals::scripts::{ITS_REPORT, STORE_AND_LOAD, STORED_AND_LOADED, THREE_WHO_WAIT};
+use crate::refusals::texts::{ROOM, is_text, is_unwritten};
 use sab_kept::{keep_race, keep_replay};
 use sab_report::{Format, Lines, RaceOptions, Telling, race_as, replay_as};
-use sab_tool::{Share, ToolFault};
+use sab_tool::{Share, ToolFault, race_bytes, replay_bytes};
 use std::alloc::Global;
 use std::sync::Wait;
 use std::thread::Threads;
 
-/// How a run of an agent that stores and loads is told.
+/// How a run is told. The first one is of the agents that wait, all others are of an agent that stores and loads.
 #[derive(Clone, Copy)]
 pub enum Told {
+    /// A replay, by its plain report.
+    Replay,
+    /// A race, by its plain report.
+    Race(Share),
     /// A replay, in words.
-    InWords,
+    ReplayInWords,
     /// A replay, as JSON.
-    AsJson,
+    ReplayAsJson,
     /// A replay, as a script.
-    AsScript,
+    ReplayAsScript,
     /// A race by a lock, in words.
     RaceInWords,
     /// A race by a lock, as a script.
@@ -57,9 +62,11 @@ impl Told {
     /// What is written.
     fn text(self) -> &'static str {
         match self {
-            Told::InWords | Told::RaceInWords => IN_WORDS,
-            Told::AsJson => AS_JSON,
-            Told::AsScript | Told::RaceAsScript => AS_SCRIPT,
+            Told::Replay => ITS_REPORT,
+            Told::Race(_) => STORED_AND_LOADED,
+            Told::ReplayInWords | Told::RaceInWords => IN_WORDS,
+            Told::ReplayAsJson => AS_JSON,
+            Told::ReplayAsScript | Told::RaceAsScript => AS_SCRIPT,
         }
     }
 }
@@ -78,47 +85,42 @@ fn tell<R: Threads + Wait + Sync>(
     w: &mut &mut [u8],
 ) -> Result<(), ToolFault> {
     let script = STORE_AND_LOAD.as_bytes();
-    let race = RaceOptions {
-        share: Share::Lock,
-        spins: 0,
-        seed: 0,
-    };
+    let share = Share::Lock;
     match told {
-        Told::InWords => {
+        Told::Replay => replay_bytes(alloc, THREE_WHO_WAIT.as_bytes(), w)?,
+        Told::Race(share) => race_bytes(rt, alloc, script, share, 0, w)?,
+        Told::ReplayInWords => {
             replay_as(alloc, script, whole(Format::Explained), w)?;
         }
-        Told::AsJson => {
+        Told::ReplayAsJson => {
             replay_as(alloc, script, whole(Format::Json), w)?;
         }
-        Told::AsScript => {
+        Told::ReplayAsScript => {
             keep_replay(alloc, script, w)?;
         }
         Told::RaceInWords => {
+            let race = RaceOptions {
+                share,
+                spins: 0,
+                seed: 0,
+            };
             race_as(rt, alloc, script, race, whole(Format::Explained), w)?;
         }
         Told::RaceAsScript => {
-            keep_race(rt, alloc, script, Share::Lock, 0, 0, w)?;
+            keep_race(rt, alloc, script, share, 0, 0, w)?;
         }
     }
     Ok(())
 }
 
-/// The run is told into an array.
-pub fn run_and_tell<R: Threads + Wait + Sync>(rt: &R, alloc: Global, told: Told) -> Found {
-    let first = tell_once(rt, alloc, told);
-    if first.is_refused() {
-        return first.and_once_more(tell_once(rt, alloc, told));
-    }
-    first
-}
-
-fn tell_once<R: Threads + Wait + Sync>(rt: &R, alloc: Global, told: Told) -> Found {
+/// A run is told into an array.
+pub fn write<R: Threads + Wait + Sync>(rt: &R, alloc: Global, told: Told) -> Found {
     let mut room = [0; ROOM];
     let mut rest = room.as_mut_slice();
     let answer = tell(rt, alloc, told, &mut rest);
     let left = rest.len();
     match answer {
         Ok(()) => Found::answer(is_text(&room, left, told.text())),
-        Err(fault) => refused(fault, is_unwritten(&room, left)),
+        Err(fault) => Found::fault(fault, is_unwritten(&room, left)),
     }
 }

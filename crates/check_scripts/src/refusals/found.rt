@@ -1,10 +1,10 @@
 //! What is found out about a call.
 
+use sab_tool::ToolFault;
 use std::alloc::{AllocError, AllocFailed};
-use std::fmt;
 
 /// By what a call was refused.
-#[derive(Clone, Copy, PartialEq, Eq)]
+#[derive(Clone, Copy)]
 pub enum Refusal {
     AllocError,
     OutOfMemory,
@@ -12,22 +12,25 @@ pub enum Refusal {
     WriteFailed,
 }
 
-impl fmt::Display for Refusal {
-    fn fmt<W: fmt::Write>(&self, f: &mut fmt::Formatter<W>) -> fmt::Result {
-        f.write_str(match self {
+impl Refusal {
+    /// Its word in a line of the program.
+    pub fn name(self) -> &'static str {
+        match self {
             Refusal::AllocError => "AllocError",
             Refusal::OutOfMemory => "OutOfMemory",
             Refusal::NoThread => "NoThread",
             Refusal::WriteFailed => "WriteFailed",
-        })
+        }
     }
 }
 
 /// What is found out about a call.
-#[derive(Clone, Copy, PartialEq, Eq)]
+#[derive(Clone, Copy)]
 pub enum Found {
     /// It gave its answer.
     Answered,
+    /// It gave its answer, and a further allocation is refused.
+    AnsweredAtLast,
     /// It was refused in a way that it may be, and what has to stand stands.
     Refused(Refusal),
     /// Anything else, as these words say.
@@ -53,17 +56,12 @@ impl Found {
         }
     }
 
-    /// Whether the call was refused.
-    pub fn is_refused(self) -> bool {
-        matches!(self, Found::Refused(_))
-    }
-
-    /// Of a refused call and of the same call once more, which has to give its answer.
-    pub fn and_once_more(self, again: Found) -> Found {
-        match again {
-            Found::Answered => self,
-            Found::Refused(_) => Found::Wrong("once more it is refused again"),
-            Found::Wrong(_) => Found::Wrong("once more it is wrong"),
+    /// Of a fault: OutOfMemory or NoThread, told by its number, with nothing written.
+    pub fn fault(fault: ToolFault, is_unwritten: bool) -> Found {
+        match fault.number() {
+            5 => Found::refused(Refusal::OutOfMemory, is_unwritten),
+            9 => Found::refused(Refusal::NoThread, is_unwritten),
+            _ => Found::Wrong("another fault"),
         }
     }
 }
@@ -86,5 +84,14 @@ impl From<AllocError> for Unmade {
 impl<T: Drop> From<AllocFailed<T>> for Unmade {
     fn from(_refused: AllocFailed<T>) -> Unmade {
         Unmade::OutOfMemory
+    }
+}
+
+impl From<ToolFault> for Unmade {
+    fn from(fault: ToolFault) -> Unmade {
+        match fault.number() {
+            5 => Unmade::OutOfMemory,
+            _ => Unmade::Wrong("a script is refused"),
+        }
     }
 }

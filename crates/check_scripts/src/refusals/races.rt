@@ -1,10 +1,10 @@
 //! Agents in threads.
 
-use crate::found::{Found, Refusal, Unmade};
-use crate::gate::Counter;
-use crate::plans::four_adders;
+use crate::refusals::found::{Found, Refusal, Unmade};
+use crate::refusals::gate::Counter;
+use crate::refusals::plans::four_adders;
 use sab_race::{RaceFault, run_locked, run_rings};
-use sab_sim::{Plan, Progress, Report};
+use sab_sim::{Progress, Report};
 use sab_tool::Share;
 use std::alloc::Global;
 use std::sync::{Arc, Wait};
@@ -16,37 +16,19 @@ const MOVES: u64 = 1_200;
 /// How many rounds in a row the owner of the rings goes without a move.
 const PATIENCE: u32 = 1_000_000;
 
-/// Four agents run in threads.
+/// Four agents run in threads, none of which goes on afterwards. (One owner more of the gate takes no memory.)
 pub fn run<R: Threads + Wait + Sync>(rt: &R, alloc: Global, share: Share) -> Result<Found, Unmade> {
     let plan = four_adders(alloc)?;
-    let second = four_adders(alloc)?;
     let gate = Arc::new(alloc, Counter::new())?;
-    let other = Arc::new(alloc, Counter::new())?;
-    let first = race(rt, alloc, share, plan, &gate)?;
-    if first.is_refused() {
-        let again = race(rt, alloc, share, second, &other)?;
-        return Ok(first.and_once_more(again));
-    }
-    Ok(first)
-}
-
-/// Races a plan once, and sees that no thread goes on. (One owner more of the gate takes no memory.)
-fn race<R: Threads + Wait + Sync>(
-    rt: &R,
-    alloc: Global,
-    share: Share,
-    plan: Plan,
-    gate: &Arc<Counter>,
-) -> Result<Found, Unmade> {
-    let given = Arc::try_clone(gate)?;
+    let given = Arc::try_clone(&gate)?;
     let raced = match share {
         Share::Lock => run_locked(rt, alloc, plan, 0, given),
         Share::Ring => run_rings(rt, alloc, plan, 0, PATIENCE, given),
     };
     Ok(match raced {
         Ok(report) => Found::answer(gate.is_at(MOVES) && is_right(&report)),
-        Err(RaceFault::OutOfMemory) => ended(gate, Refusal::OutOfMemory),
-        Err(RaceFault::NoThread) => ended(gate, Refusal::NoThread),
+        Err(RaceFault::OutOfMemory) => ended(&gate, Refusal::OutOfMemory),
+        Err(RaceFault::NoThread) => ended(&gate, Refusal::NoThread),
         Err(RaceFault::TooManyMoves) => Found::Wrong("another fault"),
     })
 }
