@@ -54,8 +54,15 @@ class Proving:
         return status
 
 
-def why_refused(crate):
+def why_refused(crate, crates):
     """Returns why the text of a crate is refused before any proof, as `rt ci` refuses it, or nothing."""
+    try:
+        rtlib.stop_on_links(crate.folder)
+        rtlib.stop_on_unread(crate.folder, crates)
+        rtlib.stop_on_text(crate, "verdict")
+        rt.stop_on_words(crate)
+    except SystemExit:
+        return "rt refuses its text, as it says above"
     code = rtlib.code_of(crate.folder)
     beyond = [handle for handle, words in rt.REACHES.items() if handle not in crate.allowed and re.search(words, code)]
     if re.search(rt.RENAMES, code):
@@ -68,3 +75,12 @@ def why_refused(crate):
         return "it uses libc or os, which reach past the handles: call std instead"
     with open(os.devnull, "w", encoding="utf-8") as out:
         return "run rt fmt in its folder" if rtlib.fmt(crate.folder, "--check", out) else ""
+
+
+def stop_on_unread_files(root, crates):
+    """Ends the command if the repository has a file of Rattle that no crate reads, as `rt ci` does."""
+    for name in sorted(os.listdir(root)):
+        if name.endswith((".rt", ".antt")):
+            rtlib.stop(f"no check reads {name}: it goes into a crate that crates.txt names")
+        if os.path.isdir(f"{root}/{name}") and name != ".git":
+            rtlib.stop_on_unread(f"{root}/{name}", crates)

@@ -11,7 +11,8 @@ from .lanes import Task
 from .store import Sums, sum_of
 from .trial import BAD, REFUSED, Result, Trial
 
-
+# The scripts that decide what an edit comes to. If one of them has changed, all edits are tried anew.
+DECIDING = "edits functions kit modules trial twins verdicts"
 # A proof takes at most this part of the memory that rt foresees; one of a program, or of tests, can take all of it.
 NEEDED = 0.6
 
@@ -32,9 +33,23 @@ class Tally:
             self.passed += passed
             self.failed += failed
 
+    def add_proof(self, line, is_known):
+        """Counts a proof, and prints a line with its number."""
+        with self.lock:
+            self.passed += 1
+            self.proofs += 1
+            self.known_proofs += is_known
+            print(line.format(self.proofs), flush=True)
+
+    def add_edits(self, number, known):
+        with self.lock:
+            self.edits += number
+            self.known_edits += known
+
     def reused(self):
         """Returns a sentence about what earlier runs on this machine have proved."""
-        return f"{self.known_proofs} of {self.proofs} proofs and {self.known_edits} of {self.edits} edits were known from earlier runs on this machine"
+        proofs, edits = f"{self.known_proofs} of {self.proofs} proofs", f"{self.known_edits} of {self.edits} edits"
+        return f"{proofs} and {edits} were known from earlier runs on this machine"
 
 
 class Proofs:
@@ -80,7 +95,7 @@ class Proofs:
         """Makes a call, and counts its failure: it returns whether all is well."""
         try:
             is_well = call()
-        except Exception:
+        except (Exception, SystemExit):
             is_well = False
             self.tally.say(f"{name}: {traceback.format_exc()}")
         if not is_well:
@@ -90,7 +105,7 @@ class Proofs:
     def prove(self, proving, jobs):
         """Proves a crate, unless that is known; and has its library, or its program, found by what is above it."""
         crate, begun = proving.crate, time.monotonic()
-        why = why_refused(crate)
+        why = why_refused(crate, self.crates)
         if why:
             self.tally.say(f"{crate.name}: {why}")
             return False
@@ -100,12 +115,9 @@ class Proofs:
         if not path:
             self.tally.say(f"{proving.said}{proving.name} isn't proved, or isn't built")
             return False
-        self.tally.proofs += 1
-        self.tally.known_proofs += bool(known)
         self.put(proving, path)
         took = "known" if known else f"{time.monotonic() - begun:.0f} s"
-        self.tally.say(f"{self.tally.proofs:2} of {self.proofs}: {proving.name}, {took}")
-        self.tally.add(1)
+        self.tally.add_proof(f"{{:2}} of {self.proofs}: {proving.name}, {took}", bool(known))
         return True
 
     def put(self, proving, path):
@@ -143,8 +155,7 @@ class Proofs:
                 self.store.keep_results(path, kept)
         for name in sums:
             self.report(f"{crate.name}/{name}", results[name])
-        self.tally.edits += len(files)
-        self.tally.known_edits += known
+        self.tally.add_edits(len(files), known)
         self.tally.say(f"tried: {len(files)} edits of {crate.name} ({known} known, {time.monotonic() - begun:.0f} s)")
         return True
 
@@ -174,6 +185,6 @@ def seconds_of(crate):
 
 
 def sum_of_scripts():
-    """Returns a sum of the scripts that try edits: with other scripts, all edits are tried anew."""
+    """Returns a sum of the scripts that decide what an edit comes to."""
     folder = os.path.dirname(os.path.realpath(__file__))
-    return sum_of([(name, rtlib.sum_of(f"{folder}/{name}")) for name in sorted(os.listdir(folder)) if name.endswith(".py")])
+    return sum_of([(name, rtlib.sum_of(f"{folder}/{name}.py")) for name in DECIDING.split()])
