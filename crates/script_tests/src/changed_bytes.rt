@@ -1,5 +1,6 @@
 //! Scripts of which one byte is changed.
 
+use crate::expecting::expect;
 use crate::scripts::{SHARED_WORD, TWO_BLOCKS};
 use sab_tool::{ToolFault, replay_bytes};
 use std::alloc::{AllocError, Global};
@@ -38,7 +39,7 @@ fn holds_at(alloc: Global, script: &str, i: usize) -> Result<bool, AllocError> {
 fn a_changed_byte_is_read_or_refused(rt: HostRuntime) -> Result<(), Fail> {
     for script in [SHARED_WORD, TWO_BLOCKS] {
         for i in 0..script.len() {
-            assert!(rt; holds_at(rt.alloc(), script, i)?, "byte {i}");
+            expect(holds_at(rt.alloc(), script, i)?, script)?;
         }
     }
     Ok(())

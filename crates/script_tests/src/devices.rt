@@ -1,6 +1,8 @@
 //! Readers and writers that fail, and slow ones.
 
+use crate::expecting::expect;
 use crate::scripts::{SHARED_WORD, STORE_AND_LOAD, TWO_BLOCKS, replayed, report_of};
+use sab_sim::Report;
 use sab_tool::{MAX_INPUT, Share, ToolFault, race_bytes, read_input, replay_bytes, write_report};
 use std::alloc::Global;
 use std::io;
@@ -151,7 +153,7 @@ fn a_write_that_fails_is_told(rt: HostRuntime) -> Result<(), Fail> {
         (STORE_AND_LOAD, Some(Share::Ring)),
     ];
     for (script, share) in table {
-        assert!(rt; is_told(&rt, rt.alloc(), script, share)?, "{script}");
+        expect(is_told(&rt, rt.alloc(), script, share)?, script)?;
     }
     Ok(())
 }
@@ -159,23 +161,26 @@ fn a_write_that_fails_is_told(rt: HostRuntime) -> Result<(), Fail> {
 #[test]
 fn a_later_write_of_a_long_report_that_fails_is_told(rt: HostRuntime) -> Result<(), Fail> {
     let long = r#"{"blocks":[65536,65536],"views":[],"agents":[],"schedule":[]}"#;
-    assert!(rt; failures_of(&rt, rt.alloc(), long, None, usize::MAX)? >= 2);
-    Ok(())
+    let failures = failures_of(&rt, rt.alloc(), long, None, usize::MAX)?;
+    expect(failures >= 2, "fewer writes")
 }
 
-#[test]
-fn a_report_that_no_write_takes_is_told(rt: HostRuntime) -> Result<(), Fail> {
-    let alloc = rt.alloc();
-    let report = replayed(alloc, STORE_AND_LOAD)?;
+/// What comes of a report whose every write fails.
+fn unwritten(alloc: Global, report: &Report) -> Result<(), ToolFault> {
     let taken = Vec::new(alloc);
     let mut taker = Taker {
         most: usize::MAX,
         writes: 0,
         taken,
     };
-    let answer = write_report(&report, &mut taker);
-    assert!(rt; answer == Err(ToolFault::WriteFailed));
-    Ok(())
+    write_report(report, &mut taker)
+}
+
+#[test]
+fn a_report_that_no_write_takes_is_told(rt: HostRuntime) -> Result<(), Fail> {
+    let report = replayed(rt.alloc(), STORE_AND_LOAD)?;
+    let answer = unwritten(rt.alloc(), &report);
+    expect(answer == Err(ToolFault::WriteFailed), "another answer")
 }
 
 /// Whether a run into a writer that takes no byte is told to have failed.
@@ -195,15 +200,14 @@ fn is_told_of_no_byte<R: Threads + Wait + Sync>(
 }
 
 #[test]
-fn a_writer_that_takes_no_byte_fails(rt: HostRuntime) {
+fn a_writer_that_takes_no_byte_fails(rt: HostRuntime) -> Result<(), Fail> {
     for share in [None, Some(Share::Lock), Some(Share::Ring)] {
         for script in [SHARED_WORD, TWO_BLOCKS] {
-            assert!(rt;
-                is_told_of_no_byte(&rt, rt.alloc(), script, share),
-                "{script}"
-            );
+            let is_told = is_told_of_no_byte(&rt, rt.alloc(), script, share);
+            expect(is_told, script)?;
         }
     }
+    Ok(())
 }
 
 /// What an input of one byte a read is, which fails once it made so many reads.
@@ -233,19 +237,20 @@ fn is_told_of_reads(alloc: Global, script: &str, fault: io::ErrorKind) -> bool {
 }
 
 #[test]
-fn a_read_that_fails_is_told(rt: HostRuntime) {
+fn a_read_that_fails_is_told(rt: HostRuntime) -> Result<(), Fail> {
     for fault in [io::ErrorKind::BrokenPipe, io::ErrorKind::Interrupted] {
         for script in [SHARED_WORD, TWO_BLOCKS] {
-            assert!(rt; is_told_of_reads(rt.alloc(), script, fault), "{script}");
+            expect(is_told_of_reads(rt.alloc(), script, fault), script)?;
         }
     }
+    Ok(())
 }
 
 #[test]
 fn a_reader_of_one_byte_a_read_gives_the_whole_input(rt: HostRuntime) -> Result<(), Fail> {
     for script in [SHARED_WORD, TWO_BLOCKS] {
         let input = given(rt.alloc(), script, usize::MAX, io::ErrorKind::BrokenPipe)?;
-        assert!(rt; input.as_slice() == script.as_bytes(), "{script}");
+        expect(input.as_slice() == script.as_bytes(), script)?;
     }
     Ok(())
 }
@@ -258,7 +263,7 @@ fn is_read_as(alloc: Global, spaces: usize, want: Result<usize, ToolFault>) -> b
 }
 
 #[test]
-fn an_input_is_read_up_to_its_limit(rt: HostRuntime) {
+fn an_input_is_read_up_to_its_limit(rt: HostRuntime) -> Result<(), Fail> {
     let table = [
         (0, Ok(0)),
         (1_048_576, Ok(1_048_576)),
@@ -266,9 +271,9 @@ fn an_input_is_read_up_to_its_limit(rt: HostRuntime) {
         (2_000_000, Err(ToolFault::TooLong)),
     ];
     for (spaces, want) in table {
-        assert!(rt; is_read_as(rt.alloc(), spaces, want), "{spaces} spaces");
+        expect(is_read_as(rt.alloc(), spaces, want), "another length")?;
     }
-    assert!(rt; MAX_INPUT == 1_048_576);
+    expect(MAX_INPUT == 1_048_576, "another limit")
 }
 
 #[test]
@@ -277,6 +282,5 @@ fn an_input_of_spaces_is_no_script(rt: HostRuntime) -> Result<(), Fail> {
     let spaces = read_input(alloc, &mut Spaces::new(MAX_INPUT))?;
     let mut text = Vec::new(alloc);
     let answer = replay_bytes(alloc, spaces.as_slice(), &mut text);
-    assert!(rt; answer == Err(ToolFault::NotJson));
-    Ok(())
+    expect(answer == Err(ToolFault::NotJson), "another answer")
 }

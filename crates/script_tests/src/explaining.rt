@@ -1,7 +1,9 @@
 //! The explained text of a script's report.
 
+use crate::expecting::expect;
 use sab_report::{Ended, Format, Lines, Telling, replay_as};
 use sab_tool::ToolFault;
+use std::alloc::Global;
 use std::test::Fail;
 
 /// An agent that waits, and one that changes the word and wakes it.
@@ -34,17 +36,26 @@ const EXPLAINED: Telling = Telling {
     lines: Lines::All,
 };
 
-#[test]
-fn a_report_is_explained(rt: HostRuntime) -> Result<(), Fail> {
-    let mut text = Vec::new(rt.alloc());
-    let ended = replay_as(rt.alloc(), WOKEN.as_bytes(), EXPLAINED, &mut text)?;
-    assert!(rt; ended == Ended::Unfinished && text.as_slice() == ITS_STORY.as_bytes());
-    Ok(())
+/// Whether a script is explained so: by this answer, and by this text.
+fn is_explained(
+    alloc: Global,
+    script: &str,
+    answer: Result<Ended, ToolFault>,
+    story: &str,
+) -> bool {
+    let mut text = Vec::new(alloc);
+    let found = replay_as(alloc, script.as_bytes(), EXPLAINED, &mut text);
+    found == answer && text.as_slice() == story.as_bytes()
 }
 
 #[test]
-fn a_script_that_is_refused_is_not_explained(rt: HostRuntime) {
-    let mut text = Vec::new(rt.alloc());
-    let answer = replay_as(rt.alloc(), b"{}", EXPLAINED, &mut text);
-    assert!(rt; answer == Err(ToolFault::BadShape) && text.is_empty());
+fn a_report_is_explained(rt: HostRuntime) -> Result<(), Fail> {
+    let is_told = is_explained(rt.alloc(), WOKEN, Ok(Ended::Unfinished), ITS_STORY);
+    expect(is_told, "another story")
+}
+
+#[test]
+fn a_script_that_is_refused_is_not_explained(rt: HostRuntime) -> Result<(), Fail> {
+    let is_refused = is_explained(rt.alloc(), "{}", Err(ToolFault::BadShape), "");
+    expect(is_refused, "another answer, or a text")
 }

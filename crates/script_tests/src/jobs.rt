@@ -2,13 +2,14 @@
 
 ghost use Rattle.sab_command.specs.Job.{IsWithinLimits};
 
+use crate::expecting::expect;
 use crate::scripts::{STORE_AND_LOAD, STORED_AND_LOADED};
 use sab_command::{Job, RunForm, Source};
 use sab_ending::Outcome;
 use sab_report::{Format, Lines, Telling, VerdictFormat};
 use sab_run::{Failure, judge_trace, run};
 use sab_tool::{Share, ToolFault};
-use std::alloc::Global;
+use std::alloc::{AllocError, Global};
 use std::io;
 use std::io::Write;
 use std::random::RandomSource;
@@ -54,31 +55,48 @@ impl Write for Basin {
     }
 }
 
-/// Whether the job of a script with one agent writes just this text, and flushes it unless the flush fails, which it
-/// tells.
-fn writes<R: AllocGlobal + Threads + Wait + Sync + RandomSource>(
+impl Basin {
+    /// Nothing is taken yet.
+    fn new(alloc: Global, is_stuck: bool) -> Basin {
+        Basin {
+            taken: Vec::new(alloc),
+            is_flushed: false,
+            is_stuck,
+        }
+    }
+}
+
+/// Whether the job of a script comes to this, and writes just this text, which is flushed where it doesn't fail.
+///
+/// Where it is to fail, so does each flush.
+fn comes_to<R: AllocGlobal + Threads + Wait + Sync + RandomSource>(
     rt: &R,
     job: Job,
+    script: &str,
+    wanted: Result<Outcome, ToolFault>,
     text: &str,
-    is_stuck: bool,
 ) -> bool
     requires { IsWithinLimits job }
 {
-    let mut input = STORE_AND_LOAD.as_bytes();
-    let mut output = Basin {
-        taken: Vec::new(rt.alloc()),
-        is_flushed: false,
-        is_stuck,
+    let mut input = script.as_bytes();
+    let mut output = Basin::new(rt.alloc(), wanted.is_err());
+    let found = match run(rt, job, false, &mut input, &mut output) {
+        Ok(outcome) => Ok(outcome),
+        Err(failure) => Err(failure.fault),
     };
-    let is_right = match run(rt, job, false, &mut input, &mut output) {
-        Ok(outcome) => outcome == Outcome::Done && output.is_flushed,
-        Err(failure) => is_stuck && failure.fault == ToolFault::WriteFailed,
-    };
-    is_right && output.taken.as_slice() == text.as_bytes()
+    found == wanted
+        && output.is_flushed == wanted.is_ok()
+        && output.taken.as_slice() == text.as_bytes()
 }
 
+/// That a job is done, and that its flush fails.
+const DONE_OR_STUCK: [Result<Outcome, ToolFault>; 2] = [
+    Ok(Outcome::Done),
+    Err(ToolFault::WriteFailed),
+];
+
 #[test]
-fn a_job_flushes_its_report(rt: HostRuntime) {
+fn a_job_flushes_its_report(rt: HostRuntime) -> Result<(), Fail> {
     let jobs = [
         Job::Replay {
             form: RunForm::Report(PLAIN),
@@ -100,13 +118,16 @@ fn a_job_flushes_its_report(rt: HostRuntime) {
         },
     ];
     for job in jobs {
-        assert!(rt; writes(&rt, job, STORED_AND_LOADED, false));
-        assert!(rt; writes(&rt, job, STORED_AND_LOADED, true));
+        for wanted in DONE_OR_STUCK {
+            let is_right = comes_to(&rt, job, STORE_AND_LOAD, wanted, STORED_AND_LOADED);
+            expect(is_right, "another report, or another end")?;
+        }
     }
+    Ok(())
 }
 
 #[test]
-fn a_job_flushes_the_script_that_it_keeps(rt: HostRuntime) {
+fn a_job_flushes_the_script_that_it_keeps(rt: HostRuntime) -> Result<(), Fail> {
     let race = |share, mix, finish| Job::Race {
         share,
         spins: 0,
@@ -123,75 +144,51 @@ fn a_job_flushes_the_script_that_it_keeps(rt: HostRuntime) {
         race(Share::Ring, Some(7), true),
     ];
     for job in jobs {
-        assert!(rt; writes(&rt, job, KEPT, false));
-        assert!(rt; writes(&rt, job, KEPT, true));
+        for wanted in DONE_OR_STUCK {
+            let is_right = comes_to(&rt, job, STORE_AND_LOAD, wanted, KEPT);
+            expect(is_right, "another script, or another end")?;
+        }
     }
+    Ok(())
 }
 
-/// What a check says of a script, by what came of it; none where the writer failed.
-fn checked<R: AllocGlobal + Threads + Wait + Sync + RandomSource>(
-    rt: &R,
-    script: &str,
-    is_stuck: bool,
-) -> (Option<Outcome>, Vec<u8>) {
-    let mut input = script.as_bytes();
-    let mut output = Basin {
-        taken: Vec::new(rt.alloc()),
-        is_flushed: false,
-        is_stuck,
-    };
-    let outcome = match run(rt, Job::Check, false, &mut input, &mut output) {
-        Ok(outcome) if output.is_flushed => Some(outcome),
-        _ => None,
-    };
-    (outcome, output.taken)
+/// Scripts, what a check comes to, and what it says.
+const CHECKS: [(&str, Outcome, &str); 2] = [
+    (
+        STORE_AND_LOAD,
+        Outcome::Done,
+        "ok: 1 block, 1 view, 1 agent, 2 calls, 6 moves\n",
+    ),
+    (
+        "[1",
+        Outcome::Refused,
+        "line 1, column 2: 16 NotJson: the text ends too early\n",
+    ),
+];
+
+#[test]
+fn a_check_flushes_what_it_says(rt: HostRuntime) -> Result<(), Fail> {
+    for (script, outcome, text) in CHECKS {
+        for wanted in [Ok(outcome), Err(ToolFault::WriteFailed)] {
+            let is_right = comes_to(&rt, Job::Check, script, wanted, text);
+            expect(is_right, script)?;
+        }
+    }
+    Ok(())
 }
 
 #[test]
-fn a_check_flushes_what_it_says(rt: HostRuntime) {
-    let said = b"ok: 1 block, 1 view, 1 agent, 2 calls, 6 moves\n";
-    let refused = b"line 1, column 2: 16 NotJson: the text ends too early\n";
-    for (script, outcome, text) in [
-        (STORE_AND_LOAD, Outcome::Done, said.as_slice()),
-        ("[1", Outcome::Refused, refused.as_slice()),
-    ] {
-        let (found, taken) = checked(&rt, script, false);
-        assert!(rt; found == Some(outcome) && taken.as_slice() == text);
-        let (found, taken) = checked(&rt, script, true);
-        assert!(rt; found.is_none() && taken.as_slice() == text);
-    }
-}
-
-/// What a judge says of a script's run, by what came of it; none where the writer failed.
-fn judged<R: AllocGlobal + Threads + Wait + Sync + RandomSource>(
-    rt: &R,
-    script: &str,
-    is_stuck: bool,
-) -> (Option<Outcome>, Vec<u8>) {
-    let mut input = script.as_bytes();
-    let mut output = Basin {
-        taken: Vec::new(rt.alloc()),
-        is_flushed: false,
-        is_stuck,
-    };
+fn a_judge_flushes_what_it_says(rt: HostRuntime) -> Result<(), Fail> {
     let job = Job::Judge {
         format: VerdictFormat::Plain,
         finish: true,
     };
-    let outcome = match run(rt, job, false, &mut input, &mut output) {
-        Ok(outcome) if output.is_flushed => Some(outcome),
-        _ => None,
-    };
-    (outcome, output.taken)
-}
-
-#[test]
-fn a_judge_flushes_what_it_says(rt: HostRuntime) {
-    let said = "no data race: 2 accesses by 1 agent\n".as_bytes();
-    let (found, taken) = judged(&rt, STORE_AND_LOAD, false);
-    assert!(rt; found == Some(Outcome::Done) && taken.as_slice() == said);
-    let (found, taken) = judged(&rt, STORE_AND_LOAD, true);
-    assert!(rt; found.is_none() && taken.as_slice() == said);
+    let said = "no data race: 2 accesses by 1 agent\n";
+    for wanted in DONE_OR_STUCK {
+        let is_right = comes_to(&rt, job, STORE_AND_LOAD, wanted, said);
+        expect(is_right, "another verdict, or another end")?;
+    }
+    Ok(())
 }
 
 /// Two agents that write one byte.
@@ -200,63 +197,76 @@ const RACY_TRACE: &str =
 {"event":1,"agent":1,"call":0,"does":"write","block":0,"byte":7,"size":1,"read":false,"write":true,"atomic":false,"waiters":false,"source":null}
 "#;
 
-/// What a judge says of a trace, by what came of it; or what is said where it is refused.
-fn judged_trace(
+/// Whether a judge says this of a trace, which is racy; or whether it says this and then complains so.
+fn is_judged(
     alloc: Global,
     trace: &str,
     is_stuck: bool,
-) -> Result<(Option<Outcome>, Vec<u8>, String), Fail> {
+    text: &str,
+    complaint: Option<&str>,
+) -> Result<bool, AllocError> {
     let mut input = trace.as_bytes();
-    let mut output = Basin {
-        taken: Vec::new(alloc),
-        is_flushed: false,
-        is_stuck,
-    };
+    let mut output = Basin::new(alloc, is_stuck);
     let answer = judge_trace(alloc, VerdictFormat::Plain, &mut input, &mut output);
-    let (outcome, complaint) = match answer {
-        Ok(outcome) if output.is_flushed => (Some(outcome), String::new(alloc)),
-        Ok(_) => (None, String::new(alloc)),
+    if output.taken.as_slice() != text.as_bytes() {
+        return Ok(false);
+    }
+    match answer {
+        Ok(outcome) => Ok(outcome == Outcome::Racy && output.is_flushed && complaint.is_none()),
         Err(failure) => {
-            let complaint = failure.complaint(Source::Standard);
-            (None, complaint.to_string(alloc)?)
+            let found = failure.complaint(Source::Standard).to_string(alloc)?;
+            Ok(complaint == Some(found.as_str()))
         }
-    };
-    Ok((outcome, output.taken, complaint))
-}
-
-#[test]
-fn a_trace_is_judged_or_refused(rt: HostRuntime) -> Result<(), Fail> {
-    let told =
-        "data race at byte 7 of block 0: agent 0 writes byte 7 at 0, agent 1 writes byte 7 at 1; nothing of agent 0 happens before 1\n".as_bytes();
-    let (outcome, taken, complaint) = judged_trace(rt.alloc(), RACY_TRACE, false)?;
-    assert!(rt; outcome == Some(Outcome::Racy) && taken.as_slice() == told && complaint.is_empty());
-    let (outcome, taken, complaint) = judged_trace(rt.alloc(), RACY_TRACE, true)?;
-    assert!(rt; outcome.is_none() && taken.as_slice() == told);
-    assert!(rt; complaint.as_str() == "sabsim: 17 WriteFailed\n");
-    let (outcome, taken, complaint) = judged_trace(rt.alloc(), "{}\n", false)?;
-    assert!(rt; outcome.is_none() && taken.is_empty());
-    assert!(rt; complaint.as_str() == "sabsim: 10 BadShape: line 1\n");
-    Ok(())
-}
-
-#[test]
-fn a_check_without_room_for_what_it_says_fails(rt: HostRuntime) {
-    for script in [STORE_AND_LOAD, "[1"] {
-        let mut room = [0; 8];
-        let mut input = script.as_bytes();
-        let mut rest = room.as_mut_slice();
-        let answer = run(&rt, Job::Check, false, &mut input, &mut rest);
-        let fault = answer.err().map(|failure| failure.fault);
-        assert!(rt; fault == Some(ToolFault::WriteFailed));
     }
 }
 
-/// What is said of a replay of a script that is refused, where the script is read from a file.
-fn complaint<R: AllocGlobal + Threads + Wait + Sync + RandomSource>(
+/// What is said of that trace.
+const ITS_RACE: &str =
+    "data race at byte 7 of block 0: agent 0 writes byte 7 at 0, agent 1 writes byte 7 at 1; nothing of agent 0 happens before 1\n";
+
+#[test]
+fn a_trace_is_judged_or_refused(rt: HostRuntime) -> Result<(), Fail> {
+    let alloc = rt.alloc();
+    let is_told = is_judged(alloc, RACY_TRACE, false, ITS_RACE, None)?;
+    expect(is_told, "another verdict")?;
+    let complaint = Some("sabsim: 17 WriteFailed\n");
+    let is_stuck = is_judged(alloc, RACY_TRACE, true, ITS_RACE, complaint)?;
+    expect(is_stuck, "a flush that fails isn't told")?;
+    let complaint = Some("sabsim: 10 BadShape: line 1\n");
+    let is_refused = is_judged(alloc, "{}\n", false, "", complaint)?;
+    expect(is_refused, "another refusal")
+}
+
+/// Why a check fails that has eight bytes of room.
+fn fault_without_room<R: AllocGlobal + Threads + Wait + Sync + RandomSource>(
+    rt: &R,
+    script: &str,
+) -> Option<ToolFault> {
+    let mut room = [0; 8];
+    let mut input = script.as_bytes();
+    let mut rest = room.as_mut_slice();
+    match run(rt, Job::Check, false, &mut input, &mut rest) {
+        Ok(_) => None,
+        Err(failure) => Some(failure.fault),
+    }
+}
+
+#[test]
+fn a_check_without_room_for_what_it_says_fails(rt: HostRuntime) -> Result<(), Fail> {
+    for script in [STORE_AND_LOAD, "[1"] {
+        let fault = fault_without_room(&rt, script);
+        expect(fault == Some(ToolFault::WriteFailed), script)?;
+    }
+    Ok(())
+}
+
+/// Whether this is said of a replay of a script that is refused, where the script is read from a file.
+fn complains<R: AllocGlobal + Threads + Wait + Sync + RandomSource>(
     rt: &R,
     script: &str,
     explain: bool,
-) -> Result<String, Fail> {
+    text: &str,
+) -> Result<bool, AllocError> {
     let mut input = script.as_bytes();
     let mut output = Vec::new(rt.alloc());
     let job = Job::Replay {
@@ -264,41 +274,58 @@ fn complaint<R: AllocGlobal + Threads + Wait + Sync + RandomSource>(
         finish: false,
     };
     match run(rt, job, explain, &mut input, &mut output) {
-        Ok(_) => Err(Fail::new("it isn't refused")),
+        Ok(_) => Ok(false),
         Err(failure) => {
             let complaint = failure.complaint(Source::File("script.json"));
-            Ok(complaint.to_string(rt.alloc())?)
+            Ok(complaint.to_string(rt.alloc())?.as_str() == text)
         }
     }
 }
 
+/// Scripts, whether an explanation is asked for, and what is said.
+const COMPLAINTS: [(&str, bool, &str); 3] = [
+    ("[1", false, "sabsim: 16 NotJson\n"),
+    (
+        "[1",
+        true,
+        "sabsim: 16 NotJson\nline 1, column 2: 16 NotJson: the text ends too early\n",
+    ),
+    (
+        "[]",
+        true,
+        "sabsim: 10 BadShape\nscript: 10 BadShape: an object is called for\n",
+    ),
+];
+
 #[test]
 fn a_refusal_is_explained_where_that_is_asked_for(rt: HostRuntime) -> Result<(), Fail> {
-    let short = complaint(&rt, "[1", false)?;
-    assert!(rt; short.as_str() == "sabsim: 16 NotJson\n");
-    let long = complaint(&rt, "[1", true)?;
-    let told = "sabsim: 16 NotJson\nline 1, column 2: 16 NotJson: the text ends too early\n";
-    assert!(rt; long.as_str() == told);
-    let tree = complaint(&rt, "[]", true)?;
-    let told = "sabsim: 10 BadShape\nscript: 10 BadShape: an object is called for\n";
-    assert!(rt; tree.as_str() == told);
+    for (script, explain, text) in COMPLAINTS {
+        expect(complains(&rt, script, explain, text)?, text)?;
+    }
     Ok(())
 }
 
-/// What is said of a file of this name that isn't there.
-fn unopened(alloc: Global, name: &str) -> Result<String, Fail> {
+/// Whether this is said of a file of this name that isn't there.
+fn is_unopened(alloc: Global, name: &str, text: &str) -> Result<bool, AllocError> {
     let failure = Failure::of_open(&io::ErrorKind::NotFound.into());
-    Ok(failure.complaint(Source::File(name)).to_string(alloc)?)
+    let complaint = failure.complaint(Source::File(name)).to_string(alloc)?;
+    Ok(complaint.as_str() == text)
 }
+
+/// Names, and what is said of files of them.
+const UNOPENED: [(&str, &str); 2] = [
+    (
+        "d\u{e9}j\u{e0} vu.json",
+        "sabsim: 19 ReadFailed: d\u{e9}j\u{e0} vu.json\n",
+    ),
+    ("two\nlines", "sabsim: 19 ReadFailed\n"),
+];
 
 #[test]
 fn a_file_that_cannot_be_opened_is_named_in_one_line(rt: HostRuntime) -> Result<(), Fail> {
-    let alloc = rt.alloc();
-    let named = unopened(alloc, "d\u{e9}j\u{e0} vu.json")?;
-    assert!(rt; named.as_str() == "sabsim: 19 ReadFailed: d\u{e9}j\u{e0} vu.json\n");
-    let unnamed = unopened(alloc, "two\nlines")?;
-    assert!(rt; unnamed.as_str() == "sabsim: 19 ReadFailed\n");
+    for (name, text) in UNOPENED {
+        expect(is_unopened(rt.alloc(), name, text)?, text)?;
+    }
     let failure = Failure::of_open(&io::ErrorKind::OutOfMemory.into());
-    assert!(rt; failure.fault == ToolFault::OutOfMemory);
-    Ok(())
+    expect(failure.fault == ToolFault::OutOfMemory, "another fault")
 }

@@ -1,5 +1,6 @@
 //! Runs that are kept as scripts.
 
+use crate::expecting::expect;
 use sab_kept::{keep_race, keep_replay, move_told_by};
 use sab_sim::Progress;
 use sab_tool::{Share, ToolFault, replay_bytes, write_report};
@@ -40,40 +41,55 @@ const TWO_AGENTS: &str = r#"{"blocks":[4,8],
     {"block":false,"calls":[["store","b",0,"-7"],["store","a",0,1],["notify","a",0,1]]}],
   "schedule":[]}"#;
 
-/// The script that a replay is kept as.
-fn kept(alloc: Global, script: &str) -> Result<Vec<u8>, ToolFault> {
+/// Whether a replay of a script is kept as this text.
+fn is_kept(alloc: Global, script: &str, kept: &str) -> Result<bool, ToolFault> {
     let mut text = Vec::new(alloc);
     keep_replay(alloc, script.as_bytes(), &mut text)?;
-    Ok(text)
+    Ok(text.as_slice() == kept.as_bytes())
 }
 
 #[test]
 fn a_replay_is_kept_in_the_canonical_text(rt: HostRuntime) -> Result<(), Fail> {
     for script in [TIMED, TIMED_TEXT] {
-        let text = kept(rt.alloc(), script)?;
-        assert!(rt; text.as_slice() == TIMED_TEXT.as_bytes());
+        expect(is_kept(rt.alloc(), script, TIMED_TEXT)?, script)?;
     }
     Ok(())
 }
 
-#[test]
-fn a_replay_answers_its_report(rt: HostRuntime) -> Result<(), Fail> {
-    let mut text = Vec::new(rt.alloc());
-    let report = keep_replay(rt.alloc(), TIMED.as_bytes(), &mut text)?;
+/// Whether by the report of a replay that is kept one agent made none of its one call.
+fn is_unfinished(alloc: Global, script: &str) -> Result<bool, ToolFault> {
+    let mut text = Vec::new(alloc);
+    let report = keep_replay(alloc, script.as_bytes(), &mut text)?;
     let unfinished = Progress {
         returned: 0,
         total: 1,
     };
-    assert!(rt; report.agents.as_slice() == [unfinished].as_slice());
-    Ok(())
+    Ok(report.agents.as_slice() == [unfinished].as_slice())
+}
+
+#[test]
+fn a_replay_answers_its_report(rt: HostRuntime) -> Result<(), Fail> {
+    expect(is_unfinished(rt.alloc(), TIMED)?, "another report")
+}
+
+/// Whether a race of a script is kept as this text.
+fn is_race_kept<R: Threads + Wait + Sync>(
+    rt: &R,
+    alloc: Global,
+    share: Share,
+    script: &str,
+    kept: &str,
+) -> Result<bool, ToolFault> {
+    let mut text = Vec::new(alloc);
+    keep_race(rt, alloc, script.as_bytes(), share, 1, 7, &mut text)?;
+    Ok(text.as_slice() == kept.as_bytes())
 }
 
 #[test]
 fn a_race_is_kept_with_its_moves(rt: HostRuntime) -> Result<(), Fail> {
     for share in [Share::Lock, Share::Ring] {
-        let mut text = Vec::new(rt.alloc());
-        keep_race(&rt, rt.alloc(), TIMED.as_bytes(), share, 1, 7, &mut text)?;
-        assert!(rt; text.as_slice() == TIMED_RACE.as_bytes());
+        let is_kept = is_race_kept(&rt, rt.alloc(), share, TIMED, TIMED_RACE)?;
+        expect(is_kept, "another text")?;
     }
     Ok(())
 }
@@ -109,7 +125,8 @@ fn comes_back<R: Threads + Wait + Sync>(
 fn a_race_that_is_kept_comes_back(rt: HostRuntime) -> Result<(), Fail> {
     for share in [Share::Lock, Share::Ring] {
         for seed in 0..20 {
-            assert!(rt; comes_back(&rt, rt.alloc(), share, seed)?);
+            let is_back = comes_back(&rt, rt.alloc(), share, seed)?;
+            expect(is_back, "another report, or other moves")?;
         }
     }
     Ok(())
@@ -127,24 +144,46 @@ fn crowd(alloc: Global, call: &str) -> Result<String, AllocError> {
     )
 }
 
-#[test]
-fn a_race_of_too_many_moves_is_not_kept(rt: HostRuntime) -> Result<(), Fail> {
-    let script = crowd(rt.alloc(), r#"["wait","a",0,1]"#)?;
-    for share in [Share::Lock, Share::Ring] {
-        let mut text = Vec::new(rt.alloc());
-        let answer = keep_race(&rt, rt.alloc(), script.as_bytes(), share, 2, 0, &mut text);
-        assert!(rt; matches!(answer, Err(ToolFault::TooMany)) && text.is_empty());
-    }
-    Ok(())
+/// Whether a race of a script is refused for too many moves, with nothing written.
+fn has_too_many_moves<R: Threads + Wait + Sync>(
+    rt: &R,
+    alloc: Global,
+    share: Share,
+    script: &str,
+) -> bool {
+    let mut text = Vec::new(alloc);
+    let answer = keep_race(rt, alloc, script.as_bytes(), share, 2, 0, &mut text);
+    matches!(answer, Err(ToolFault::TooMany)) && text.is_empty()
 }
 
 #[test]
+fn a_race_of_too_many_moves_is_not_kept(rt: HostRuntime) -> Result<(), Fail> {
+    let script = crowd(rt.alloc(), r#"["wait","a",0,1]"#)?;
+    let are_refused = [Share::Lock, Share::Ring].map(|share| has_too_many_moves(
+        &rt,
+        rt.alloc(),
+        share,
+        script.as_str(),
+    ));
+    expect(are_refused == [true; 2], "too many moves are kept")
+}
+
+/// Whether a replay of a script isn't kept since its text is too long, with nothing written.
+fn is_too_long(alloc: Global, script: &str) -> bool {
+    let mut text = Vec::new(alloc);
+    let answer = keep_replay(alloc, script.as_bytes(), &mut text);
+    matches!(answer, Err(ToolFault::TooMany)) && text.is_empty()
+}
+
+/// A call whose numbers are as long as they can be.
+const LONG_CALL: &str =
+    r#"["compareExchange","a",9007199254740991,9007199254740991,9007199254740991]"#;
+
+#[test]
 fn a_text_that_is_too_long_is_not_kept(rt: HostRuntime) -> Result<(), Fail> {
-    let far = "9007199254740991";
-    let call = format!(in rt.alloc(); r#"["compareExchange","a",{far},{far},{far}]"#)?;
-    let script = crowd(rt.alloc(), call.as_str())?;
-    let mut text = Vec::new(rt.alloc());
-    let answer = keep_replay(rt.alloc(), script.as_bytes(), &mut text);
-    assert!(rt; matches!(answer, Err(ToolFault::TooMany)) && text.is_empty());
-    Ok(())
+    let script = crowd(rt.alloc(), LONG_CALL)?;
+    expect(
+        is_too_long(rt.alloc(), script.as_str()),
+        "a long text is kept",
+    )
 }

@@ -8,6 +8,8 @@ mod command_lines;
 #[cfg(test)]
 mod devices;
 #[cfg(test)]
+mod expecting;
+#[cfg(test)]
 mod explaining;
 #[cfg(test)]
 mod faults;
@@ -15,8 +17,6 @@ mod faults;
 mod jobs;
 #[cfg(test)]
 mod keeping;
-#[cfg(test)]
-mod parts;
 #[cfg(test)]
 mod racing;
 #[cfg(test)]

@@ -2,6 +2,7 @@
 
 ghost use Rattle.std.specs.Prelude.{◌≤◌};
 
+use crate::expecting::expect;
 use crate::scripts::{STORE_AND_LOAD, STORED_AND_LOADED};
 use sab_tool::{MAX_SPINS, Share, ToolFault, race_bytes, race_mixed};
 use std::alloc::{AllocError, Global};
@@ -45,8 +46,8 @@ fn gives<R: Threads + Wait + Sync>(
 
 #[test]
 fn one_agent_alone_races_as_it_is_replayed(rt: HostRuntime) -> Result<(), Fail> {
-    assert!(rt; gives(&rt, rt.alloc(), STORE_AND_LOAD, 0, STORED_AND_LOADED)?);
-    Ok(())
+    let is_given = gives(&rt, rt.alloc(), STORE_AND_LOAD, 0, STORED_AND_LOADED)?;
+    expect(is_given, "another report")
 }
 
 #[test]
@@ -61,8 +62,7 @@ fn a_wait_with_a_timeout_ends_after_its_spins(rt: HostRuntime) -> Result<(), Fai
 block 0 00000000
 agent 0 1 of 1
 ";
-    assert!(rt; gives(&rt, rt.alloc(), TIMED, 1, report)?);
-    Ok(())
+    expect(gives(&rt, rt.alloc(), TIMED, 1, report)?, "another report")
 }
 
 #[test]
@@ -77,8 +77,10 @@ fn a_wait_without_a_timeout_stays(rt: HostRuntime) -> Result<(), Fail> {
 block 0 00000000
 agent 0 0 of 1
 ";
-    assert!(rt; gives(&rt, rt.alloc(), ENDLESS, 1, report)?);
-    Ok(())
+    expect(
+        gives(&rt, rt.alloc(), ENDLESS, 1, report)?,
+        "another report",
+    )
 }
 
 /// Whether the race of a script is refused for too many moves, with nothing written.
@@ -110,10 +112,13 @@ fn many_waits(alloc: Global, agents: usize) -> Result<String, AllocError> {
 #[test]
 fn too_many_moves_are_refused(rt: HostRuntime) -> Result<(), Fail> {
     let script = many_waits(rt.alloc(), 2)?;
-    for share in [Share::Lock, Share::Ring] {
-        assert!(rt; has_too_many_moves(&rt, rt.alloc(), script.as_str(), share));
-    }
-    Ok(())
+    let are_refused = [Share::Lock, Share::Ring].map(|share| has_too_many_moves(
+        &rt,
+        rt.alloc(),
+        script.as_str(),
+        share,
+    ));
+    expect(are_refused == [true; 2], "too many moves are made")
 }
 
 /// Whether the race of a script with 1,005,000 moves is told to its end.
@@ -131,8 +136,7 @@ fn is_told<R: Threads + Wait + Sync>(
 #[test]
 fn as_many_moves_as_a_thousand_waits_have_are_told(rt: HostRuntime) -> Result<(), Fail> {
     let script = many_waits(rt.alloc(), 1)?;
-    for share in [Share::Lock, Share::Ring] {
-        assert!(rt; is_told(&rt, rt.alloc(), script.as_str(), share)?);
-    }
-    Ok(())
+    let is_locked_told = is_told(&rt, rt.alloc(), script.as_str(), Share::Lock)?;
+    let is_ring_told = is_told(&rt, rt.alloc(), script.as_str(), Share::Ring)?;
+    expect(is_locked_told && is_ring_told, "another end")
 }

@@ -1,6 +1,6 @@
 //! The text of a report.
 
-use crate::parts::number;
+use crate::expecting::expect;
 use crate::scripts::{STORE_AND_LOAD, STORED_AND_LOADED, replayed};
 use sab_block::{Operand, Thrown};
 use sab_sim::{Answer, Entry, Progress, Report, What, Why};
@@ -76,19 +76,18 @@ fn an_entry_is_one_line(rt: HostRuntime) -> Result<(), Fail> {
         (What::Stuck(Why::Endless), "stuck endless"),
     ];
     for (what, end) in table {
-        assert!(rt; is_line(rt.alloc(), what, end)?, "{end}");
+        expect(is_line(rt.alloc(), what, end)?, end)?;
     }
     Ok(())
 }
 
 #[test]
 fn an_answer_ends_its_line(rt: HostRuntime) -> Result<(), Fail> {
+    let zero = Operand::number(0).ok_or("no safe integer")?;
+    let least = Operand::number(-9_007_199_254_740_991).ok_or("no safe integer")?;
     let table = [
-        (Answer::Value(number(0)?), "return 0"),
-        (
-            Answer::Value(number(-9_007_199_254_740_991)?),
-            "return -9007199254740991",
-        ),
+        (Answer::Value(zero), "return 0"),
+        (Answer::Value(least), "return -9007199254740991"),
         (Answer::Value(Operand::big(7)), "return 7n"),
         (
             Answer::Value(Operand::big(i128::MIN)),
@@ -102,21 +101,24 @@ fn an_answer_ends_its_line(rt: HostRuntime) -> Result<(), Fail> {
         (Answer::Threw(Thrown::RangeError), "return RangeError"),
     ];
     for (answer, end) in table {
-        assert!(rt; is_line(rt.alloc(), What::Returned(answer), end)?, "{end}");
+        expect(is_line(rt.alloc(), What::Returned(answer), end)?, end)?;
     }
     Ok(())
+}
+
+/// Whether the report of so many entries ends in this.
+fn ends_with(alloc: Global, entries: usize, end: &[u8]) -> Result<bool, Fail> {
+    let mut report = empty(alloc);
+    report.journal = vec![in alloc; entry(What::Began); entries]?;
+    Ok(text_of(alloc, &report)?.ends_with(end))
 }
 
 #[test]
 fn a_report_of_as_many_entries_as_a_journal_can_have_is_written(
     rt: HostRuntime,
 ) -> Result<(), Fail> {
-    let alloc = rt.alloc();
-    let mut report = empty(alloc);
-    report.journal = vec![in alloc; entry(What::Began); 1_048_576]?;
-    let text = text_of(alloc, &report)?;
-    assert!(rt; text.ends_with(b"\n1048575 15 999 begin\n"));
-    Ok(())
+    let is_written = ends_with(rt.alloc(), 1_048_576, b"\n1048575 15 999 begin\n")?;
+    expect(is_written, "another end")
 }
 
 /// Whether the report of these blocks has these lines, and then those of its agents.
@@ -129,8 +131,7 @@ fn are_lines(alloc: Global, blocks: Vec<Vec<u8>>, lines: &str) -> Result<bool, F
 #[test]
 fn a_report_of_no_block_has_no_line_for_one(rt: HostRuntime) -> Result<(), Fail> {
     let alloc = rt.alloc();
-    assert!(rt; are_lines(alloc, Vec::new(alloc), "")?);
-    Ok(())
+    expect(are_lines(alloc, Vec::new(alloc), "")?, "other lines")
 }
 
 #[test]
@@ -140,8 +141,7 @@ fn each_block_is_one_line(rt: HostRuntime) -> Result<(), Fail> {
     let last = Vec::from_array(alloc, [0x07, 0x00, 0x00, 0x00])?;
     let blocks = Vec::from_array(alloc, [first, Vec::new(alloc), last])?;
     let lines = "block 0 000fa9ff\nblock 1 -\nblock 2 07000000\n";
-    assert!(rt; are_lines(alloc, blocks, lines)?);
-    Ok(())
+    expect(are_lines(alloc, blocks, lines)?, "other lines")
 }
 
 #[test]
@@ -151,14 +151,16 @@ fn a_long_block_is_written_whole(rt: HostRuntime) -> Result<(), Fail> {
     let blocks = Vec::from_array(alloc, [block])?;
     let digits = "c5".repeat(alloc, 20_000)?;
     let line = format!(in alloc; "block 0 {digits}\n")?;
-    assert!(rt; are_lines(alloc, blocks, line.as_str())?);
-    Ok(())
+    let is_whole = are_lines(alloc, blocks, line.as_str())?;
+    expect(is_whole, "other lines")
 }
 
 #[test]
 fn a_replayed_report_has_the_text_that_its_script_gives(rt: HostRuntime) -> Result<(), Fail> {
     let alloc = rt.alloc();
     let text = text_of(alloc, &replayed(alloc, STORE_AND_LOAD)?)?;
-    assert!(rt; text.as_slice() == STORED_AND_LOADED.as_bytes());
-    Ok(())
+    expect(
+        text.as_slice() == STORED_AND_LOADED.as_bytes(),
+        "another text",
+    )
 }

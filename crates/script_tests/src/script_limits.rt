@@ -1,5 +1,6 @@
 //! Scripts at the ends of their limits.
 
+use crate::expecting::expect;
 use sab_tool::{MAX_INPUT, ToolFault, read_input, replay_bytes};
 use std::alloc::{AllocError, Global};
 use std::test::Fail;
@@ -79,23 +80,23 @@ fn is_replayed(alloc: Global, head: &str, blocks: usize) -> Result<bool, Fail> {
 #[test]
 fn a_script_at_its_limits_has_its_whole_report(rt: HostRuntime) -> Result<(), Fail> {
     for (head, blocks) in [(OLD, 1), (NEW, 4)] {
-        assert!(rt; is_replayed(rt.alloc(), head, blocks)?, "{blocks} blocks");
+        expect(is_replayed(rt.alloc(), head, blocks)?, head)?;
     }
     Ok(())
 }
 
-/// Whether a script is refused for too many of something, with nothing written.
-fn is_too_many(alloc: Global, script: &str) -> bool {
+/// Whether a script of so many moves is refused for too many of something, with nothing written.
+fn is_too_many(alloc: Global, head: &str, moves: usize) -> Result<bool, AllocError> {
+    let script = script(alloc, head, moves)?;
     let mut text = Vec::new(alloc);
     let answer = replay_bytes(alloc, script.as_bytes(), &mut text);
-    answer == Err(ToolFault::TooMany) && text.is_empty()
+    Ok(answer == Err(ToolFault::TooMany) && text.is_empty())
 }
 
 #[test]
 fn one_move_more_is_too_many(rt: HostRuntime) -> Result<(), Fail> {
     for head in [OLD, NEW] {
-        let script = script(rt.alloc(), head, 100_001)?;
-        assert!(rt; is_too_many(rt.alloc(), script.as_str()), "{head}");
+        expect(is_too_many(rt.alloc(), head, 100_001)?, head)?;
     }
     Ok(())
 }

@@ -1,5 +1,6 @@
 //! The functions of `Atomics` that calls are of.
 
+use crate::expecting::expect;
 use crate::run::{compare_exchange, load, notify, number, rmw, store, wait};
 use sab_block::RmwOp;
 use sab_sim::Call;
@@ -7,7 +8,7 @@ use std::test::Fail;
 
 #[test]
 fn a_call_names_its_function(rt: HostRuntime) -> Result<(), Fail> {
-    let one = number(1)?;
+    let one = number(1);
     let accesses = [
         (load(0), "load"),
         (store(0, one), "store"),
@@ -21,9 +22,8 @@ fn a_call_names_its_function(rt: HostRuntime) -> Result<(), Fail> {
     ];
     for (access, function) in accesses {
         let call = Call::Access { view: 0, access };
-        assert_eq!(rt; call.function(), function);
+        expect(call.function() == function, function)?;
     }
-    assert_eq!(rt; wait(0, 0, None)?.function(), "wait");
-    assert_eq!(rt; notify(0, 0, None).function(), "notify");
-    Ok(())
+    expect(wait(0, 0, None).function() == "wait", "wait")?;
+    expect(notify(0, 0, None).function() == "notify", "notify")
 }

@@ -1,10 +1,11 @@
 //! Plans that are made or refused, and the parts of one.
 
-use crate::expecting::expect;
+use crate::expecting::{expect, expect_of};
 use crate::run::{notify, plan, plan_or_fault, wait, whole};
+use crate::values::prints;
 use sab_block::{Access, Kind};
-use sab_sim::{Call, Plan, PlanFault, PlanView, SimFault};
-use std::alloc::Global;
+use sab_sim::{Call, Plan, PlanFault, PlanView, Script, SimFault};
+use std::alloc::{AllocError, Global};
 use std::test::Fail;
 
 const LOAD: Call = Call::Access {
@@ -12,27 +13,60 @@ const LOAD: Call = Call::Access {
     access: Access::Load { index: 0 },
 };
 
+/// The lengths of blocks, the block and the block's length of views, agents, and why there is no plan of them.
+type Parts = (
+    &'static [u32],
+    &'static [(u32, u32)],
+    &'static [(bool, &'static [Call])],
+    Option<PlanFault>,
+);
+
+const PARTS: [Parts; 9] = [
+    (&[65_536; 4], &[], &[], None),
+    (&[65_537], &[], &[], Some(PlanFault::TooMany)),
+    (&[4, 4, 4, 65_537], &[], &[], Some(PlanFault::TooMany)),
+    (&[u32::MAX], &[], &[], Some(PlanFault::TooMany)),
+    (&[0; 5], &[], &[], Some(PlanFault::TooMany)),
+    (&[], &[], &[], Some(PlanFault::NoBlock)),
+    (&[4], &[(1, 4)], &[], Some(PlanFault::NoBlock)),
+    (&[4], &[(0, 8)], &[], Some(PlanFault::NoView)),
+    (&[4], &[], &[(true, &[LOAD])], Some(PlanFault::NoView)),
+];
+
+/// Int32 views, each of a whole block of this length.
+fn words(alloc: Global, blocks: &[(u32, u32)]) -> Result<Vec<PlanView>, Fail> {
+    let mut views = Vec::new(alloc);
+    for &(block, block_len) in blocks {
+        views.push(whole(Kind::Int32, block, block_len)?)?;
+    }
+    Ok(views)
+}
+
+/// Why there is no plan of these parts.
+fn fault_of(alloc: Global, (lens, blocks, agents, _): Parts) -> Result<Option<PlanFault>, Fail> {
+    let views = words(alloc, blocks)?;
+    Ok(plan_or_fault(alloc, lens, &views, agents)?.err())
+}
+
 #[test]
 fn parts_that_do_not_fit_are_refused(rt: HostRuntime) -> Result<(), Fail> {
-    let on_second_block = [whole(Kind::Int32, 1, 4)?];
-    let longer = [whole(Kind::Int32, 0, 8)?];
-    let load: [(bool, &[Call]); 1] = [(true, &[LOAD])];
-    let table: [(&[u32], &[PlanView], &[(bool, &[Call])], Option<PlanFault>); 9] = [
-        (&[65_536; 4], &[], &[], None),
-        (&[65_537], &[], &[], Some(PlanFault::TooMany)),
-        (&[4, 4, 4, 65_537], &[], &[], Some(PlanFault::TooMany)),
-        (&[u32::MAX], &[], &[], Some(PlanFault::TooMany)),
-        (&[0; 5], &[], &[], Some(PlanFault::TooMany)),
-        (&[], &[], &[], Some(PlanFault::NoBlock)),
-        (&[4], &on_second_block, &[], Some(PlanFault::NoBlock)),
-        (&[4], &longer, &[], Some(PlanFault::NoView)),
-        (&[4], &[], &load, Some(PlanFault::NoView)),
-    ];
-    for (lens, views, agents, fault) in table {
-        let found = plan_or_fault(rt.alloc(), lens, views, agents)?.err();
-        expect(found == fault, "another fault")?;
+    for parts in PARTS {
+        expect_of(fault_of(rt.alloc(), parts)? == parts.3, &parts)?;
     }
     Ok(())
+}
+
+/// So many agents of so many calls.
+fn scripts(alloc: Global, agents: usize, calls: usize) -> Result<Vec<Script>, AllocError> {
+    let mut scripts = Vec::new(alloc);
+    for _ in 0..agents {
+        let calls = vec![in alloc; LOAD; calls]?;
+        scripts.push(Script {
+            can_block: true,
+            calls,
+        })?;
+    }
+    Ok(scripts)
 }
 
 /// A plan of so many views, and of so many agents of so many calls, if there can be one.
@@ -42,47 +76,50 @@ fn sized(
     agents: usize,
     calls: usize,
 ) -> Result<Result<Plan, PlanFault>, Fail> {
-    let views = vec![in alloc; whole(Kind::Int32, 0, 4)?; views]?;
-    let calls = vec![in alloc; LOAD; calls]?;
-    let agents = vec![in alloc; (true, calls.as_slice()); agents]?;
-    Ok(plan_or_fault(alloc, &[4], &views, &agents)?)
+    let view = whole(Kind::Int32, 0, 4)?;
+    let scripts = scripts(alloc, agents, calls)?;
+    let views = vec![in alloc; view; views]?;
+    Ok(Plan::new(Vec::from_array(alloc, [4])?, views, scripts))
 }
 
 #[test]
 fn one_more_than_a_limit_is_too_many(rt: HostRuntime) -> Result<(), Fail> {
     for (views, count, calls) in [(65, 16, 1_000), (64, 17, 1_000), (64, 16, 1_001)] {
-        let plan = sized(rt.alloc(), views, count, calls)?;
-        expect(
-            plan.err() == Some(PlanFault::TooMany),
-            "too many aren't refused",
-        )?;
+        let fault = sized(rt.alloc(), views, count, calls)?.err();
+        expect(fault == Some(PlanFault::TooMany), "too many aren't refused")?;
     }
     Ok(())
 }
 
-#[test]
-fn a_plan_at_its_limits_and_one_of_nothing_are_copied(rt: HostRuntime) -> Result<(), Fail> {
-    let full = sized(rt.alloc(), 64, 16, 1_000)?.ok().ok_or("no plan")?;
-    let copy = full.copy(rt.alloc())?;
-    let calls = copy.scripts().iter().map(|script| script.calls.len());
-    expect(
-        calls.eq([1_000; 16]) && copy.views().len() == 64,
-        "another size",
-    )?;
-    expect(copy == full, "another copy")?;
-    let empty = plan(rt.alloc(), &[0], &[], &[])?;
-    expect(
-        empty.copy(rt.alloc())? == empty && empty != full,
-        "another copy of nothing",
-    )?;
-    let idle = plan(rt.alloc(), &[0], &[], &[(true, &[])])?;
-    expect(
-        idle.copy(rt.alloc())? == idle && idle != empty,
-        "another copy of an agent without calls",
-    )
+/// Whether a plan has 64 views and 16 agents of 1,000 calls.
+fn is_full(plan: &Plan) -> bool {
+    let calls = plan.scripts().iter().map(|script| script.calls.len());
+    calls.eq([1_000; 16]) && plan.views().len() == 64
 }
 
-/// Whether a plan has these parts.
+/// Whether a plan and its copy are equal, and another plan differs.
+fn is_copied(alloc: Global, plan: &Plan, other: &Plan) -> Result<bool, AllocError> {
+    Ok(plan.copy(alloc)? == *plan && plan != other)
+}
+
+/// A plan of a block of no bytes, and of these agents.
+fn of_nothing(alloc: Global, agents: &[(bool, &[Call])]) -> Result<Plan, Fail> {
+    plan(alloc, &[0], &[], agents)
+}
+
+#[test]
+fn a_plan_at_its_limits_and_one_of_nothing_are_copied(rt: HostRuntime) -> Result<(), Fail> {
+    let alloc = rt.alloc();
+    let full = sized(alloc, 64, 16, 1_000)?.ok().ok_or("no plan")?;
+    expect(is_full(&full.copy(alloc)?), "another size")?;
+    let empty = of_nothing(alloc, &[])?;
+    let is_empty_copied = is_copied(alloc, &empty, &full)?;
+    let idle = of_nothing(alloc, &[(true, &[])])?;
+    let are_copied = is_copied(alloc, &full, &idle)? && is_copied(alloc, &idle, &empty)?;
+    expect(is_empty_copied && are_copied, "another copy")
+}
+
+/// Whether a plan has these parts, and of its two agents the first can block.
 fn has_parts(plan: &Plan, lens: &[u32], views: &[PlanView], calls: &[Call]) -> bool {
     let are_given = plan
         .scripts()
@@ -92,70 +129,85 @@ fn has_parts(plan: &Plan, lens: &[u32], views: &[PlanView], calls: &[Call]) -> b
     plan.block_lens() == lens && plan.views() == views && are_given && can_block.eq([true, false])
 }
 
+/// Whether the first agent's script and its copy are equal.
+fn is_script_copied(alloc: Global, plan: &Plan) -> Result<bool, AllocError> {
+    match plan.scripts().first() {
+        Some(script) => Ok(script.copy(alloc)? == *script),
+        None => Ok(false),
+    }
+}
+
 #[test]
 fn a_plan_and_its_copy_have_its_parts(rt: HostRuntime) -> Result<(), Fail> {
+    let alloc = rt.alloc();
     let views = [whole(Kind::Int32, 0, 4)?];
-    let calls = [wait(0, 0, None)?, notify(0, 0, Some(1))];
-    let made = plan(rt.alloc(), &[4], &views, &[(true, &calls), (false, &calls)])?;
-    expect(has_parts(&made, &[4], &views, &calls), "other parts")?;
-    let copy = made.copy(rt.alloc())?;
-    expect(
-        has_parts(&copy, &[4], &views, &calls) && copy == made,
-        "another copy",
-    )?;
-    let script = made.scripts().first().ok_or("no script")?;
-    expect(
-        script.copy(rt.alloc())? == *script,
-        "another copy of a script",
-    )
+    let calls = [wait(0, 0, None), notify(0, 0, Some(1))];
+    let made = plan(alloc, &[4], &views, &[(true, &calls), (false, &calls)])?;
+    let copy = made.copy(alloc)?;
+    let have_parts = has_parts(&made, &[4], &views, &calls)
+        && has_parts(&copy, &[4], &views, &calls);
+    let is_copied = copy == made && is_script_copied(alloc, &made)?;
+    expect(have_parts && is_copied, "other parts")
+}
+
+/// Whether a plan of a word at which its agent waits differs from the plan of these parts.
+fn differs(
+    alloc: Global,
+    plan_of_a_wait: &Plan,
+    lens: &[u32],
+    kind: Kind,
+    agent: (bool, &[Call]),
+) -> Result<bool, Fail> {
+    let other = plan(alloc, lens, &[whole(kind, 0, 4)?], &[agent])?;
+    Ok(other != *plan_of_a_wait && *plan_of_a_wait != other)
 }
 
 #[test]
 fn plans_of_other_parts_differ(rt: HostRuntime) -> Result<(), Fail> {
     let views = [whole(Kind::Int32, 0, 4)?];
-    let bytes = [whole(Kind::Uint8, 0, 4)?];
-    let calls = [wait(0, 0, None)?];
-    let others: [(&[u32], &[PlanView], (bool, &[Call])); 4] = [
-        (&[4, 4], &views, (true, &calls)),
-        (&[4], &bytes, (true, &calls)),
-        (&[4], &views, (false, &calls)),
-        (&[4], &views, (true, &[])),
+    let calls = [wait(0, 0, None)];
+    let made = plan(rt.alloc(), &[4], &views, &[(true, &calls)])?;
+    let others: [(&[u32], Kind, (bool, &[Call])); 4] = [
+        (&[4, 4], Kind::Int32, (true, &calls)),
+        (&[4], Kind::Uint8, (true, &calls)),
+        (&[4], Kind::Int32, (false, &calls)),
+        (&[4], Kind::Int32, (true, &[])),
     ];
-    for (lens, other_views, agent) in others {
-        let made = plan(rt.alloc(), &[4], &views, &[(true, &calls)])?;
-        let other = plan(rt.alloc(), lens, other_views, &[agent])?;
-        expect(other != made && made != other, "another plan is the same")?;
+    for (lens, kind, agent) in others {
+        let is_other = differs(rt.alloc(), &made, lens, kind, agent)?;
+        expect(is_other, "another plan is the same")?;
     }
     Ok(())
 }
 
+const PLAN_FAULTS: [(PlanFault, &str); 3] = [
+    (
+        PlanFault::TooMany,
+        "the plan has more of something than it can have",
+    ),
+    (
+        PlanFault::NoBlock,
+        "the plan has no block, or a view on a block that isn't there",
+    ),
+    (
+        PlanFault::NoView,
+        "a view doesn't fit its block, or a call is on a view that isn't there",
+    ),
+];
+
+const SIM_FAULTS: [(SimFault, &str); 3] = [
+    (SimFault::NoAgent, "the move names no agent"),
+    (SimFault::Full, "the journal is full"),
+    (SimFault::OutOfMemory, "there is no memory for the move"),
+];
+
 #[test]
 fn a_fault_prints_what_is_wrong(rt: HostRuntime) -> Result<(), Fail> {
-    let alloc = rt.alloc();
-    let plans = [
-        (
-            PlanFault::TooMany,
-            "the plan has more of something than it can have",
-        ),
-        (
-            PlanFault::NoBlock,
-            "the plan has no block, or a view on a block that isn't there",
-        ),
-        (
-            PlanFault::NoView,
-            "a view doesn't fit its block, or a call is on a view that isn't there",
-        ),
-    ];
-    for (fault, text) in plans {
-        assert_eq!(rt; fault.to_string(alloc)?.as_str(), text);
+    for (fault, text) in PLAN_FAULTS {
+        expect(prints(rt.alloc(), &fault, text)?, text)?;
     }
-    let moves = [
-        (SimFault::NoAgent, "the move names no agent"),
-        (SimFault::Full, "the journal is full"),
-        (SimFault::OutOfMemory, "there is no memory for the move"),
-    ];
-    for (fault, text) in moves {
-        assert_eq!(rt; fault.to_string(alloc)?.as_str(), text);
+    for (fault, text) in SIM_FAULTS {
+        expect(prints(rt.alloc(), &fault, text)?, text)?;
     }
     Ok(())
 }

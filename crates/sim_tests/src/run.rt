@@ -22,14 +22,13 @@ pub struct Run<'a> {
 }
 
 impl Run<'_> {
-    /// Whether these are the moves.
-    pub fn has_moves(&self, schedule: &[Move]) -> bool {
-        schedule.iter().eq(self.moves.iter().map(|(m, _)| m))
-    }
-
-    /// Whether this is what the moves did.
-    pub fn has_journal(&self, journal: &[Entry]) -> bool {
-        journal.iter().eq(self.moves.iter().map(|(_, entry)| entry))
+    /// Whether these are the moves, and this is what they did.
+    pub fn has_entries(&self, schedule: &[Move], journal: &[Entry]) -> bool {
+        let moves = schedule.iter().zip(journal).zip(self.moves);
+        schedule.len() == self.moves.len()
+            && journal.len() == self.moves.len()
+            && moves.into_iter().all(|((found, entry), (m, expected))| found == m
+                && entry == expected)
     }
 
     /// Whether a report is what is expected.
@@ -39,8 +38,7 @@ impl Run<'_> {
             .agents
             .iter()
             .map(|agent| (agent.returned, agent.total));
-        self.has_moves(&report.schedule)
-            && self.has_journal(&report.journal)
+        self.has_entries(&report.schedule, &report.journal)
             && blocks.eq(self.blocks.iter().copied())
             && progress.eq(self.progress.iter().copied())
     }
@@ -87,8 +85,9 @@ pub fn whole(kind: Kind, block: u32, block_len: u32) -> Result<PlanView, Fail> {
     Ok(PlanView { block, view })
 }
 
-pub fn number(v: i64) -> Result<Operand, Fail> {
-    Ok(Operand::number(v).ok_or("no safe integer")?)
+/// A Number.
+pub fn number(v: i32) -> Operand {
+    Operand::number(i64::from(v)).unwrap()
 }
 
 pub fn load(index: i64) -> Access {
@@ -112,13 +111,13 @@ pub fn compare_exchange(index: i64, expected: Operand, replacement: Operand) -> 
 }
 
 /// A wait at view 0.
-pub fn wait(index: i64, value: i64, timeout: Option<i64>) -> Result<Call, Fail> {
-    Ok(Call::Wait {
+pub fn wait(index: i64, value: i32, timeout: Option<i64>) -> Call {
+    Call::Wait {
         view: 0,
         index,
-        value: number(value)?,
+        value: number(value),
         timeout,
-    })
+    }
 }
 
 pub fn notify(view: u32, index: i64, count: Option<i64>) -> Call {

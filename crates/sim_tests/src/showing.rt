@@ -4,8 +4,22 @@ use crate::expecting::expect;
 use crate::run::{notify, plan, wait, whole};
 use sab_block::Kind;
 use sab_sim::Move::Step;
-use sab_sim::{Place, Sim};
+use sab_sim::{Place, Plan, Sim};
+use std::alloc::Global;
 use std::test::Fail;
+
+/// Three agents that wait at the first byte of block 1, and one that wakes two of them.
+fn waiters(alloc: Global) -> Result<Plan, Fail> {
+    let waits = [wait(0, 0, None)];
+    let wakes = [notify(0, 0, Some(2))];
+    let agents = [
+        (true, waits.as_slice()),
+        (true, waits.as_slice()),
+        (true, waits.as_slice()),
+        (true, wakes.as_slice()),
+    ];
+    plan(alloc, &[8, 8], &[whole(Kind::Int32, 1, 8)?], &agents)
+}
 
 /// Makes a step of each of these agents, and tells whether just `waiting` wait at the first byte of block 1 then.
 fn shows(sim: &mut Sim, agents: &[u32], waiting: &[u32]) -> bool {
@@ -18,19 +32,16 @@ fn shows(sim: &mut Sim, agents: &[u32], waiting: &[u32]) -> bool {
         && sim.waiters_at(other_byte).agents().is_empty()
 }
 
-/// Agents 2, 0 and 1 come to wait in this order, and agent 3 wakes two of them.
+/// Whether agents 2, 0 and 1 come to wait in this order, which none does before its call has acted, and agent 3 wakes
+/// two of them.
+fn shows_each(mut sim: Sim) -> bool {
+    shows(&mut sim, &[0, 1, 2], &[])
+        && shows(&mut sim, &[2, 0, 1], &[2, 0, 1])
+        && shows(&mut sim, &[3, 3], &[1])
+}
+
 #[test]
 fn who_waits_is_shown_oldest_first(rt: HostRuntime) -> Result<(), Fail> {
-    let waits = [wait(0, 0, None)?];
-    let agents = [
-        (true, waits.as_slice()),
-        (true, waits.as_slice()),
-        (true, waits.as_slice()),
-        (true, &[notify(0, 0, Some(2))]),
-    ];
-    let plan = plan(rt.alloc(), &[8, 8], &[whole(Kind::Int32, 1, 8)?], &agents)?;
-    let mut sim = Sim::new(rt.alloc(), plan)?;
-    expect(shows(&mut sim, &[0, 1, 2], &[]), "before a call has acted")?;
-    expect(shows(&mut sim, &[2, 0, 1], &[2, 0, 1]), "three who wait")?;
-    expect(shows(&mut sim, &[3, 3], &[1]), "one who still waits")
+    let sim = Sim::new(rt.alloc(), waiters(rt.alloc())?)?;
+    expect(shows_each(sim), "others who wait")
 }

@@ -1,58 +1,87 @@
 //! Views that are made or refused, and the places of their elements.
 
+use crate::expecting::{expect, expect_of};
 use sab_block::{Kind, Thrown, View};
 use std::test::Fail;
 
+const RANGE: Result<u32, Thrown> = Err(Thrown::RangeError);
+
+/// The kind, block length, offset and length of views, and how many elements each has if it can be made.
+const VIEWS: [(Kind, u32, i64, Option<i64>, Result<u32, Thrown>); 11] = [
+    (Kind::Int32, 8, 2, Some(1), RANGE),
+    (Kind::Int32, 6, 0, None, RANGE),
+    (Kind::Int32, 6, 0, Some(1), Ok(1)),
+    (Kind::Int32, 8, 12, None, RANGE),
+    (Kind::Int32, 8, 8, None, Ok(0)),
+    (Kind::Int32, 8, 4, Some(2), RANGE),
+    (Kind::Int32, 8, -4, None, RANGE),
+    (Kind::Int32, 8, 0, Some(-1), RANGE),
+    (Kind::Int32, 8, 0, Some(9_223_372_036_854_775_807), RANGE),
+    (Kind::Int32, 8, 9_223_372_036_854_775_804, Some(1), RANGE),
+    (Kind::BigInt64, 16, 8, None, Ok(1)),
+];
+
+/// How many elements a view has, if it can be made.
+fn len_of(kind: Kind, block_len: u32, offset: i64, length: Option<i64>) -> Result<u32, Thrown> {
+    Ok(View::new(kind, block_len, offset, length)?.len())
+}
+
 #[test]
-fn a_view_is_refused_unless_it_fits_its_block(rt: HostRuntime) {
-    let range = Err(Thrown::RangeError);
-    let table = [
-        (Kind::Int32, 8, 2, Some(1), range),
-        (Kind::Int32, 6, 0, None, range),
-        (Kind::Int32, 6, 0, Some(1), Ok(1)),
-        (Kind::Int32, 8, 12, None, range),
-        (Kind::Int32, 8, 8, None, Ok(0)),
-        (Kind::Int32, 8, 4, Some(2), range),
-        (Kind::Int32, 8, -4, None, range),
-        (Kind::Int32, 8, 0, Some(-1), range),
-        (Kind::Int32, 8, 0, Some(9_223_372_036_854_775_807), range),
-        (Kind::Int32, 8, 9_223_372_036_854_775_804, Some(1), range),
-        (Kind::BigInt64, 16, 8, None, Ok(1)),
-    ];
-    for (kind, block_len, offset, length, want) in table {
-        let len = View::new(kind, block_len, offset, length).map(View::len);
-        assert_eq!(rt; len, want, "{kind:?}, {block_len}, {offset}, {length:?}");
+fn a_view_is_refused_unless_it_fits_its_block(rt: HostRuntime) -> Result<(), Fail> {
+    for row in VIEWS {
+        let (kind, block_len, offset, length, want) = row;
+        expect_of(len_of(kind, block_len, offset, length) == want, &row)?;
     }
+    Ok(())
+}
+
+/// Whether a view is of this kind, on a block of this length, at this offset.
+fn is_of(view: View, kind: Kind, block_len: u32, offset: u32) -> bool {
+    view.kind() == kind && view.block_len() == block_len && view.offset() == offset
 }
 
 #[test]
 fn a_view_is_as_it_was_made(rt: HostRuntime) -> Result<(), Fail> {
     let view = View::new(Kind::BigInt64, 16, 8, None)?;
-    assert_eq!(rt; view.kind(), Kind::BigInt64);
-    assert_eq!(rt; view.block_len(), 16);
-    assert_eq!(rt; view.offset(), 8);
-    assert!(rt; !view.is_empty());
-    assert!(rt; View::new(Kind::Int32, 8, 8, None)?.is_empty());
-    Ok(())
+    let empty = View::new(Kind::Int32, 8, 8, None)?;
+    let is_made = is_of(view, Kind::BigInt64, 16, 8);
+    expect(
+        is_made && !view.is_empty() && empty.is_empty(),
+        "another view",
+    )
+}
+
+/// The kind, block length and offset of a view, an index, and its place.
+const PLACES: [(Kind, u32, i64, i64, Result<u32, Thrown>); 8] = [
+    (Kind::Int32, 8, 0, -9_223_372_036_854_775_808, RANGE),
+    (Kind::Int32, 8, 0, -1, RANGE),
+    (Kind::Int32, 8, 0, 0, Ok(0)),
+    (Kind::Int32, 8, 0, 1, Ok(4)),
+    (Kind::Int32, 8, 0, 2, RANGE),
+    (Kind::Int32, 8, 0, 9_223_372_036_854_775_807, RANGE),
+    (Kind::BigInt64, 16, 8, 0, Ok(8)),
+    (Kind::BigInt64, 16, 8, 1, RANGE),
+];
+
+/// Whether a view can be made, and an index has this place in it, or none.
+fn is_place(
+    kind: Kind,
+    block_len: u32,
+    offset: i64,
+    index: i64,
+    place: Result<u32, Thrown>,
+) -> bool {
+    match View::new(kind, block_len, offset, None) {
+        Ok(view) => view.place(index) == place,
+        Err(_) => false,
+    }
 }
 
 #[test]
 fn an_index_has_a_place_or_none(rt: HostRuntime) -> Result<(), Fail> {
-    let two = View::new(Kind::Int32, 8, 0, None)?;
-    let one = View::new(Kind::BigInt64, 16, 8, None)?;
-    let range = Err(Thrown::RangeError);
-    let table = [
-        (two, -9_223_372_036_854_775_808, range),
-        (two, -1, range),
-        (two, 0, Ok(0)),
-        (two, 1, Ok(4)),
-        (two, 2, range),
-        (two, 9_223_372_036_854_775_807, range),
-        (one, 0, Ok(8)),
-        (one, 1, range),
-    ];
-    for (view, index, place) in table {
-        assert_eq!(rt; view.place(index), place, "{index} in {view:?}");
+    for row in PLACES {
+        let (kind, block_len, offset, index, place) = row;
+        expect_of(is_place(kind, block_len, offset, index, place), &row)?;
     }
     Ok(())
 }

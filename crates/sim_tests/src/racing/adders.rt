@@ -11,7 +11,7 @@ use std::thread::Threads;
 
 /// Agents that add 1 to the one Int32 element of a block, each so often, at most a hundred times.
 pub fn adders(alloc: Global, counts: &[u32]) -> Result<Plan, Fail> {
-    let calls = [add_one(0)?; 100];
+    let calls = [add_one(0); 100];
     let mut agents: Vec<(bool, &[Call])> = Vec::new(alloc);
     for count in counts {
         agents.push((true, calls.get(..*count as usize).ok_or("too many")?))?;

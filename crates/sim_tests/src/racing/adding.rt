@@ -6,9 +6,11 @@ use crate::racing::slow::Slow;
 use crate::racing::way::{Way, add_one, word};
 use crate::run::plan;
 use sab_race::NoGate;
-use sab_sim::{Call, Progress, Report, replay};
-use std::sync::Arc;
+use sab_sim::{Call, Plan, Progress, Report, replay};
+use std::alloc::Global;
+use std::sync::{Arc, Wait};
 use std::test::Fail;
+use std::thread::Threads;
 
 /// Whether two reports are the same.
 fn is_same(one: &Report, other: &Report) -> bool {
@@ -18,16 +20,17 @@ fn is_same(one: &Report, other: &Report) -> bool {
         && one.agents == other.agents
 }
 
+/// Whether the replay of four adders by a report's schedule gives that report.
+fn comes_back(alloc: Global, report: &Report) -> Result<bool, Fail> {
+    let again = replay(alloc, adders(alloc, &[100; 4])?, &report.schedule)?;
+    Ok(is_same(&again, report))
+}
+
 #[test]
 fn adders_lose_nothing_and_their_race_can_be_replayed(rt: HostRuntime) -> Result<(), Fail> {
     for way in Way::ALL {
         let (report, _) = race_adders(&rt, rt.alloc(), way, &[100; 4], Slow::NONE)?;
-        let plan = adders(rt.alloc(), &[100; 4])?;
-        let again = replay(rt.alloc(), plan, &report.schedule).ok();
-        expect(
-            again.is_some_and(|again| is_same(&again, &report)),
-            "another replay",
-        )?;
+        expect(comes_back(rt.alloc(), &report)?, "another replay")?;
     }
     Ok(())
 }
@@ -45,26 +48,33 @@ fn are_two_hundred_each(report: &Report) -> bool {
             .iter()
             .all(|bytes| bytes.as_slice() == sum.as_slice())
         && report.journal.len() == 1_200
-        && report.agents.len() == 4
-        && report.agents.iter().all(|agent| *agent == whole)
+        && report.agents.as_slice() == [whole; 4].as_slice()
 }
 
-#[test]
-fn adders_on_two_blocks_count_apart(rt: HostRuntime) -> Result<(), Fail> {
-    let first = [add_one(0)?; 100];
-    let second = [add_one(1)?; 100];
+/// Four agents that add a hundred times each, two of them to each of two blocks.
+fn adders_on_two_blocks(alloc: Global) -> Result<Plan, Fail> {
+    let first = [add_one(0); 100];
+    let second = [add_one(1); 100];
     let agents: [(bool, &[Call]); 4] = [
         (true, &first),
         (true, &first),
         (true, &second),
         (true, &second),
     ];
-    let views = [word(0)?, word(1)?];
+    plan(alloc, &[4, 4], &[word(0)?, word(1)?], &agents)
+}
+
+/// Whether two of them come to two hundred on each block.
+fn count_apart<R: Threads + Wait + Sync>(rt: &R, alloc: Global, way: Way) -> Result<bool, Fail> {
+    let plan = adders_on_two_blocks(alloc)?;
+    let report = way.race(rt, alloc, plan, 0, Arc::new(alloc, NoGate)?)?;
+    Ok(are_two_hundred_each(&report))
+}
+
+#[test]
+fn adders_on_two_blocks_count_apart(rt: HostRuntime) -> Result<(), Fail> {
     for way in Way::BOTH {
-        let plan = plan(rt.alloc(), &[4, 4], &views, &agents)?;
-        let gate = Arc::new(rt.alloc(), NoGate)?;
-        let report = way.race(&rt, rt.alloc(), plan, 0, gate)?;
-        expect(are_two_hundred_each(&report), "another sum")?;
+        expect(count_apart(&rt, rt.alloc(), way)?, "another sum")?;
     }
     Ok(())
 }

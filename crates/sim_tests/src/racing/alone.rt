@@ -29,7 +29,7 @@ fn check<R: Threads + Wait + Sync>(rt: &R, alloc: Global, run: &Run, spins: u32)
 
 #[test]
 fn an_agent_alone_makes_its_calls_in_order(rt: HostRuntime) -> Result<(), Fail> {
-    let stored = number(300)?;
+    let stored = number(300);
     let store = Access::Store {
         index: 0,
         value: stored,
@@ -44,8 +44,8 @@ fn an_agent_alone_makes_its_calls_in_order(rt: HostRuntime) -> Result<(), Fail> 
             (Step(0), acted(0, 0, Value(stored))),
             (Step(0), returned(0, 0, Value(stored))),
             (Step(0), began(0, 1)),
-            (Step(0), acted(0, 1, Value(number(44)?))),
-            (Step(0), returned(0, 1, Value(number(44)?))),
+            (Step(0), acted(0, 1, Value(number(44)))),
+            (Step(0), returned(0, 1, Value(number(44)))),
         ],
         blocks: &[&[0x2c]],
         progress: &[(2, 2)],
@@ -58,7 +58,7 @@ fn a_wait_with_a_timeout_ends_when_its_time_is_up(rt: HostRuntime) -> Result<(),
     let run = Run {
         lens: &[4],
         views: &[word(0)?],
-        agents: &[(true, &[wait(0, 0, Some(5))?])],
+        agents: &[(true, &[wait(0, 0, Some(5))])],
         moves: &[
             (Step(0), began(0, 0)),
             (Step(0), enlisted(0, 0)),
@@ -78,7 +78,7 @@ fn a_wait_without_a_timeout_ends_its_race_waiting(rt: HostRuntime) -> Result<(),
     let run = Run {
         lens: &[4],
         views: &[word(0)?],
-        agents: &[(true, &[wait(0, 0, None)?])],
+        agents: &[(true, &[wait(0, 0, None)])],
         moves: &[
             (Step(0), began(0, 0)),
             (Step(0), enlisted(0, 0)),

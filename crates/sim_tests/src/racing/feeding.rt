@@ -3,6 +3,7 @@
 ghost use Rattle.std.specs.Prelude.{◌≡◌, ◌≤◌, length, IfOk};
 ghost use Rattle.sab_sim.specs.declared.sim.TheConstants.Sim.{MAX_ENTRIES};
 
+use crate::expecting::expect;
 use crate::run::wait;
 use rtrb::RingBuffer;
 use sab_block::Access;
@@ -55,27 +56,29 @@ fn a_wait_is_stepped_at_until_its_time_is_up(rt: HostRuntime) -> Result<(), Fail
     };
     let script = Script {
         can_block: true,
-        calls: vec![in alloc; wait(0, 0, None)?, load]?,
+        calls: vec![in alloc; wait(0, 0, None), load]?,
     };
     let made = moves(alloc, &script, 2, 2)?;
-    assert_eq!(rt; made.as_slice(), WAIT_AND_LOAD.as_slice());
-    Ok(())
+    expect(made.as_slice() == WAIT_AND_LOAD.as_slice(), "other moves")
 }
 
 #[test]
 fn a_ring_gives_what_it_was_fed_in_order(rt: HostRuntime) -> Result<(), Fail> {
     let (mut producer, mut consumer) = RingBuffer::new(rt.alloc(), 10)?;
     feed(&mut producer, 2, &WAIT_AND_LOAD, &NoGate);
+    let mut are_given = true;
     for m in WAIT_AND_LOAD {
-        assert_eq!(rt; consumer.pop().ok(), Some(m));
+        are_given = consumer.pop().ok() == Some(m) && are_given;
     }
-    assert!(rt; consumer.pop().is_err());
-    Ok(())
+    let is_empty = consumer.pop().is_err();
+    expect(are_given && is_empty, "other moves")
 }
 
 #[test]
 fn a_caller_of_feed_knows_what_comes_out(rt: HostRuntime) -> Result<(), Fail> {
     let received = feed_through(rt.alloc(), 2, &WAIT_AND_LOAD, &NoGate)?;
-    assert_eq!(rt; received.as_slice(), WAIT_AND_LOAD.as_slice());
-    Ok(())
+    expect(
+        received.as_slice() == WAIT_AND_LOAD.as_slice(),
+        "other moves",
+    )
 }

@@ -5,7 +5,7 @@ use crate::racing::adders::race_adders;
 use crate::racing::turning::turn_until;
 use crate::racing::watching::{Hold, Watch};
 use crate::racing::way::Way;
-use crate::run::{Run, acted, began, number, plan, returned};
+use crate::run::{Run, acted, began, load, number, plan, returned, store};
 use sab_block::{Access, Kind, View};
 use sab_sim::Answer::Value;
 use sab_sim::Move::{self, Step};
@@ -70,18 +70,24 @@ impl Hold for Order {
     }
 }
 
+/// The order of these moves.
+fn order_of_moves(alloc: Global, moves: &[(Move, Entry)]) -> Result<Order, AllocError> {
+    let mut agents = Vec::new(alloc);
+    for (m, _) in moves {
+        agents.push(m.agent())?;
+    }
+    Ok(Order::new(agents))
+}
+
 /// Agent 0 stores 5 and loads and agent 1 loads, in the order of these moves, and this is what they do.
 fn check<R: Threads + Wait + Sync>(
     rt: &R,
     alloc: Global,
-    moves: &[(Move, Entry); 9],
+    moves: &[(Move, Entry)],
 ) -> Result<(), Fail> {
-    let view = View::new(Kind::Int32, 4, 0, Some(1)).ok().ok_or("no view")?;
-    let load = access(Access::Load { index: 0 });
-    let store = access(Access::Store {
-        index: 0,
-        value: number(5)?,
-    });
+    let view = View::new(Kind::Int32, 4, 0, Some(1))?;
+    let load = access(load(0));
+    let store = access(store(0, number(5)));
     let run = Run {
         lens: &[4],
         views: &[PlanView { block: 0, view }],
@@ -91,21 +97,20 @@ fn check<R: Threads + Wait + Sync>(
         progress: &[(2, 2), (1, 1)],
     };
     for way in Way::FORCIBLE {
-        let order = moves.map(|(m, _)| m.agent()).to_vec(alloc)?;
-        expect(is_raced(rt, alloc, way, &run, order)?, "another report")?;
+        expect(is_raced(rt, alloc, way, &run)?, "another report")?;
     }
     Ok(())
 }
 
-/// Whether the race of a run with six and three moves is the run, where this order is forced on it.
+/// Whether the race of a run with six and three moves is the run, where the order of its moves is forced on it.
 fn is_raced<R: Threads + Wait + Sync>(
     rt: &R,
     alloc: Global,
     way: Way,
     run: &Run,
-    order: Vec<u32>,
 ) -> Result<bool, Fail> {
-    let watch = Arc::new(alloc, Watch::new(Order::new(order)))?;
+    let order = order_of_moves(alloc, run.moves)?;
+    let watch = Arc::new(alloc, Watch::new(order))?;
     let plan = plan(alloc, run.lens, run.views, run.agents)?;
     let report = way.race(rt, alloc, plan, 0, Arc::try_clone(&watch)?)?;
     Ok(watch.saw(&[6, 3]) && run.is_of(&report))
@@ -117,7 +122,7 @@ fn access(access: Access) -> Call {
 
 #[test]
 fn two_agents_take_turns_as_their_threads_do(rt: HostRuntime) -> Result<(), Fail> {
-    let five = Value(number(5)?);
+    let five = Value(number(5));
     let moves = [
         (Step(0), began(0, 0)),
         (Step(1), began(1, 0)),
@@ -134,8 +139,8 @@ fn two_agents_take_turns_as_their_threads_do(rt: HostRuntime) -> Result<(), Fail
 
 #[test]
 fn two_agents_come_last_agent_first(rt: HostRuntime) -> Result<(), Fail> {
-    let five = Value(number(5)?);
-    let zero = Value(number(0)?);
+    let five = Value(number(5));
+    let zero = Value(number(0));
     let moves = [
         (Step(1), began(1, 0)),
         (Step(1), acted(1, 0, zero)),
@@ -157,15 +162,22 @@ enum Pass {
     Down(usize),
 }
 
+impl Pass {
+    /// Which agent comes at this place of sixteen, and how many moves it makes.
+    fn turn(self, place: u32) -> (u32, usize) {
+        match self {
+            Pass::Up(times) => (place, times),
+            Pass::Down(times) => (15_u32.saturating_sub(place), times),
+        }
+    }
+}
+
 /// The order of these passes.
 fn order_of(alloc: Global, passes: &[Pass]) -> Result<Order, AllocError> {
     let mut agents = Vec::new(alloc);
     for pass in passes {
         for place in 0..16 {
-            let (agent, times) = match *pass {
-                Pass::Up(times) => (place, times),
-                Pass::Down(times) => (15 - place, times),
-            };
+            let (agent, times) = pass.turn(place);
             for _ in 0..times {
                 agents.push(agent)?;
             }
@@ -174,18 +186,19 @@ fn order_of(alloc: Global, passes: &[Pass]) -> Result<Order, AllocError> {
     Ok(Order::new(agents))
 }
 
+const ORDERS: [&[Pass]; 5] = [
+    &[Pass::Up(2), Pass::Up(1)],
+    &[Pass::Down(2), Pass::Down(1)],
+    &[Pass::Down(3)],
+    &[Pass::Down(1), Pass::Down(1), Pass::Down(1)],
+    &[Pass::Up(1), Pass::Down(1), Pass::Up(1)],
+];
+
 /// While an agent makes the first moves of its call, each other is held back before its own first or last one. So in the
 /// first two orders no thread but the agent's own is free to make them.
 #[test]
 fn sixteen_agents_come_as_their_threads_do(rt: HostRuntime) -> Result<(), Fail> {
-    let orders: [&[Pass]; 5] = [
-        &[Pass::Up(2), Pass::Up(1)],
-        &[Pass::Down(2), Pass::Down(1)],
-        &[Pass::Down(3)],
-        &[Pass::Down(1); 3],
-        &[Pass::Up(1), Pass::Down(1), Pass::Up(1)],
-    ];
-    for passes in orders {
+    for passes in ORDERS {
         for way in Way::FORCIBLE {
             let order = order_of(rt.alloc(), passes)?;
             let (report, order) = race_adders(&rt, rt.alloc(), way, &[1; 16], order)?;

@@ -5,24 +5,34 @@ ghost use Rattle.std.specs.Prelude.{◌≤◌};
 use crate::expecting::expect;
 use crate::racing::way::{Way, add_one, word_plan};
 use crate::run::wait;
+use crate::values::prints;
 use sab_race::{MAX_SPINS, NoGate, RaceFault};
-use sab_sim::Call;
+use sab_sim::Plan;
 use std::alloc::Global;
 use std::sync::{Arc, Wait};
 use std::test::Fail;
 use std::thread::Threads;
 
-/// Whether the race of these agents is refused since they have too many moves, and nobody then has its gate.
+/// An agent that waits a thousand times, and one that waits so often and then adds 1 so often.
+fn waiters(alloc: Global, waits: usize, additions: usize) -> Result<Plan, Fail> {
+    let first = vec![in alloc; wait(0, 0, None); 1_000]?;
+    let mut second = vec![in alloc; wait(0, 0, None); waits]?;
+    for _ in 0..additions {
+        second.push(add_one(0))?;
+    }
+    word_plan(alloc, &[(true, &first), (true, &second)])
+}
+
+/// Whether the race of a plan is refused since it has too many moves, and nobody then has its gate.
 fn is_too_long<R: Threads + Wait + Sync>(
     rt: &R,
     alloc: Global,
     way: Way,
-    agents: &[(bool, &[Call])],
+    plan: Plan,
     spins: u32,
 ) -> Result<bool, Fail>
     requires { spins ≤ MAX_SPINS }
 {
-    let plan = word_plan(alloc, agents)?;
     let gate = Arc::new(alloc, NoGate)?;
     let raced = way.race(rt, alloc, plan, spins, Arc::try_clone(&gate)?);
     Ok(raced.err() == Some(RaceFault::TooManyMoves) && Arc::strong_count(&gate) == 1)
@@ -31,46 +41,57 @@ fn is_too_long<R: Threads + Wait + Sync>(
 /// The second plan has one move more than a journal can have entries: 1,042 waits of 1,004 moves and 803 additions of three.
 #[test]
 fn more_moves_than_a_journal_can_have_are_refused(rt: HostRuntime) -> Result<(), Fail> {
-    let waits = vec![in rt.alloc(); wait(0, 0, None)?; 1_000]?;
-    let mut others = vec![in rt.alloc(); wait(0, 0, None)?; 42]?;
-    others.extend_from_slice(&[add_one(0)?; 803])?;
-    let many: [(bool, &[Call]); 2] = [(true, &waits), (true, &waits)];
-    let one_more: [(bool, &[Call]); 2] = [(true, &waits), (true, &others)];
     for way in Way::BOTH {
-        let refused = is_too_long(&rt, rt.alloc(), way, &many, 1_000)?;
-        expect(refused, "two million moves")?;
-        let refused = is_too_long(&rt, rt.alloc(), way, &one_more, 999)?;
-        expect(refused, "one move too many")?;
+        let many = waiters(rt.alloc(), 1_000, 0)?;
+        let is_refused = is_too_long(&rt, rt.alloc(), way, many, 1_000)?;
+        expect(is_refused, "two million moves")?;
+        let one_more = waiters(rt.alloc(), 42, 803)?;
+        let is_refused = is_too_long(&rt, rt.alloc(), way, one_more, 999)?;
+        expect(is_refused, "one move too many")?;
     }
     Ok(())
 }
 
-/// Each of sixteen agents waits 128 times, and makes 512 moves for each wait.
+/// Sixteen agents that wait 128 times.
+fn sixteen_waiters(alloc: Global) -> Result<Plan, Fail> {
+    let waits = vec![in alloc; wait(0, 0, None); 128]?;
+    word_plan(alloc, &[(true, waits.as_slice()); 16])
+}
+
+/// How many moves and entries a race has of agents that make 512 moves for each wait.
+fn len_of_race<R: Threads + Wait + Sync>(
+    rt: &R,
+    alloc: Global,
+    way: Way,
+    plan: Plan,
+) -> Result<(usize, usize), Fail> {
+    let report = way.race(rt, alloc, plan, 507, Arc::new(alloc, NoGate)?)?;
+    Ok((report.schedule.len(), report.journal.len()))
+}
+
 #[test]
 fn as_many_moves_as_a_journal_can_have_are_made(rt: HostRuntime) -> Result<(), Fail> {
-    let waits = vec![in rt.alloc(); wait(0, 0, None)?; 128]?;
     for way in Way::BOTH {
-        let plan = word_plan(rt.alloc(), &[(true, waits.as_slice()); 16])?;
-        let gate = Arc::new(rt.alloc(), NoGate)?;
-        let report = way.race(&rt, rt.alloc(), plan, 507, gate)?;
-        let is_whole = report.schedule.len() == 1_048_576 && report.journal.len() == 1_048_576;
-        expect(is_whole, "another number of moves")?;
+        let plan = sixteen_waiters(rt.alloc())?;
+        let len = len_of_race(&rt, rt.alloc(), way, plan)?;
+        expect(len == (1_048_576, 1_048_576), "another number of moves")?;
     }
     Ok(())
 }
+
+const FAULTS: [(RaceFault, &str); 3] = [
+    (
+        RaceFault::TooManyMoves,
+        "the agents have more moves than a journal can have entries",
+    ),
+    (RaceFault::OutOfMemory, "there is no memory for the race"),
+    (RaceFault::NoThread, "a thread couldn't be started"),
+];
 
 #[test]
 fn a_refused_race_prints_why(rt: HostRuntime) -> Result<(), Fail> {
-    let table = [
-        (
-            RaceFault::TooManyMoves,
-            "the agents have more moves than a journal can have entries",
-        ),
-        (RaceFault::OutOfMemory, "there is no memory for the race"),
-        (RaceFault::NoThread, "a thread couldn't be started"),
-    ];
-    for (fault, text) in table {
-        assert_eq!(rt; fault.to_string(rt.alloc())?.as_str(), text);
+    for (fault, text) in FAULTS {
+        expect(prints(rt.alloc(), &fault, text)?, text)?;
     }
     Ok(())
 }

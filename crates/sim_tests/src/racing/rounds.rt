@@ -19,19 +19,38 @@ const COUNTS: [u32; 16] = [34, 1, 0, 2, 30, 1, 3, 22, 0, 4, 7, 1, 1, 25, 2, 5];
 /// Those of them that have moves.
 const WITH_MOVES: [u32; 14] = [0, 1, 3, 4, 5, 6, 7, 9, 10, 11, 12, 13, 14, 15];
 
+/// Adds the agents of one round of an owner: those that have a move `k`.
+fn add_round(agents: &mut Vec<u32>, moves: &[u32], k: u32) -> Result<(), AllocError> {
+    for (agent, count) in (0..16).zip(moves) {
+        if k < *count {
+            agents.push(agent)?;
+        }
+    }
+    Ok(())
+}
+
 /// The order in which an owner makes the moves of agents that add so often, where it goes round full rings: one of each
 /// ring that has one. So many of each agent's last moves are left out.
 fn rounds(alloc: Global, counts: &[u32], left_out: u32) -> Result<Vec<u32>, AllocError> {
+    let mut moves = Vec::new(alloc);
+    for count in counts {
+        moves.push(count.saturating_mul(3).saturating_sub(left_out))?;
+    }
     let mut agents = Vec::new(alloc);
     for k in 0..102 {
-        for (agent, count) in (0..16).zip(counts) {
-            if k < count.saturating_mul(3).saturating_sub(left_out) {
-                agents.push(agent)?;
-            }
-        }
+        add_round(&mut agents, &moves, k)?;
     }
     Ok(agents)
 }
+
+/// By rings that their owner goes round: by no seed, and by seed 0.
+const WITHOUT_PATIENCE: [Way; 2] = [
+    Way::Rings { patience: 0 },
+    Way::Mixed {
+        seed: 0,
+        patience: 0,
+    },
+];
 
 #[test]
 fn an_owner_without_patience_goes_round_full_rings(rt: HostRuntime) -> Result<(), Fail> {
@@ -40,11 +59,7 @@ fn an_owner_without_patience_goes_round_full_rings(rt: HostRuntime) -> Result<()
         agent: None,
         turns: 50,
     };
-    let by_seed_0 = Way::Mixed {
-        seed: 0,
-        patience: 0,
-    };
-    for way in [Way::Rings { patience: 0 }, by_seed_0] {
+    for way in WITHOUT_PATIENCE {
         let (report, _) = race_adders(&rt, rt.alloc(), way, &COUNTS, slow)?;
         expect(order.is_of(&report.schedule), "another order")?;
     }
@@ -78,15 +93,20 @@ impl Hold for Filling {
     }
 }
 
-#[test]
-fn a_patient_owner_goes_round_full_rings(rt: HostRuntime) -> Result<(), Fail> {
-    let mut agents = rounds(rt.alloc(), &COUNTS, 1)?;
+/// Nothing is filled yet.
+fn unfilled(alloc: Global) -> Result<Filling, AllocError> {
+    let mut agents = rounds(alloc, &COUNTS, 1)?;
     agents.extend_from_slice(&WITH_MOVES)?;
-    let filling = Filling {
+    Ok(Filling {
         order: Order::new(agents),
         agents: 14,
         at_last: AtomicU32::new(0),
-    };
+    })
+}
+
+#[test]
+fn a_patient_owner_goes_round_full_rings(rt: HostRuntime) -> Result<(), Fail> {
+    let filling = unfilled(rt.alloc())?;
     let (report, filling) = race_adders(&rt, rt.alloc(), Way::PATIENT, &COUNTS, filling)?;
     expect(filling.order.is_of(&report.schedule), "another order")
 }
