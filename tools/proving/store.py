@@ -6,11 +6,14 @@ import os
 import shutil
 import tempfile
 import threading
+import time
 
 from .kit import kit_sum, rt, rtlib
 
 # So many versions of a crate are kept: those that were used last. A crate with tests has two for each of its states.
 MOST_VERSIONS = 3
+# How the name of a folder begins that isn't whole yet. One that is older than a day was broken off.
+NEW, DAY = ".new-", 24 * 3600
 # The file beside a library that has what its edits came to.
 RESULTS = "edits.json"
 
@@ -61,7 +64,7 @@ class Store:
         """Has what a call makes in an empty folder kept under a key, and returns that folder; None if the call fails."""
         path = self.path(name, key)
         os.makedirs(os.path.dirname(path), exist_ok=True)
-        room = tempfile.mkdtemp(prefix=".new-", dir=os.path.dirname(path))
+        room = tempfile.mkdtemp(prefix=NEW, dir=os.path.dirname(path))
         try:
             if not make(room):
                 return None
@@ -91,7 +94,9 @@ class Store:
         """Removes all but the last versions of each crate that was used."""
         for folder in {os.path.dirname(path) for path in self.used}:
             found = sorted((f"{folder}/{it}" for it in os.listdir(folder)), key=os.path.getmtime, reverse=True)
-            for path in found[MOST_VERSIONS:]:
+            whole = [path for path in found if NEW not in path]
+            broken_off = [path for path in found if NEW in path and os.path.getmtime(path) < time.time() - DAY]
+            for path in [*whole[MOST_VERSIONS:], *broken_off]:
                 if path not in self.used:
                     shutil.rmtree(path, ignore_errors=True)
 
