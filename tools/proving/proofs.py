@@ -8,7 +8,7 @@ import traceback
 from .crates import Proving, why_refused
 from .kit import rt, rtlib
 from .lanes import Task
-from .store import Sums, sum_of
+from .store import Sums, sum_of, sum_of_scripts
 from .trial import BAD, REFUSED, Result, Trial
 
 # The scripts that decide what an edit comes to. If one of them has changed, all edits are tried anew.
@@ -57,7 +57,7 @@ class Proofs:
 
     def __init__(self, crates, store, tally):
         self.crates, self.store, self.tally = crates, store, tally
-        self.sums, self.scripts = Sums(), sum_of_scripts()
+        self.sums, self.scripts = Sums(), sum_of_scripts(DECIDING)
         self.paths, self.tasks, self.proofs = {}, {}, 0
 
     def add_proof(self, crate, is_of_tests=False):
@@ -182,9 +182,3 @@ def seconds_of(crate):
     definitions = sum(rtlib.text_of(file).count("\n") for file in rtlib.files_of(crate.folder) if file.endswith(".antt"))
     below = sum(it.count(rb"\n") for it in crate.below())
     return 25 + crate.count(rb"\n") / 12 + definitions / 80 + below / 250 + 15 * len(crate.of_kit)
-
-
-def sum_of_scripts():
-    """Returns a sum of the scripts that decide what an edit comes to."""
-    folder = os.path.dirname(os.path.realpath(__file__))
-    return sum_of([(name, rtlib.sum_of(f"{folder}/{name}.py")) for name in DECIDING.split()])

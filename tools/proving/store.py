@@ -28,11 +28,17 @@ def sum_of(*parts):
     return hashlib.sha256(repr(parts).encode()).hexdigest()
 
 
+def sum_of_scripts(names):
+    """Returns a sum of some of these scripts."""
+    folder = os.path.dirname(os.path.realpath(__file__))
+    return sum_of([(name, rtlib.sum_of(f"{folder}/{name}.py")) for name in names.split()])
+
+
 class Sums:
-    """Sums of crates: of their files, of those below them, of the kit, and of what HANDLES allows."""
+    """Sums of crates: of their files, of those below them, of the kit, of what HANDLES allows, and of how they are proved."""
 
     def __init__(self):
-        self.base, self.known = sum_of(kit_sum(), rt.Crate.allowed), {}
+        self.base, self.known = sum_of(kit_sum(), rt.Crate.allowed, sum_of_scripts("crates kit")), {}
 
     def of(self, crate):
         if crate.name not in self.known:
