@@ -10,8 +10,8 @@ from .kit import rt
 MEMORY = 0.85
 # A task's further jobs take this part of what is foreseen for its first one: a gigabyte each, where that was measured.
 FURTHER = 0.4
-# A task is urgent if it begins a chain of this part of the longest one. It gets so many jobs though all processors are
-# busy, but only if all of the machine's may be taken.
+# A task is urgent if it begins a chain of this part of the longest one. It gets so many jobs even if all processors are
+# busy. That shortens the longest chain, but each further job makes a proof take about a seventh more processor time.
 URGENT = 0.7
 URGENT_JOBS = 3
 
@@ -36,9 +36,10 @@ class Task:
 class Lanes:
     """The tasks that are left, those that run, and what those that ended came to."""
 
-    def __init__(self, tasks, processors):
+    def __init__(self, tasks, processors, hurries=False):
         self.left, self.running, self.ended = list(tasks), {}, {}
-        self.processors, self.takes_all = processors, processors >= rt.processors()
+        # All of the machine's processors may be taken by urgent tasks; fewer, if fewer were asked for, are kept to.
+        self.processors, self.hurries = processors, hurries and processors >= rt.processors()
         self.memory, self.behind = MEMORY * rt.free(), chains(tasks)
 
     def run(self):
@@ -70,7 +71,7 @@ class Lanes:
         unended = [*self.left, *(it for it, _, _ in self.running.values())]
         longest = max((self.behind[it] for it in unended), default=0)
         for at, task in enumerate(ready):
-            is_urgent = self.takes_all and task.most_jobs > 1 and self.behind[task] >= URGENT * longest
+            is_urgent = self.hurries and task.most_jobs > 1 and self.behind[task] >= URGENT * longest
             jobs = self.jobs_for(task, at, len(ready) - at - 1, is_urgent)
             if jobs:
                 yield task, jobs
