@@ -18,7 +18,6 @@ class Part:
     words: list
     needs: list = field(default_factory=list)
     seconds: float = 10
-    is_alone: bool = False
 
     @property
     def name(self):
@@ -28,7 +27,7 @@ class Part:
 def part_task(part, tasks, tally):
     """Returns the task of running a part from the root of the repository, once what it needs has ended well."""
     waits_for = [tasks[name] for name in part.needs if name in tasks]
-    return Task(part.name, lambda _: run_part(part, tally), waits_for, part.seconds, is_alone=part.is_alone)
+    return Task(part.name, lambda _: run_part(part, tally), waits_for, part.seconds)
 
 
 def run_part(part, tally):

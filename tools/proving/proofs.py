@@ -76,7 +76,8 @@ class Proofs:
         """Adds the task of running a program, or the tests of a crate, once it is proved."""
         name = f"{crate.name}_tests" if is_of_tests else crate.name
         run = lambda _: self.guarded(name, lambda: self.run(crate, is_of_tests))
-        self.tasks[f"run {name}"] = Task(f"run {name}", run, [self.tasks[name]], seconds=20)
+        # Some tests watch threads by the clock.
+        self.tasks[f"run {name}"] = Task(f"run {name}", run, [self.tasks[name]], seconds=20, is_alone=is_of_tests)
 
     def add_edits(self, crate, names=None, alone=False):
         """Adds the task of trying a crate's must-fail edits, or those of some names, once it is proved."""
