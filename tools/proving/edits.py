@@ -1,8 +1,8 @@
-"""What a must-fail edit changes: the bodies of which functions, if nothing else."""
+"""What a must-fail edit changes: the bodies of which functions, if nothing else; and so how it can be tried."""
 import os
 from collections import namedtuple
 
-from .functions import calls_itself
+from .functions import ALONE, reached_by
 from .kit import rt
 
 # A piece of a file that is replaced: where it begins and ends, in characters, and what is put there.
@@ -10,17 +10,17 @@ Change = namedtuple("Change", "begin end text")
 
 
 class Edit:
-    """An edit of a crate: the functions whose bodies it changes, with the changes in each one's file, or why it is
-    tried alone."""
+    """An edit of a crate: the functions whose bodies it changes, with the changes in each one's file, and how it is tried."""
 
     def __init__(self, file, crate, functions, calls):
         self.file, self.name = file, os.path.basename(file)
-        self.changes, self.why_alone = {}, ""
+        self.changes, self.way = {}, ALONE
         texts, why = rt.read_edit(file, crate.folder)
-        self.why_alone = f"it can't be applied: {why}" if why else self.read(crate, texts, functions, calls)
+        if not why:
+            self.read(crate, texts, functions, calls)
 
     def read(self, crate, texts, functions, calls):
-        """Finds the functions that the edited texts change. Returns why the edit is tried alone, or nothing."""
+        """Finds the functions that the edited texts change, and how all of them can be tried."""
         names = [function.name for function in functions]
         for file, text in texts.items():
             with open(f"{crate.folder}/{file}", encoding="utf-8") as it:
@@ -28,23 +28,17 @@ class Edit:
             for change in changes:
                 inside = [it for it in functions if it.file == file and it.body <= change.begin and change.end < it.end]
                 if not inside:
-                    return "it changes more than the bodies of functions"
+                    return
                 innermost = max(inside, key=lambda it: it.begin)
                 self.changes.setdefault(innermost, []).append(change)
-        return next((why for function in self.changes for why in [why_in_place(function, names, calls)] if why), "")
+        ways = {way_of(function, names, calls) for function in self.changes}
+        self.way = ways.pop() if len(ways) == 1 else ALONE
 
 
-def why_in_place(function, names, calls):
-    """Returns why no copy of a function can be edited in its place, or nothing."""
-    if names.count(function.name) > 1:
-        return f"two functions have the name {function.name}"
-    if function.name not in calls:
-        return f"rattle knows no function {function.name}"
-    if not function.may_be_copied:
-        return f"{function.name} is a trait's, is in a cycle, or holds another function"
-    if calls_itself(function.name, calls):
-        return f"{function.name} calls itself"
-    return ""
+def way_of(function, names, calls):
+    """Returns how an edit of a function is tried: alone, if rattle's name for it isn't sure, or if it calls itself."""
+    is_sure = names.count(function.name) == 1 and function.name in calls
+    return function.way if is_sure and function.name not in reached_by(function.name, calls) else ALONE
 
 
 def changes_between(old, new):

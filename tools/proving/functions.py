@@ -11,8 +11,12 @@ from .kit import rtlib
 Token = namedtuple("Token", "begin end text")
 
 # A function: its name as rattle prints it; its file; where it begins, with its attributes, its own name's token, where its
-# body begins, and where it ends; whether a copy of it under another name can be put after it.
-Function = namedtuple("Function", "name file begin name_token body end may_be_copied")
+# body begins, and where it ends; how an edit of its body can be tried together with others.
+Function = namedtuple("Function", "name file begin name_token body end way")
+
+# How an edit can be tried: in a copy of the function under another name, put after it; where the function is, as a trait's
+# impl has room for no copy; or alone.
+IN_A_TWIN, IN_PLACE, ALONE = "in a twin", "in place", "alone"
 
 CLOSING = {"(": ")", "[": "]", "{": "}"}
 WORD = re.compile(r"[A-Za-z_]\w*\Z")
@@ -66,7 +70,7 @@ class Reader:
         path = file[len("src/") : -len(".rt")].split("/")
         if path[-1] in ("lib", "main", "mod"):
             path.pop()
-        self.read_items(0, len(tokens), [crate, *path], may_be_copied=True)
+        self.read_items(0, len(tokens), [crate, *path], IN_A_TWIN)
 
     def text(self, at):
         return self.tokens[at].text if at < len(self.tokens) else ""
@@ -85,8 +89,8 @@ class Reader:
             raise Unreadable(self.file)
         return found
 
-    def read_items(self, at, end, path, may_be_copied):
-        """Reads the items from a token on. A copy of a function may be put beside it, except in a trait or its impl."""
+    def read_items(self, at, end, path, way):
+        """Reads the items from a token on, given how edits of functions among them can be tried."""
         begin, is_in_cycle = None, False
         while at < end:
             begin = at if begin is None else begin
@@ -99,24 +103,24 @@ class Reader:
                 at += 1
                 at = self.closing[at] + 1 if self.text(at) == "(" else at
                 continue
-            at = self.read_item(begin, at, path, may_be_copied and not is_in_cycle)
+            at = self.read_item(begin, at, path, ALONE if is_in_cycle else way)
             begin, is_in_cycle = None, False
 
-    def read_item(self, begin, at, path, may_be_copied):
+    def read_item(self, begin, at, path, way):
         """Reads the item whose first word, behind attributes and qualifiers, is at a token. Returns what follows it."""
         word, after = self.text(at), self.end_of_item(at)
         if word == "fn" and WORD.match(self.text(at + 1)):
-            return self.read_function(begin, at, path, may_be_copied)
+            return self.read_function(begin, at, path, way)
         opening = self.opening(at)
         if self.text(opening) != "{":
             return after
         if word == "mod":
-            self.read_items(opening + 1, after - 1, [*path, self.text(at + 1)], True)
+            self.read_items(opening + 1, after - 1, [*path, self.text(at + 1)], IN_A_TWIN)
         elif word == "trait":
-            self.read_items(opening + 1, after - 1, [*path, self.text(at + 1)], False)
+            self.read_items(opening + 1, after - 1, [*path, self.text(at + 1)], ALONE)
         elif word == "impl":
             name, is_of_trait = self.impl_name(at + 1, opening)
-            self.read_items(opening + 1, after - 1, [*path, name], not is_of_trait)
+            self.read_items(opening + 1, after - 1, [*path, name], IN_PLACE if is_of_trait else IN_A_TWIN)
         return after
 
     def attribute(self, at):
@@ -168,7 +172,7 @@ class Reader:
         last = [it[-1] if it else "?" for it in names]
         return (last[0], False) if len(last) == 1 else (last[1] + last[0] + "".join(arguments[0]), True)
 
-    def read_function(self, begin, at, path, may_be_copied):
+    def read_function(self, begin, at, path, way):
         """Reads a function whose `fn` is at a token. Returns what follows it."""
         opening, after = self.opening(at), self.end_of_item(at)
         if self.text(opening) != "{":
@@ -177,11 +181,11 @@ class Reader:
         inside = opening + 1
         while inside < after:
             is_function = self.text(inside) == "fn" and WORD.match(self.text(inside + 1))
-            inside = self.read_function(inside, inside, [*path, "fn", name.text], False) if is_function else inside + 1
+            inside = self.read_function(inside, inside, [*path, "fn", name.text], ALONE) if is_function else inside + 1
         # A copy of a function that holds others would hold them too.
-        is_copied = may_be_copied and len(self.found) == before and name.text != "main"
+        way = ALONE if len(self.found) > before or name.text == "main" else way
         whole, start = "::".join([*path, name.text]), self.tokens[begin].begin
-        self.found.append(Function(whole, self.file, start, name, self.tokens[opening].end, last.end, is_copied))
+        self.found.append(Function(whole, self.file, start, name, self.tokens[opening].end, last.end, way))
         return after
 
 
@@ -213,14 +217,11 @@ def strings_in(value):
             yield from strings_in(each)
 
 
-def calls_itself(name, calls):
-    """Returns whether a function reaches itself by calls."""
+def reached_by(name, calls):
+    """Returns the functions that a function reaches by calls."""
     seen, left = set(), [name]
     while left:
-        for it in calls.get(left.pop(), ()):
-            if it == name:
-                return True
-            if it not in seen:
-                seen.add(it)
-                left.append(it)
-    return False
+        new = {*calls.get(left.pop(), ())} - seen
+        seen |= new
+        left += new
+    return seen

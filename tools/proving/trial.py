@@ -1,13 +1,13 @@
-"""Tries the must-fail edits of a crate: those of bodies together, in twins; all others alone, as rt tries them."""
+"""Tries the must-fail edits of a crate: those of functions' bodies together, all others alone, as rt tries them."""
 import subprocess
 import tempfile
 from collections import namedtuple
 
 from .edits import Edit
-from .functions import Unreadable, calls_of, functions_of, source_files
+from .functions import IN_A_TWIN, IN_PLACE, Unreadable, calls_of, functions_of, source_files
 from .kit import rt, rtlib
 from .modules import unpack_modules
-from .twins import twins_of, write_with_twins
+from .twins import Twin, apart, tried_of, write_with
 from .verdicts import Judge, Reading
 
 # What a try comes to.
@@ -23,19 +23,25 @@ class Trial:
 
     def __init__(self, crate, files, report, alone=False):
         self.crate, self.report, self.flags = crate, report, ["--jobs", "1"]
-        self.functions, calls = functions_of(crate.name, crate.folder), calls_of(crate.rlib)
-        self.edits = [Edit(file, crate, self.functions, calls) for file in files]
-        self.together = [] if alone else [edit for edit in self.edits if not edit.why_alone]
+        self.functions, self.calls = functions_of(crate.name, crate.folder), calls_of(crate.rlib)
+        self.edits = [Edit(file, crate, self.functions, self.calls) for file in files]
+        self.batches = [] if alone else self.make_batches()
         # The edits with which the crate is surely still proved over what is kept.
         self.proved = set()
 
+    def make_batches(self):
+        """Returns the edits to try together each time. Those in place go with the first twins, as far as they can."""
+        twins = [edit for edit in self.edits if edit.way == IN_A_TWIN]
+        first, placed = twins[:MOST_TOGETHER], [edit for edit in self.edits if edit.way == IN_PLACE]
+        batches = [first + apart(placed, first, self.calls)]
+        return batches + [twins[at : at + MOST_TOGETHER] for at in range(MOST_TOGETHER, len(twins), MOST_TOGETHER)]
+
     def results(self):
         """Tries all edits, and yields each one's name with its result."""
-        tried, together = set(), self.together
+        tried = set()
         with tempfile.TemporaryDirectory(prefix="sabsim-edits-") as kept:
             unpack_modules(self.crate, kept)
-            while together:
-                batch, together = together[:MOST_TOGETHER], together[MOST_TOGETHER:]
+            for batch in self.batches:
                 found = self.try_batch(batch, kept)
                 tried.update(found)
                 yield from found.items()
@@ -46,45 +52,46 @@ class Trial:
     def try_batch(self, batch, kept):
         """Tries edits together. Returns the results of those that are refused so; where a check tells nothing, each
         half of them is tried."""
-        found, why = self.check_together(batch, kept)
+        found, why = self.check_together(tried_of(self.crate, batch), kept) if batch else ({}, "")
         if not why:
             return found
         self.report(f"{self.crate.name}: {len(batch)} edits together tell nothing: {why[:300]}")
         half = len(batch) // 2
         return {**self.try_batch(batch[:half], kept), **self.try_batch(batch[half:], kept)} if half else {}
 
-    def check_together(self, batch, kept):
-        """Checks twins for edits. Returns the results of those that are refused, and why it tells nothing, or nothing."""
-        twins = twins_of(self.crate, batch)
+    def check_together(self, tried, kept):
+        """Checks functions with edits. Returns the results of the edits that are refused, and why it tells nothing of any,
+        or nothing."""
+        twins = [it for it in tried if isinstance(it, Twin)]
         with tempfile.TemporaryDirectory(prefix="sabsim-twins-") as room:
-            write_with_twins(self.crate, twins, room)
+            write_with(self.crate, tried, room)
             try:
                 functions = functions_of(self.crate.name, room)
             except Unreadable:
                 return {}, "the text can't be read"
             if sorted(it.name for it in functions) != sorted(it.name for it in [*self.functions, *twins]):
                 return {}, "the text has other functions than it should"
-            only = [word for twin in twins for word in ("--only", twin.name.partition("::")[2])]
+            only = [word for it in tried for word in ("--only", it.name.partition("::")[2])]
             ran = run_check(self.crate, room, [*self.flags, *only], kept)
             sources = {file: rtlib.text_of(f"{room}/{file}") for file in source_files(room)}
             reading = Reading(ran.returncode, ran.stdout)
             why = reading.why_no_verdict()
-        judge = None if why else Judge(reading, twins, functions, sources)
+        judge = None if why else Judge(reading, tried, functions, sources)
         why = why or judge.why_spoiled()
-        return ({}, why) if why else (self.results_of(judge, twins), "")
+        return ({}, why) if why else (self.results_of(judge, tried), "")
 
-    def results_of(self, judge, twins):
-        """Returns the results of the edits that are refused: one is refused if one of its twins is."""
+    def results_of(self, judge, tried):
+        """Returns the results of the edits that are refused: one is refused if a function is with it."""
         found, left = {}, {}
-        for twin in (it for it in twins if it.edit):
-            line, why = judge.verdict(twin)
+        for it in (it for it in tried if it.edit):
+            line, why = judge.verdict(it)
             if line:
-                found.setdefault(twin.edit.name, Result(REFUSED, line, False))
-            left.setdefault(twin.edit.name, why)
-            if judge.is_proved(twin):
-                self.proved.add(twin.edit.name)
+                found.setdefault(it.edit.name, Result(REFUSED, line, False))
+            left.setdefault(it.edit.name, why)
+            if judge.is_proved(it):
+                self.proved.add(it.edit.name)
         for name in left.keys() - found.keys():
-            self.report(f"{self.crate.name}/{name}: not refused in a twin: {left[name][:300]}")
+            self.report(f"{self.crate.name}/{name}: not refused with others: {left[name][:300]}")
         return found
 
     def try_alone(self, edit, kept):

@@ -1,14 +1,18 @@
-"""Writes a copy of a crate in which a twin of a function is put for each edit of it.
+"""Writes a copy of a crate in which edits of functions' bodies can be tried together.
 
-A twin is the function with the edit in its body: the same attributes, contract and body, under another name, right after
+A twin is the function with an edit in its body: the same attributes, contract and body, under another name, right after
 the function, with its own copy of the function's proof files. Nothing calls a twin, and a twin calls the functions as they
 are. So no edit can hide another one, and what a twin rests on is the crate as it is.
+
+A method of a trait's impl has no room for a twin, and is edited in place, if neither a twin nor another function that is
+edited in place reaches it by calls. Then too, all that each one rests on is the crate as it is.
 """
 import os
 import re
 import shutil
 
 from .edits import Change, changed
+from .functions import IN_A_TWIN, IN_PLACE, reached_by
 from .kit import rtlib
 
 
@@ -19,6 +23,10 @@ class Twin:
         self.function, self.edit = function, edit
         self.short = f"{function.name_token.text}_tried_{number}"
         self.name = f"{function.name.rpartition('::')[0]}::{self.short}"
+
+    def changes(self, source):
+        """Returns what is changed in the text of the function's file: the twin is put after the function."""
+        return [Change(self.function.end, self.function.end, f"\n\n{self.text(source)}")]
 
     def text(self, source):
         """Returns the twin's text, from the text of the function's file."""
@@ -41,6 +49,22 @@ class Twin:
         return found
 
 
+class InPlace:
+    """A function that is edited where it is."""
+
+    def __init__(self, function, edit):
+        self.function, self.edit = function, edit
+        self.name = function.name
+        self.short = function.name.partition("::")[2]
+
+    def changes(self, _):
+        return self.edit.changes[self.function]
+
+    def proof_files(self, _):
+        """Returns no files: those of the function serve."""
+        return {}
+
+
 def proof_folder(name):
     """Returns where the proof files of a function's own are, in its crate's folder."""
     return "/".join(["proofs", *name.split("::")[1:]])
@@ -50,30 +74,42 @@ def has_proof_files(crate, function):
     return os.path.isdir(f"{crate.folder}/{proof_folder(function.name)}")
 
 
-def twins_of(crate, edits):
-    """Returns the twins for edits, and one with no edit for each function that has proof files of its own: the proof of
-    that one shows that copies of these files serve."""
-    pairs = [(function, edit) for edit in edits for function in edit.changes]
+def tried_of(crate, edits):
+    """Returns what tries edits together: twins, one with no edit for each function that has proof files of its own, which
+    shows by its proof that copies of these files serve; and functions edited in place."""
+    pairs = [(function, edit) for edit in edits if edit.way == IN_A_TWIN for function in edit.changes]
     pairs += [(function, None) for function in dict.fromkeys(it for it, _ in pairs) if has_proof_files(crate, function)]
-    return [Twin(function, edit, number) for number, (function, edit) in enumerate(pairs)]
+    twins = [Twin(function, edit, number) for number, (function, edit) in enumerate(pairs)]
+    return twins + [InPlace(function, edit) for edit in edits if edit.way == IN_PLACE for function in edit.changes]
 
 
-def write_with_twins(crate, twins, room):
-    """Writes a copy of the crate with these twins into an empty folder."""
+def apart(edits, twins, calls):
+    """Returns those of some edits that can be made in place beside twins for others: no function of one is reached by
+    calls of a twin, and none is or reaches a function of another one in place."""
+    chosen, names = [], set()
+    below = set().union(*(reached_by(function.name, calls) for edit in twins for function in edit.changes))
+    for edit in edits:
+        own = {function.name for function in edit.changes}
+        reached = set().union(*(reached_by(name, calls) for name in own))
+        if not own & (names | below) and not reached & names:
+            chosen.append(edit)
+            names |= own
+            below |= reached
+    return chosen
+
+
+def write_with(crate, tried, room):
+    """Writes a copy of the crate with these twins, or functions edited in place, into an empty folder."""
     for part in rtlib.PARTS:
         if os.path.isdir(f"{crate.folder}/{part}"):
             shutil.copytree(f"{crate.folder}/{part}", f"{room}/{part}")
-    for file in {twin.function.file for twin in twins}:
+    for file in {it.function.file for it in tried}:
         with open(f"{crate.folder}/{file}", encoding="utf-8") as it:
             source = it.read()
-        here = [twin for twin in twins if twin.function.file == file]
-        added = {twin.function.end: "" for twin in here}
-        for twin in here:
-            added[twin.function.end] += f"\n\n{twin.text(source)}"
+        changes = [change for it in tried if it.function.file == file for change in it.changes(source)]
         with open(f"{room}/{file}", "w", encoding="utf-8") as it:
-            it.write(changed(source, [Change(at, at, text) for at, text in added.items()]))
-    for twin in twins:
-        for file, text in twin.proof_files(crate).items():
-            os.makedirs(os.path.dirname(f"{room}/{file}"), exist_ok=True)
-            with open(f"{room}/{file}", "w", encoding="utf-8") as it:
-                it.write(text)
+            it.write(changed(source, changes))
+    for file, text in (row for it in tried for row in it.proof_files(crate).items()):
+        os.makedirs(os.path.dirname(f"{room}/{file}"), exist_ok=True)
+        with open(f"{room}/{file}", "w", encoding="utf-8") as it:
+            it.write(text)

@@ -1,4 +1,4 @@
-"""Reads what a check of a crate with twins says, and decides which twins were refused for a reason of their own."""
+"""Reads what a check of a crate with edits says, and decides which functions were refused for a reason of their own."""
 import re
 
 from .kit import rt, rtlib
@@ -33,7 +33,7 @@ class Reading:
         return said.startswith("error: ") or is_open_goal
 
     def why_no_verdict(self):
-        """Returns why the check has no verdict on the twins, or nothing."""
+        """Returns why the check has no verdict on any function, or nothing."""
         unread = next((line for line in self.lines if rt.unread(line, ())), "")
         stale = next((line for line in self.lines if rtlib.STALE.search(line)), "")
         is_ended = self.status in (0, 1) and self.lines[-1].startswith("only=")
@@ -41,50 +41,51 @@ class Reading:
 
 
 class Judge:
-    """Judges twins by what a check said of the text that has them, given the functions of that text."""
+    """Judges twins, or functions edited in place, by what a check said of the text that has them, given the functions of
+    that text."""
 
-    def __init__(self, reading, twins, functions, sources):
-        self.reading, self.twins = reading, twins
+    def __init__(self, reading, tried, functions, sources):
+        self.reading, self.tried = reading, tried
         place = {function.name: function for function in functions}
-        self.lines = {twin: lines_of(place[twin.name], sources) for twin in twins}
+        self.lines = {it: lines_of(place[it.name], sources) for it in tried}
 
-    def is_about(self, twin, name):
-        """Returns whether an item is a twin, or is inside one, as a closure is."""
-        return re.search(rf"(?<!\w){re.escape(twin.short)}(?!\w)", name) is not None
+    def is_about(self, it, name):
+        """Returns whether an item is a function that is tried, or is inside it, as a closure is."""
+        return re.search(rf"(?<!\w){re.escape(it.short)}(?!\w)", name) is not None
 
-    def refusals(self, twin):
-        """Returns the lines about places in a twin, or in its own proof files."""
-        first, last = self.lines[twin]
-        folder = f"{proof_folder(twin.name)}/"
-        is_own = lambda file, line: file == twin.function.file and first <= line <= last or file.startswith(folder)
+    def refusals(self, it):
+        """Returns the lines about places in a function, or in its own proof files."""
+        first, last = self.lines[it]
+        folder = f"{proof_folder(it.name)}/"
+        is_own = lambda file, line: file == it.function.file and first <= line <= last or file.startswith(folder)
         return [said for file, line, said in self.reading.places if is_own(file, line)]
 
     def why_spoiled(self):
-        """Returns what else is refused than the twins, which says that the check tells nothing of any of them."""
-        own = {said for twin in self.twins for said in self.refusals(twin)}
+        """Returns what is refused in no function that is tried, if anything: then the check tells nothing of any of them."""
+        own = {said for it in self.tried for said in self.refusals(it)}
         place = next((said for _, _, said in self.reading.places if said not in own), "")
-        others = ((name, said) for name, said in self.reading.items.items() if not any(self.is_about(it, name) for it in self.twins))
+        others = ((name, said) for name, said in self.reading.items.items() if not any(self.is_about(it, name) for it in self.tried))
         return place or next((f"{name}: {said}" for name, said in others if not said.startswith(("proved", "assumed"))), "")
 
-    def verdict(self, twin):
-        """Returns the line that refuses a twin for a reason of its own, or nothing and why there is none."""
-        said, refusals = self.reading.items.get(twin.name, "no line says anything of it"), self.refusals(twin)
+    def verdict(self, it):
+        """Returns the line that refuses a function for a reason of its own, or nothing and why there is none."""
+        said, refusals = self.reading.items.get(it.name, "no line says anything of it"), self.refusals(it)
         named = re.findall(r"`([^`]*::[^`]*)`", said)
-        if any(copy.function == twin.function and not self.is_proved(copy) for copy in self.twins if not copy.edit):
+        if any(copy.function == it.function and not self.is_proved(copy) for copy in self.tried if not copy.edit):
             return "", "a copy of the function as it is isn't proved"
         if not said.startswith(("no proof", "not proved")):
             return "", said
-        if IS_ABOUT_OTHERS.search(said) or not all(self.is_about(twin, name) for name in named):
+        if IS_ABOUT_OTHERS.search(said) or not all(self.is_about(it, name) for name in named):
             return "", f"another one isn't proved: {said}"
         if not refusals:
             return "", f"nothing in it is refused: {said}"
         if any("not admitted" in line for line in refusals):
             return "", f"it rests on what isn't admitted: {refusals[0]}"
-        line = next((it for it in refusals if not NAME_IS_GONE.search(it)), "")
+        line = next((line for line in refusals if not NAME_IS_GONE.search(line)), "")
         return line, "" if line else f"only names are lacking: {refusals[0]}"
 
-    def is_proved(self, twin):
-        return self.reading.items.get(twin.name, "").startswith("proved")
+    def is_proved(self, it):
+        return self.reading.items.get(it.name, "").startswith("proved")
 
 
 def lines_of(function, sources):
