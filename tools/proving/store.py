@@ -8,7 +8,7 @@ import tempfile
 import threading
 import time
 
-from .kit import kit_sum, rt, rtlib
+from .kit import kit_sum, rt, rtlib, stop
 
 # So many versions of a crate are kept: those that were used last. A crate with tests has two for each of its states.
 MOST_VERSIONS = 3
@@ -19,9 +19,14 @@ RESULTS = "edits.json"
 
 
 def default_folder():
-    """Returns the folder of the store: the user's own folder for what can be made anew."""
+    """Returns the folder of the store, which is there then: in the user's own folder for what can be made anew."""
     cache = os.environ.get("XDG_CACHE_HOME", "")
-    return f"{cache if os.path.isabs(cache) else os.path.expanduser('~/.cache')}/sabsim"
+    folder = f"{cache if os.path.isabs(cache) else os.path.expanduser('~/.cache')}/sabsim"
+    try:
+        os.makedirs(folder, exist_ok=True)
+    except OSError as error:
+        stop(f"{folder}, for what is proved, can't be made: {error.strerror}. XDG_CACHE_HOME can name another place")
+    return folder
 
 
 def sum_of(*parts):
