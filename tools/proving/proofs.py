@@ -11,7 +11,7 @@ from .lanes import Task
 from .store import Sums, sum_of, sum_of_scripts
 from .trial import BAD, REFUSED, Result, Trial
 
-# The scripts that decide what an edit comes to. If one of them has changed, all edits are tried anew.
+# The scripts that decide whether an edit is refused. If one of them has changed, all edits are tried anew.
 DECIDING = "edits functions kit modules trial twins verdicts"
 # A proof takes at most this part of the memory that rt foresees; one of a program, or of tests, can take all of it.
 NEEDED = 0.6

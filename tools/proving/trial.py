@@ -10,7 +10,7 @@ from .modules import unpack_modules
 from .twins import Twin, apart, tried_of, write_with
 from .verdicts import Judge, Reading
 
-# What a try comes to.
+# The results that a try can have.
 REFUSED, LOSES_A_NAME, NOT_REFUSED, BAD = "refused", "loses a name", "NOT REFUSED", "BAD EDIT"
 # What is said of a try: which of these, the line that shows it, and whether it was tried alone.
 Result = namedtuple("Result", "kind said is_alone")
@@ -50,7 +50,7 @@ class Trial:
                     yield edit.name, self.try_alone(edit, kept)
 
     def try_batch(self, batch, kept):
-        """Tries edits together. Returns the results of those that are refused so; where a check tells nothing, each
+        """Tries edits together. Returns the results of those that are refused so; if a check decides nothing, each
         half of them is tried."""
         found, why = self.check_together(tried_of(self.crate, batch), kept) if batch else ({}, "")
         if not why:
@@ -60,7 +60,7 @@ class Trial:
         return {**self.try_batch(batch[:half], kept), **self.try_batch(batch[half:], kept)} if half else {}
 
     def check_together(self, tried, kept):
-        """Checks functions with edits. Returns the results of the edits that are refused, and why it tells nothing of any,
+        """Checks functions with edits. Returns the results of the edits that are refused, and why it decides nothing,
         or nothing."""
         twins = [it for it in tried if isinstance(it, Twin)]
         with tempfile.TemporaryDirectory(prefix="sabsim-twins-") as room:

@@ -61,7 +61,7 @@ class Judge:
         return [said for file, line, said in self.reading.places if is_own(file, line)]
 
     def why_spoiled(self):
-        """Returns what is refused in no function that is tried, if anything: then the check tells nothing of any of them."""
+        """Returns what is refused in no function that is tried, if anything: then the check decides nothing."""
         own = {said for it in self.tried for said in self.refusals(it)}
         place = next((said for _, _, said in self.reading.places if said not in own), "")
         others = ((name, said) for name, said in self.reading.items.items() if not any(self.is_about(it, name) for it in self.tried))

@@ -21,7 +21,7 @@ pub enum Call {
     WriteReport,
     /// Agents run in threads.
     Run(Share),
-    /// A run of a script is told into an array.
+    /// A run of a script is written into an array.
     Tell(Told),
 }
 

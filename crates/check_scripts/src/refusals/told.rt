@@ -1,4 +1,4 @@
-//! Runs of scripts that are told into an array.
+//! Runs of scripts whose reports are written into an array.
 
 use crate::refusals::found::Found;
 use crate::refusals::scripts::{ITS_REPORT, STORE_AND_LOAD, STORED_AND_LOADED, THREE_WHO_WAIT};
@@ -10,7 +10,7 @@ use std::alloc::Global;
 use std::sync::Wait;
 use std::thread::Threads;
 
-/// How a run is told. The first one is of the agents that wait, all others are of an agent that stores and loads.
+/// How a run is written. The first has agents that wait; in all others one agent stores and loads.
 #[derive(Clone, Copy)]
 pub enum Told {
     /// A replay, by its plain report.
@@ -113,7 +113,7 @@ fn tell<R: Threads + Wait + Sync>(
     Ok(())
 }
 
-/// A run is told into an array.
+/// A run is written into an array.
 pub fn write<R: Threads + Wait + Sync>(rt: &R, alloc: Global, told: Told) -> Found {
     let mut room = [0; ROOM];
     let mut rest = room.as_mut_slice();
