@@ -35,11 +35,11 @@ export class LostJob extends Error {}
 /** What the code saw isn't what sabsim says: a defect of one of them. The message has both sides. */
 export class Difference extends Error {
   constructor(message: string, outcome: Difference["outcome"], replayed: string, judged?: string);
-  /** It has its trace where its data races are what differs. */
+  /** It has its trace if sabsim's verdict on it is what differs. */
   outcome: Pick<Outcome, "seed" | "script" | "report" | "trace">;
   /** The report that sabsim wrote. */
   replayed: string;
-  /** What sabsim says of its data races, where these are what differs. */
+  /** sabsim's verdict on the trace, if that is what differs. */
   judged?: string;
 }
 
@@ -70,7 +70,10 @@ export interface RecordOptions {
   seconds?: number;
   /** What is done with ordinary reads and writes; else "watch". */
   ordinary?: "watch" | "store" | "refuse";
-  /** Whether a run with a data race fails; else "fail". */
+  /**
+   * Whether a run with unordered accesses fails; else "fail". Two accesses of different agents are unordered if they
+   * touch the same byte, one of them writes, they aren't both by Atomics on the same bytes, and nothing orders them.
+   */
   races?: "fail" | "allow";
   /** Whether a run that meets a bound fails; else "fail". */
   bounds?: "fail" | "allow";
@@ -110,6 +113,7 @@ export interface ExploreOptions extends Omit<RecordOptions, "seed" | "shorten"> 
   signal?: StopSignal;
 }
 
+/** How a run ended; `race`: it finished, `check` found nothing, and it has unordered accesses. */
 export type Ending = "finished" | "deadlock" | "failed" | "check" | "race" | "bound";
 
 /** What a run came to. */
@@ -129,7 +133,7 @@ export interface Outcome {
   progress: { returned: number; calls: number }[];
   /** Of the end: a hash of how it ended and of all bytes, and the beginnings of each buffer in hexadecimal digits. */
   state: { hash: string; shown: string[] };
-  /** The data races, each pair of lines of code once. */
+  /** The unordered accesses, each pair of lines of code once. Each data race of ECMA-262 is one of them. */
   races: Race[];
   /** Of each buffer as it was left, in hexadecimal digits. */
   bytes?: string[];
@@ -149,7 +153,7 @@ export interface Outcome {
   sources?: { file: string; text: string | null }[];
   /** Which agent moved with each draw, in order; told of the shortest run. */
   row?: number[];
-  /** Whether sabsim has replayed the run and judged its data races, and said the same. */
+  /** Whether sabsim has replayed the run, judged whether it has unordered accesses, and said the same. */
   checked: boolean;
   /** Why it hasn't. */
   unchecked?: string;
@@ -173,7 +177,7 @@ export interface Shortened {
   unchanged?: string;
 }
 
-/** A data race. */
+/** Two unordered accesses. */
 export interface Race {
   /** The lines of code, in their order; of one that isn't known, what it did. */
   lines: [string, string];
@@ -182,7 +186,7 @@ export interface Race {
   sides: [RaceSide, RaceSide];
 }
 
-/** One of the two accesses of a data race. */
+/** One of two unordered accesses. */
 export interface RaceSide {
   agent: number;
   access: "read" | "write" | "read and write";

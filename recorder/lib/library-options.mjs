@@ -29,7 +29,7 @@ import { checkedAgents, checkedBuffers, checkedChoice, checkedNoBlock, checkedSt
  * @property {number} [maxMoves] at most 100,000
  * @property {number} [seconds] for how long an agent may make no call
  * @property {"watch" | "store" | "refuse"} [ordinary] what is done with ordinary reads and writes; else "watch"
- * @property {"fail" | "allow"} [races] whether a run with a data race fails; else "fail"
+ * @property {"fail" | "allow"} [races] whether a run with unordered accesses fails; else "fail"
  * @property {"fail" | "allow"} [bounds] whether a run that meets a bound fails; else "fail"
  * @property {"run" | "real"} [clock] the time that clocks tell agents: the run's own or the machine's; else "run"
  * @property {WithBuffers} [init] fills the buffers before the run

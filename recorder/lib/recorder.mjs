@@ -18,7 +18,8 @@ export { LostJob } from "./seeds/seeds.mjs";
 
 /**
  * @typedef {object} Check
- * @property {boolean} checked whether sabsim has replayed the run and judged its data races, and said the same
+ * @property {boolean} checked whether sabsim has replayed the run, and judged whether it has unordered accesses, and
+ * said the same
  * @property {string} [unchecked] why it hasn't
  */
 

@@ -72,8 +72,8 @@ describe("the judge of checked runs", () => {
     await assert.rejects(recordCase("addition", { sabsim, seed: 9 }), (error) => {
       assert.ok(error instanceof Difference);
       assert.equal(error.message, [
-        "seed 9: the recorder and sabsim differ on data races",
-        "  the recorder: no data race",
+        "seed 9: the recorder and sabsim differ on unordered accesses",
+        "  the recorder: no unordered accesses",
         `  sabsim:       ${RACE}`,
       ].join("\n"));
       assert.equal(error.judged, `${RACE}\n`);
@@ -90,7 +90,7 @@ describe("the judge of checked runs", () => {
       await assert.rejects(record({ module: RING, seed: RACING_SEED, sabsim, races }), (error) => {
         assert.ok(error instanceof Difference);
         const [title, recorder, other] = error.message.split("\n");
-        assert.equal(title, `seed ${RACING_SEED}: the recorder and sabsim differ on data races`);
+        assert.equal(title, `seed ${RACING_SEED}: the recorder and sabsim differ on unordered accesses`);
         assert.match(recorder, found);
         assert.equal(other, "  sabsim:       no data race: 12 accesses by 3 agents");
         return true;
@@ -113,7 +113,7 @@ describe("the judge of checked runs", () => {
     const sabsim = ["--sabsim", judging(folder, FINDS_ONE), "--out", out];
     const { status, stdout, stderr } = run(agentsPath("cases"), ...sabsim, ...addition);
     assert.equal(status, 3);
-    assert.match(stderr, /^record: seed 7: the recorder and sabsim differ on data races$/m);
+    assert.match(stderr, /^record: seed 7: the recorder and sabsim differ on unordered accesses$/m);
     const kept = ["json", "report", "sabsim-report", "sabsim-verdict", "trace.jsonl"];
     assert.deepEqual(readdirSync(out).sort(), kept.map((ending) => `seed-7.${ending}`));
     const read = (ending) => readFileSync(join(out, `seed-7.${ending}`), "utf8");
@@ -136,7 +136,7 @@ describe("the judge of checked runs", () => {
   it("isn't there in a sabsim that is older: that is told, with status 3", withSabsim, async (context) => {
     const folder = temporaryFolder(context);
     const sabsim = judging(folder, "echo \"error: unrecognized subcommand 'judge'\" >&2; exit 2");
-    const told = /judging can't judge data races, so it is older than the recorder: `\.\/build`, .*, builds sabsim$/;
+    const told = /judging can't judge a trace, so it is older than the recorder: `\.\/build`, .*, builds sabsim$/;
     await assert.rejects(recordCase("addition", { sabsim }), (error) => {
       assert.ok(error instanceof NoSabsim);
       assert.match(error.message, told);

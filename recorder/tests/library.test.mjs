@@ -232,7 +232,7 @@ const RACY = `
   Atomics.add(words, 1, 1);
 `;
 
-test("`races` says whether a run with a data race fails", async (context) => {
+test("`races` says whether a run with unordered accesses fails", async (context) => {
   const options = { module: agentsOf(temporaryFolder(context), RACY), agents: 2, buffers: [8], sabsim: false };
   const failing = await record(options);
   assert.deepEqual([failing.ending, failing.fails, failing.races.length], ["race", true, 1]);

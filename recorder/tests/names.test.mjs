@@ -58,6 +58,7 @@ for (const [names, why] of [
   [{ Uint8_b1_at8_x4: 0 }, /scripts name other views so/],
   [{ ordinary_x: 0 }, /scripts name other views so/],
   [{ init_: 0 }, /scripts name other views so/],
+  [{ unseen: 0 }, /^`names` can't have unseen: scripts name other views so: give it another name$/],
   [{ LOCK: "0" }, /^`names` says of LOCK no place: give \[kind, buffer, index\] for an element/],
   [{ LOCK: ["Int32"] }, /says of LOCK no place/],
   [{ LOCK: ["Int32", 0, 0, 0] }, /says of LOCK no place/],
@@ -216,5 +217,5 @@ test("where names would take too many views, a script goes without them", async 
     }
   `);
   assert.deepEqual([ending, noScript], ["finished", undefined]);
-  assert.deepEqual(JSON.parse(script).views.map(({ name }) => name), ["ordinary_Int32", "Int32"]);
+  assert.deepEqual(JSON.parse(script).views.map(({ name }) => name), ["ordinary_Int32", "Int32", "ordinary_unseen"]);
 });

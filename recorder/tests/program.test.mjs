@@ -31,7 +31,7 @@ test("where no run fails, the status is 0", withSabsim, () => {
       "1 final state: how it ended, and the bytes",
       "  20 runs finished, seed 1 the first: 030000000300000000000000",
       "2 runs checked: sabsim says the same",
-      "of data races in them sabsim's judge, which is proved, says the same",
+      "which of them have unordered accesses: sabsim's judge, which is proved, says the same",
       // Two agents add three times each.
       "20 runs made 120 calls of Atomics, and no ordinary read or write",
       "",

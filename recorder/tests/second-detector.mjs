@@ -1,5 +1,5 @@
-// A second judge of data races, written apart from the recorder's: all pairs of events, and a search for what happens
-// before what. It is slow, and keeps no state from one event to the next.
+// A second judge of unordered accesses, written apart from the recorder's: all pairs of events, and a search for what
+// happens before what. It is slow, and keeps no state from one event to the next.
 
 /**
  * @typedef {object} Event what one agent did; the events of a run come in one order

@@ -55,7 +55,7 @@ test("a summary tells first what failed, and it is the same in whatever order th
     "first failing seed: 186, deadlock",
     "  agent 0 waits",
     "  agent 1 waits",
-    "data races: 3 runs, 1 pair of lines",
+    "unordered accesses: 3 runs, 1 pair of lines",
     "  seed 192 the first, 3 runs: ring.mjs:12:7 and ring.mjs:20:11",
     "4 final states: how it ended, and the bytes",
     "  5 runs deadlock, seed 186 the first: 0700",
@@ -63,7 +63,7 @@ test("a summary tells first what failed, and it is the same in whatever order th
     "  1 run deadlock, seed 191 the first: 0800",
     "  185 runs finished, seed 1 the first: 0900",
     "28 runs checked: sabsim says the same",
-    "of data races in them sabsim's judge, which is proved, says the same",
+    "which of them have unordered accesses: sabsim's judge, which is proved, says the same",
     // 185 times 40 and 9 times 2; 185 times 5.
     "194 runs made 7,418 calls of Atomics, and 925 ordinary reads and writes",
   ];
@@ -121,7 +121,7 @@ test("each pair of lines is told once, with its first seed and its runs, and eig
     return outcome(20 - at, { ending: "race", races: at === 0 ? [own] : [often, own] });
   });
   const lines = linesOf(outcomes);
-  const title = lines.indexOf("data races: 10 runs, 11 pairs of lines");
+  const title = lines.indexOf("unordered accesses: 10 runs, 11 pairs of lines");
   assert.deepEqual(lines.slice(title + 1, title + 10), [
     "  seed 11 the first, 9 runs: a.mjs:1:1 and a.mjs:2:1",
     ...[9, 8, 7, 6, 5, 4, 3].map((at) => `  seed ${20 - at} the first, 1 run: b.mjs:${at}:1 and b.mjs:77:1`),
@@ -134,10 +134,10 @@ test("races that are allowed are told too, and races of runs that failed otherwi
   const allowed = linesOf([outcome(1, { races }), outcome(2)], { races: "allow" });
   assert.equal(allowed[0], "2 runs: 2 finished");
   assert.deepEqual(allowed.slice(1, 3), [
-    "data races, allowed: 1 run, 1 pair of lines", "  seed 1 the first, 1 run: a.mjs:1:1 and a.mjs:2:1",
+    "unordered accesses, allowed: 1 run, 1 pair of lines", "  seed 1 the first, 1 run: a.mjs:1:1 and a.mjs:2:1",
   ]);
   const failed = linesOf([outcome(1, { ending: "deadlock", detail: "it waits", races })]);
-  assert.ok(failed.includes("data races: 1 run, 1 pair of lines"));
+  assert.ok(failed.includes("unordered accesses: 1 run, 1 pair of lines"));
 });
 
 test("scripts that hold a part, and runs that have none, are told", () => {
@@ -150,7 +150,7 @@ test("scripts that hold a part, and runs that have none, are told", () => {
   ]);
   const checked = lines.indexOf("1 run checked: sabsim says the same");
   assert.deepEqual(lines.slice(checked + 1, checked + 4), [
-    "of data races in it sabsim's judge, which is proved, says the same",
+    "whether it has unordered accesses: sabsim's judge, which is proved, says the same",
     "2 scripts hold only the ordinary writes of bytes that calls touch, since all don't fit; their other bytes " +
       "weren't compared",
     "1 run has no script, and wasn't checked: it would have 2,000 calls",
@@ -170,8 +170,8 @@ test("the last lines say what was not seen", () => {
   assert.equal(last({ ordinary: "watch" }), "2 runs made 4 calls of Atomics, and 6 ordinary reads and writes");
   assert.equal(
     last({ ordinary: "store" }),
-    "ordinary reads were not seen, and of ordinary writes only what they changed between two calls, so data races " +
-      "were not looked for",
+    "ordinary reads were not seen, and of ordinary writes only what they changed between two calls, so unordered " +
+      "accesses were not looked for",
   );
   assert.equal(last({ ordinary: "refuse" }), last({ ordinary: "store" }));
   assert.match(last({ ordinary: "watch", preloads: true }), /^what is done by .* as --require, .* was not seen$/);

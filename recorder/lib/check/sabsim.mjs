@@ -16,8 +16,8 @@ import { traceText } from "../run/trace.mjs";
  * @property {number} seed
  * @property {string} script
  * @property {string} report
- * @property {Judgement & { told: string }} [judgement] how its data races were judged, with what is told of the first
- * one; undefined: they weren't
+ * @property {Judgement & { told: string }} [judgement] whether unordered accesses were found, with what is told of the
+ * first two; undefined: they weren't looked for
  */
 
 /**
@@ -40,9 +40,10 @@ const MOST_MILLISECONDS = 60_000;
 // The longest trace has a million lines.
 const MOST_JUDGING_MILLISECONDS = 600_000;
 
-// How the program ends: refused words of its command line, races found.
+// How the program ends: refused words of its command line, unordered accesses found. It finds what the recorder finds,
+// also where no data race, as ECMA-262 has it, is among them.
 const REFUSED_WORDS = 2;
-const FOUND_RACES = 5;
+const FOUND_UNORDERED = 5;
 
 /** The program isn't there, or can't be run. */
 export class NoSabsim extends Error {}
@@ -51,9 +52,9 @@ export class NoSabsim extends Error {}
 export class Difference extends Error {
   /**
    * @param {string} message both sides
-   * @param {Scripted} outcome with its script and report, and with its trace where its data races are what differs
+   * @param {Scripted} outcome with its script and report, and with its trace where the verdict on it differs
    * @param {string} replayed the report that sabsim wrote
-   * @param {string} [judged] what sabsim says of its data races, where these are what differs
+   * @param {string} [judged] sabsim's verdict on the trace, where that differs
    */
   constructor(message, outcome, replayed, judged) {
     super(message);
@@ -149,12 +150,12 @@ export function versionOf(path) {
  */
 export function checkable({ seed, script = "", report = "", races }, judgement) {
   if (judgement === undefined) return { seed, script, report };
-  const found = races.length > 0 ? races[0].text : "a data race";
-  return { seed, script, report, judgement: { ...judgement, told: judgement.racy ? found : "no data race" } };
+  const found = races.length > 0 ? races[0].text : "unordered accesses";
+  return { seed, script, report, judgement: { ...judgement, told: judgement.racy ? found : "no unordered accesses" } };
 }
 
 /**
- * Replays a run, and has its data races judged.
+ * Replays a run, and has its trace judged.
  * @param {string} path of sabsim
  * @param {Checkable} run
  * @returns {Differing | undefined} how the code or the recorder and sabsim differ, if they do
@@ -187,26 +188,26 @@ function replayDifference(path, { seed, script, report }) {
 }
 
 /**
- * Has the data races of a run judged, by the events that the recorder judged them by.
+ * Has the trace of a run judged: the events in which the recorder has looked for unordered accesses.
  * @param {string} path of sabsim
  * @param {number} seed
  * @param {string} replayed what sabsim has written of the run before
  * @param {Judgement & { told: string }} judgement the recorder's
- * @returns {Differing | undefined} how they differ, where one of both says that there is a race
+ * @returns {Differing | undefined} how they differ, where one of both has found unordered accesses
  */
 function raceDifference(path, seed, replayed, { racy, events, told }) {
   const trace = traceText(Log.from(events));
   const { status, output, errors } = sabsim(path, ["judge", "--trace"], trace, MOST_JUDGING_MILLISECONDS);
   if (status === REFUSED_WORDS) {
-    throw new NoSabsim(`${path} can't judge data races, so it is older than the recorder: ${HOW_TO_BUILD}`);
+    throw new NoSabsim(`${path} can't judge a trace, so it is older than the recorder: ${HOW_TO_BUILD}`);
   }
-  if (status === (racy ? FOUND_RACES : 0)) return undefined;
-  if (status !== 0 && status !== FOUND_RACES) {
+  if (status === (racy ? FOUND_UNORDERED : 0)) return undefined;
+  if (status !== 0 && status !== FOUND_UNORDERED) {
     const message = `seed ${seed}: sabsim ended with status ${status} on the trace: ${errors.trim()}`;
     return { message, replayed, judged: output, trace };
   }
   const message = [
-    `seed ${seed}: the recorder and sabsim differ on data races`,
+    `seed ${seed}: the recorder and sabsim differ on unordered accesses`,
     `  the recorder: ${told}`,
     `  sabsim:       ${output.split("\n", 1)[0]}`,
   ].join("\n");

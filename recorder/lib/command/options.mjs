@@ -26,9 +26,10 @@ Runs the agents of a module under seeded schedules, and keeps the first run that
   --everywhere    agents are switched before each call, also where pilot runs have shown that no other agent goes
   --timeouts P    in how many of the draws, from 0 to 1, the end of a timed wait is offered while something else can
                   move (${DEFAULT_TIMEOUTS})
-  --ordinary HOW  reads and writes without Atomics: watch (each is seen, and data races are looked for), store (only
-                  what changed is found) or refuse (a byte that changed fails the run) (watch)
-  --races HOW     fail: a run that has a data race fails; allow: its races are told only (fail)
+  --ordinary HOW  reads and writes without Atomics: watch (each is seen, and unordered accesses are looked for), store
+                  (only what changed is found) or refuse (a byte that changed fails the run) (watch)
+  --races HOW     unordered accesses: two agents access a byte, one of them writes it, and nothing orders the two. fail:
+                  a run that has some fails, with the ending race; allow: they are reported only (fail)
   --bounds HOW    fail: a run that meets a bound, as a spin does, fails; allow: it is told only (fail)
   --clock WHICH   the time that clocks tell agents: run (the run's own, which comes from the seed) or real (run)
   --fail-fast     ends at the first failing run

@@ -4,9 +4,9 @@
 import { readFileSync } from "node:fs";
 import { basename } from "node:path";
 import { checkable, check as checkWithSabsim, sabsimFor, sabsimPlaces } from "../check/sabsim.mjs";
+import { preloads } from "../preloads.mjs";
 import { Group } from "../run/group.mjs";
 import { Refused } from "../run/plan.mjs";
-import { preloads } from "../seeds/node-words.mjs";
 import { NoLongerTheSame, differenceText, strayedText } from "../shorter/differing.mjs";
 import { callNumbers, keptScript } from "../shorter/kept-script.mjs";
 import { print } from "./print.mjs";
@@ -95,7 +95,7 @@ export class Replay {
     const summary = new Summary({
       ordinary: options.ordinary, races: options.races, checks: sabsim !== undefined,
       missing: options.checkEvery > 0 && sabsim === undefined ? sabsimPlaces() : undefined,
-      preloads: preloads([...process.execArgv, process.env.NODE_OPTIONS ?? ""]),
+      preloads: preloads(),
     });
     summary.add(outcome);
     if (sabsim !== undefined && script !== undefined) {

@@ -2,9 +2,9 @@
 
 import { resolve } from "node:path";
 import { Difference, sabsimFor, sabsimPlaces, versionOf } from "../check/sabsim.mjs";
+import { preloads } from "../preloads.mjs";
 import { collectGarbage, onceMore } from "../run/garbage.mjs";
 import { Coverage } from "../seeds/coverage.mjs";
-import { preloads } from "../seeds/node-words.mjs";
 import { recordSeeds } from "../seeds/seeds.mjs";
 import { shortenInJob } from "../shorter/in-job.mjs";
 import { askedOf } from "./asked.mjs";
@@ -27,7 +27,7 @@ export class Session {
    */
   constructor(options, module) {
     const { checkEvery, sabsim: path, isSabsimAsked: isAsked } = options;
-    const isPreloaded = preloads([...process.execArgv, process.env.NODE_OPTIONS ?? ""]);
+    const isPreloaded = preloads();
     this.asked = askedOf(options, module, isPreloaded);
     /** Where sabsim is; undefined: it isn't asked. */
     this.sabsim = checkEvery === 0 ? undefined : sabsimFor({ path, isAsked });

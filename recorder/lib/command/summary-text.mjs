@@ -57,7 +57,7 @@ function failingLines({ firstFailing, shortened }) {
 /** @param {Told} summary */
 function raceLines({ races: { allowed, runs, pairs } }) {
   if (runs === 0) return [];
-  const title = allowed ? "data races, allowed" : "data races";
+  const title = allowed ? "unordered accesses, allowed" : "unordered accesses";
   const lines = listed(pairs.listed, MOST_LISTED, ({ lines: both, runs: raced, first }) => {
     return `seed ${first} the first, ${counted(raced, "run")}: ${both.join(" and ")}`;
   });
@@ -95,8 +95,8 @@ function checkLines({ runs, sabsim: { checked, judges, missing } }) {
   const lines = missing === null ? [] : uncheckedLines(missing, runs);
   if (checked === 0) return lines.length === 0 ? ["no run was checked"] : lines;
   const same = `${counted(checked, "run")} checked: sabsim says the same`;
-  const which = checked === 1 ? "it" : "them";
-  const judged = judges ? [`of data races in ${which} sabsim's judge, which is proved, says the same`] : [];
+  const which = checked === 1 ? "whether it has" : "which of them have";
+  const judged = judges ? [`${which} unordered accesses: sabsim's judge, which is proved, says the same`] : [];
   return [same, ...judged, ...lines];
 }
 

@@ -68,7 +68,7 @@ import { Tally } from "./tally.mjs";
  * @property {boolean} asked whether runs were to be checked by it
  * @property {string[]} versions of the programs that were asked
  * @property {number} checked how many runs it says the same of
- * @property {boolean} judges whether it has judged the data races of these too
+ * @property {boolean} judges whether it has judged too which of these have unordered accesses
  * @property {{ places: string[], runs: number } | null} missing where it was looked for and isn't, and for how many
  * runs
  */
@@ -80,8 +80,8 @@ const FAILING = ["deadlock", "failed", "check", "race", "bound"];
 const PASSING = ["finished", ...FAILING];
 
 const CHANGES_ALONE =
-  "ordinary reads were not seen, and of ordinary writes only what they changed between two calls, so data races " +
-  "were not looked for";
+  "ordinary reads were not seen, and of ordinary writes only what they changed between two calls, so unordered " +
+  "accesses were not looked for";
 
 /** What no run of a mode has seen. */
 const UNSEEN = { watch: [], store: [CHANGES_ALONE], refuse: [CHANGES_ALONE] };
@@ -112,7 +112,7 @@ export class Summary {
     this.checked = 0;
     this.calls = 0;
     this.accesses = 0;
-    /** How many runs had a data race. */
+    /** How many runs had unordered accesses. */
     this.raced = 0;
     /** How many scripts hold some of the ordinary writes only. */
     this.parts = 0;

@@ -1,4 +1,4 @@
-// The data races of a run, as they are told.
+// The unordered accesses of a run, as they are told.
 
 import { FLAG } from "./log.mjs";
 import { NO_NAMES } from "./names.mjs";
@@ -20,7 +20,7 @@ import { ownCalls } from "./transcript.mjs";
  */
 
 /**
- * @typedef {object} Told a race
+ * @typedef {object} Told two unordered accesses
  * @property {[string, string]} lines of code, in their order; of one that isn't known, what it did
  * @property {string} text
  * @property {[Side, Side]} sides the one that was made first before the other

@@ -7,7 +7,7 @@ import { SCRIPT_LIMITS } from "../../script/limits.mjs";
 import { scriptText } from "../../script/text.mjs";
 import { FLAG, READ } from "./log.mjs";
 import { NO_NAMES } from "./names.mjs";
-import { transcriptOf } from "./transcript.mjs";
+import { UNSEEN, transcriptOf } from "./transcript.mjs";
 
 /** @typedef {import("./stores.mjs").Store} Store */
 /** @typedef {import("./transcript.mjs").Transcript} Transcript */
@@ -230,8 +230,10 @@ export function fitted(run, stores, initial, final) {
   let noScript = "too many ordinary writes were made to bytes that calls touch";
   if (stores.isLost()) return { transcript: transcriptOf(run, []), noScript };
   const counts = countsOf(run.log, run.canBlock.length);
+  let isOfCallsAlone = true;
   for (const { holds, list } of stores.isWhole() ? choices : choices.slice(2)) {
     const [own, first] = list();
+    isOfCallsAlone = own.length + first.length === 0;
     noScript = reasonAgainst(counts, [...first, ...own]);
     if (noScript !== undefined) continue;
     const { transcript, script, noScript: why } = withScript(run, own, first);
@@ -240,6 +242,7 @@ export function fitted(run, stores, initial, final) {
     const bytes = holds === "all" ? final : bytesLeft(final, touched, [...first, ...own]);
     return { transcript, script, holds, bytes };
   }
-  noScript = `${noScript}, with the ordinary writes of bytes that calls touch`;
-  return { transcript: transcriptOf(run, []), noScript };
+  // The calls alone fit, since the run ends at their limits.
+  const withMore = isOfCallsAlone ? UNSEEN : "the ordinary writes of bytes that calls touch";
+  return { transcript: transcriptOf(run, []), noScript: `${noScript}, with ${withMore}` };
 }

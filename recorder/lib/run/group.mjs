@@ -25,7 +25,7 @@ import { Thread } from "./thread.mjs";
  * @property {{ returned: number, calls: number }[]} progress of each agent: calls that returned, and that began
  * @property {{ hash: string, shown: string[] }} state of the end: a hash of how it ended and of all bytes, and the
  * beginnings of each buffer in hexadecimal digits
- * @property {import("./findings.mjs").Told[]} races each pair of lines of code once
+ * @property {import("./findings.mjs").Told[]} races the unordered accesses, each pair of lines of code once
  * @property {string[]} [bytes] of each buffer as it was left, in hexadecimal digits; this and what follows is told of
  * runs that fail, and where it is asked for
  * @property {(string | null)[][]} [answers] of each agent's calls, as a report spells them; null: a wait that goes on
@@ -66,8 +66,8 @@ import { Thread } from "./thread.mjs";
  */
 
 /**
- * @typedef {object} Judgement how the recorder has judged the data races of a run, and by what; told beside an outcome
- * that has a script, where ordinary accesses are watched
+ * @typedef {object} Judgement whether the recorder has found unordered accesses in a run, and in which events it has
+ * looked; told beside an outcome that has a script, where ordinary accesses are watched
  * @property {boolean} racy whether it has found any
  * @property {Int32Array} events those of the run's log
  */
@@ -90,7 +90,7 @@ import { Thread } from "./thread.mjs";
  * @property {number} seconds for how long an agent may make no call
  * @property {boolean} fresh
  * @property {"watch" | "store" | "refuse"} [ordinary] what is done with ordinary reads and writes
- * @property {"fail" | "allow"} [races] whether a run that finishes and races fails
+ * @property {"fail" | "allow"} [races] whether a run that finishes and has unordered accesses fails
  * @property {"fail" | "allow"} [bounds] whether a run that meets a bound fails
  * @property {"run" | "real"} [clock] which time agents are told
  * @property {boolean} [trace] whether each run's trace is told

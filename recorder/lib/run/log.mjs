@@ -85,6 +85,14 @@ export class Log {
     return this.words[this.count] < this.most - FOR_CALLS;
   }
 
+  /** @returns {boolean} whether an ordinary access is among the events */
+  hasOrdinary() {
+    for (let event = 0; event < this.length; event += 1) {
+      if (this.whatAt(event) >= READ) return true;
+    }
+    return false;
+  }
+
   /**
    * Appends an event.
    * @param {number} what

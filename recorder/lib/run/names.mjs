@@ -27,7 +27,7 @@ const MOST_CHARACTERS = 23;
 const RIGHT = new RegExp(`^[A-Za-z0-9_]{1,${MOST_CHARACTERS}}$`);
 
 /** What scripts name views by themselves. */
-const TAKEN = new RegExp(`^(?:ordinary_|init_)|^(?:${KINDS.join("|")})(?:_b\\d+)?(?:_at\\d+)?(?:_x\\d+)?$`);
+const TAKEN = new RegExp(`^(?:ordinary_|init_|unseen$)|^(?:${KINDS.join("|")})(?:_b\\d+)?(?:_at\\d+)?(?:_x\\d+)?$`);
 
 /** In place of an index, where a name is that of a whole array. */
 const WHOLE = "whole";

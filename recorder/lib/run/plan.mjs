@@ -12,7 +12,7 @@ export { Refused };
 /**
  * @typedef {object} Choices what can be chosen by a word
  * @property {"watch" | "store" | "refuse"} ordinary what is done with ordinary reads and writes
- * @property {"fail" | "allow"} races whether a run with a data race fails
+ * @property {"fail" | "allow"} races whether a run with unordered accesses fails
  * @property {"fail" | "allow"} bounds whether a run that meets a bound fails
  * @property {"run" | "real"} clock which time agents are told
  */

@@ -1,10 +1,11 @@
-// The data races of a run, by vector clocks over its log, in time linear in its events.
+// The unordered accesses of a run, by vector clocks over its log, in time linear in its events.
 //
-// Two accesses race where different agents make them on overlapping bytes, at least one writes, they aren't both atomic
-// on the same bytes, and neither happens before the other. What happens before what, by ECMA-262's clauses on
-// synchronizes-with and happens-before, of the one execution that was made: an agent's own events in their order; an
-// atomic write before an atomic read of the same bytes that reads from it; the leaving of a critical section of a
-// place's waiters before each later entering; and what follows by going from one to the next.
+// Two accesses are unordered if different agents make them on overlapping bytes, at least one writes, they aren't both
+// atomic on the same bytes, and neither happens before the other. Here that is called a race, in short. ECMA-262's data
+// race is narrower: both write, or the later one reads from the earlier one. What happens before what, by ECMA-262's
+// clauses on synchronizes-with and happens-before, of the one execution that was made: an agent's own events in their
+// order; an atomic write before an atomic read of the same bytes that reads from it; the leaving of a critical section
+// of a place's waiters before each later entering; and what follows by going from one to the next.
 //
 // An agent's clock says for each agent up to which of its times all that it did happens before what comes next. An
 // agent's own time goes on when it lets others know: with an atomic write, and with the end of a critical section.

@@ -8,6 +8,7 @@ import { Board } from "../board/board.mjs";
 import { ORDER, WORD } from "../board/layout.mjs";
 import { strayText } from "../board/row.mjs";
 import { Sources } from "../agent/sources.mjs";
+import { preloads } from "../preloads.mjs";
 import { reportText } from "../../script/report.mjs";
 import { racesTold } from "./findings.mjs";
 import { fitted } from "./fitting.mjs";
@@ -83,6 +84,9 @@ const run = { log, records, lengths: plan.buffers, canBlock: plan.canBlock, name
 
 const meetings = options.tellsMeetings ? new Meetings(sourceNames) : undefined;
 const tellsAlways = options.trace || meetings !== undefined;
+
+/** Whether each ordinary access is seen: code from before the recorder may make some that aren't watched. */
+const seesAll = options.ordinary === "watch" && !preloads();
 
 /** Whether the next run tells its lines of code at once: where the one before raced, it may well. */
 let tellsNext = tellsAlways;
@@ -173,6 +177,9 @@ const callCount = () => agents.reduce((sum, agent) => sum + board.journal.progre
 /** How many ordinary reads and writes were seen. */
 const accessCount = () => agents.reduce((sum, agent) => sum + board.journal.ordinary(agent), 0);
 
+/** Whether ordinary accesses were made, or may have been made unseen. */
+const isOrdinary = () => !seesAll || accessCount() > 0 || log.hasOrdinary();
+
 /**
  * How a run ends, with what is known when its agents are home.
  * @param {Made} found
@@ -243,7 +250,8 @@ function briefly({ seed }, found) {
  * @param {Made} found
  */
 function tellWhole(outcome, found) {
-  const { transcript, script, holds, bytes = [], noScript } = fitted(run, stores, found.initial, found.bytes);
+  const whole = { ...run, isOrdinary: isOrdinary() };
+  const { transcript, script, holds, bytes = [], noScript } = fitted(whole, stores, found.initial, found.bytes);
   if (outcome.ending === "deadlock") outcome.detail = waitingText(found.waiting, transcript);
   outcome.bytes = found.bytes;
   outcome.answers = agents.map((agent) => ownCalls(transcript, agent).map((call) => call.answer));
@@ -257,7 +265,7 @@ function tellWhole(outcome, found) {
 }
 
 /**
- * The races of the run that was made last.
+ * The unordered accesses of the run that was made last.
  * @param {boolean} tellsSources
  */
 function tellRaces(tellsSources) {
@@ -321,7 +329,7 @@ async function addSources(wanted, outcome, found, hasSources) {
 }
 
 /**
- * The races and the trace of the run that was made last, whose accesses have told their lines.
+ * The unordered accesses and the trace of the run that was made last, whose accesses have told their lines.
  * @param {Outcome} outcome
  * @param {boolean} wantsTrace
  */
@@ -341,7 +349,8 @@ const namesOf = (each) =>
   each.list().map((/** @type {string} */ place) => (place === "" ? "" : sourceNames.nameOf(place)));
 
 /**
- * How the races of the run that was made last were judged here, where its script is told, so that both can be checked.
+ * Whether unordered accesses were found here in the run that was made last, where its script is told, so that both can
+ * be checked.
  * @param {Outcome} outcome
  * @param {Made} found
  * @returns {Judgement | undefined}

@@ -1,5 +1,5 @@
 // The trace of a run: each of its events as an object of JSON, a line each. It is what another program needs to judge
-// the run's data races anew.
+// anew whether the run has unordered accesses.
 
 import { LEAVE, TIME_UP } from "../board/journal.mjs";
 import { CALLS } from "../../script/kinds.mjs";

@@ -1,5 +1,6 @@
 // What was done in a run, as a script and its report have it: views, the calls of each agent, and moves. Ordinary
-// writes stand among the calls as stores. What agents call is counted apart: they are none of theirs.
+// writes stand among the calls as stores. What agents call is counted apart: they are none of theirs. Ordinary reads
+// aren't among the calls. So a view without an element says that the run has ordinary accesses, or may have some.
 
 import { EVENTS, LEAVE, TIME_UP } from "../board/journal.mjs";
 import { CONSTRUCTORS, KINDS, SIZES } from "../../script/kinds.mjs";
@@ -46,7 +47,12 @@ import { callText, viewName } from "./spelling.mjs";
  * @property {number[]} lengths of the blocks
  * @property {boolean[]} canBlock of each agent
  * @property {import("./names.mjs").Names} [names] of words and of whole arrays
+ * @property {boolean} [isOrdinary] whether ordinary accesses were made, or may have been made unseen
  */
+
+/** The view that says so in a script. */
+export const UNSEEN = "ordinary_unseen";
+const NO_ELEMENT = Object.freeze({ kind: KINDS.indexOf("Uint8"), block: 0, offset: 0, length: 0 });
 
 /**
  * @param {string} name
@@ -150,7 +156,8 @@ class Writer {
  * @param {Store[]} [initial] those that fill the buffers at first, of an agent of their own
  * @returns {Transcript}
  */
-export function transcriptOf({ log, records, lengths, canBlock, names = NO_NAMES }, stores, initial = []) {
+export function transcriptOf(run, stores, initial = []) {
+  const { log, records, lengths, canBlock, names = NO_NAMES, isOrdinary = false } = run;
   const writer = new Writer(lengths, initial.length === 0 ? canBlock : [...canBlock, true], names);
   for (const store of initial) writer.addStore(store, "init");
   let next = 0;
@@ -168,6 +175,7 @@ export function transcriptOf({ log, records, lengths, canBlock, names = NO_NAMES
     writer.addEvent(records[agent], agent, event);
   }
   addStores(Infinity);
+  if (isOrdinary) writer.addView(UNSEEN, NO_ELEMENT);
   const { views, calls, moves, canBlock: all } = writer;
   return { lengths, canBlock: all, views: [...views.values()], calls, moves };
 }

@@ -8,16 +8,6 @@ const PROGRAM = /^(-[ep]+|--eval|--print|--input-type)$/;
 const DEBUGGING = /^--(inspect|debug-port)/;
 const PORT = /^--(inspect|debug)-port$/;
 
-// What loads code before the program; several may stand in one word, as in NODE_OPTIONS.
-const LOADING = /(^|\s)(-r|--require|--import|--loader|--experimental-loader)(=|\s|$)/;
-
-/**
- * Whether node's own words load code before the program.
- * @param {string[]} words
- * @returns {boolean}
- */
-export const preloads = (words) => words.some((word) => LOADING.test(word));
-
 /**
  * @param {string[]} words that this process got
  * @returns {string[]} those that the process of a job gets

@@ -1,0 +1,162 @@
+// Scripts of runs with ordinary accesses. Such a script doesn't show them all, so its run may be free of races where
+// the recorded run isn't. An empty view, `ordinary_unseen`, says so, and `sabsim judge` refuses the script.
+
+import assert from "node:assert/strict";
+import { spawnSync } from "node:child_process";
+import { readFileSync, writeFileSync } from "node:fs";
+import { join } from "node:path";
+import { describe, it } from "node:test";
+import { fileURLToPath } from "node:url";
+import { SCRIPT_LIMITS } from "../script/limits.mjs";
+import { RECORD, agentsPath, temporaryFolder } from "./common.mjs";
+import { CHECKING, SABSIM, hasSabsim, needing, withSabsim } from "./needs.mjs";
+import { recorded, summaryLines } from "./recorded.mjs";
+
+const RING = fileURLToPath(new URL("./known/ring-frees-first.mjs", import.meta.url));
+const RACING_SEED = 3;
+const MOST = SCRIPT_LIMITS.views;
+const EMPTY = { name: "ordinary_unseen", kind: "Uint8", block: 0, offset: 0, length: 0 };
+const WHY_NOT = `it would have more than ${MOST} views, with ordinary_unseen`;
+
+/** The outcome of a program of `agents/unseen.mjs`, which sabsim checks where it is given. */
+async function outcomeOf(program, options = {}) {
+  const [outcome] = await recorded({ module: agentsPath("unseen"), args: program.split(" "), ...options });
+  return outcome;
+}
+
+const viewsOf = (script) => JSON.parse(script).views;
+const namesOf = ({ script }) => viewsOf(script).map(({ name }) => name);
+
+/** What sabsim does with an input. */
+function saidOf(words, input) {
+  const { status, stdout, stderr } = spawnSync(SABSIM, words, { input, encoding: "utf8" });
+  return { status, output: stdout, errors: stderr };
+}
+
+/** Whether the program refuses to judge a script that says that it doesn't show all accesses. */
+const refuses = hasSabsim && saidOf(["judge"], JSON.stringify({
+  blocks: [4], views: [EMPTY], agents: [], schedule: [],
+})).status === 1;
+const withRefusal = needing("a sabsim that refuses to judge scripts of ordinary accesses", refuses);
+
+describe("a script of a run with ordinary accesses", () => {
+  it("says so by an empty view: the ring whose kept scripts show no race", (context) => {
+    const out = join(temporaryFolder(context), "out");
+    const words = [RECORD, RING, "--seeds", `${RACING_SEED}`, "--out", out, ...CHECKING];
+    const { status, stdout } = spawnSync(process.execPath, words, { encoding: "utf8" });
+    assert.equal(status, 1, stdout);
+    for (const ending of ["json", "original.json"]) {
+      const views = viewsOf(readFileSync(join(out, `seed-${RACING_SEED}.${ending}`), "utf8"));
+      assert.deepEqual(views.at(-1), EMPTY, ending);
+      assert.equal(views.filter(({ name }) => name === EMPTY.name).length, 1, ending);
+    }
+  });
+
+  it("says so where they are reads alone, which nothing else of it shows", async () => {
+    const outcome = await outcomeOf("reads");
+    assert.deepEqual([outcome.ending, outcome.ordinary, outcome.races.length], ["race", 1, 1]);
+    assert.deepEqual(viewsOf(outcome.script), [
+      { name: "Int32", kind: "Int32", block: 0, offset: 0, length: 64 }, EMPTY,
+    ]);
+  });
+
+  it("says so where reads aren't watched, whatever the agents do", async () => {
+    for (const ordinary of ["store", "refuse"]) {
+      const outcome = await outcomeOf("atomics", { ordinary });
+      assert.deepEqual([outcome.ending, namesOf(outcome)], ["finished", ["Int32", EMPTY.name]], ordinary);
+    }
+  });
+
+  it("says so where code was there before the recorder, whose reads it doesn't see", (context) => {
+    const folder = temporaryFolder(context);
+    writeFileSync(join(folder, "before.cjs"), "");
+    writeFileSync(join(folder, "agents.mjs"), `
+      export const setup = { agents: 1, buffers: [4] };
+      export default ({ buffers }) => { Atomics.wait(new Int32Array(buffers[0]), 0, 0); };
+    `);
+    for (const [nodeWords, names] of [[[], ["Int32"]], [["--require", "./before.cjs"], ["Int32", EMPTY.name]]]) {
+      const words = [...nodeWords, RECORD, "agents.mjs", "--seeds", "1", "--out", "out", ...CHECKING];
+      const { status, stderr } = spawnSync(process.execPath, words, { cwd: folder, encoding: "utf8" });
+      assert.equal(status, 1, stderr);
+      assert.deepEqual(namesOf({ script: readFileSync(join(folder, "out/seed-1.json"), "utf8") }), names);
+    }
+  });
+
+  it("says nothing where all accesses are by Atomics and were watched, also where init fills the buffers", async () => {
+    assert.deepEqual(namesOf(await outcomeOf("atomics")), ["Int32"]);
+    const filled = await outcomeOf("atomics", { init: ([buffer]) => new Uint8Array(buffer).fill(1, 0, 4) });
+    assert.deepEqual([filled.ending, namesOf(filled)], ["finished", ["init_Int32", "Int32"]]);
+  });
+});
+
+describe("a script that is full of views", () => {
+  it("has room for as many as there can be where nothing is unseen", async () => {
+    const full = await outcomeOf(`views ${MOST}`);
+    assert.deepEqual([full.ending, viewsOf(full.script).length], ["finished", MOST]);
+  });
+
+  it("has room for the empty one beside all others but one", async () => {
+    const { ending, script } = await outcomeOf(`viewsAndRead ${MOST - 1}`);
+    assert.deepEqual([ending, viewsOf(script).length, viewsOf(script).at(-1)], ["finished", MOST, EMPTY]);
+  });
+
+  for (const [program, options] of [["viewsAndRead", {}], ["views", { ordinary: "store" }]]) {
+    it(`isn't made where the empty one doesn't fit, and the summary says so: ${program}`, async () => {
+      const outcome = await outcomeOf(`${program} ${MOST}`, options);
+      const { ending, script, report, scriptHolds, noScript } = outcome;
+      assert.deepEqual([ending, script, report, scriptHolds], ["finished", undefined, undefined, undefined]);
+      assert.equal(noScript, WHY_NOT);
+      const told = summaryLines([outcome], { checks: true, ...options });
+      assert.ok(told.includes(`1 run has no script, and wasn't checked: ${WHY_NOT}`), told.join("\n"));
+    });
+  }
+
+  it("goes without names first", async (context) => {
+    const module = join(temporaryFolder(context), "agents.mjs");
+    const names = Object.fromEntries(Array.from({ length: MOST }, (_, at) => [`word${at}`, at]));
+    writeFileSync(module, `
+      export const setup = { agents: 1, buffers: [${4 * MOST}], names: ${JSON.stringify(names)} };
+      export default ({ buffers, args: [reads] }) => {
+        const words = new Int32Array(buffers[0]);
+        Atomics.load(words, 0);
+        if (reads === "reads") words.at(1);
+      };
+    `);
+    const [[named], [unnamed]] = await Promise.all([[], ["reads"]].map((args) => recorded({ module, args })));
+    assert.deepEqual(namesOf(named), Object.keys(names));
+    assert.deepEqual(namesOf(unnamed), ["Int32", EMPTY.name]);
+  });
+});
+
+describe("sabsim takes such a script", () => {
+  it("for a replay: the report is what the code saw, and no report has the empty view", withSabsim, async () => {
+    const { script, report } = await outcomeOf("reads");
+    assert.deepEqual(saidOf(["replay"], script), { status: 0, output: report, errors: "" });
+    const { views, ...rest } = JSON.parse(script);
+    const without = JSON.stringify({ ...rest, views: views.slice(0, -1) });
+    // A picture has room for the longest name of a view, so there it is wider.
+    for (const format of ["plain", "explained", "json"]) {
+      const words = ["replay", "--format", format];
+      assert.deepEqual(saidOf(words, script), saidOf(words, without), format);
+    }
+  });
+
+  it("for a check and a race", withSabsim, async () => {
+    const { script } = await outcomeOf("reads");
+    assert.match(saidOf(["check"], script).output, /^ok: 1 block, 2 views, 2 agents, 1 call, 3 moves\n$/);
+    assert.equal(saidOf(["race", "--share", "lock"], script).status, 0);
+  });
+
+  it("not for a verdict, which would be about other accesses than the run's", withRefusal, async () => {
+    const programs = [["reads", {}], ["atomics", { ordinary: "store" }], ["atomics", { ordinary: "refuse" }]];
+    for (const [program, options] of programs) {
+      const { script, trace, races } = await outcomeOf(program, { trace: true, ...options });
+      for (const words of [["judge"], ["judge", "--format", "json"]]) {
+        const { status, output, errors } = saidOf(words, script);
+        assert.deepEqual([status, output], [1, ""]);
+        assert.match(errors, /^sabsim: 21 OrdinaryData/);
+      }
+      assert.equal(saidOf(["judge", "--trace"], trace).status, races.length > 0 ? 5 : 0);
+    }
+  });
+});
