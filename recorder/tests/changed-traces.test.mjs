@@ -75,14 +75,14 @@ function valueOf(line) {
   }
 }
 
-/** What must be said of a trace. @param {Uint8Array} bytes @param {string} output that was said */
-function expectedOf(bytes, output) {
+/** What must be said of a trace. @param {Uint8Array} bytes */
+function expectedOf(bytes) {
   const events = linesOf(bytes).map(valueOf);
   const faults = events.map((event, at) => (event === undefined ? "16 NotJson" : faultOf(event, at)));
   const first = faults.findIndex((fault) => fault !== undefined);
   if (first >= 0) return { status: 1, output: "", errors: `sabsim: ${faults[first]}: line ${first + 1}\n` };
   const judged = slowJudge(events);
-  return { status: statusOf(judged), output: jsonText(judged, output), errors: "" };
+  return { status: statusOf(judged), output: jsonText(judged), errors: "" };
 }
 
 /** The traces of which one byte is changed. @param {Uint8Array} bytes */
@@ -97,8 +97,8 @@ function* changesOf(bytes) {
 
 /** Asks sabsim of a trace, and says what it must say. @param {Uint8Array} bytes */
 async function demandOf(bytes) {
+  const expected = expectedOf(bytes);
   const said = await start(SABSIM, ["judge", "--trace", "--format", "json"], bytes).ended;
-  const expected = expectedOf(bytes, said.output);
   assert.deepEqual(said, { signal: null, ...expected }, Buffer.from(bytes).toString("latin1"));
   return expected.status;
 }

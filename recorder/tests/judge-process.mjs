@@ -28,7 +28,7 @@ function judgedBy(seed) {
   const expected = { detector: detectedPairs(judged) };
   if (sabsim !== undefined) {
     said.sabsim = saidBySabsim(trace);
-    expected.sabsim = { status: statusOf(judged), stdout: jsonText(judged, said.sabsim.stdout), stderr: "" };
+    expected.sabsim = { status: statusOf(judged), stdout: jsonText(judged), stderr: "" };
   }
   return { seed, isRacy: judged.races.length > 0, said, expected };
 }

@@ -33,9 +33,8 @@ const namesIn = (folder, ending) =>
 const judgedBySabsim = (trace, words = []) => start(SABSIM, ["judge", "--trace", ...words], trace).ended;
 
 /** Sabsim says of a trace what it must, in words or as JSON. */
-async function demandOfSabsim(trace, words, expectedOf) {
-  const said = await judgedBySabsim(trace, words);
-  assert.deepEqual(said, { signal: null, errors: "", ...expectedOf(said.output) });
+async function demandOfSabsim(trace, words, expected) {
+  assert.deepEqual(await judgedBySabsim(trace, words), { signal: null, errors: "", ...expected });
 }
 
 describe("rows by hand", () => {
@@ -57,9 +56,9 @@ describe("rows by hand", () => {
     });
     it(`${name}, by sabsim`, withSabsim, async () => {
       const status = statusOf(judged);
-      await demandOfSabsim(trace, [], () => ({ output: verdict, status }));
-      await demandOfSabsim(trace, ["--format", "plain"], () => ({ output: verdict, status }));
-      await demandOfSabsim(trace, ["--format", "json"], (said) => ({ output: jsonText(judged, said), status }));
+      await demandOfSabsim(trace, [], { output: verdict, status });
+      await demandOfSabsim(trace, ["--format", "plain"], { output: verdict, status });
+      await demandOfSabsim(trace, ["--format", "json"], { output: jsonText(judged), status });
     });
   }
 });

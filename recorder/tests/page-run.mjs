@@ -10,7 +10,10 @@ import { Run } from "../page/model.mjs";
 export const view = (name, kind, block, length) => ({ name, kind, block, offset: 0, length });
 export const SCRIPT = {
   blocks: [4, 2],
-  views: [view("FLAG", "Int32", 0, 1), view("slots", "Uint8", 1, 2), view("ordinary_slots", "Uint8", 1, 2)],
+  views: [
+    view("FLAG", "Int32", 0, 1), view("slots", "Uint8", 1, 2), view("ordinary_slots", "Uint8", 1, 2),
+    view("ordinary_unseen", "Uint8", 0, 0),
+  ],
 };
 export const FLAG = { block: 0, byte: 0 };
 const wait = ["wait", "FLAG", 0, 0];

@@ -10,17 +10,10 @@ const RACES = 5;
 /** The status that the program ends with. @param {Judged} judged */
 export const statusOf = ({ races }) => (races.length === 0 ? NO_RACE : RACES);
 
-/**
- * With `--format json`. A program that is older doesn't count the data races.
- * @param {Judged} judged
- * @param {string} said by the program
- * @returns {string}
- */
-export function jsonText({ accesses, agents, races }, said) {
+/** With `--format json`. @param {Judged} judged @returns {string} */
+export function jsonText({ accesses, agents, races }) {
   const told = races.slice(0, MOST_TOLD);
-  const dataRaces = races.filter(({ data_race: isDataRace }) => isDataRace).length;
-  const counts = said.includes('"data_races":') ? { data_races: dataRaces } : {};
-  const last = { accesses, agents, ...counts, more: races.length - told.length, races: told.length };
+  const last = { accesses, agents, more: races.length - told.length, races: told.length };
   return [...told, last].map((each) => `${JSON.stringify(each)}\n`).join("");
 }
 
