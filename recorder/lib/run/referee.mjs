@@ -178,7 +178,7 @@ const callCount = () => agents.reduce((sum, agent) => sum + board.journal.progre
 const accessCount = () => agents.reduce((sum, agent) => sum + board.journal.ordinary(agent), 0);
 
 /** Whether ordinary accesses were made, or may have been made unseen. */
-const isOrdinary = () => !seesAll || accessCount() > 0 || log.hasOrdinary();
+const isOrdinary = () => !seesAll || log.hasOrdinary();
 
 /**
  * How a run ends, with what is known when its agents are home.
