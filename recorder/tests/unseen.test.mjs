@@ -74,8 +74,9 @@ describe("a script of a run with ordinary accesses", () => {
       export const setup = { agents: 1, buffers: [4] };
       export default ({ buffers }) => { Atomics.wait(new Int32Array(buffers[0]), 0, 0); };
     `);
+    const recording = [RECORD, "agents.mjs", "--seeds", "1", "--out", "out", "--no-shorten", "--check", "0"];
     for (const [nodeWords, names] of [[[], ["Int32"]], [["--require", "./before.cjs"], ["Int32", EMPTY.name]]]) {
-      const words = [...nodeWords, RECORD, "agents.mjs", "--seeds", "1", "--out", "out", ...CHECKING];
+      const words = [...nodeWords, ...recording];
       const { status, stderr } = spawnSync(process.execPath, words, { cwd: folder, encoding: "utf8" });
       assert.equal(status, 1, stderr);
       assert.deepEqual(namesOf({ script: readFileSync(join(folder, "out/seed-1.json"), "utf8") }), names);
