@@ -1,5 +1,5 @@
 -- Runs that are kept as scripts, and why some aren't.
-use Rattle.std.proofs.Common.{◌≡◌, ℕ, List, refl}
+use Rattle.std.proofs.Common.{◌≡◌, ℕ, List, refl, sym, subst}
 use Rattle.std.proofs.lemmas.Result.{err_from_is_err_and}
 use Rattle.std.specs.Prelude.{Result, IfErr, IsErrAnd}
 use Rattle.serde_json.specs.Data.{Data}
@@ -7,17 +7,25 @@ use Rattle.sab_plan.specs.Report.{ReportParts}
 use Rattle.sab_sim.specs.Fits.{Fits, IsOnly}
 use Rattle.sab_refusal.specs.declared.read_fault.ReadFault.{ReadFault}
 use Rattle.sab_refusal.specs.declared.read_fault.ReadFault.TheVariants.{TooMany, OutOfMemory, BadShape, BadName, BadNumber, BadCall, BadView, BadAgent, NoBlock}
+use Rattle.sab_refusal.specs.declared.refusal.Refusal.{Refusal}
+use Rattle.sab_refusal.specs.declared.refusal.Refusal.TheVariants.{NotJson, Tree}
+use Rattle.sab_refusal.specs.Reason.{fault_of}
 use Rattle.sab_script.specs.Reading.{Refuses}
 use Rattle.sab_script.specs.Setup.{SetupParts, Spells}
-use Rattle.sab_script.specs.Script.{ReadsAs, IsScriptOf}
+use Rattle.sab_script.specs.Script.{ReadsAs, IsScriptOf, IsUnread}
 use Rattle.sab_script.specs.Truth.{IsTrueFault}
 use Rattle.sab_script.proofs.OnlySetup.{only_setup}
 use Rattle.sab_tool.specs.declared.tool_fault.ToolFault.{ToolFault}
-use Rattle.sab_tool.specs.Replay.{IsRefused, as_tool_fault}
+use Rattle.sab_tool.specs.Replay.{IsRefused, as_tool_fault, script_as_tool_fault}
 use Rattle.sab_kept.specs.Rescheduled.{rescheduled, with_schedule}
 use Rattle.sab_kept.specs.Keeping.{IsParsed, IsTextWith, IsKept, IsUntold, IsUnkept}
 use Rattle.sab_kept.proofs.RescheduledTree.{respelled}
 use Rattle.sab_kept.proofs.TellingLaw.{journal_tells}
+
+-- bytes without a tree
+pub unread_script : (script : List ℕ) (r : Refusal) → IsUnread script r → IsRefused script (script_as_tool_fault r)
+unread_script script (NotJson line column is_cut) h = h
+unread_script script (Tree e) h = subst (λ why. IsRefused script (as_tool_fault (fault_of why))) (sym h) tt
 
 -- a tree that is refused
 pub refused_tree : (script : List ℕ) (tree : Data) (e : ReadFault) → ReadsAs script tree → Refuses (Spells tree) e

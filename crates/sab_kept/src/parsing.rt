@@ -7,27 +7,19 @@ ghost use Rattle.serde_json.specs.View.{view};
 ghost use Rattle.sab_tool.specs.Replay.{IsRefused};
 ghost use Rattle.sab_kept.specs.Keeping.{IsParsed};
 
-use sab_script::{Setup, read_setup};
+use sab_script::{Setup, read_setup, read_tree};
 use sab_tool::ToolFault;
 use serde_json::Value;
 use std::alloc::Global;
 
 /// The tree of a script, and the setup that it spells.
-#[tactic(auto, using(sab_script::proofs::Scripts::no_reading, crate::proofs::KeptRuns::refused_tree))]
+#[tactic(auto, using(crate::proofs::KeptRuns::unread_script, crate::proofs::KeptRuns::refused_tree))]
 pub(crate) fn parse_script(alloc: Global, script: &[u8]) -> Result<(Value, Setup), ToolFault>
     ensures parsed { IfOk result (λ p. IsParsed script.now (view p.0) p.1) }
     ensures nests { IfOk result (λ p. depth (view p.0) ≤ max_depth) }
     ensures err { IfErr result (IsRefused script.now) }
 {
-    let tree = match Value::from_slice(alloc, script) {
-        Ok(tree) => tree,
-        Err(error) => {
-            if error.is_memory() {
-                return Err(ToolFault::OutOfMemory);
-            }
-            return Err(ToolFault::NotJson);
-        }
-    };
+    let tree = read_tree(alloc, script)?;
     let setup = read_setup(alloc, &tree)?;
     Ok((tree, setup))
 }

@@ -1,19 +1,32 @@
 -- Scripts that are refused.
-use Rattle.std.proofs.Common.{◌≡◌, ℕ, List, Some, None, subst}
+use Rattle.std.proofs.Common.{◌≡◌, ℕ, List, Some, None, subst, sym}
 use Rattle.std.specs.Prelude.{IsUtf8}
 use Rattle.serde_json.specs.Data.{Data}
 use Rattle.serde_json.specs.Read.{read}
 use Rattle.sab_refusal.specs.declared.located.Located.{Located}
 use Rattle.sab_refusal.specs.declared.read_fault.ReadFault.{ReadFault}
 use Rattle.sab_refusal.specs.declared.read_fault.ReadFault.TheVariants.{TooMany, OutOfMemory, BadShape, BadName, BadNumber, BadCall, BadView, BadAgent, NoBlock}
+use Rattle.sab_refusal.specs.declared.refusal.Refusal.{Refusal}
+use Rattle.sab_refusal.specs.declared.refusal.Refusal.TheVariants.{NotJson, Tree}
+use Rattle.sab_refusal.specs.Reason.{fault_of}
 use Rattle.sab_script.specs.Reading.{Refuses}
 use Rattle.sab_script.specs.Setup.{Spells}
-use Rattle.sab_script.specs.Script.{ReadsAs, IsTreeFault}
-use Rattle.sab_script.specs.Truth.{IsTrueOf}
+use Rattle.sab_script.specs.Script.{ReadsAs, IsTreeFault, IsUnread, IsRefusedBy, IsTrueRefusal}
+use Rattle.sab_script.specs.Truth.{IsTrueAt, IsTrueOf}
 
 -- bytes without a reading
 pub no_reading : (script : List ℕ) (tree : Data) → (IsUtf8 script → read script ≡ None) → ReadsAs script tree → ⊥
 no_reading script tree none r = let e = none r.0 in let s = r.1 in cc
+
+-- bytes without a tree
+
+pub unread : (script : List ℕ) (r : Refusal) → IsUnread script r → IsRefusedBy script r
+unread script (NotJson line column is_cut) h = h
+unread script (Tree e) h = subst (λ why. IsTreeFault script (fault_of why)) (sym h) tt
+
+pub unread_true : (script : List ℕ) (r : Refusal) → IsUnread script r → IsTrueRefusal script r
+unread_true script (NotJson line column is_cut) h = tt
+unread_true script (Tree e) h = λ tree reads. subst (λ why. IsTrueAt tree e.at why) (sym h) tt
 
 -- a tree that is refused
 pub refused_tree : (script : List ℕ) (d : Data) (e : ReadFault) → ReadsAs script d → Refuses (Spells d) e

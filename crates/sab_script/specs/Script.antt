@@ -4,6 +4,7 @@ use Rattle.serde_json.specs.Data.{Data}
 use Rattle.serde_json.specs.Read.{read}
 use Rattle.sab_refusal.specs.declared.read_fault.ReadFault.{ReadFault}
 use Rattle.sab_refusal.specs.declared.read_fault.ReadFault.TheVariants.{OutOfMemory}
+use Rattle.sab_refusal.specs.declared.reason.Reason.TheVariants.{Memory}
 use Rattle.sab_refusal.specs.declared.refusal.Refusal.{Refusal}
 use Rattle.sab_refusal.specs.declared.refusal.Refusal.TheVariants.{NotJson, Tree}
 use Rattle.sab_refusal.specs.Reason.{fault_of}
@@ -31,6 +32,11 @@ pub record SpellsNone (script : List ℕ) : Type 0 where
 abbrev pub IsTreeFault : List ℕ → ReadFault → Type 0
 IsTreeFault script OutOfMemory = Unit {0}
 IsTreeFault script _ = SpellsNone script
+
+-- the script has no reading, or memory ran out before its tree was made
+abbrev pub IsUnread : List ℕ → Refusal → Type 0
+IsUnread script (NotJson line column is_cut) = (tree : Data) → ReadsAs script tree → ⊥
+IsUnread script (Tree e) = e.why ≡ Memory
 
 -- the script has no reading, or the fault is one of its tree
 abbrev pub IsRefusedBy : List ℕ → Refusal → Type 0

@@ -22,6 +22,6 @@ pub use sab_refusal::{
     Counted, Excerpt, Located, Location, Member, Misfit, ReadFault, Reason, Refusal, Unit, Wanted,
 };
 pub use schedule::MAX_MOVES;
-pub use script::read_script;
+pub use script::{read_script, read_tree};
 pub use setup::{Setup, locate_setup, read_setup};
 pub use view_spec::ViewSpec;

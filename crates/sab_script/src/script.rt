@@ -1,7 +1,10 @@
 //! Scripts as bytes.
 
-ghost use Rattle.std.specs.Prelude.{IfOk, IfErr};
-ghost use Rattle.sab_script.specs.Script.{IsScriptOf, IsRefusedBy, IsTrueRefusal};
+ghost use Rattle.std.specs.Prelude.{◌≤◌, IfOk, IfErr};
+ghost use Rattle.serde_json.specs.Data.{depth};
+ghost use Rattle.serde_json.specs.Read.{max_depth};
+ghost use Rattle.serde_json.specs.View.{view};
+ghost use Rattle.sab_script.specs.Script.{ReadsAs, IsScriptOf, IsUnread, IsRefusedBy, IsTrueRefusal};
 
 use crate::plain::{Miss, plain_setup};
 use crate::setup::{Setup, locate_setup};
@@ -13,7 +16,6 @@ use std::alloc::{AllocError, Global};
 ///
 /// Other than for want of memory it is refused only where it isn't a JSON text, or one that spells no setup. A plain
 /// script is read from its tokens; every other one, and each that is to be refused, is read from its tree.
-#[tactic(auto, using(crate::proofs::Scripts::no_reading, crate::proofs::Scripts::refused_tree))]
 pub fn read_script(alloc: Global, script: &[u8]) -> Result<Setup, Refusal>
     ensures ok { IfOk result (IsScriptOf script.now) }
     ensures err { IfErr result (IsRefusedBy script.now) }
@@ -22,32 +24,40 @@ pub fn read_script(alloc: Global, script: &[u8]) -> Result<Setup, Refusal>
     match plain_setup(alloc, script) {
         Ok(setup) => Ok(setup),
         Err(Miss::Memory) => Err(Refusal::Tree(AllocError.into())),
-        Err(Miss::NotPlain) => read_tree(alloc, script),
+        Err(Miss::NotPlain) => tree_setup(alloc, script),
     }
 }
 
-/// The same by the tree of the script.
-#[tactic(auto, using(crate::proofs::Scripts::no_reading, crate::proofs::Scripts::refused_tree))]
-fn read_tree(alloc: Global, script: &[u8]) -> Result<Setup, Refusal>
+/// The setup that a script spells, by its tree; or where the script is refused, and why.
+#[tactic(auto, using(crate::proofs::Scripts::unread, crate::proofs::Scripts::unread_true, crate::proofs::Scripts::refused_tree))]
+fn tree_setup(alloc: Global, script: &[u8]) -> Result<Setup, Refusal>
     ensures ok { IfOk result (IsScriptOf script.now) }
     ensures err { IfErr result (IsRefusedBy script.now) }
     ensures told { IfErr result (IsTrueRefusal script.now) }
 {
-    let tree = match Value::from_slice(alloc, script) {
-        Ok(tree) => tree,
-        Err(error) => {
-            if error.is_memory() {
-                return Err(Refusal::Tree(AllocError.into()));
-            }
-            return Err(Refusal::NotJson {
-                line: error.line(),
-                column: error.column(),
-                is_cut: error.is_eof(),
-            });
-        }
-    };
+    let tree = read_tree(alloc, script)?;
     match locate_setup(alloc, &tree) {
         Ok(setup) => Ok(setup),
         Err(refusal) => Err(Refusal::Tree(refusal)),
+    }
+}
+
+/// The tree that serde_json reads of a script's bytes; or that they aren't a JSON text, and where.
+///
+/// Only for want of memory it is a refusal of the tree. No other function refuses a script that isn't a JSON text.
+#[tactic(auto, using(crate::proofs::Scripts::no_reading))]
+pub fn read_tree(alloc: Global, script: &[u8]) -> Result<Value, Refusal>
+    ensures ok { IfOk result (λ tree. ReadsAs script.now (view tree)) }
+    ensures nests { IfOk result (λ tree. depth (view tree) ≤ max_depth) }
+    ensures err { IfErr result (IsUnread script.now) }
+{
+    match Value::from_slice(alloc, script) {
+        Ok(tree) => Ok(tree),
+        Err(error) if error.is_memory() => Err(Refusal::Tree(AllocError.into())),
+        Err(error) => Err(Refusal::NotJson {
+            line: error.line(),
+            column: error.column(),
+            is_cut: error.is_eof(),
+        }),
     }
 }
