@@ -45,11 +45,11 @@ abbrev pub AreOf : PlanParts → List (List ℕ) → Type 0
 AreOf plan mem = map length mem ≡ plan.lens
 
 -- a view's block is there, and as long as the view says
-record HasBlock (mem : List (List ℕ)) (v : PlanView) : Type 0 where
-  within : v.block < length mem
-  len : length (bytes_of mem v.block) ≡ block_len_of v.view
+pub record HasBlock (mem : List (List ℕ)) (v : PlanView) : Type 0 where
+  pub within : v.block < length mem
+  pub len : length (bytes_of mem v.block) ≡ block_len_of v.view
 
-has_block : (plan : PlanParts) (mem : List (List ℕ)) (n : ℕ) (v : PlanView) → IsPlan plan → AreOf plan mem
+pub has_block : (plan : PlanParts) (mem : List (List ℕ)) (n : ℕ) (v : PlanView) → IsPlan plan → AreOf plan mem
     → slice_get plan.views n ≡ Some v → HasBlock mem v
 has_block plan mem n v is_plan are view_is =
     let fits : slice_get plan.lens v.block ≡ Some (block_len_of v.view) =
@@ -81,9 +81,9 @@ IsUnwrittenBy v call w block byte =
     (p : ℕ) → place v.view (index_of call) ≡ Some p → writes_at w (target_at call v p) block byte ≡ false
 
 -- the lengths are as they were, and so is the byte if it is unwritten
-record Leaves (IsUnwritten : Type 0) (mem mem' : List (List ℕ)) (block byte : ℕ) : Type 0 where
-  same : IsUnwritten → slice_index (bytes_of mem' block) byte ≡ slice_index (bytes_of mem block) byte
-  lens : map length mem' ≡ map length mem
+pub record Leaves (IsUnwritten : Type 0) (mem mem' : List (List ℕ)) (block byte : ℕ) : Type 0 where
+  pub same : IsUnwritten → slice_index (bytes_of mem' block) byte ≡ slice_index (bytes_of mem block) byte
+  pub lens : map length mem' ≡ map length mem
 
 stays : (P : Type 0) (mem mem' : List (List ℕ)) (block byte : ℕ) → mem' ≡ mem → Leaves P mem mem' block byte
 stays P mem mem' block byte e = record {
@@ -109,7 +109,7 @@ set_leaves P mem v bytes block byte has len same = record {
 }
 
 -- its range is that of the element
-covers-access : (access : Access) (x : Operand) (t : Target) (block byte : ℕ)
+pub covers-access : (access : Access) (x : Operand) (t : Target) (block byte : ℕ)
     → covers (access_of access x t) block byte
     ≡ ((t.place.block == block) && is_inside t.place.byte (element_size (kind_of t.view)) byte)
 covers-access (X.Load index) x t block byte = refl
@@ -155,11 +155,11 @@ DoesCall-leaves cb a v (C.Wait n index x (Some timeout)) S (Left A.TimedOut) T b
 DoesCall-leaves cb a v call S w T block byte has d = absurd (first_of (assumption, cc))
 
 -- the target of an entry that acts
-target_is : {plan : PlanParts} {S T : State} {e : Entry} (d : Does plan S e T) (p : ℕ)
+pub target_is : {plan : PlanParts} {S T : State} {e : Entry} (d : Does plan S e T) (p : ℕ)
     → place d.view.view (index_of d.call) ≡ Some p → target_of plan e ≡ Some (target_at d.call d.view p)
 target_is {plan} {S} {T} {e} d p at = rw (d.script_is, d.call_is, d.view_is, at) refl
 
-Does-leaves : (plan : PlanParts) (S : State) (e : Entry) (T : State) (block byte : ℕ) → IsPlan plan
+pub Does-leaves : (plan : PlanParts) (S : State) (e : Entry) (T : State) (block byte : ℕ) → IsPlan plan
     → AreOf plan S.mem → Does plan S e T
     → Leaves (writes_byte (event_of plan e) block byte ≡ false) S.mem T.mem block byte
 Does-leaves plan S e T block byte is_plan are d =
@@ -203,7 +203,7 @@ Run-leaves plan S (e ∷ es) T block byte is_plan are r =
         record { same = λ w. last.same (λ k h. w (suc k) (omega arith)); lens = last.lens }
 
 -- zero blocks have their lengths, and zeros
-zeros_are : (lens : List ℕ) → map length (zero_blocks lens) ≡ lens
+pub zeros_are : (lens : List ℕ) → map length (zero_blocks lens) ≡ lens
 zeros_are [] = refl
 zeros_are (n ∷ lens) = ap (λ m. m ∷ map length (zero_blocks lens)) (length-replicate n 0) ∙ ap (λ ms. n ∷ ms) (zeros_are lens)
 
@@ -212,7 +212,7 @@ zero_in zero byte = refl
 zero_in (suc n) zero = refl
 zero_in (suc n) (suc byte) = zero_in n byte
 
-zeros_in : (lens : List ℕ) (block byte : ℕ) → slice_index (bytes_of (zero_blocks lens) block) byte ≡ 0
+pub zeros_in : (lens : List ℕ) (block byte : ℕ) → slice_index (bytes_of (zero_blocks lens) block) byte ≡ 0
 zeros_in [] block byte = refl
 zeros_in (n ∷ lens) zero byte = zero_in n byte
 zeros_in (n ∷ lens) (suc block) byte = zeros_in lens block byte
@@ -244,7 +244,7 @@ split_run plan journal i j T h r =
     (subst (λ (es : List Entry). Run plan (opening plan.lens) es T) whole r)
 
 -- the blocks of a state that a journal leads to
-reached_are : (plan : PlanParts) (journal : List Entry) (S : State) → IsPlan plan → Reaches plan journal S
+pub reached_are : (plan : PlanParts) (journal : List Entry) (S : State) → IsPlan plan → Reaches plan journal S
     → AreOf plan S.mem
 reached_are plan journal S is_plan r =
     (Run-leaves plan (opening plan.lens) journal S 0 0 is_plan (zeros_are plan.lens) r).lens ∙ zeros_are plan.lens

@@ -27,7 +27,7 @@ use Rattle.sab_events.specs.declared.target.Target.{Target}
 use Rattle.sab_events.specs.Events.{access_of}
 
 -- up to the end of the element
-length-front : (mem : List ℕ) (p size r : ℕ) → p + size ≤ length mem
+pub length-front : (mem : List ℕ) (p size r : ℕ) → p + size ≤ length mem
     → length (take p mem ++ digits size r) ≡ p + size
 unfolding digits
 length-front mem p size r h = simp (length-append, length-map, length-range_with_len, length-take) (omega arith)
@@ -44,7 +44,7 @@ length-put mem p size r h =
     )
 
 -- and those before and after the element are as they were
-put-before : (mem : List ℕ) (p size r byte : ℕ) → p + size ≤ length mem → byte < p
+pub put-before : (mem : List ℕ) (p size r byte : ℕ) → p + size ≤ length mem → byte < p
     → slice_index (put mem p size r) byte ≡ slice_index mem byte
 unfolding put
 put-before mem p size r byte h b =
@@ -52,7 +52,7 @@ put-before mem p size r byte h b =
     (omega (arith, length-front mem p size r h))
     ∙ (get_or-append (take p mem) (digits size r) 0 byte (omega (arith, length-take p mem)) ∙ get_or-take p mem byte 0 b)
 
-put-after : (mem : List ℕ) (p size r byte : ℕ) → p + size ≤ length mem → p + size ≤ byte
+pub put-after : (mem : List ℕ) (p size r byte : ℕ) → p + size ≤ length mem → p + size ≤ byte
     → slice_index (put mem p size r) byte ≡ slice_index mem byte
 unfolding put
 put-after mem p size r byte h b =
@@ -60,6 +60,15 @@ put-after mem p size r byte h b =
     get_or-append_right (take p mem ++ digits size r) (drop (p + size) mem) (p + size) byte 0
     (length-front mem p size r h) b
     ∙ (get_or-drop (p + size) mem (byte - (p + size)) 0 ∙ ap (λ n. slice_index mem n) at)
+
+-- and the element has the digits of what was written
+pub put-inside : (mem : List ℕ) (p size r byte : ℕ) → p + size ≤ length mem → p ≤ byte → byte < p + size
+    → slice_index (put mem p size r) byte ≡ slice_index (digits size r) (byte - p)
+unfolding put
+put-inside mem p size r byte h from below =
+    get_or-append (take p mem ++ digits size r) (drop (p + size) mem) 0 byte
+    (omega (arith, length-front mem p size r h))
+    ∙ get_or-append_right (take p mem) (digits size r) p byte 0 (omega (arith, length-take p mem)) from
 
 -- a place of a view is inside its block
 pub place-inside : (view : View) (index : ℤ) (p : ℕ) → place view index ≡ Some p

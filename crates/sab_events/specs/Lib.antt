@@ -1,2 +1,4 @@
 pub mod Events
 pub mod Reading
+pub mod Dependence
+pub mod Acting

@@ -3,6 +3,8 @@
 ghost use Rattle.std.specs.Prelude.{List};
 ghost use Rattle.sab_plan.specs.Plan.{PlanParts, IsPlan};
 ghost use Rattle.sab_plan.specs.declared.entry.Entry.{Entry};
+ghost use Rattle.sab_events.specs.Acting.{IsOfItsAgent, ReportsItsCall};
+ghost use Rattle.sab_events.specs.Dependence.{DependsOnWhatItReads};
 ghost use Rattle.sab_events.specs.Reading.{ChangesWhatItWrites, ReadsWhatWasLeft, ReadsZeros};
 
 /// An entry changes no byte but those that its event writes.
@@ -18,4 +20,20 @@ pub fn an_event_reads_what_was_left()
 /// A byte that no event before an event writes is then zero.
 pub fn an_unwritten_byte_is_zero()
     ensures { (plan : PlanParts) (journal : List Entry) → IsPlan plan → ReadsZeros plan journal }
+{}
+
+/// What an entry does and returns depends on no byte except those that its event reads.
+pub fn an_entry_depends_on_what_its_event_reads()
+    ensures { (plan : PlanParts) (e : Entry) → IsPlan plan → DependsOnWhatItReads plan e }
+{}
+
+/// The event of an act reports what the entry's call does: it reads, writes and is in the critical section of its place's
+/// waiters exactly if the call is and does so.
+pub fn an_event_reports_its_call()
+    ensures { (plan : PlanParts) (e : Entry) → IsPlan plan → ReportsItsCall plan e }
+{}
+
+/// An event is of its entry's agent. One whose entry is no act accesses nothing.
+pub fn an_event_is_of_its_agent()
+    ensures { (plan : PlanParts) (e : Entry) → IsOfItsAgent plan e }
 {}

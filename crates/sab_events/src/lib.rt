@@ -10,5 +10,7 @@ mod target;
 
 pub use events::trace_of;
 pub use laws::{
-    an_entry_changes_what_its_event_writes, an_event_reads_what_was_left, an_unwritten_byte_is_zero,
+    an_entry_changes_what_its_event_writes, an_entry_depends_on_what_its_event_reads,
+    an_event_is_of_its_agent, an_event_reads_what_was_left, an_event_reports_its_call,
+    an_unwritten_byte_is_zero,
 };
