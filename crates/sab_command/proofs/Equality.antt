@@ -10,10 +10,12 @@ use Rattle.sab_command.specs.declared.job.RunForm.{RunForm}
 use Rattle.sab_command.specs.declared.job.RunForm.TheVariants.{Report, Script}
 use Rattle.sab_command.specs.contracts.job.RunFormPartialEq.TheImpl as form
 use Rattle.sab_command.specs.declared.job.Job.{Job}
-use Rattle.sab_command.specs.declared.job.Job.TheVariants.{Replay, Check, Judge, Race}
+use Rattle.sab_command.specs.declared.job.Job.TheVariants.{Replay, Check, Judge}
 use Rattle.sab_command.specs.contracts.job.JobPartialEq.TheImpl as job
+use Rattle.sab_command.specs.declared.job.RaceJob.{RaceJob}
+use Rattle.sab_command.specs.contracts.job.RaceJobPartialEq.TheImpl as race
 use Rattle.sab_command.specs.declared.request.Task.{Task}
-use Rattle.sab_command.specs.declared.request.Task.TheVariants.{OfScript, OfTrace}
+use Rattle.sab_command.specs.declared.request.Task.TheVariants.{OfScript, OfRace, OfTrace}
 use Rattle.sab_command.specs.contracts.request.TaskPartialEq.TheImpl as task
 
 same_seed : (x y : Option ℕ) → option_eq nat_eq x y ≡ true → x ≡ y
@@ -39,20 +41,23 @@ same_job (Judge f m) (Judge g n) e =
     let format = same_verdict_format f g parts.0 in
     let finish = (booleans_Decides m n).0 parts.1 in
     λ i. Judge (format i) (finish i)
-same_job (Race s n x t f) (Race r k y u g) e =
+same_job _ _ e = absurd (false≢true e)
+
+same_race : (x y : RaceJob) → (race.ghosts).eq x y ≡ true → x ≡ y
+same_race x y e =
     let shares = and_parts _ _ e in
     let counts = and_parts _ _ shares.1 in
     let mixes = and_parts _ _ counts.1 in
     let forms = and_parts _ _ mixes.1 in
-    let share = same_share s r shares.0 in
-    let spins = eqb-true n k counts.0 in
-    let mix = same_seed x y mixes.0 in
-    let form = same_form t u forms.0 in
-    let finish = (booleans_Decides f g).0 forms.1 in
-    λ i. Race (share i) (spins i) (mix i) (form i) (finish i)
-same_job _ _ e = absurd (false≢true e)
+    let share_is = same_share x.share y.share shares.0 in
+    let spins_are = eqb-true x.spins y.spins counts.0 in
+    let mix_is = same_seed x.mix y.mix mixes.0 in
+    let form_is = same_form x.form y.form forms.0 in
+    let finish_is = (booleans_Decides x.finish y.finish).0 forms.1 in
+    λ i. record { share = share_is i; spins = spins_are i; mix = mix_is i; form = form_is i; finish = finish_is i }
 
 same_task : (x y : Task) → (task.ghosts).eq x y ≡ true → x ≡ y
 same_task (OfScript j) (OfScript k) e = ap OfScript (same_job j k e)
+same_task (OfRace x) (OfRace y) e = ap OfRace (same_race x y e)
 same_task (OfTrace f) (OfTrace g) e = ap OfTrace (same_verdict_format f g e)
 same_task _ _ e = absurd (false≢true e)

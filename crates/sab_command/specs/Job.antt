@@ -1,24 +1,22 @@
 -- What the program is asked for.
 use Rattle.std.specs.Prelude.{◌≤◌, ⊤}
-use Rattle.sab_command.specs.declared.job.Job.{Job}
-use Rattle.sab_command.specs.declared.job.Job.TheVariants.{Replay, Check, Judge, Race}
+use Rattle.sab_command.specs.declared.job.RaceJob.{RaceJob}
 use Rattle.sab_command.specs.declared.request.Task.{Task}
-use Rattle.sab_command.specs.declared.request.Task.TheVariants.{OfScript, OfTrace}
+use Rattle.sab_command.specs.declared.request.Task.TheVariants.{OfScript, OfRace, OfTrace}
 use Rattle.sab_race.specs.declared.script_moves.TheConstants.{MAX_SPINS}
 
 -- a race is asked for with at most so many steps at a wait
-abbrev pub IsWithinLimits : Job → Type 0
-IsWithinLimits (Replay form finish) = ⊤
-IsWithinLimits Check = ⊤
-IsWithinLimits (Judge format finish) = ⊤
-IsWithinLimits (Race share spins mix form finish) = spins ≤ MAX_SPINS
+abbrev pub IsWithinLimits : RaceJob → Type 0
+IsWithinLimits race = race.spins ≤ MAX_SPINS
 
--- a job of a script is within its limits; a trace has none
+-- a race is within its limits; a job without threads and a trace have none
 abbrev pub IsTaskWithinLimits : Task → Type 0
-IsTaskWithinLimits (OfScript job) = IsWithinLimits job
+IsTaskWithinLimits (OfScript job) = ⊤
+IsTaskWithinLimits (OfRace race) = IsWithinLimits race
 IsTaskWithinLimits (OfTrace format) = ⊤
 
 -- a trace is to be judged
 abbrev pub IsOfTrace : Task → Type 0
 IsOfTrace (OfScript job) = ⊥
+IsOfTrace (OfRace race) = ⊥
 IsOfTrace (OfTrace format) = ⊤

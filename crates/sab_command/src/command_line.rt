@@ -6,7 +6,7 @@ ghost use Rattle.sab_command.specs.Job.{IsOfTrace, IsTaskWithinLimits, IsWithinL
 ghost use Rattle.sab_command.specs.Source.{Names};
 
 use crate::help;
-use crate::job::{Job, RunForm};
+use crate::job::{Job, RaceJob, RunForm};
 use crate::request::{Request, Source, Task};
 use clap::{Arg, ArgAction, ArgMatches, Command, Error, value_parser};
 use sab_race::{MAX_SPINS, Share};
@@ -255,9 +255,7 @@ fn finish_of(matches: &ArgMatches<'_>) -> bool
 }
 
 /// The replay that is asked for.
-fn replay_job(matches: &ArgMatches<'_>) -> Job
-    ensures { IsWithinLimits result }
-{
+fn replay_job(matches: &ArgMatches<'_>) -> Job {
     Job::Replay {
         form: form_of(matches),
         finish: finish_of(matches),
@@ -265,10 +263,10 @@ fn replay_job(matches: &ArgMatches<'_>) -> Job
 }
 
 /// The race that is asked for.
-fn race_job(matches: &ArgMatches<'_>) -> Job
+fn race_job(matches: &ArgMatches<'_>) -> RaceJob
     ensures { IsWithinLimits result }
 {
-    Job::Race {
+    RaceJob {
         share: share_of(matches),
         spins: spins_of(matches),
         mix: mix_of(matches),
@@ -333,7 +331,7 @@ pub fn request_of<'a, S: AsStr>(alloc: Global, words: &'a [S]) -> Result<Request
     let matches = command.try_get_matches_from(words)?;
     match matches.subcommand() {
         Some(("race", matches)) => Ok(Request {
-            task: Task::OfScript(race_job(matches)),
+            task: Task::OfRace(race_job(matches)),
             source: source_of(matches),
             explain: explain_of(matches),
         }),

@@ -12,7 +12,7 @@ pub enum RunForm {
     Script,
 }
 
-/// What the program is asked to do with a script.
+/// What the program is asked to do with a script, without a thread.
 #[derive(Clone, Copy, Debug, PartialEq, Eq)]
 pub enum Job {
     /// To replay the script.
@@ -31,17 +31,19 @@ pub enum Job {
         /// Whether it is an answer of its own that some calls haven't returned.
         finish: bool,
     },
-    /// To run the agents of the script in threads.
-    Race {
-        /// How they share the simulator.
-        share: Share,
-        /// How often an agent steps at a wait before its time is up, at most [`MAX_SPINS`](sab_race::MAX_SPINS).
-        spins: u32,
-        /// The seed that the threads are mixed by, or none where each run takes another one.
-        mix: Option<u64>,
-        /// In which form the run is written.
-        form: RunForm,
-        /// Whether it is an answer of its own that some calls haven't returned.
-        finish: bool,
-    },
+}
+
+/// How the agents of a script are to be run in threads.
+#[derive(Clone, Copy, Debug, PartialEq, Eq)]
+pub struct RaceJob {
+    /// How they share the simulator.
+    pub share: Share,
+    /// How often an agent steps at a wait before its time is up, at most [`MAX_SPINS`](sab_race::MAX_SPINS).
+    pub spins: u32,
+    /// The seed that the threads are mixed by, or none if each run takes another one.
+    pub mix: Option<u64>,
+    /// In which form the run is written.
+    pub form: RunForm,
+    /// Whether it is an answer of its own that some calls haven't returned.
+    pub finish: bool,
 }

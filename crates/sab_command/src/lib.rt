@@ -7,5 +7,5 @@ mod job;
 mod request;
 
 pub use command_line::request_of;
-pub use job::{Job, RunForm};
+pub use job::{Job, RaceJob, RunForm};
 pub use request::{Request, Source, Task};

@@ -1,6 +1,6 @@
 //! What the program is asked for, and of which input.
 
-use crate::job::Job;
+use crate::job::{Job, RaceJob};
 use sab_text::VerdictFormat;
 
 /// What is to be done with the input.
@@ -8,6 +8,8 @@ use sab_text::VerdictFormat;
 pub enum Task {
     /// The input is a script, and this is to be done with it.
     OfScript(Job),
+    /// The input is a script, and its agents are to be run in threads.
+    OfRace(RaceJob),
     /// The input is a trace of a run, which is to be judged for data races; the verdict is told so.
     OfTrace(VerdictFormat),
 }

@@ -9,7 +9,8 @@ use Rattle.sab_tool.specs.Replay.{IsReportOf}
 use Rattle.sab_command.specs.declared.job.RunForm.{RunForm}
 use Rattle.sab_command.specs.declared.job.RunForm.TheVariants.{Report, Script}
 use Rattle.sab_tool.specs.declared.tool_fault.ToolFault.TheVariants.{WriteFailed}
-use Rattle.sab_run.specs.Running.{ReplaysIn, RacesIn, IsFaultOfReplay, IsFaultOfRace}
+use Rattle.sab_run.specs.Racing.{RacesIn, IsFaultOfRace}
+use Rattle.sab_run.specs.Running.{ReplaysIn, IsFaultOfReplay}
 use Rattle.sab_tool.specs.declared.ended.Ended.{Ended}
 use Rattle.sab_text.specs.declared.format.Telling.{Telling}
 use Rattle.sab_text.specs.declared.format.VerdictFormat.{VerdictFormat}

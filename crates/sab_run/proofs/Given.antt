@@ -1,14 +1,16 @@
--- A job of the script that a reader gave.
+-- A job or a race of the script that a reader gave.
 use Rattle.std.proofs.Common.{◌≡◌, ℕ, ◌≤◌, Bool, List, length, Option, Some, None, IfSome, subst, arith}
 use Rattle.sab_tool.specs.declared.input.TheConstants.{MAX_INPUT}
 use Rattle.sab_tool.specs.declared.tool_fault.ToolFault.{ToolFault}
 use Rattle.sab_tool.specs.declared.tool_fault.ToolFault.TheVariants.{OutOfMemory, TooLong, ReadFailed}
 use Rattle.sab_tool.specs.Input.{IsInputFault}
 use Rattle.sab_command.specs.declared.job.Job.{Job}
+use Rattle.sab_command.specs.declared.job.RaceJob.{RaceJob}
 use Rattle.sab_ending.specs.declared.outcome.Outcome.{Outcome}
 use Rattle.sab_run.specs.declared.failure.Explanation.{Explanation}
 use Rattle.sab_run.specs.declared.failure.Explanation.TheVariants.{Untold}
 use Rattle.sab_run.specs.Explaining.{IsExplanation}
+use Rattle.sab_run.specs.Racing.{RunsRace, RunsRaceGiven, IsFaultOfRace}
 use Rattle.sab_run.specs.Running.{Runs, RunsGiven, IsFaultOf}
 
 -- what the job came to
@@ -29,6 +31,25 @@ failed None old new job fault input script all same few refused = tt
 failed (Some bytes) old new job fault input script all same few refused =
     subst (λ (s : List ℕ). (length s ≤ MAX_INPUT) × IsFaultOf job old new s fault) all
     (few, subst (λ (s : List ℕ). IsFaultOf job old new s fault) same refused)
+
+-- what the race came to
+pub raced : (known old new : Option (List ℕ)) (race : RaceJob) (outcome : Outcome) (input script : List ℕ)
+    → IfSome known (λ bytes. input ≡ bytes) → script ≡ input → length input ≤ MAX_INPUT
+    → RunsRace race outcome old new script → IfSome known (RunsRaceGiven race outcome old new)
+raced None old new race outcome input script all same few done = tt
+raced (Some bytes) old new race outcome input script all same few done =
+    subst (λ (s : List ℕ). RunsRaceGiven race outcome old new s) all
+    (few, subst (λ (s : List ℕ). RunsRace race outcome old new s) same done)
+
+-- what it is refused for
+pub race_failed : (known old new : Option (List ℕ)) (race : RaceJob) (fault : ToolFault) (input script : List ℕ)
+    → IfSome known (λ bytes. input ≡ bytes) → script ≡ input → length input ≤ MAX_INPUT
+    → IsFaultOfRace race.form race.spins old new script fault
+    → IfSome known (λ s. (length s ≤ MAX_INPUT) × IsFaultOfRace race.form race.spins old new s fault)
+race_failed None old new race fault input script all same few refused = tt
+race_failed (Some bytes) old new race fault input script all same few refused =
+    subst (λ (s : List ℕ). (length s ≤ MAX_INPUT) × IsFaultOfRace race.form race.spins old new s fault) all
+    (few, subst (λ (s : List ℕ). IsFaultOfRace race.form race.spins old new s fault) same refused)
 
 -- what is told besides
 pub explained : (known : Option (List ℕ)) (is_asked : Bool) (fault : ToolFault) (input script : List ℕ)

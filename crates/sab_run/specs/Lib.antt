@@ -1,4 +1,5 @@
 pub mod Failure
 pub mod Explaining
+pub mod Racing
 pub mod Running
 pub mod Tracing

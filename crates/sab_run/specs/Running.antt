@@ -1,4 +1,4 @@
--- What a job does with the script that a reader gives.
+-- What a job without threads does with the script that a reader gives.
 use Rattle.std.specs.Prelude.{◌≡◌, ◌⊎◌, ℕ, ◌≤◌, List, length, Option, IfSome}
 use Rattle.std.specs.Io.KnownBytes.{Appends, Keeps}
 use Rattle.sab_tool.specs.declared.input.TheConstants.{MAX_INPUT}
@@ -8,18 +8,17 @@ use Rattle.sab_tool.specs.Input.{IsInputFault}
 use Rattle.sab_plan.specs.Report.{ReportParts}
 use Rattle.sab_script.specs.Setup.{SetupParts}
 use Rattle.sab_tool.specs.Replay.{IsReportOf, IsReplayFault}
-use Rattle.sab_tool.specs.Racing.{IsRaceFault}
 use Rattle.sab_tool.specs.declared.ended.Ended.{Ended}
 use Rattle.sab_tool.specs.Ended.{ended_of}
-use Rattle.sab_report.specs.Reporting.{ReplaysAs, RacesAs}
+use Rattle.sab_report.specs.Reporting.{ReplaysAs}
 use Rattle.sab_report.specs.declared.judging.Judged.{Judged}
 use Rattle.sab_report.specs.Judging.{JudgesAs}
-use Rattle.sab_kept.specs.Keeping.{KeepsRun, IsRaceIn, IsReplayUnkept, IsRaceUnkept, IsKeepFault}
+use Rattle.sab_kept.specs.Keeping.{KeepsRun, IsReplayUnkept, IsKeepFault}
 use Rattle.sab_check.specs.Checked.{IsAccepted, IsRefused}
 use Rattle.sab_command.specs.declared.job.RunForm.{RunForm}
 use Rattle.sab_command.specs.declared.job.RunForm.TheVariants.{Report, Script}
 use Rattle.sab_command.specs.declared.job.Job.{Job}
-use Rattle.sab_command.specs.declared.job.Job.TheVariants.{Replay, Check, Judge, Race}
+use Rattle.sab_command.specs.declared.job.Job.TheVariants.{Replay, Check, Judge}
 use Rattle.sab_ending.specs.declared.outcome.Outcome.{Outcome}
 use Rattle.sab_ending.specs.declared.outcome.Outcome.TheVariants.{Done, Refused, Unfinished, Racy}
 use Rattle.sab_ending.specs.Outcome.{outcome_of, judged_outcome}
@@ -41,11 +40,6 @@ abbrev pub ReplaysIn : RunForm → Option (List ℕ) → Option (List ℕ) → L
 ReplaysIn (Report telling) old new script ended = ReplaysAs telling old new script ended
 ReplaysIn Script old new script ended = KeepsAs IsReportOf old new script ended
 
--- the same of a race of the script with so many steps at a wait
-abbrev pub RacesIn : RunForm → ℕ → Option (List ℕ) → Option (List ℕ) → List ℕ → Ended → Type 0
-RacesIn (Report telling) spins old new script ended = RacesAs telling old new script spins ended
-RacesIn Script spins old new script ended = KeepsAs (IsRaceIn spins) old new script ended
-
 -- the run came behind what the writer held in its form, and the outcome is by how it ended; or what a check or a judge
 -- says did
 abbrev pub Runs : Job → Outcome → Option (List ℕ) → Option (List ℕ) → List ℕ → Type 0
@@ -55,8 +49,6 @@ Runs (Judge format finish) outcome old new script =
     × (outcome ≡ judged_outcome judged.is_racy judged.ended finish)
 Runs (Replay form finish) outcome old new script =
     (ended : Ended) × ReplaysIn form old new script ended × (outcome ≡ outcome_of ended finish)
-Runs (Race share spins mix form finish) outcome old new script =
-    (ended : Ended) × RacesIn form spins old new script ended × (outcome ≡ outcome_of ended finish)
 
 -- want of memory, before anything was written, or a write that failed
 abbrev pub IsCheckFault : Option (List ℕ) → Option (List ℕ) → ToolFault → Type 0
@@ -67,17 +59,11 @@ abbrev pub IsFaultOfReplay : RunForm → Option (List ℕ) → Option (List ℕ)
 IsFaultOfReplay (Report telling) old new script fault = IsReplayFault old new script fault
 IsFaultOfReplay Script old new script fault = IsKeepFault IsReplayUnkept old new script fault
 
--- what a race is refused for
-abbrev pub IsFaultOfRace : RunForm → ℕ → Option (List ℕ) → Option (List ℕ) → List ℕ → ToolFault → Type 0
-IsFaultOfRace (Report telling) spins old new script fault = IsRaceFault old new script spins fault
-IsFaultOfRace Script spins old new script fault = IsKeepFault (IsRaceUnkept spins) old new script fault
-
 -- what a job of a script is refused for
 abbrev pub IsFaultOf : Job → Option (List ℕ) → Option (List ℕ) → List ℕ → ToolFault → Type 0
 IsFaultOf (Replay form finish) old new script fault = IsFaultOfReplay form old new script fault
 IsFaultOf Check old new script fault = IsCheckFault old new fault
 IsFaultOf (Judge format finish) old new script fault = IsReplayFault old new script fault
-IsFaultOf (Race share spins mix form finish) old new script fault = IsFaultOfRace form spins old new script fault
 
 -- the script isn't too long, and the job came to this
 abbrev pub RunsGiven : Job → Outcome → Option (List ℕ) → Option (List ℕ) → List ℕ → Type 0

@@ -5,7 +5,7 @@ ghost use Rattle.sab_command.specs.Job.{IsTaskWithinLimits};
 
 use sab_command::{Request, Source, Task, request_of};
 use sab_ending::{Ending, FaultLine, Outcome, without_job, without_words};
-use sab_run::{Failure, judge_trace, run};
+use sab_run::{Failure, judge_trace, run, run_race};
 use std::io::{IsTerminal, Read};
 use std::process::ExitCode;
 use std::random::RandomSource;
@@ -31,7 +31,8 @@ fn perform_on<R: Print + AllocGlobal + Threads + Wait + Sync + RandomSource, I: 
 {
     let output = &mut io::writer(rt);
     match task {
-        Task::OfScript(job) => run(rt, job, explain, input, output),
+        Task::OfScript(job) => run(rt.alloc(), job, explain, input, output),
+        Task::OfRace(race) => run_race(rt, race, explain, input, output),
         Task::OfTrace(format) => judge_trace(rt.alloc(), format, input, output),
     }
 }

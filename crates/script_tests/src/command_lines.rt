@@ -2,7 +2,7 @@
 
 use crate::expecting::expect_of;
 use clap::error::ErrorKind;
-use sab_command::{Job, RunForm, Source, Task, request_of};
+use sab_command::{Job, RaceJob, RunForm, Source, Task, request_of};
 use sab_report::{Format, Lines, Telling, VerdictFormat};
 use sab_tool::Share;
 use std::alloc::Global;
@@ -148,14 +148,14 @@ fn a_command_line_is_read(rt: HostRuntime) -> Result<(), Fail> {
         expect_of(asks(rt.alloc(), words, Task::OfScript(job)), &words)?;
     }
     for (words, share, spins, mix) in RACES {
-        let job = Job::Race {
+        let race = RaceJob {
             share,
             spins,
             mix,
             form: RunForm::Report(PLAIN),
             finish: false,
         };
-        expect_of(asks(rt.alloc(), words, Task::OfScript(job)), &words)?;
+        expect_of(asks(rt.alloc(), words, Task::OfRace(race)), &words)?;
     }
     let check = ["sabsim", "check"];
     expect_of(asks(rt.alloc(), &check, Task::OfScript(Job::Check)), &check)

@@ -4,10 +4,10 @@ ghost use Rattle.sab_command.specs.Job.{IsWithinLimits};
 
 use crate::expecting::expect;
 use crate::scripts::{STORE_AND_LOAD, STORED_AND_LOADED};
-use sab_command::{Job, RunForm, Source};
+use sab_command::{Job, RaceJob, RunForm, Source};
 use sab_ending::Outcome;
 use sab_report::{Format, Lines, Telling, VerdictFormat};
-use sab_run::{Failure, judge_trace, run};
+use sab_run::{Failure, judge_trace, run, run_race};
 use sab_tool::{Share, ToolFault};
 use std::alloc::{AllocError, Global};
 use std::io;
@@ -66,27 +66,50 @@ impl Basin {
     }
 }
 
-/// Whether the job of a script comes to this, and writes just this text, which is flushed where it doesn't fail.
-///
-/// Where it is to fail, so does each flush.
-fn comes_to<R: AllocGlobal + Threads + Wait + Sync + RandomSource>(
-    rt: &R,
-    job: Job,
-    script: &str,
+/// Whether a script was done to this, and just this text was written, which is flushed where nothing failed.
+fn is_right(
+    answer: Result<Outcome, Failure>,
+    output: &Basin,
     wanted: Result<Outcome, ToolFault>,
     text: &str,
-) -> bool
-    requires { IsWithinLimits job }
-{
-    let mut input = script.as_bytes();
-    let mut output = Basin::new(rt.alloc(), wanted.is_err());
-    let found = match run(rt, job, false, &mut input, &mut output) {
+) -> bool {
+    let found = match answer {
         Ok(outcome) => Ok(outcome),
         Err(failure) => Err(failure.fault),
     };
     found == wanted
         && output.is_flushed == wanted.is_ok()
         && output.taken.as_slice() == text.as_bytes()
+}
+
+/// Whether the job of a script comes to this, and writes just this text. Where it is to fail, so does each flush.
+fn comes_to(
+    alloc: Global,
+    job: Job,
+    script: &str,
+    wanted: Result<Outcome, ToolFault>,
+    text: &str,
+) -> bool {
+    let mut input = script.as_bytes();
+    let mut output = Basin::new(alloc, wanted.is_err());
+    let answer = run(alloc, job, false, &mut input, &mut output);
+    is_right(answer, &output, wanted, text)
+}
+
+/// The same of a race of its agents.
+fn races_to<R: AllocGlobal + Threads + Wait + Sync + RandomSource>(
+    rt: &R,
+    race: RaceJob,
+    script: &str,
+    wanted: Result<Outcome, ToolFault>,
+    text: &str,
+) -> bool
+    requires { IsWithinLimits race }
+{
+    let mut input = script.as_bytes();
+    let mut output = Basin::new(rt.alloc(), wanted.is_err());
+    let answer = run_race(rt, race, false, &mut input, &mut output);
+    is_right(answer, &output, wanted, text)
 }
 
 /// That a job is done, and that its flush fails.
@@ -96,30 +119,42 @@ const DONE_OR_STUCK: [Result<Outcome, ToolFault>; 2] = [
 ];
 
 #[test]
-fn a_job_flushes_its_report(rt: HostRuntime) -> Result<(), Fail> {
-    let jobs = [
-        Job::Replay {
-            form: RunForm::Report(PLAIN),
-            finish: true,
-        },
-        Job::Race {
-            share: Share::Lock,
-            spins: 0,
-            mix: None,
-            form: RunForm::Report(PLAIN),
-            finish: false,
-        },
-        Job::Race {
-            share: Share::Ring,
-            spins: 0,
-            mix: Some(7),
-            form: RunForm::Report(PLAIN),
-            finish: true,
-        },
-    ];
-    for job in jobs {
+fn a_replay_flushes_its_report(rt: HostRuntime) -> Result<(), Fail> {
+    let job = Job::Replay {
+        form: RunForm::Report(PLAIN),
+        finish: true,
+    };
+    for wanted in DONE_OR_STUCK {
+        let is_right = comes_to(rt.alloc(), job, STORE_AND_LOAD, wanted, STORED_AND_LOADED);
+        expect(is_right, "another report, or another end")?;
+    }
+    Ok(())
+}
+
+/// Races that are written in this form.
+fn races_in(form: RunForm) -> [RaceJob; 2] {
+    let by_lock = RaceJob {
+        share: Share::Lock,
+        spins: 0,
+        mix: None,
+        form,
+        finish: false,
+    };
+    let by_rings = RaceJob {
+        share: Share::Ring,
+        spins: 0,
+        mix: Some(7),
+        form,
+        finish: true,
+    };
+    [by_lock, by_rings]
+}
+
+#[test]
+fn a_race_flushes_its_report(rt: HostRuntime) -> Result<(), Fail> {
+    for race in races_in(RunForm::Report(PLAIN)) {
         for wanted in DONE_OR_STUCK {
-            let is_right = comes_to(&rt, job, STORE_AND_LOAD, wanted, STORED_AND_LOADED);
+            let is_right = races_to(&rt, race, STORE_AND_LOAD, wanted, STORED_AND_LOADED);
             expect(is_right, "another report, or another end")?;
         }
     }
@@ -127,25 +162,23 @@ fn a_job_flushes_its_report(rt: HostRuntime) -> Result<(), Fail> {
 }
 
 #[test]
-fn a_job_flushes_the_script_that_it_keeps(rt: HostRuntime) -> Result<(), Fail> {
-    let race = |share, mix, finish| Job::Race {
-        share,
-        spins: 0,
-        mix,
+fn a_replay_flushes_the_script_that_it_keeps(rt: HostRuntime) -> Result<(), Fail> {
+    let job = Job::Replay {
         form: RunForm::Script,
-        finish,
+        finish: true,
     };
-    let jobs = [
-        Job::Replay {
-            form: RunForm::Script,
-            finish: true,
-        },
-        race(Share::Lock, None, false),
-        race(Share::Ring, Some(7), true),
-    ];
-    for job in jobs {
+    for wanted in DONE_OR_STUCK {
+        let is_right = comes_to(rt.alloc(), job, STORE_AND_LOAD, wanted, KEPT);
+        expect(is_right, "another script, or another end")?;
+    }
+    Ok(())
+}
+
+#[test]
+fn a_race_flushes_the_script_that_it_keeps(rt: HostRuntime) -> Result<(), Fail> {
+    for race in races_in(RunForm::Script) {
         for wanted in DONE_OR_STUCK {
-            let is_right = comes_to(&rt, job, STORE_AND_LOAD, wanted, KEPT);
+            let is_right = races_to(&rt, race, STORE_AND_LOAD, wanted, KEPT);
             expect(is_right, "another script, or another end")?;
         }
     }
@@ -170,7 +203,7 @@ const CHECKS: [(&str, Outcome, &str); 2] = [
 fn a_check_flushes_what_it_says(rt: HostRuntime) -> Result<(), Fail> {
     for (script, outcome, text) in CHECKS {
         for wanted in [Ok(outcome), Err(ToolFault::WriteFailed)] {
-            let is_right = comes_to(&rt, Job::Check, script, wanted, text);
+            let is_right = comes_to(rt.alloc(), Job::Check, script, wanted, text);
             expect(is_right, script)?;
         }
     }
@@ -185,7 +218,7 @@ fn a_judge_flushes_what_it_says(rt: HostRuntime) -> Result<(), Fail> {
     };
     let said = "no data race: 2 accesses by 1 agent\n";
     for wanted in DONE_OR_STUCK {
-        let is_right = comes_to(&rt, job, STORE_AND_LOAD, wanted, said);
+        let is_right = comes_to(rt.alloc(), job, STORE_AND_LOAD, wanted, said);
         expect(is_right, "another verdict, or another end")?;
     }
     Ok(())
@@ -238,14 +271,11 @@ fn a_trace_is_judged_or_refused(rt: HostRuntime) -> Result<(), Fail> {
 }
 
 /// Why a check fails that has eight bytes of room.
-fn fault_without_room<R: AllocGlobal + Threads + Wait + Sync + RandomSource>(
-    rt: &R,
-    script: &str,
-) -> Option<ToolFault> {
+fn fault_without_room(alloc: Global, script: &str) -> Option<ToolFault> {
     let mut room = [0; 8];
     let mut input = script.as_bytes();
     let mut rest = room.as_mut_slice();
-    match run(rt, Job::Check, false, &mut input, &mut rest) {
+    match run(alloc, Job::Check, false, &mut input, &mut rest) {
         Ok(_) => None,
         Err(failure) => Some(failure.fault),
     }
@@ -254,30 +284,30 @@ fn fault_without_room<R: AllocGlobal + Threads + Wait + Sync + RandomSource>(
 #[test]
 fn a_check_without_room_for_what_it_says_fails(rt: HostRuntime) -> Result<(), Fail> {
     for script in [STORE_AND_LOAD, "[1"] {
-        let fault = fault_without_room(&rt, script);
+        let fault = fault_without_room(rt.alloc(), script);
         expect(fault == Some(ToolFault::WriteFailed), script)?;
     }
     Ok(())
 }
 
 /// Whether this is said of a replay of a script that is refused, where the script is read from a file.
-fn complains<R: AllocGlobal + Threads + Wait + Sync + RandomSource>(
-    rt: &R,
+fn complains(
+    alloc: Global,
     script: &str,
     explain: bool,
     text: &str,
 ) -> Result<bool, AllocError> {
     let mut input = script.as_bytes();
-    let mut output = Vec::new(rt.alloc());
+    let mut output = Vec::new(alloc);
     let job = Job::Replay {
         form: RunForm::Report(PLAIN),
         finish: false,
     };
-    match run(rt, job, explain, &mut input, &mut output) {
+    match run(alloc, job, explain, &mut input, &mut output) {
         Ok(_) => Ok(false),
         Err(failure) => {
             let complaint = failure.complaint(Source::File("script.json"));
-            Ok(complaint.to_string(rt.alloc())?.as_str() == text)
+            Ok(complaint.to_string(alloc)?.as_str() == text)
         }
     }
 }
@@ -300,7 +330,7 @@ const COMPLAINTS: [(&str, bool, &str); 3] = [
 #[test]
 fn a_refusal_is_explained_where_that_is_asked_for(rt: HostRuntime) -> Result<(), Fail> {
     for (script, explain, text) in COMPLAINTS {
-        expect(complains(&rt, script, explain, text)?, text)?;
+        expect(complains(rt.alloc(), script, explain, text)?, text)?;
     }
     Ok(())
 }

@@ -1,0 +1,42 @@
+-- What a race does with the script that a reader gives.
+use Rattle.std.specs.Prelude.{◌≡◌, ◌⊎◌, ℕ, ◌≤◌, List, length, Option, IfSome}
+use Rattle.std.specs.Io.KnownBytes.{Keeps}
+use Rattle.sab_tool.specs.declared.input.TheConstants.{MAX_INPUT}
+use Rattle.sab_tool.specs.declared.tool_fault.ToolFault.{ToolFault}
+use Rattle.sab_tool.specs.Input.{IsInputFault}
+use Rattle.sab_tool.specs.Racing.{IsRaceFault}
+use Rattle.sab_tool.specs.declared.ended.Ended.{Ended}
+use Rattle.sab_report.specs.Reporting.{RacesAs}
+use Rattle.sab_kept.specs.Keeping.{IsRaceIn, IsRaceUnkept, IsKeepFault}
+use Rattle.sab_command.specs.declared.job.RunForm.{RunForm}
+use Rattle.sab_command.specs.declared.job.RunForm.TheVariants.{Report, Script}
+use Rattle.sab_command.specs.declared.job.RaceJob.{RaceJob}
+use Rattle.sab_ending.specs.declared.outcome.Outcome.{Outcome}
+use Rattle.sab_ending.specs.Outcome.{outcome_of}
+use Rattle.sab_run.specs.Running.{KeepsAs}
+
+-- just the report of a race of the script with so many steps at a wait, or the script that keeps the race, came behind
+-- what the writer held
+abbrev pub RacesIn : RunForm → ℕ → Option (List ℕ) → Option (List ℕ) → List ℕ → Ended → Type 0
+RacesIn (Report telling) spins old new script ended = RacesAs telling old new script spins ended
+RacesIn Script spins old new script ended = KeepsAs (IsRaceIn spins) old new script ended
+
+-- the race came behind what the writer held in its form, and the outcome is by how it ended
+abbrev pub RunsRace : RaceJob → Outcome → Option (List ℕ) → Option (List ℕ) → List ℕ → Type 0
+RunsRace race outcome old new script =
+    (ended : Ended) × RacesIn race.form race.spins old new script ended × (outcome ≡ outcome_of ended race.finish)
+
+-- what a race is refused for
+abbrev pub IsFaultOfRace : RunForm → ℕ → Option (List ℕ) → Option (List ℕ) → List ℕ → ToolFault → Type 0
+IsFaultOfRace (Report telling) spins old new script fault = IsRaceFault old new script spins fault
+IsFaultOfRace Script spins old new script fault = IsKeepFault (IsRaceUnkept spins) old new script fault
+
+-- the script isn't too long, and the race came to this
+abbrev pub RunsRaceGiven : RaceJob → Outcome → Option (List ℕ) → Option (List ℕ) → List ℕ → Type 0
+RunsRaceGiven race outcome old new script = (length script ≤ MAX_INPUT) × RunsRace race outcome old new script
+
+-- the reader's bytes can't be had and nothing was written, or they are a script of which the race is refused
+abbrev pub IsRaceRunFault : Option (List ℕ) → RaceJob → Option (List ℕ) → Option (List ℕ) → ToolFault → Type 0
+IsRaceRunFault known race old new fault =
+    (Keeps old new × IsInputFault known fault)
+    ⊎ IfSome known (λ script. (length script ≤ MAX_INPUT) × IsFaultOfRace race.form race.spins old new script fault)
