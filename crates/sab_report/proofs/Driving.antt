@@ -15,7 +15,6 @@ use Rattle.sab_explain.specs.Standing.{IsStanding, IsOnlyStanding}
 use Rattle.sab_plan.specs.declared.fact.Fact.{Fact}
 use Rattle.sab_plan.specs.declared.standing.Standing.{Standing}
 use Rattle.sab_text.proofs.Appending.{appends_both}
-use Rattle.sab_report.proofs.LastNoted.{notes_last}
 use Rattle.sab_words.proofs.Telling.{appends_none, from_empty}
 use Rattle.sab_words.specs.FactFormat.{Texts, noted, sinces_after, no_sinces, entries_text, facts_text}
 use Rattle.sab_report.specs.Facts.{IsTheFact, AreFacts, TellsEntries, IsStandingOf, AreStandings, TellsFacts}
@@ -119,5 +118,4 @@ tells texts plan moves sim report standings a b c y chunk empty p m f t s fits o
           (texts.start ++ (entries_text texts plan no_sinces 0 es t.facts ++ end))) (sym journal)
           (appends_both (append_known a chunk) b y texts.start (entries ++ end) f
           (appends_both b c y entries end t.written last)));
-      since = notes_last;
     }

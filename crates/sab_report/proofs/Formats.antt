@@ -71,7 +71,6 @@ by_facts told = record {
   standings = told.standings;
   standings_are = told.standings_are;
   is_its = refl;
-  since = told.since;
 }
 
 pub told_explained : (telling : Telling) (names : List (List ℕ)) (plan : PlanParts) (moves : List Move)
@@ -106,7 +105,7 @@ told_as_picture telling names plan moves report old new is x = record {
   is_its = x.told.is_its;
   told = record {
     text = svg_text names plan report x.told.facts x.told.standings;
-    text_is = rw is (by_facts x.told, x.well_formed);
+    text_is = rw is (by_facts x.told, x.well_formed, x.room);
     written = x.told.written;
   };
 }

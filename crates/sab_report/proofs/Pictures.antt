@@ -32,7 +32,6 @@ draws names plan moves old new report told =
         standings = told.standings;
         standings_are = told.standings_are;
         written = subst (Appends old new) text told.written;
-        since = told.since;
       };
       well_formed = picture_document names plan report told.facts told.standings;
       room = calls_have_room names plan (length report.schedule);

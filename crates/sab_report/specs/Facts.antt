@@ -13,8 +13,8 @@ use Rattle.sab_explain.specs.Fact.{IsFact, IsOnlyFact, IsLast}
 use Rattle.sab_explain.specs.Standing.{IsStanding, IsOnlyStanding}
 use Rattle.sab_words.specs.FactFormat.{Texts, no_sinces, sinces_after, entries_text, facts_text}
 
--- whatever journal came before an entry, what is noted then of each agent is its last entry with an effect: a plan has at
--- most 16 agents
+-- after any journal, what a format has noted of each agent is its last entry with an effect: its own, or a notify that
+-- woke it; a plan has at most 16 agents
 abbrev pub NotesLast : Type 0
 NotesLast = (journal : List Entry) (a : ℕ) → a < 16
     → IsLast journal a (slice_index_or (sinces_after no_sinces 0 journal) a None)
@@ -46,8 +46,7 @@ IsStandingOf plan journal a (Some s) = IsStanding plan journal a s × IsOnlyStan
 abbrev pub AreStandings : PlanParts → List Entry → List (Option Standing) → Type 0
 AreStandings plan journal standings = (a : ℕ) → a < 16 → IsStandingOf plan journal a (slice_index_or standings a None)
 
--- the one report of the moves, and its text by facts and standings came behind what the writer held; the position that
--- is known of an agent is that of its last entry with an effect
+-- the one report of the moves, and its text by facts and standings came behind what the writer held
 pub record TellsBy (text_of : ReportParts → List Fact → List (Option Standing) → List ℕ) (plan : PlanParts)
     (moves : List Move) (old new : Option (List ℕ)) (report : ReportParts) : Type 0 where
   pub is_its : IsReplayOf plan moves report
@@ -56,7 +55,6 @@ pub record TellsBy (text_of : ReportParts → List Fact → List (Option Standin
   pub standings : List (Option Standing)
   pub standings_are : AreStandings plan report.journal standings
   pub written : Appends old new (text_of report facts standings)
-  pub since : NotesLast
 
 -- the same, where a format has a text for each part
 abbrev pub TellsFacts : Texts → PlanParts → List Move → Option (List ℕ) → Option (List ℕ) → ReportParts → Type 0

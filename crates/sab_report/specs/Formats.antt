@@ -13,8 +13,7 @@ use Rattle.sab_svg.specs.Picture.{svg_text}
 use Rattle.sab_report.specs.Facts.{TellsBy, TellsFacts}
 use Rattle.sab_report.specs.ReadsBack.{LinesReadBack}
 
--- the one report of the moves, and its explained text came behind what the writer held; since when agents have
--- waited is told by their last entries
+-- the one report of the moves, and its explained text came behind what the writer held
 abbrev pub Explains : ℕ → List (List ℕ) → PlanParts → Lines → List Move → Option (List ℕ) → Option (List ℕ)
     → ReportParts → Type 0
 Explains column names plan lines = TellsFacts (words_texts column names lines) plan

@@ -1,5 +1,5 @@
 -- What is told of a run.
-use Rattle.std.specs.Prelude.{◌≡◌, ◌⊎◌, ℕ, List, Option}
+use Rattle.std.specs.Prelude.{◌≡◌, ◌⊎◌, ℕ, List, length, Option}
 use Rattle.std.specs.Io.KnownBytes.{Appends, Keeps}
 use Rattle.sab_plan.specs.declared.schedule.Move.{Move}
 use Rattle.sab_plan.specs.Plan.{PlanParts}
@@ -9,11 +9,12 @@ use Rattle.sab_plan.specs.declared.standing.Standing.{Standing}
 use Rattle.sab_text.specs.declared.lines.Lines.{Lines}
 use Rattle.sab_text.specs.Text.{text_by}
 use Rattle.sab_words.specs.Column.{column_of, HasRoom}
-use Rattle.sab_report.specs.Facts.{NotesLast, AreFacts, AreStandings}
+use Rattle.sab_report.specs.Facts.{AreFacts, AreStandings}
 use Rattle.sab_words.specs.Explained.{explained_text}
 use Rattle.sab_json.specs.Lines.{json_text}
 use Rattle.sab_report.specs.ReadsBack.{LinesReadBack}
 use Rattle.sab_xml.specs.WellFormed.{IsDocument}
+use Rattle.sab_svg.specs.Shape.{shape_of, HaveRoom}
 use Rattle.sab_svg.specs.Picture.{svg_text}
 use Rattle.sab_tool.specs.declared.tool_fault.ToolFault.{ToolFault}
 use Rattle.sab_tool.specs.declared.tool_fault.ToolFault.TheVariants.{OutOfMemory, WriteFailed}
@@ -22,8 +23,7 @@ use Rattle.sab_text.specs.declared.format.Format.{Format}
 use Rattle.sab_text.specs.declared.format.Format.TheVariants.{Plain, Explained, Json, Svg}
 use Rattle.sab_text.specs.declared.format.Telling.{Telling}
 
--- the facts of the report's entries and where its agents stand in the end make this text; since when an agent stood as
--- it did is told by its last entry with an effect
+-- the facts of the report's entries and where its agents stand in the end make this text
 pub record IsByFacts (text_of : List Fact → List (Option Standing) → List ℕ) (plan : PlanParts) (report : ReportParts)
     (text : List ℕ) : Type 0 where
   pub facts : List Fact
@@ -31,10 +31,9 @@ pub record IsByFacts (text_of : List Fact → List (Option Standing) → List �
   pub standings : List (Option Standing)
   pub standings_are : AreStandings plan report.journal standings
   pub is_its : text ≡ text_of facts standings
-  pub since : NotesLast
 
--- the text of a report in a format, by the names of the plan's views; words stand in one column, each line of JSON
--- reads back as its tree, and a picture is a document of XML
+-- the text of a report in a format, by the names of the plan's views; words begin in one column, each line of JSON reads
+-- back as its tree, and a picture is a document of XML in which no call runs into another lane
 abbrev pub IsTextIn : Format → Lines → List (List ℕ) → PlanParts → ReportParts → List ℕ → Type 0
 IsTextIn Plain lines names plan report text = text ≡ text_by lines report
 IsTextIn Explained lines names plan report text =
@@ -42,7 +41,10 @@ IsTextIn Explained lines names plan report text =
     × HasRoom report (column_of report)
 IsTextIn Json lines names plan report text =
     IsByFacts (json_text names plan lines report) plan report text × LinesReadBack names plan report
-IsTextIn Svg lines names plan report text = IsByFacts (svg_text names plan report) plan report text × IsDocument text
+IsTextIn Svg lines names plan report text =
+    IsByFacts (svg_text names plan report) plan report text
+    × IsDocument text
+    × HaveRoom names plan (shape_of names plan (length report.schedule))
 
 -- just the text of the report came behind what the writer held
 pub record Tells (telling : Telling) (names : List (List ℕ)) (plan : PlanParts) (report : ReportParts)

@@ -13,7 +13,7 @@ mod standings;
 mod telling;
 
 pub use judging::{Judged, MAX_TOLD, judge_as};
-pub use laws::calls_are_told_as_spelled;
+pub use laws::{calls_are_told_as_spelled, the_last_entry_of_an_agent_is_noted};
 pub use racing::{RaceOptions, race_as};
 pub use replaying::replay_as;
 pub use sab_text::{Format, Lines, Telling, VerdictFormat};

@@ -1,0 +1,6 @@
+-- Each entry is noted of the agents that it has an effect on.
+use Rattle.sab_report.proofs.LastNoted.{notes_last}
+use Rattle.sab_report.proofs.laws.the_last_entry_of_an_agent_is_noted.Goals as goal
+
+pub returns : goal.returns
+returns c = notes_last
