@@ -16,6 +16,8 @@ PACKAGES = {
     "serde_json": "librust-serde-json-dev",
     "itoa": "librust-itoa-dev",
 }
+# The statuses of a run that is done: without races, and with some.
+GOOD = (0, 5)
 # A program reads its environment when it starts, so counted runs have the same one each time.
 ENVIRONMENT = {"LC_ALL": "C", "PATH": os.environ.get("PATH", os.defpath)}
 
@@ -52,10 +54,12 @@ def outcome(command):
     return ran.returncode, ran.stdout
 
 
-def difference(sabsim, native):
-    """Says where two outcomes differ. Returns nothing if they are the same."""
+def fault(sabsim, native):
+    """Says why two outcomes can't be compared, or where they differ. Returns nothing if they are good and the same."""
     if sabsim[0] != native[0]:
         return f"sabsim ends with status {sabsim[0]}, and the native program with {native[0]}"
+    if sabsim[0] not in GOOD:
+        return f"both end with status {sabsim[0]}"
     lines = zip_longest(sabsim[1].splitlines(True), native[1].splitlines(True), fillvalue=b"")
     for number, (ours, other) in enumerate(lines, 1):
         if ours != other:
@@ -68,7 +72,7 @@ def instructions(command):
     words = ["valgrind", "--tool=callgrind", "--callgrind-out-file=/dev/null", *command]
     ran = subprocess.run(words, env=ENVIRONMENT, stdout=subprocess.DEVNULL, stderr=subprocess.PIPE, check=False)
     found = re.search(rb"Collected : (\d+)", ran.stderr)
-    return int(found.group(1)) if found else stop(f"valgrind can't run {command[0]}")
+    return int(found.group(1)) if found else stop(f"valgrind counts nothing: {ran.stderr.decode(errors='replace')}")
 
 
 def microseconds(commands, runs):
