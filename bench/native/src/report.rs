@@ -28,7 +28,11 @@ impl<W: Write> Report<W> {
             What::Act(answer) => self.answer(b"act ", answer),
             What::Leave(answer) => self.answer(b"leave ", answer),
             What::Return(answer) => self.answer(b"return ", answer),
-            What::Stuck(why) => writeln!(self.out, "stuck {why}"),
+            What::Stuck(why) => {
+                self.out.write_all(b"stuck ")?;
+                self.out.write_all(why.as_bytes())?;
+                self.out.write_all(b"\n")
+            }
         }
     }
 
@@ -58,7 +62,10 @@ impl<W: Write> Report<W> {
         self.out.write_all(word)?;
         let text = match answer {
             Answer::Value(Operand::Number(number)) => self.digits.format(number),
-            Answer::Value(Operand::BigInt(number)) => return writeln!(self.out, "{number}n"),
+            Answer::Value(Operand::BigInt(number)) => {
+                self.out.write_all(self.digits.format(number).as_bytes())?;
+                "n"
+            }
             Answer::Ok => "ok",
             Answer::NotEqual => "not-equal",
             Answer::TimedOut => "timed-out",
