@@ -13,7 +13,8 @@ export const statusOf = ({ races }) => (races.length === 0 ? NO_RACE : RACES);
 /** With `--format json`. @param {Judged} judged @returns {string} */
 export function jsonText({ accesses, agents, races }) {
   const told = races.slice(0, MOST_TOLD);
-  const last = { accesses, agents, more: races.length - told.length, races: told.length };
+  const data_races = dataRacesIn(races);
+  const last = { accesses, agents, data_races, more: races.length - told.length, races: told.length };
   return [...told, last].map((each) => `${JSON.stringify(each)}\n`).join("");
 }
 
@@ -21,9 +22,16 @@ export function jsonText({ accesses, agents, races }) {
 export function plainText({ accesses, agents, races }) {
   if (races.length === 0) return `no data race: ${accessesOf(accesses)} by ${agentsOf(agents)}\n`;
   const lines = races.slice(0, MOST_TOLD).map(raceLine);
-  if (races.length > lines.length) lines.push(`${races.length - lines.length} more`);
+  const left = races.slice(MOST_TOLD);
+  if (left.length > 0) lines.push(`${left.length} more, ${leftDataRaces(dataRacesIn(left))}`);
   return lines.map((line) => `${line}\n`).join("");
 }
+
+/** @param {Judged["races"]} races */
+const dataRacesIn = (races) => races.filter((race) => race.data_race).length;
+
+/** @param {number} count */
+const leftDataRaces = (count) => (count === 1 ? "1 of them a data race" : `${count} of them data races`);
 
 /** @param {number} count */
 const accessesOf = (count) => (count === 1 ? "1 access" : `${count} accesses`);

@@ -147,9 +147,10 @@ Standard output has a line for each of the first 100 races, by their later acces
 A number behind `at`, `up to` and `before` is the position of an entry of the report, or of an
 event of the trace. Behind the semicolon stands how much of the one agent the other had seen.
 A line begins with `race` where the two aren't in a data race of this very run, as the standard
-has it, but would be in another order of the same accesses. `12 more` ends the lines where there
-are more races. Where there is none, standard output has
-  no data race: 12 accesses by 3 agents
+has it, but would be in another order of the same accesses. Where there are more races, the last
+line has their number: `12 more, 3 of them data races`. Where there is none, standard output has
+  no data race: 12 accesses by 3 agents in the script's calls of Atomics
+and for a trace the same up to `agents`.
 With --format json each race is an object on a line, and the last line has the counts.
 
 In a script all accesses are by Atomics. So only those race that overlap and aren't on the same

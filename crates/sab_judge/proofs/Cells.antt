@@ -13,10 +13,12 @@ use Rattle.sab_judge.specs.declared.access.Access.{Access}
 use Rattle.sab_judge.specs.declared.cell.Cell.{Cell}
 use Rattle.sab_judge.specs.declared.event.Event.{Event}
 use Rattle.sab_judge.specs.declared.latest.Latest.{Latest}
+use Rattle.sab_judge.specs.declared.race_kind.RaceKind.{RaceKind}
 use Rattle.sab_judge.specs.Access.{overlap, conflict, are_atomic_alike}
 use Rattle.sab_judge.specs.Event.{event_at, both_are}
 use Rattle.sab_judge.specs.Lookups.{ByPlace, same_pair}
 use Rattle.sab_judge.specs.Race.{Counts, IsRace}
+use Rattle.sab_judge.specs.RaceKind.{IsRaceOf}
 use Rattle.sab_judge.specs.Cell.{class_of, key_of, BeginsIn, AreLatest, IsKeptAt, AreKept, AreShort, AreUsed, BeginsBetween, IsOfClass, IsOfLowerClass}
 use Rattle.sab_judge.proofs.Counting.{counts_same, counts_both}
 use Rattle.sab_judge.proofs.KeptLatest.{latest_skipped, no_latest}
@@ -154,17 +156,17 @@ short_skipped trace {j} before none i b lt also = elim (cases_lt i j) [
 -- ---- races
 
 -- the races with the accesses that begin in one cell more
-pub cell_added : {trace : List Event} {j block class low count more : ℕ} (index : ℕ) → low ≤ index
-    → Counts (λ i. IsRace trace i j × BeginsBetween trace block class low index i) j count
-    → Counts (λ i. IsRace trace i j × BeginsIn trace (record { block = block; class = class; index = index }) i) j more
-    → Counts (λ i. IsRace trace i j × BeginsBetween trace block class low (index + 1) i) j (count + more)
-cell_added {trace} {j} {block} {class} {low} index above so_far its = counts_same to from (counts_both so_far its apart)
+pub cell_added : {kind : RaceKind} {trace : List Event} {j block class low count more : ℕ} (index : ℕ) → low ≤ index
+    → Counts (λ i. IsRaceOf kind trace i j × BeginsBetween trace block class low index i) j count
+    → Counts (λ i. IsRaceOf kind trace i j × BeginsIn trace (record { block = block; class = class; index = index }) i) j more
+    → Counts (λ i. IsRaceOf kind trace i j × BeginsBetween trace block class low (index + 1) i) j (count + more)
+cell_added {kind} {trace} {j} {block} {class} {low} index above so_far its = counts_same to from (counts_both so_far its apart)
   where
     here : Cell
     here = record { block = block; class = class; index = index }
 
-    apart : (i : ℕ) → IsRace trace i j × BeginsBetween trace block class low index i
-        → IsRace trace i j × BeginsIn trace here i → ⊥
+    apart : (i : ℕ) → IsRaceOf kind trace i j × BeginsBetween trace block class low index i
+        → IsRaceOf kind trace i j × BeginsIn trace here i → ⊥
     apart i p q =
         let same : p.1.access ≡ q.1.access = some_is_some _ _ (sym p.1.makes ∙ q.1.makes) in
         let byte : p.1.access.place.byte / 2 ^ class ≡ index =
@@ -172,9 +174,9 @@ cell_added {trace} {j} {block} {class} {low} index above so_far its = counts_sam
         omega (arith, p.1.below_high, byte)
 
     to : (i : ℕ) → i < j
-        → (IsRace trace i j × BeginsBetween trace block class low index i)
-        ⊎ (IsRace trace i j × BeginsIn trace here i)
-        → IsRace trace i j × BeginsBetween trace block class low (index + 1) i
+        → (IsRaceOf kind trace i j × BeginsBetween trace block class low index i)
+        ⊎ (IsRaceOf kind trace i j × BeginsIn trace here i)
+        → IsRaceOf kind trace i j × BeginsBetween trace block class low (index + 1) i
     to i lt (inl p) = (
       p.0,
       record {
@@ -198,9 +200,9 @@ cell_added {trace} {j} {block} {class} {low} index above so_far its = counts_sam
       },
     )
 
-    from : (i : ℕ) → i < j → IsRace trace i j × BeginsBetween trace block class low (index + 1) i
-        → (IsRace trace i j × BeginsBetween trace block class low index i)
-        ⊎ (IsRace trace i j × BeginsIn trace here i)
+    from : (i : ℕ) → i < j → IsRaceOf kind trace i j × BeginsBetween trace block class low (index + 1) i
+        → (IsRaceOf kind trace i j × BeginsBetween trace block class low index i)
+        ⊎ (IsRaceOf kind trace i j × BeginsIn trace here i)
     from i lt p = elim (cases_lt (p.1.access.place.byte / 2 ^ class) index) [
       | inl less ↦ inl (
         p.0,
@@ -256,15 +258,15 @@ race_near {trace} {i} {j} {a} {b} race makes also = near a b (overlap_of a b
     ∙ ap (λ (u : Option Access). both_are conflict (Some a) u) also) ∙ race.conflict))
 
 -- the accesses of a class that race begin less than two cells before the access, and before its end
-pub all_between : {trace : List Event} {j class low last high count : ℕ} {access : Access}
+pub all_between : {kind : RaceKind} {trace : List Event} {j class low last high count : ℕ} {access : Access}
     → AreShort trace j → (event_at trace j).access ≡ Some access → low ≡ access.place.byte / 2 ^ class - 2
     → last ≡ (access.place.byte + access.len - 1) / 2 ^ class → last + 1 ≤ high
-    → Counts (λ i. IsRace trace i j × BeginsBetween trace access.place.block class low high i) j count
-    → Counts (λ i. IsRace trace i j × IsOfClass trace class i) j count
-all_between {trace} {j} {class} {low} {last} {high} {count} {access} small makes low_is last_is near_high counted =
+    → Counts (λ i. IsRaceOf kind trace i j × BeginsBetween trace access.place.block class low high i) j count
+    → Counts (λ i. IsRaceOf kind trace i j × IsOfClass trace class i) j count
+all_between {kind} {trace} {j} {class} {low} {last} {high} {count} {access} small makes low_is last_is near_high counted =
     counts_same
     (λ i lt p. (p.0, record { access = p.1.access; makes = p.1.makes; class_is = p.1.class_is }))
-    (λ i lt p. let n = race_near p.0 p.1.makes makes in (
+    (λ i lt p. let n = race_near p.0.race p.1.makes makes in (
       p.0,
       record {
         access = p.1.access;
@@ -295,28 +297,28 @@ all_between {trace} {j} {class} {low} {last} {high} {count} {access} small makes
         omega (arith, cells, last_is, near_high)
 
 -- the races with the accesses of one class more
-pub class_added : {trace : List Event} {j count more : ℕ} (class : ℕ)
-    → Counts (λ i. IsRace trace i j × IsOfLowerClass trace class i) j count
-    → Counts (λ i. IsRace trace i j × IsOfClass trace class i) j more
-    → Counts (λ i. IsRace trace i j × IsOfLowerClass trace (class + 1) i) j (count + more)
-class_added {trace} {j} class so_far its = counts_same to from (counts_both so_far its apart)
+pub class_added : {kind : RaceKind} {trace : List Event} {j count more : ℕ} (class : ℕ)
+    → Counts (λ i. IsRaceOf kind trace i j × IsOfLowerClass trace class i) j count
+    → Counts (λ i. IsRaceOf kind trace i j × IsOfClass trace class i) j more
+    → Counts (λ i. IsRaceOf kind trace i j × IsOfLowerClass trace (class + 1) i) j (count + more)
+class_added {kind} {trace} {j} class so_far its = counts_same to from (counts_both so_far its apart)
   where
-    apart : (i : ℕ) → IsRace trace i j × IsOfLowerClass trace class i → IsRace trace i j × IsOfClass trace class i → ⊥
+    apart : (i : ℕ) → IsRaceOf kind trace i j × IsOfLowerClass trace class i → IsRaceOf kind trace i j × IsOfClass trace class i → ⊥
     apart i p q =
         let same : p.1.access ≡ q.1.access = some_is_some _ _ (sym p.1.makes ∙ q.1.makes) in
         let is : class_of p.1.access.len ≡ class_of q.1.access.len = ap (λ (a : Access). class_of a.len) same in
         omega (arith, p.1.below, is, q.1.class_is)
 
     to : (i : ℕ) → i < j
-        → (IsRace trace i j × IsOfLowerClass trace class i) ⊎ (IsRace trace i j × IsOfClass trace class i)
-        → IsRace trace i j × IsOfLowerClass trace (class + 1) i
+        → (IsRaceOf kind trace i j × IsOfLowerClass trace class i) ⊎ (IsRaceOf kind trace i j × IsOfClass trace class i)
+        → IsRaceOf kind trace i j × IsOfLowerClass trace (class + 1) i
     to i lt (inl p) =
         (p.0, record { access = p.1.access; makes = p.1.makes; below = omega (arith, p.1.below) })
     to i lt (inr q) =
         (q.0, record { access = q.1.access; makes = q.1.makes; below = omega (arith, q.1.class_is) })
 
-    from : (i : ℕ) → i < j → IsRace trace i j × IsOfLowerClass trace (class + 1) i
-        → (IsRace trace i j × IsOfLowerClass trace class i) ⊎ (IsRace trace i j × IsOfClass trace class i)
+    from : (i : ℕ) → i < j → IsRaceOf kind trace i j × IsOfLowerClass trace (class + 1) i
+        → (IsRaceOf kind trace i j × IsOfLowerClass trace class i) ⊎ (IsRaceOf kind trace i j × IsOfClass trace class i)
     from i lt p = elim (cases_lt (class_of p.1.access.len) class) [
       | inl less ↦ inl (p.0, record { access = p.1.access; makes = p.1.makes; below = less })
       | inr ge ↦ inr (
@@ -326,11 +328,11 @@ class_added {trace} {j} class so_far its = counts_same to from (counts_both so_f
     ]
 
 -- a class that isn't noted adds none
-pub class_unused : {trace : List Event} {j class count : ℕ} (used : List Bool) → AreUsed trace j used
+pub class_unused : {kind : RaceKind} {trace : List Event} {j class count : ℕ} (used : List Bool) → AreUsed trace j used
     → slice_index_or used class false ≡ false
-    → Counts (λ i. IsRace trace i j × IsOfLowerClass trace class i) j count
-    → Counts (λ i. IsRace trace i j × IsOfLowerClass trace (class + 1) i) j count
-class_unused {trace} {j} {class} {count} used noted unused counted = counts_same
+    → Counts (λ i. IsRaceOf kind trace i j × IsOfLowerClass trace class i) j count
+    → Counts (λ i. IsRaceOf kind trace i j × IsOfLowerClass trace (class + 1) i) j count
+class_unused {kind} {trace} {j} {class} {count} used noted unused counted = counts_same
     (λ i lt p. (p.0, record { access = p.1.access; makes = p.1.makes; below = omega (arith, p.1.below) }))
     (λ i lt p. (
       p.0,
@@ -343,9 +345,11 @@ class_unused {trace} {j} {class} {count} used noted unused counted = counts_same
     )) counted
 
 -- all classes are lower than the 32nd
-pub all_classes : {trace : List Event} {j count : ℕ} → ((i : ℕ) → IsRace trace i j → IsOfLowerClass trace 32 i)
-    → Counts (λ i. IsRace trace i j × IsOfLowerClass trace 32 i) j count → Counts (λ i. IsRace trace i j) j count
-all_classes has counted = counts_same (λ i lt p. p.0) (λ i lt race. (race, has i race)) counted
+pub all_classes : {kind : RaceKind} {trace : List Event} {j count : ℕ}
+    → ((i : ℕ) → IsRace trace i j → IsOfLowerClass trace 32 i)
+    → Counts (λ i. IsRaceOf kind trace i j × IsOfLowerClass trace 32 i) j count
+    → Counts (λ i. IsRaceOf kind trace i j) j count
+all_classes has counted = counts_same (λ i lt p. p.0) (λ i lt r. (r, has i r.race)) counted
 
 -- an event that races makes an access
 pub of_some_class : {trace : List Event} {i j : ℕ} → IsRace trace i j → IsOfLowerClass trace 32 i

@@ -16,3 +16,4 @@ pub mod NoRace
 pub mod KeptLatest
 pub mod Racing
 pub mod Cells
+pub mod ReadersNoted

@@ -6,7 +6,7 @@ use Rattle.std.proofs.lemmas.Bool.{cases_lt}
 use Rattle.std.proofs.lemmas.List.Elements.{All-push, All-nil}
 use Rattle.sab_judge.specs.declared.event.Event.{Event}
 use Rattle.sab_judge.specs.declared.race.Race.{Race}
-use Rattle.sab_judge.specs.Race.{IsRace, Counts, below_none, one_more, no_more, CountsRaces, of_none, and_of, ComesBefore}
+use Rattle.sab_judge.specs.Race.{IsRace, Counts, below_none, one_more, no_more, CountsRaces, CountsDataRaces, of_none, and_of, ComesBefore}
 use Rattle.sab_judge.specs.Verdict.{race_at, IsTold, InOrder, IsAmong, ComesAfterAll, IsVerdict}
 use Rattle.sab_judge.specs.Telling.{HasTold}
 use Rattle.sab_judge.proofs.Counting.{few_below, some_counted}
@@ -266,15 +266,17 @@ next_event {trace} {j} {most} {told} {rest} few t = record {
   small = omega (arith, t.small, few);
 }
 
-pub all_told : {trace : List Event} {most : ℕ} {told : List Race} {rest : ℕ}
-    → HasTold trace (length trace) 0 most told rest → IsVerdict trace most told rest
-all_told {trace} {most} {told} {rest} t = record {
+pub all_told : {trace : List Event} {most : ℕ} {told : List Race} {rest data_races : ℕ}
+    → HasTold trace (length trace) 0 most told rest → CountsDataRaces trace (length trace) data_races
+    → IsVerdict trace most told rest data_races
+all_told {trace} {most} {told} {rest} {data_races} t counted = record {
   races = t.races;
   order = t.order;
   each = λ i j race. t.each i j (inl race.within) race;
   count = subst (λ (n : ℕ). CountsRaces trace (length trace) n) total t.count;
   few = t.few;
   full = t.full;
+  data_count = counted;
 }
   where
     total : t.before ≡ length told + rest

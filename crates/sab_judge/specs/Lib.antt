@@ -4,11 +4,13 @@ pub mod Access
 pub mod Event
 pub mod HappensBefore
 pub mod Race
+pub mod RaceKind
 pub mod Verdict
 pub mod Clock
 pub mod Sought
 pub mod Lookups
 pub mod Past
+pub mod Readers
 pub mod Telling
 pub mod Link
 pub mod Cell

@@ -42,11 +42,19 @@ pub data Counts (P : ℕ → Type 0) : ℕ → ℕ → Type 0 where
   one_more : {n count : ℕ} → Counts P n count → P n → Counts P (n + 1) (count + 1)
   no_more : {n count : ℕ} → Counts P n count → ¬ P n → Counts P (n + 1) count
 
+-- so many pairs of an earlier number and a later one, which is below n, are such
+pub data CountsPairs (R : ℕ → ℕ → Type 0) : ℕ → ℕ → Type 0 where
+  of_none : CountsPairs R 0 0
+  and_of : {j total count : ℕ} → CountsPairs R j total → Counts (λ i. R i j) j count
+      → CountsPairs R (j + 1) (total + count)
+
 -- so many races have one of the first n events as the later one
-pub data CountsRaces (trace : List Event) : ℕ → ℕ → Type 0 where
-  of_none : CountsRaces trace 0 0
-  and_of : {j total count : ℕ} → CountsRaces trace j total → Counts (λ i. IsRace trace i j) j count
-      → CountsRaces trace (j + 1) (total + count)
+abbrev pub CountsRaces : List Event → ℕ → ℕ → Type 0
+CountsRaces trace = CountsPairs (IsRace trace)
+
+-- so many data races have one of the first n events as the later one
+abbrev pub CountsDataRaces : List Event → ℕ → ℕ → Type 0
+CountsDataRaces trace = CountsPairs (IsDataRace trace)
 
 -- the race of i and j comes before that of k and l: by the later events, and then by the earlier ones
 abbrev pub ComesBefore : ℕ → ℕ → ℕ → ℕ → Type 0

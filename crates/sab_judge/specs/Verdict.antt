@@ -4,7 +4,7 @@ use Rattle.sab_judge.specs.declared.event.Event.{Event}
 use Rattle.sab_judge.specs.declared.race.Race.{Race}
 use Rattle.sab_judge.specs.Event.{agent_at}
 use Rattle.sab_judge.specs.HappensBefore.{HappensBefore}
-use Rattle.sab_judge.specs.Race.{IsRace, IsDataRace, CountsRaces, ComesBefore}
+use Rattle.sab_judge.specs.Race.{IsRace, IsDataRace, CountsRaces, CountsDataRaces, ComesBefore}
 
 -- the race at a position of a list; past the end, that of event 0 with itself, which is none
 abbrev pub race_at : List Race → ℕ → Race
@@ -45,11 +45,12 @@ pub record IsLeft (told : List Race) (rest i j : ℕ) : Type 0 where
   pub after : ComesAfterAll told i j
   pub some : 0 < rest
 
--- told are the first races of the trace, in order, at most so many, and so many are left
-pub record IsVerdict (trace : List Event) (most : ℕ) (told : List Race) (rest : ℕ) : Type 0 where
+-- told are the first races of the trace, in order, at most so many; so many are left, and so many of all are data races
+pub record IsVerdict (trace : List Event) (most : ℕ) (told : List Race) (rest data_races : ℕ) : Type 0 where
   pub races : All (IsTold trace) told
   pub order : InOrder told
   pub each : (i j : ℕ) → IsRace trace i j → IsAmong told i j ⊎ IsLeft told rest i j
   pub count : CountsRaces trace (length trace) (length told + rest)
   pub few : length told ≤ most
   pub full : 0 < rest → length told ≡ most
+  pub data_count : CountsDataRaces trace (length trace) data_races

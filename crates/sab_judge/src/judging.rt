@@ -6,17 +6,23 @@ ghost use Rattle.sab_judge.specs.Clock.{HasClock};
 ghost use Rattle.sab_judge.specs.Past.{IsPast};
 ghost use Rattle.sab_judge.specs.Event.{agent_at};
 ghost use Rattle.sab_judge.specs.Sought.{IsLastBelow, OfAgent};
-ghost use Rattle.sab_judge.specs.Race.{Counts, IsRace};
+ghost use Rattle.sab_judge.specs.Race.{Counts, IsDataRace, IsRace};
+ghost use Rattle.sab_judge.specs.RaceKind.{IsRaceOf};
+ghost use Rattle.sab_judge.specs.declared.race_kind.RaceKind.TheVariants.{Any};
+ghost use Rattle.sab_judge.specs.Readers.{AreNoted};
+ghost use Rattle.sab_judge.specs.Seen.{IsSeen};
 ghost use Rattle.sab_judge.specs.Verdict.{IsLastSeen, IsVerdict};
 ghost use Rattle.sab_judge.specs.Telling.{HasTold};
 ghost use Rattle.sab_judge.specs.declared.trace.TheConstants.Trace.{MAX_EVENTS};
 
 use crate::clock::Clock;
 use crate::clocks::clock_of;
-use crate::data_race::is_data_race;
+use crate::data_race::{count_data_races, is_data_race};
 use crate::event::Event;
 use crate::past::Past;
-use crate::race::Race;
+use crate::race::{Race, is_race};
+use crate::race_kind::RaceKind;
+use crate::readers::Readers;
 use crate::seen::Seen;
 use crate::trace::Trace;
 use crate::verdict::Verdict;
@@ -31,7 +37,7 @@ use std::alloc::{AllocError, Global};
 /// often they make them; and once more by the events, where its races are told. Some 90 bytes are kept for each event,
 /// and some for each byte. Where memory is refused, that is the answer.
 pub fn judge(alloc: Global, trace: &Trace, most: usize) -> Result<Verdict, AllocError>
-    ensures { IfOk result (λ verdict. IsVerdict trace.now most verdict.races.items verdict.rest) }
+    ensures { IfOk result (λ verdict. IsVerdict trace.now most verdict.races.items verdict.rest verdict.data_races) }
 {
     judge_events(alloc, trace.events(), most)
 }
@@ -40,24 +46,53 @@ pub fn judge(alloc: Global, trace: &Trace, most: usize) -> Result<Verdict, Alloc
 fn judge_events(alloc: Global, trace: &[Event], most: usize) -> Result<Verdict, AllocError>
     requires short { length trace.now ≤ MAX_EVENTS }
     requires agents { All (λ (e : Event). e.agent < 16) trace.now }
-    ensures { IfOk result (λ verdict. IsVerdict trace.now most verdict.races.items verdict.rest) }
+    ensures { IfOk result (λ verdict. IsVerdict trace.now most verdict.races.items verdict.rest verdict.data_races) }
 {
     let mut clocks = Vec::with_capacity(alloc, trace.len())?;
     let mut past = Past::new(alloc);
     let mut seen = Seen::new(alloc, trace.len())?;
+    let mut readers = Readers::new(alloc, trace.len())?;
+    let mut data_races = 0;
     let mut verdict = Verdict {
         races: Vec::new(alloc),
         rest: 0,
+        data_races: 0,
     };
     for j in 0..trace.len() {
         let clock = clock_of(trace, &clocks, &past, j);
-        let count = seen.count_races(trace, &clock, j);
+        let count = seen.count_races(trace, &clock, j, RaceKind::Any);
+        data_races += data_races_of(trace, &clock, &past, &seen, &mut readers, j, count);
         tell_or_count(&mut verdict, trace, &past, &clock, j, most, count)?;
         clocks.push_reserved(clock);
         past.note(trace, j)?;
         seen.keep(alloc, trace, j)?;
     }
+    verdict.data_races = data_races;
     Ok(verdict)
+}
+
+/// How many data races there are of which the `j`-th event is the later one, with which so many race.
+fn data_races_of(
+    trace: &[Event],
+    clock: &Clock,
+    past: &Past,
+    seen: &Seen,
+    readers: &mut Readers,
+    j: usize,
+    count: u64,
+) -> u64
+    requires event_clock { HasClock trace.now j clock.now }
+    requires past { IsPast trace.now j past.now }
+    requires seen { IsSeen trace.now j seen.now }
+    requires readers { AreNoted (length trace.now) j readers.old }
+    requires count { Counts (λ i. IsRaceOf Any trace.now i j) j count }
+    ensures counted { Counts (λ i. IsDataRace trace.now i j) j result }
+    ensures readers { AreNoted (length trace.now) (j + 1) readers.new }
+{
+    if count == 0 {
+        return 0;
+    }
+    count_data_races(trace, clock, past, seen, readers, j)
 }
 
 /// Tells the races of which the `j`-th event is the later one, which are so many; or counts them, where no more are to
@@ -104,17 +139,6 @@ fn tell_races(
         }
     }
     Ok(())
-}
-
-/// Whether the `i`-th event and the later `j`-th, whose clock this is, race.
-fn is_race(trace: &[Event], clock: &Clock, i: usize, j: usize) -> bool
-    requires earlier { i < j }
-    requires event_clock { HasClock trace.now j clock.now }
-    ensures { IsTrue result ↔ IsRace trace.now i j }
-{
-    // The clock knows all earlier events of its own agent.
-    let first = trace[i];
-    first.conflicts(trace[j]) && !clock.knows(first.agent, i)
 }
 
 /// Tells the race of the `i`-th event and the `j`-th, or counts it where no more are to be told.

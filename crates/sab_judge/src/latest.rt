@@ -6,7 +6,8 @@ ghost use Rattle.sab_judge.specs.declared.event.Event.{Event};
 ghost use Rattle.sab_judge.specs.declared.latest.Latest.{Latest};
 ghost use Rattle.sab_judge.specs.Clock.{HasClock};
 ghost use Rattle.sab_judge.specs.Event.{event_at};
-ghost use Rattle.sab_judge.specs.Race.{Counts, IsRace};
+ghost use Rattle.sab_judge.specs.Race.{Counts};
+ghost use Rattle.sab_judge.specs.RaceKind.{IsRaceOf};
 ghost use Rattle.sab_judge.specs.Link.{AreLinks, HasAccess, IsLike, IsLink};
 ghost use Rattle.sab_judge.specs.Cell.{AreLatest, BeginsIn, IsLatest};
 ghost use Rattle.sab_judge.specs.declared.trace.TheConstants.Trace.{MAX_EVENTS};
@@ -16,6 +17,7 @@ use crate::cell::Cell;
 use crate::clock::Clock;
 use crate::event::Event;
 use crate::link::{Link, count_from};
+use crate::race_kind::RaceKind;
 use std::alloc::AllocError;
 
 /// Of the events of an agent that make one access the last one so far, by its position in the trace.
@@ -44,26 +46,27 @@ impl Latest {
         self.agent == agent && access_at(trace, self.position) == access
     }
 
-    /// How many events like it race with the `j`-th, by its clock.
+    /// How many events like it are in a race of the kind with the `j`-th, by its clock.
     fn count_races(
         self,
         trace: &[Event],
         links: &[Link],
         clock: &Clock,
         j: usize,
+        kind: RaceKind,
         cell: Cell,
     ) -> u64
         requires event_clock { HasClock trace.now j clock.now }
         requires links { AreLinks trace.now j links.now }
         requires latest { IsLatest trace.now j cell self }
-        ensures { Counts (λ i. IsRace trace.now i j × IsLike trace.now self.position i) j result }
+        ensures { Counts (λ i. IsRaceOf kind trace.now i j × IsLike trace.now self.position i) j result }
     {
         let bound = clock.bound(self.agent);
         let position = self.position as usize;
         // What is known needs no look at the trace.
         if position < bound
             || self.agent == trace[j].agent
-            || !trace[position].conflicts(trace[j])
+            || !kind.takes(trace[position], trace[j])
         {
             return 0;
         }
@@ -124,23 +127,24 @@ pub(crate) fn note_latest(
     }
 }
 
-/// How many of the events whose accesses begin in the cell race with the `j`-th, by its clock.
+/// How many of the events whose accesses begin in the cell are in a race of the kind with the `j`-th, by its clock.
 pub(crate) fn count_latest(
     list: &[Latest],
     links: &[Link],
     trace: &[Event],
     clock: &Clock,
     j: usize,
+    kind: RaceKind,
     cell: Cell,
 ) -> u64
     requires event_clock { HasClock trace.now j clock.now }
     requires links { AreLinks trace.now j links.now }
     requires latest { AreLatest trace.now j cell list.now }
-    ensures { Counts (λ i. IsRace trace.now i j × BeginsIn trace.now cell i) j result }
+    ensures { Counts (λ i. IsRaceOf kind trace.now i j × BeginsIn trace.now cell i) j result }
 {
     let mut count = 0;
     for latest in list {
-        count += latest.count_races(trace, links, clock, j, cell);
+        count += latest.count_races(trace, links, clock, j, kind, cell);
     }
     count
 }

@@ -15,6 +15,8 @@ mod order;
 mod past;
 mod place;
 mod race;
+mod race_kind;
+mod readers;
 mod reads;
 mod seen;
 mod trace;

@@ -4,7 +4,8 @@ ghost use Rattle.std.specs.Prelude.{◌≡◌, ◌+◌, ◌<◌, ◌≤◌, ◌^
 ghost use Rattle.sab_judge.specs.declared.event.Event.{Event};
 ghost use Rattle.sab_judge.specs.Clock.{HasClock};
 ghost use Rattle.sab_judge.specs.Event.{event_at};
-ghost use Rattle.sab_judge.specs.Race.{Counts, IsRace};
+ghost use Rattle.sab_judge.specs.Race.{Counts};
+ghost use Rattle.sab_judge.specs.RaceKind.{IsRaceOf};
 ghost use Rattle.sab_judge.specs.Link.{AreLinks, IsLink};
 ghost use Rattle.sab_judge.specs.Cell.{AreKept, BeginsIn, IsOfClass};
 ghost use Rattle.sab_judge.specs.Seen.{IsSeen};
@@ -16,6 +17,7 @@ use crate::clock::Clock;
 use crate::event::Event;
 use crate::latest::{Latest, count_latest, note_latest};
 use crate::link::Link;
+use crate::race_kind::RaceKind;
 use std::alloc::{AllocError, Global};
 use std::collections::HashMap;
 
@@ -86,49 +88,63 @@ impl Seen {
         Ok(())
     }
 
-    /// How many events race with the `j`-th, by its clock.
-    pub(crate) fn count_races(&self, trace: &[Event], clock: &Clock, j: usize) -> u64
+    /// How many events are in a race of the kind with the `j`-th, by its clock.
+    pub(crate) fn count_races(
+        &self,
+        trace: &[Event],
+        clock: &Clock,
+        j: usize,
+        kind: RaceKind,
+    ) -> u64
         requires event_clock { HasClock trace.now j clock.now }
         requires seen { IsSeen trace.now j self.now }
-        ensures { Counts (λ i. IsRace trace.now i j) j result }
+        ensures { Counts (λ i. IsRaceOf kind trace.now i j) j result }
     {
         match trace[j].access {
-            Some(access) => self.count_all(trace, clock, j, access),
+            Some(access) => self.count_all(trace, clock, j, access, kind),
             None => 0,
         }
     }
 
-    /// How many events race with the `j`-th, which makes this access.
-    fn count_all(&self, trace: &[Event], clock: &Clock, j: usize, access: Access) -> u64
+    /// How many events are in a race of the kind with the `j`-th, which makes this access.
+    fn count_all(
+        &self,
+        trace: &[Event],
+        clock: &Clock,
+        j: usize,
+        access: Access,
+        kind: RaceKind,
+    ) -> u64
         requires event_clock { HasClock trace.now j clock.now }
         requires seen { IsSeen trace.now j self.now }
         requires makes { (event_at trace.now j).access ≡ Some access }
-        ensures { Counts (λ i. IsRace trace.now i j) j result }
+        ensures { Counts (λ i. IsRaceOf kind trace.now i j) j result }
     {
         let mut count = 0;
         for class in 0..CLASSES {
             if self.used[class as usize] {
-                count += self.count_of_class(trace, clock, j, access, class);
+                count += self.count_of_class(trace, clock, j, access, kind, class);
             }
         }
         count
     }
 
-    /// How many events with accesses of a size class race with the `j`-th, which makes this access. Those that overlap
-    /// it begin less than two cells before it.
+    /// How many events with accesses of a size class are in a race of the kind with the `j`-th, which makes this
+    /// access. Those that overlap it begin less than two cells before it.
     fn count_of_class(
         &self,
         trace: &[Event],
         clock: &Clock,
         j: usize,
         access: Access,
+        kind: RaceKind,
         class: u32,
     ) -> u64
         requires event_clock { HasClock trace.now j clock.now }
         requires seen { IsSeen trace.now j self.now }
         requires makes { (event_at trace.now j).access ≡ Some access }
         requires class { class < CLASSES }
-        ensures { Counts (λ i. IsRace trace.now i j × IsOfClass trace.now class i) j result }
+        ensures { Counts (λ i. IsRaceOf kind trace.now i j × IsOfClass trace.now class i) j result }
     {
         let block = access.place.block;
         let low = (access.start() >> class).saturating_sub(2);
@@ -140,21 +156,28 @@ impl Seen {
                 class,
                 index,
             };
-            count += self.count_in(trace, clock, j, cell);
+            count += self.count_in(trace, clock, j, kind, cell);
         }
         count
     }
 
-    /// How many events with accesses that begin in a cell race with the `j`-th.
-    fn count_in(&self, trace: &[Event], clock: &Clock, j: usize, cell: Cell) -> u64
+    /// How many events with accesses that begin in a cell are in a race of the kind with the `j`-th.
+    fn count_in(
+        &self,
+        trace: &[Event],
+        clock: &Clock,
+        j: usize,
+        kind: RaceKind,
+        cell: Cell,
+    ) -> u64
         requires event_clock { HasClock trace.now j clock.now }
         requires seen { IsSeen trace.now j self.now }
         requires few { cell.class < CLASSES }
         requires small { cell.index < 2 ^ 40 }
-        ensures { Counts (λ i. IsRace trace.now i j × BeginsIn trace.now cell i) j result }
+        ensures { Counts (λ i. IsRaceOf kind trace.now i j × BeginsIn trace.now cell i) j result }
     {
         match self.cells.get(&cell.key()) {
-            Some(list) => count_latest(list, &self.links, trace, clock, j, cell),
+            Some(list) => count_latest(list, &self.links, trace, clock, j, kind, cell),
             None => 0,
         }
     }

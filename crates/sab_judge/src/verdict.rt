@@ -2,13 +2,15 @@
 
 use crate::race::Race;
 
-/// The first races of a trace, and how many more there are.
+/// The first races of a trace, how many more there are, and how many of all are data races.
 #[derive(Debug, Drop)]
 pub struct Verdict {
     /// The races that are told, by their later events, and those of one later event by their earlier ones.
     pub races: Vec<Race>,
     /// How many races aren't told.
     pub rest: u64,
+    /// How many of all races, those that aren't told too, are data races.
+    pub data_races: u64,
 }
 
 impl Verdict {
@@ -19,7 +21,8 @@ impl Verdict {
 
     /// Whether the trace that was judged has no race, so that it has no data race.
     pub fn has_no_race(&self) -> bool
-        ensures { (trace : List Event) (most : ℕ) → IsVerdict trace most self.now.races.items self.now.rest
+        ensures { (trace : List Event) (most : ℕ)
+            → IsVerdict trace most self.now.races.items self.now.rest self.now.data_races
             → IsTrue result ↔ HaveNoRace trace }
     {
         self.races.is_empty() && self.rest == 0

@@ -24,22 +24,27 @@ turned false same = (λ e. absurd (false≢true (sym e)), λ p. absurd (false≢
 
 -- the verdict on the events of a report's journal was told
 pub verdict_told : (format : VerdictFormat) (names : List (List ℕ)) (plan : PlanParts) (report : ReportParts)
-    (journal : List Entry) (trace : List Event) (races : List Race) (rest : ℕ) (clean : Bool) (old new : Option (List ℕ))
-    → journal ≡ report.journal → trace ≡ events_of plan journal → IsVerdict trace MAX_TOLD races rest
+    (journal : List Entry) (trace : List Event) (races : List Race) (rest data_races : ℕ) (clean : Bool)
+    (old new : Option (List ℕ))
+    → journal ≡ report.journal → trace ≡ events_of plan journal → IsVerdict trace MAX_TOLD races rest data_races
     → (IsTrue clean ↔ HaveNoRace trace)
-    → Appends old new (run_verdict_text names plan journal trace format races rest)
-    → LinesReadBack (call_side names plan journal) trace races rest
+    → Appends old new (run_verdict_text names plan journal trace format races rest data_races)
+    → LinesReadBack (call_side names plan journal) trace races rest data_races
     → TellsVerdict format names plan report old new (not clean)
-verdict_told format names plan report journal trace races rest clean old new same made verdict none written read =
+verdict_told format names plan report journal trace races rest data_races clean old new same made verdict none written
+    read =
     let is : trace ≡ events_of plan report.journal = made ∙ ap (λ (j : List Entry). events_of plan j) same in
     record {
       races = races;
       rest = rest;
-      verdict = subst (λ (t : List Event). IsVerdict t MAX_TOLD races rest) is verdict;
+      data_races = data_races;
+      verdict = subst (λ (t : List Event). IsVerdict t MAX_TOLD races rest data_races) is verdict;
       racy = turned clean (subst (λ (t : List Event). IsTrue clean ↔ HaveNoRace t) is none);
-      written = subst (λ (t : List Event). Appends old new (run_verdict_text names plan report.journal t format races rest))
-          is (subst (λ (j : List Entry). Appends old new (run_verdict_text names plan j trace format races rest))
-          same written);
-      read_back = subst (λ (t : List Event). LinesReadBack (call_side names plan report.journal) t races rest) is
-          (subst (λ (j : List Entry). LinesReadBack (call_side names plan j) trace races rest) same read);
+      written = subst (λ (t : List Event). Appends old new
+          (run_verdict_text names plan report.journal t format races rest data_races)) is
+          (subst (λ (j : List Entry). Appends old new
+          (run_verdict_text names plan j trace format races rest data_races)) same written);
+      read_back = subst (λ (t : List Event). LinesReadBack (call_side names plan report.journal) t races rest
+          data_races) is
+          (subst (λ (j : List Entry). LinesReadBack (call_side names plan j) trace races rest data_races) same read);
     }

@@ -25,12 +25,13 @@ pub record TellsVerdict (format : VerdictFormat) (names : List (List ℕ)) (plan
     (old new : Option (List ℕ)) (is_racy : Bool) : Type 0 where
   pub races : List Race
   pub rest : ℕ
-  pub verdict : IsVerdict (events_of plan report.journal) MAX_TOLD races rest
+  pub data_races : ℕ
+  pub verdict : IsVerdict (events_of plan report.journal) MAX_TOLD races rest data_races
   pub racy : (is_racy ≡ false) ↔ HaveNoRace (events_of plan report.journal)
   pub written : Appends old new
-      (run_verdict_text names plan report.journal (events_of plan report.journal) format races rest)
+      (run_verdict_text names plan report.journal (events_of plan report.journal) format races rest data_races)
   pub read_back :
-      LinesReadBack (call_side names plan report.journal) (events_of plan report.journal) races rest
+      LinesReadBack (call_side names plan report.journal) (events_of plan report.journal) races rest data_races
 
 -- the script spells a setup, the run of its one report was judged, and so it ended
 pub record JudgesAs (format : VerdictFormat) (old new : Option (List ℕ)) (script : List ℕ) (judged : Judged) :

@@ -26,15 +26,18 @@ racy_outcome events clean same is = inr (refl, λ none. false≢true (sym is ∙
 
 -- where the reader's bytes are known, they spell what was judged
 pub judged : (known old new : Option (List ℕ)) (format : VerdictFormat) (outcome : Outcome) (events : List Event)
-    (races : List Race) (rest : ℕ) → IfSome known (λ bytes. SpellsTrace bytes events)
-    → IsVerdict events MAX_TOLD races rest → Appends old new (trace_verdict_text events format races rest)
-    → LinesReadBack access_side events races rest → IsOutcomeOf events outcome → IfSome known (JudgesTrace format outcome old new)
-judged None old new format outcome events races rest spelled verdict written read is = tt
-judged (Some bytes) old new format outcome events races rest spelled verdict written read is = record {
+    (races : List Race) (rest data_races : ℕ) → IfSome known (λ bytes. SpellsTrace bytes events)
+    → IsVerdict events MAX_TOLD races rest data_races
+    → Appends old new (trace_verdict_text events format races rest data_races)
+    → LinesReadBack access_side events races rest data_races → IsOutcomeOf events outcome
+    → IfSome known (JudgesTrace format outcome old new)
+judged None old new format outcome events races rest data_races spelled verdict written read is = tt
+judged (Some bytes) old new format outcome events races rest data_races spelled verdict written read is = record {
   events = events;
   spelled = spelled;
   races = races;
   rest = rest;
+  data_races = data_races;
   verdict = verdict;
   written = written;
   read_back = read;

@@ -34,9 +34,10 @@ pub record JudgesTrace (format : VerdictFormat) (outcome : Outcome) (old new : O
   pub spelled : SpellsTrace bytes events
   pub races : List Race
   pub rest : ℕ
-  pub verdict : IsVerdict events MAX_TOLD races rest
-  pub written : Appends old new (trace_verdict_text events format races rest)
-  pub read_back : LinesReadBack access_side events races rest
+  pub data_races : ℕ
+  pub verdict : IsVerdict events MAX_TOLD races rest data_races
+  pub written : Appends old new (trace_verdict_text events format races rest data_races)
+  pub read_back : LinesReadBack access_side events races rest data_races
   pub outcome_is : IsOutcomeOf events outcome
 
 -- what the program tells of a trace that is refused: the fault, and at which line

@@ -60,8 +60,9 @@ fn tell<W: Write>(
 ) -> Result<(), ToolFault>
     requires { All (IsTold trace.now) verdict.now.races.items }
     ensures ok { OnOk result (Appends (W.contents output.old) (W.contents output.new)
-        (trace_verdict_text trace.now format verdict.now.races.items verdict.now.rest)) }
-    ensures read_back { LinesReadBack access_side trace.now verdict.now.races.items verdict.now.rest }
+        (trace_verdict_text trace.now format verdict.now.races.items verdict.now.rest verdict.now.data_races)) }
+    ensures read_back { LinesReadBack access_side trace.now verdict.now.races.items verdict.now.rest
+        verdict.now.data_races }
     ensures err { IfErr result (λ fault. fault ≡ ToolFault.WriteFailed) }
 {
     write_trace_verdict(trace, verdict, format, output).map_err(ToolFault::of_write)?;

@@ -127,19 +127,19 @@ race_short tell trace race is tells told =
       ),
     )
 
-count_short : (trace : List Event) (told rest : ℕ) → IsTrace trace → told < 2 ^ 64 → rest < 2 ^ 64
-    → HasShortNumbers (count_data trace told rest)
+count_short : (trace : List Event) (told rest data_races : ℕ) → IsTrace trace → told < 2 ^ 64 → rest < 2 ^ 64
+    → data_races < 2 ^ 64 → HasShortNumbers (count_data trace told rest data_races)
 unfolding count_data accesses_of agents_of
-count_short trace told rest is few more =
+count_short trace told rest data_races is few more some =
     let accesses : accesses_of trace < 2 ^ 64 = omega (arith, count_by-le-length has_access trace, is.short) in
     let agents : agents_of trace < 2 ^ 64 =
     omega (arith, count_by-le-length (is_accessing trace) (range_with_len 0 16), length-range_with_len 0 16) in
-    (accesses, (agents, (more, (few, tt))))
+    (accesses, (agents, (some, (more, (few, tt)))))
 
-lines_read_back : (tell : Side → Data) (trace : List Event) (told : List Race) (rest : ℕ)
+lines_read_back : (tell : Side → Data) (trace : List Event) (told : List Race) (rest data_races : ℕ)
     → ((side : Side) → IsInOrder 126 (tell side)) → TellsShort tell trace → IsTrace trace → All (IsTold trace) told
-    → length told < 2 ^ 64 → rest < 2 ^ 64 → LinesReadBack tell trace told rest
-lines_read_back tell trace told rest order short is all few more = record {
+    → length told < 2 ^ 64 → rest < 2 ^ 64 → data_races < 2 ^ 64 → LinesReadBack tell trace told rest data_races
+lines_read_back tell trace told rest data_races order short is all few more some = record {
   races =
       All-weaker (IsTold trace) (RaceReadsBack tell trace)
       (λ race is_told. reads_back
@@ -148,18 +148,22 @@ lines_read_back tell trace told rest order short is all few more = record {
       (race_short tell trace race is short is_told))
       told all;
   count =
-      reads_back (count_data trace (length told) rest) (count_in_order 126 trace (length told) rest)
-      (count_short trace (length told) rest is few more);
+      reads_back (count_data trace (length told) rest data_races)
+      (count_in_order 126 trace (length told) rest data_races)
+      (count_short trace (length told) rest data_races is few more some);
 }
 
 pub run_lines_read_back : (names : List (List ℕ)) (plan : PlanParts) (journal : List Entry) (trace : List Event)
-    (told : List Race) (rest : ℕ) → IsTrace trace → All (IsTold trace) told → length told < 2 ^ 64 → rest < 2 ^ 64
-    → HasSafeNumbers plan → LinesReadBack (call_side names plan journal) trace told rest
-run_lines_read_back names plan journal trace told rest is all few more safe =
-    lines_read_back (call_side names plan journal) trace told rest (call_side_in_order 124 names plan journal)
-    (call_side_short names plan journal trace safe is) is all few more
+    (told : List Race) (rest data_races : ℕ) → IsTrace trace → All (IsTold trace) told → length told < 2 ^ 64
+    → rest < 2 ^ 64 → data_races < 2 ^ 64 → HasSafeNumbers plan
+    → LinesReadBack (call_side names plan journal) trace told rest data_races
+run_lines_read_back names plan journal trace told rest data_races is all few more some safe =
+    lines_read_back (call_side names plan journal) trace told rest data_races (call_side_in_order 124 names plan journal)
+    (call_side_short names plan journal trace safe is) is all few more some
 
-pub trace_lines_read_back : (trace : List Event) (told : List Race) (rest : ℕ) → IsTrace trace
-    → All (IsTold trace) told → length told < 2 ^ 64 → rest < 2 ^ 64 → LinesReadBack access_side trace told rest
-trace_lines_read_back trace told rest is all few more =
-    lines_read_back access_side trace told rest (access_side_in_order 125) (access_side_short trace is) is all few more
+pub trace_lines_read_back : (trace : List Event) (told : List Race) (rest data_races : ℕ) → IsTrace trace
+    → All (IsTold trace) told → length told < 2 ^ 64 → rest < 2 ^ 64 → data_races < 2 ^ 64
+    → LinesReadBack access_side trace told rest data_races
+trace_lines_read_back trace told rest data_races is all few more some =
+    lines_read_back access_side trace told rest data_races (access_side_in_order 125) (access_side_short trace is) is all
+    few more some

@@ -57,9 +57,9 @@ race_json tell race first second =
     (member_before (codes "seen") (option_map natural race.seen)
     (member (codes "size") (natural (shared.end - shared.start)) no_members) refl)
 
-pub count_json : (trace : List Event) (told rest : ℕ)
-    → compact_text (count_data trace told rest) ≡ codes "{\"accesses\":" ++ (decimal (accesses_of trace)
-    ++ (codes ",\"agents\":" ++ (decimal (agents_of trace) ++ (codes ",\"more\":" ++ (decimal rest
-    ++ (codes ",\"races\":" ++ (decimal told ++ codes "}")))))))
+pub count_json : (trace : List Event) (told rest data_races : ℕ)
+    → compact_text (count_data trace told rest data_races) ≡ codes "{\"accesses\":" ++ (decimal (accesses_of trace)
+    ++ (codes ",\"agents\":" ++ (decimal (agents_of trace) ++ (codes ",\"data_races\":" ++ (decimal data_races
+    ++ (codes ",\"more\":" ++ (decimal rest ++ (codes ",\"races\":" ++ (decimal told ++ codes "}")))))))))
 unfolding count_data escape_byte
-count_json trace told rest = refl
+count_json trace told rest data_races = refl

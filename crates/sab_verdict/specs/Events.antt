@@ -7,6 +7,7 @@ use Rattle.sab_plan.specs.declared.entry.Entry.{Entry}
 use Rattle.sab_judge.specs.declared.order.Order.TheVariants.{Unordered}
 use Rattle.sab_judge.specs.declared.access.Access.{Access}
 use Rattle.sab_judge.specs.declared.event.Event.{Event}
+use Rattle.sab_judge.specs.declared.race.Race.{Race}
 use Rattle.sab_judge.specs.Access.{overlap}
 use Rattle.sab_judge.specs.Event.{event_at, agent_at}
 use Rattle.sab_verdict.specs.declared.byte_range.ByteRange.{ByteRange}
@@ -51,6 +52,10 @@ Overlap first second = IsTrue (overlap first.access second.access)
 
 abbrev pub has_access : Event → Bool
 has_access e = is_some e.access
+
+-- how many races of a list are data races
+unfoldable pub data_races_in : List Race → ℕ
+data_races_in races = count_by (λ (r : Race). r.is_data_race) races
 
 -- how many events have an access
 unfoldable pub accesses_of : List Event → ℕ

@@ -36,8 +36,9 @@ race_data tell race first second =
     (member (codes "second") (tell second) (member_if (codes "seen") (option_map natural race.seen)
     (member (codes "size") (natural (shared.end - shared.start)) no_members)))))))
 
--- how many accesses, agents and races there are, of which so many are told
-unfoldable pub count_data : List Event → ℕ → ℕ → Data
-count_data trace told rest =
+-- how many accesses and agents there are; how many of all races are data races, how many aren't told, and how many are
+unfoldable pub count_data : List Event → ℕ → ℕ → ℕ → Data
+count_data trace told rest data_races =
     object (member (codes "accesses") (natural (accesses_of trace)) (member (codes "agents") (natural (agents_of trace))
-    (member (codes "more") (natural rest) (member (codes "races") (natural told) no_members))))
+    (member (codes "data_races") (natural data_races)
+    (member (codes "more") (natural rest) (member (codes "races") (natural told) no_members)))))

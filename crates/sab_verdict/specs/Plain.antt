@@ -1,5 +1,5 @@
 -- A verdict in words.
-use Rattle.std.specs.Prelude.{ℕ, ◌+◌, ◌-◌, ◌==◌, Bool, true, false, if◌then◌else◌, List, [], ◌++◌, Option, Some, None, codes, decimal}
+use Rattle.std.specs.Prelude.{ℕ, ◌+◌, ◌-◌, ◌==◌, Bool, true, false, if◌then◌else◌, List, [], ◌++◌, length, Option, Some, None, codes, decimal}
 use Rattle.sab_plan.specs.declared.call.Call.{Call}
 use Rattle.sab_plan.specs.Plan.{PlanParts}
 use Rattle.sab_plan.specs.declared.entry.Entry.{Entry}
@@ -11,7 +11,7 @@ use Rattle.sab_words.specs.CallText.{call_text}
 use Rattle.sab_words.specs.FactText.{counted}
 use Rattle.sab_verdict.specs.declared.byte_range.ByteRange.{ByteRange}
 use Rattle.sab_verdict.specs.declared.side.Side.{Side}
-use Rattle.sab_verdict.specs.Events.{call_at, range_of, overlap_of, accesses_of, agents_of}
+use Rattle.sab_verdict.specs.Events.{call_at, range_of, overlap_of, accesses_of, agents_of, data_races_in}
 
 -- the last byte of a range
 abbrev pub last_of : ByteRange → ℕ
@@ -82,15 +82,24 @@ race_text does race first second =
 
 -- ---- what stands behind the races
 
--- how many more there are, where there are some
-abbrev pub more_text : ℕ → List ℕ
-more_text rest = if rest == 0 then [] else decimal rest ++ codes " more\n"
+-- how many more there are, and how many of them are data races
+unfoldable pub more_text : ℕ → ℕ → List ℕ
+more_text rest data_races =
+    decimal rest ++ codes " more, " ++ counted data_races (codes " of them a data race") (codes " of them data races")
+    ++ codes "\n"
+
+-- of what the accesses are, where that is to be said
+abbrev pub in_calls : List ℕ
+in_calls = codes " in the script's calls of Atomics"
 
 -- what is told where there is none
-unfoldable pub none_text : List Event → List ℕ
-none_text trace =
+unfoldable pub none_text : List ℕ → List Event → List ℕ
+none_text whose trace =
     codes "no data race: " ++ counted (accesses_of trace) (codes " access") (codes " accesses") ++ codes " by "
-    ++ counted (agents_of trace) (codes " agent") (codes " agents") ++ codes "\n"
+    ++ counted (agents_of trace) (codes " agent") (codes " agents") ++ whose ++ codes "\n"
 
-abbrev pub end_text : List Event → ℕ → ℕ → List ℕ
-end_text trace told rest = if told + rest == 0 then none_text trace else more_text rest
+-- that there is none; else how many are left and how many of those are data races, where some are
+abbrev pub end_text : List ℕ → List Event → List Race → ℕ → ℕ → List ℕ
+end_text whose trace races rest data_races =
+    if length races + rest == 0 then none_text whose trace
+    else (if rest == 0 then [] else more_text rest (data_races - data_races_in races))

@@ -14,6 +14,7 @@ RaceReadsBack tell trace race =
     ReadsBack (race_data tell race (side_at trace race.first) (side_at trace race.second))
 
 -- so is each line of a verdict: of each race that is told, and the last
-pub record LinesReadBack (tell : Side → Data) (trace : List Event) (told : List Race) (rest : ℕ) : Type 0 where
+pub record LinesReadBack (tell : Side → Data) (trace : List Event) (told : List Race)
+    (rest data_races : ℕ) : Type 0 where
   pub races : All (RaceReadsBack tell trace) told
-  pub count : ReadsBack (count_data trace (length told) rest)
+  pub count : ReadsBack (count_data trace (length told) rest data_races)

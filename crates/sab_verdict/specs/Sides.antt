@@ -1,11 +1,11 @@
 -- What each way of telling a race's events stands for.
-use Rattle.std.specs.Prelude.{ℕ, List, ⊤}
+use Rattle.std.specs.Prelude.{ℕ, List, [], ⊤}
 use Rattle.serde_json.specs.Data.{Data}
 use Rattle.sab_json.specs.CallData.{AreNames}
 use Rattle.sab_verdict.specs.declared.side.Side.{Side}
 use Rattle.sab_verdict.specs.declared.sides.Sides.{Sides}
 use Rattle.sab_verdict.specs.declared.sides.Sides.TheVariants.{Calls, Accesses}
-use Rattle.sab_verdict.specs.Plain.{by_call, by_access}
+use Rattle.sab_verdict.specs.Plain.{by_call, by_access, in_calls}
 use Rattle.sab_verdict.specs.Json.{call_side, access_side}
 
 -- in words
@@ -17,6 +17,11 @@ words_of Accesses = by_access
 abbrev pub data_of : Sides → Side → Data
 data_of (Calls run) = call_side run.names.now run.plan.now run.journal.now
 data_of Accesses = access_side
+
+-- of what the accesses are
+abbrev pub whose_of : Sides → List ℕ
+whose_of (Calls run) = in_calls
+whose_of Accesses = []
 
 -- the names are of letters, digits and `_`, where there are some
 abbrev pub HaveNames : Sides → Type 0

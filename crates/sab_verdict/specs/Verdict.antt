@@ -1,5 +1,5 @@
 -- The text of a verdict.
-use Rattle.std.specs.Prelude.{ℕ, List, ◌++◌, length, flat_map}
+use Rattle.std.specs.Prelude.{ℕ, List, [], ◌++◌, length, flat_map}
 use Rattle.serde_json.specs.Data.{Data}
 use Rattle.sab_plan.specs.Plan.{PlanParts}
 use Rattle.sab_plan.specs.declared.entry.Entry.{Entry}
@@ -10,7 +10,7 @@ use Rattle.sab_text.specs.declared.format.VerdictFormat.{VerdictFormat}
 use Rattle.sab_text.specs.declared.format.VerdictFormat.TheVariants.{Plain, Json}
 use Rattle.sab_verdict.specs.declared.side.Side.{Side}
 use Rattle.sab_verdict.specs.Events.{side_at}
-use Rattle.sab_verdict.specs.Plain.{by_call, by_access, race_text, end_text}
+use Rattle.sab_verdict.specs.Plain.{by_call, by_access, in_calls, race_text, end_text}
 use Rattle.sab_verdict.specs.Json.{call_side, access_side, race_data, count_data}
 
 -- the line of a race of two events, by how the two are told in words, and by how they are told as JSON
@@ -23,22 +23,23 @@ abbrev pub line_of : VerdictFormat → (Side → List ℕ) → (Side → Data) �
 line_of format words tree trace race =
     race_line format words tree race (side_at trace race.first) (side_at trace race.second)
 
--- what stands behind the races, of which so many are told and so many aren't
-abbrev pub last_line : VerdictFormat → List Event → ℕ → ℕ → List ℕ
-last_line Plain trace told rest = end_text trace told rest
-last_line Json trace told rest = line (count_data trace told rest)
+-- what stands behind the races that are told, where so many aren't, and so many of all are data races
+abbrev pub last_line : VerdictFormat → List ℕ → List Event → List Race → ℕ → ℕ → List ℕ
+last_line Plain whose trace races rest data_races = end_text whose trace races rest data_races
+last_line Json whose trace races rest data_races = line (count_data trace (length races) rest data_races)
 
 -- a line for each race that is told, and what stands behind them
-abbrev pub verdict_text : VerdictFormat → (Side → List ℕ) → (Side → Data) → List Event → List Race → ℕ → List ℕ
-verdict_text format words tree trace races rest =
-    flat_map (line_of format words tree trace) races ++ last_line format trace (length races) rest
+abbrev pub verdict_text : VerdictFormat → (Side → List ℕ) → (Side → Data) → List ℕ → List Event → List Race → ℕ → ℕ
+    → List ℕ
+verdict_text format words tree whose trace races rest data_races =
+    flat_map (line_of format words tree trace) races ++ last_line format whose trace races rest data_races
 
 -- of a script's run, whose events were made of the journal's entries
 abbrev pub run_verdict_text : List (List ℕ) → PlanParts → List Entry → List Event → VerdictFormat → List Race → ℕ
-    → List ℕ
+    → ℕ → List ℕ
 run_verdict_text names plan journal trace format =
-    verdict_text format (by_call names plan journal) (call_side names plan journal) trace
+    verdict_text format (by_call names plan journal) (call_side names plan journal) in_calls trace
 
 -- of a trace
-abbrev pub trace_verdict_text : List Event → VerdictFormat → List Race → ℕ → List ℕ
-trace_verdict_text trace format = verdict_text format by_access access_side trace
+abbrev pub trace_verdict_text : List Event → VerdictFormat → List Race → ℕ → ℕ → List ℕ
+trace_verdict_text trace format = verdict_text format by_access access_side [] trace

@@ -145,16 +145,25 @@ fn push_seen(seen: Option<usize>, chunk: &mut Chunk)
     }
 }
 
-/// Appends the line that counts accesses, agents and races, of which so many are told and so many aren't.
-pub(crate) fn push_count(events: &[Event], told: usize, rest: u64, chunk: &mut Chunk)
+/// Appends the line that counts accesses, agents and races: so many are told, so many aren't, and so many of all are data
+/// races.
+pub(crate) fn push_count(
+    events: &[Event],
+    told: usize,
+    rest: u64,
+    data_races: u64,
+    chunk: &mut Chunk,
+)
     requires agents { All (λ (e : Event). e.agent < 16) events.now }
     requires room { length chunk.old + Chunk.LINE_ROOM ≤ Chunk.ROOM }
-    ensures { chunk.new ≡ chunk.old ++ line (count_data events.now told rest) }
+    ensures { chunk.new ≡ chunk.old ++ line (count_data events.now told rest data_races) }
 {
     chunk.push(b"{\"accesses\":");
     chunk.push_number(count_accesses(events) as u64);
     chunk.push(b",\"agents\":");
     chunk.push_number(count_agents(events) as u64);
+    chunk.push(b",\"data_races\":");
+    chunk.push_number(data_races);
     chunk.push(b",\"more\":");
     chunk.push_number(rest);
     chunk.push(b",\"races\":");

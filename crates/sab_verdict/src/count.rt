@@ -1,10 +1,10 @@
-//! How many events have an access, and of how many agents they are.
+//! How many events have an access, of how many agents they are, and how many races are data races.
 
 ghost use Rattle.std.specs.Prelude.{◌≡◌, ◌<◌, ◌≤◌, All, count_by};
 ghost use Rattle.sab_judge.specs.declared.event.Event.{Event};
-ghost use Rattle.sab_verdict.specs.Events.{has_access, accesses_of, agents_of};
+ghost use Rattle.sab_verdict.specs.Events.{has_access, accesses_of, agents_of, data_races_in};
 
-use sab_judge::{Event, Trace};
+use sab_judge::{Event, Race, Trace};
 
 /// How many events have an access.
 #[tactic(auto, unfolding(crate::specs::Events::accesses_of))]
@@ -12,6 +12,14 @@ pub(crate) fn count_accesses(events: &[Event]) -> usize
     ensures { result ≡ accesses_of events.now }
 {
     events.iter().filter(|event| event.access.is_some()).count()
+}
+
+/// How many of the races are data races.
+#[tactic(auto, unfolding(crate::specs::Events::data_races_in))]
+pub(crate) fn count_data_races(races: &[Race]) -> usize
+    ensures { result ≡ data_races_in races.now }
+{
+    races.iter().filter(|race| race.is_data_race).count()
 }
 
 /// How many agents have events with an access.

@@ -10,7 +10,7 @@ ghost use Rattle.sab_json.specs.SafeNumbers.{HasSafeNumbers};
 ghost use Rattle.sab_verdict.specs.Json.{call_side, access_side};
 ghost use Rattle.sab_verdict.specs.ReadsBack.{LinesReadBack};
 ghost use Rattle.sab_verdict.specs.Verdict.{line_of, last_line, verdict_text, run_verdict_text, trace_verdict_text};
-ghost use Rattle.sab_verdict.specs.Sides.{words_of, data_of, HaveNames};
+ghost use Rattle.sab_verdict.specs.Sides.{words_of, data_of, whose_of, HaveNames};
 
 use crate::side::side_at;
 use crate::sides::{Run, Sides};
@@ -41,9 +41,9 @@ pub fn write_run_verdict<W: Write>(
     requires names { AreNames names.now }
     requires told { All (IsTold trace.now) verdict.now.races.items }
     ensures written { OnOk result (Appends (W.contents w.old) (W.contents w.new) (run_verdict_text names.now plan.now
-        journal.now trace.now format verdict.now.races.items verdict.now.rest)) }
+        journal.now trace.now format verdict.now.races.items verdict.now.rest verdict.now.data_races)) }
     ensures read_back { HasSafeNumbers plan.now → LinesReadBack (call_side names.now plan.now journal.now) trace.now
-        verdict.now.races.items verdict.now.rest }
+        verdict.now.races.items verdict.now.rest verdict.now.data_races }
 {
     let run = Run {
         names,
@@ -67,8 +67,8 @@ pub fn write_trace_verdict<W: Write>(
 ) -> io::Result<()>
     requires { All (IsTold trace.now) verdict.now.races.items }
     ensures written { OnOk result (Appends (W.contents w.old) (W.contents w.new)
-        (trace_verdict_text trace.now format verdict.now.races.items verdict.now.rest)) }
-    ensures read_back { LinesReadBack access_side trace.now verdict.now.races.items verdict.now.rest }
+        (trace_verdict_text trace.now format verdict.now.races.items verdict.now.rest verdict.now.data_races)) }
+    ensures read_back { LinesReadBack access_side trace.now verdict.now.races.items verdict.now.rest verdict.now.data_races }
 {
     write_verdict(&Sides::Accesses, trace, verdict, format, w)
 }
@@ -85,17 +85,25 @@ fn write_verdict<W: Write>(
     requires names { HaveNames sides.now }
     requires told { All (IsTold trace.now) verdict.now.races.items }
     ensures written { OnOk result (Appends (W.contents w.old) (W.contents w.new) (verdict_text format
-        (words_of sides.now) (data_of sides.now) trace.now verdict.now.races.items verdict.now.rest)) }
+        (words_of sides.now) (data_of sides.now) (whose_of sides.now) trace.now verdict.now.races.items verdict.now.rest verdict.now.data_races)) }
     ensures valid { IsTrace trace.now }
     ensures few { length verdict.now.races.items < 2 ^ 64 }
     ensures rest { verdict.now.rest < 2 ^ 64 }
+    ensures data_races { verdict.now.data_races < 2 ^ 64 }
 {
     let events = trace.events();
-    let told = verdict.races.len();
-    let rest = verdict.rest;
+    let (rest, data_races) = (verdict.rest, verdict.data_races);
     let mut chunk = Chunk::new();
     write_races(sides, events, &verdict.races, format, &mut chunk, w)?;
-    push_last(events, told, rest, format, &mut chunk);
+    push_last(
+        sides,
+        events,
+        &verdict.races,
+        rest,
+        data_races,
+        format,
+        &mut chunk,
+    );
     chunk.write(w)
 }
 
@@ -140,14 +148,23 @@ fn push_race(sides: &Sides, events: &[Event], race: Race, format: VerdictFormat,
     }
 }
 
-/// Appends what stands behind the races, of which so many are told and so many aren't.
-fn push_last(events: &[Event], told: usize, rest: u64, format: VerdictFormat, chunk: &mut Chunk)
+/// Appends what stands behind the races that are told, where so many aren't, and so many of all are data races.
+fn push_last(
+    sides: &Sides,
+    events: &[Event],
+    races: &[Race],
+    rest: u64,
+    data_races: u64,
+    format: VerdictFormat,
+    chunk: &mut Chunk,
+)
     requires agents { All (λ (e : Event). e.agent < 16) events.now }
     requires room { length chunk.old + Chunk.LINE_ROOM ≤ Chunk.ROOM }
-    ensures { chunk.new ≡ chunk.old ++ last_line format events.now told rest }
+    ensures { chunk.new ≡ chunk.old
+        ++ last_line format (whose_of sides.now) events.now races.now rest data_races }
 {
     match format {
-        VerdictFormat::Plain => plain::push_end(events, told, rest, chunk),
-        VerdictFormat::Json => as_json::push_count(events, told, rest, chunk),
+        VerdictFormat::Plain => plain::push_end(sides, events, races, rest, data_races, chunk),
+        VerdictFormat::Json => as_json::push_count(events, races.len(), rest, data_races, chunk),
     }
 }

@@ -216,7 +216,7 @@ fn a_judge_flushes_what_it_says(rt: HostRuntime) -> Result<(), Fail> {
         format: VerdictFormat::Plain,
         finish: true,
     };
-    let said = "no data race: 2 accesses by 1 agent\n";
+    let said = "no data race: 2 accesses by 1 agent in the script's calls of Atomics\n";
     for wanted in DONE_OR_STUCK {
         let is_right = comes_to(rt.alloc(), job, STORE_AND_LOAD, wanted, said);
         expect(is_right, "another verdict, or another end")?;

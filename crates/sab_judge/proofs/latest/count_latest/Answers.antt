@@ -1,6 +1,7 @@
 -- The races with the events like one more of the list.
 use Rattle.std.proofs.Common.{◌+◌, ◌≤◌, length, arith}
-use Rattle.sab_judge.specs.Race.{Counts, IsRace}
+use Rattle.sab_judge.specs.Race.{Counts}
+use Rattle.sab_judge.specs.RaceKind.{IsRaceOf}
 use Rattle.sab_judge.proofs.Counting.{few_below, counts_none}
 use Rattle.sab_judge.proofs.Lists.{slice_get-index}
 use Rattle.sab_judge.proofs.Racing.{IsLikeOneOf, one_added, all_of_cell}
@@ -20,7 +21,7 @@ loop-latest-preserved c = one_added _ c.requires.latest
 
 pub overflow_add-count : goal.overflow_add-count
 overflow_add-count c =
-    let more : Counts (λ i. IsRace c.args.trace.now i c.args.j
+    let more : Counts (λ i. IsRaceOf c.args.kind c.args.trace.now i c.args.j
     × IsLikeOneOf c.args.trace.now c.args.list.now (c.loop-latest.latest-index + 1) i) c.args.j
     (c.loop-latest.count + c.count_races-count.result) = one_added _ c.requires.latest
     (slice_get-index c.args.list.now c.loop-latest.latest-index (record { agent = 0; position = 0 }) c.loop-latest-test.true)

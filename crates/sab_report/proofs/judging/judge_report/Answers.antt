@@ -18,7 +18,8 @@ returns-in-Ok-clause-ok g c =
     let journal : c.as_slice-journal.result.now ≡ c.args.report.now.journal =
     c.as_slice-journal.ensures.value ∙ ap (λ (r : ReportParts). r.journal) c.report.view_is in
     verdict_told c.args.format c.args.names.now c.args.plan.now c.args.report.now c.as_slice-journal.result.now
-    c.in_ok-trace.trace c.in_ok-verdict.verdict.races.items c.in_ok-verdict.verdict.rest c.has_no_race.result
+    c.in_ok-trace.trace c.in_ok-verdict.verdict.races.items c.in_ok-verdict.verdict.rest
+    c.in_ok-verdict.verdict.data_races c.has_no_race.result
     (g.W.Write.contents c.args.w.now) (g.W.Write.contents c.write_run_verdict.new.w)
     journal c.in_ok-trace.ensures c.in_ok-verdict.ensures
     (c.has_no_race.ensures c.in_ok-trace.trace _ c.in_ok-verdict.ensures) c.in-Ok.ensures.written

@@ -7,7 +7,7 @@ use Rattle.sab_verdict.proofs.as_json.push_count.Goals as goal
 
 pub returns : goal.returns
 returns c =
-    rw (count_json c.args.events.now c.args.told c.args.rest)
+    rw (count_json c.args.events.now c.args.told c.args.rest c.args.data_races)
     (behind c.args.chunk.now _ _ _ _ (behind c.args.chunk.now _ _ _ _ c.push.ensures
     (behind_as c.push.new.self _ _ _ _ _ (ap decimal c.count_accesses.ensures) c.push_number.ensures.bytes
     (behind c.push_number.new.self _ _ _ _ c.push-2.ensures
@@ -15,5 +15,7 @@ returns c =
     (behind c.push_number-2.new.self _ _ _ _ c.push-3.ensures
     (behind c.push-3.new.self _ _ _ _ c.push_number-3.ensures.bytes
     (behind c.push_number-3.new.self _ _ _ _ c.push-4.ensures
-    (behind c.push-4.new.self _ _ _ _ c.push_number-4.ensures.bytes c.push-5.ensures))))))))
-    c.push-6.ensures)
+    (behind c.push-4.new.self _ _ _ _ c.push_number-4.ensures.bytes
+    (behind c.push_number-4.new.self _ _ _ _ c.push-5.ensures
+    (behind c.push-5.new.self _ _ _ _ c.push_number-5.ensures.bytes c.push-6.ensures))))))))))
+    c.push-7.ensures)

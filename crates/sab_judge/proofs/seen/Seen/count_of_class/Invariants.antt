@@ -1,5 +1,6 @@
 use Rattle.std.proofs.Common.{◌≤◌}
-use Rattle.sab_judge.specs.Race.{Counts, IsRace}
+use Rattle.sab_judge.specs.Race.{Counts}
+use Rattle.sab_judge.specs.RaceKind.{IsRaceOf}
 use Rattle.sab_judge.specs.Cell.{BeginsBetween}
 use Rattle.sab_judge.proofs.seen.Seen.count_of_class.Given as goal
 
@@ -7,6 +8,6 @@ use Rattle.sab_judge.proofs.seen.Seen.count_of_class.Given as goal
 abbrev pub invariant-loop-index : goal.invariant-loop-index
 invariant-loop-index l = record {
   above : l.low ≤ l.index;
-  counted : Counts (λ i. IsRace l.trace i l.j
+  counted : Counts (λ i. IsRaceOf l.kind l.trace i l.j
       × BeginsBetween l.trace l.fn.access.place.block l.class l.low l.index i) l.j l.count;
 }
