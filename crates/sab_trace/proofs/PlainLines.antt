@@ -53,4 +53,5 @@ object_read line rest found is a =
     let parsed : text.value 127 (tokens line) ≡ Some (text.object ms, []) =
     ap (text.value 127) (whole ∙ sym (append-nil (json_tokens (text.object ms))))
     ∙ value-json_tokens (text.object ms) 127 [] (omega (arith, flat)) in
-    ap (λ r. option_and_then of_json (option_and_then (λ p. text.if_last p.0 p.1) r)) parsed ∙ ap (option_map object) a.read
+    ap (λ r. option_and_then of_json (option_and_then (λ p. text.if_last p.0 p.1) r)) parsed
+    ∙ ap (option_map object) a.read

@@ -53,7 +53,9 @@ says_all f source said numbers read write atomic waiters does has_source safe ca
   shaped = record {
     members = record {
       source = source;
-      is = rw (numbers.agent, numbers.block, numbers.byte, numbers.call, numbers.event, numbers.size, read, write, atomic, waiters, does, has_source) refl;
+      is =
+          rw (numbers.agent, numbers.block, numbers.byte, numbers.call, numbers.event, numbers.size)
+          (rw (read, write, atomic, waiters, does, has_source) refl);
     };
     can = can;
   };

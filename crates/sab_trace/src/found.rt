@@ -40,7 +40,7 @@ fn fill<T: Copy>(slot: &mut Option<T>, value: T) -> Option<()>
     Some(())
 }
 
-/// Fills an empty slot with the whole number that a token is; `None` if the slot is full, or the token is no such number.
+/// Fills an empty slot with the whole number that a token is; `None` if the slot is full, or the token is none.
 fn fill_whole(slot: &mut Option<i64>, token: Token<'_>) -> Option<()>
     ensures { OnSome result ((z : ℤ) × ReadsTo (token_of token.entry) (whole_data z)
         × (slot.old ≡ None) × (slot.new ≡ Some z)) }
@@ -123,8 +123,8 @@ impl Found {
         })
     }
 
-    /// What the members say; `None` if one is missing, a number isn't within ±(2^53 - 1), or the flags are none that such
-    /// an event can have.
+    /// What the members say; `None` if one is missing, a number isn't within ±(2^53 - 1), or the flags don't go with
+    /// what the event does.
     pub(crate) fn said(&self) -> Option<Said>
         ensures { IfSome result (λ said. (source : Option (List ℕ))
             → Says (object (members_of (slots_of self.now source))) said) }

@@ -16,8 +16,8 @@ pub enum LineFault {
     /// It is no object, a member is missing or too many, a member is of another type than its place asks for, or the
     /// flags don't go with what the event does.
     BadShape,
-    /// A number isn't whole or not within its range, `event` isn't the position of the line, or the size doesn't go with
-    /// what the event does.
+    /// A number isn't whole or not within its range, `event` isn't the position of the line, or the size doesn't go
+    /// with what the event does.
     BadNumber,
     /// The agent isn't 0 to 15.
     BadAgent,

@@ -1,7 +1,7 @@
 //! Lines, from the tokens of their text, so that no tree is made.
 //!
-//! A `None` says that a member is there twice, that the line spells no event, or that there is no memory. Which of these,
-//! and why, is found by the tree.
+//! A `None` says that a member is there twice, that the line spells no event, or that there is no memory. Which of
+//! these, and why, is found by the tree.
 
 ghost use Rattle.std.specs.Prelude.{◌≡◌, [], ◌∷◌, List, IfSome};
 ghost use Rattle.json.specs.Token.{Token as SpecToken, begin_object};
@@ -31,7 +31,8 @@ fn scan_members(reader: &mut Reader<'_>) -> Option<Found>
 
 /// The members of the one object that a text is.
 fn scan_object(reader: &mut Reader<'_>) -> Option<Found>
-    ensures { IfSome result (λ found. (rest : List SpecToken) × (reader.old ≡ begin_object ∷ rest) × AreRead rest found) }
+    ensures { IfSome result (λ found. (rest : List SpecToken) × (reader.old ≡ begin_object ∷ rest)
+        × AreRead rest found) }
 {
     let Token::BeginObject = reader.next()? else {
         return None;

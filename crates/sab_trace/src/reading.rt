@@ -123,10 +123,10 @@ fn finish(
 /// - TooLong: it has more than 1,024 bytes.
 /// - TooMany: there are 2^20 lines before it.
 /// - NotJson: it is no JSON text in UTF-8.
-/// - BadShape: that is no object with exactly the members of an event, each of its type, or the flags don't go with what
-///   the event does.
-/// - BadNumber: a number isn't whole, `call` is below 0, `event` isn't the count of the lines before, or the size doesn't
-///   go with what the event does.
+/// - BadShape: that is no object with exactly the members of an event, each of its type, or the flags don't go with
+///   what the event does.
+/// - BadNumber: a number isn't whole, `call` is below 0, `event` isn't the count of the lines before, or the size
+///   doesn't go with what the event does.
 /// - BadAgent: `agent` isn't 0 to 15.
 /// - BadBytes: the event accesses bytes or is in a critical section, and no block can have these bytes.
 ///

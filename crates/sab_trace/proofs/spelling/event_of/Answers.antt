@@ -3,8 +3,10 @@ use Rattle.sab_trace.proofs.Says.{has_numbers, spelled, idle_event}
 use Rattle.sab_trace.proofs.spelling.event_of.Goals as goal
 
 pub returns-in_default-clause-err : goal.returns-in_default-clause-err
-returns-in_default-clause-err c = λ tree says.
-    (has_numbers c.args.position tree c.args.said.now says (c.fits.ensures.0 c.if-not-fits.false), c.in_default.ensures.none)
+returns-in_default-clause-err c = λ tree says. (
+  has_numbers c.args.position tree c.args.said.now says (c.fits.ensures.0 c.if-not-fits.false),
+  c.in_default.ensures.none,
+)
 
 pub returns-then-not-act-clause-ok : goal.returns-then-not-act-clause-ok
 returns-then-not-act-clause-ok c = λ tree says.
