@@ -17,10 +17,36 @@ const SIGNS = [...Buffer.from('"019-e}],: \n.'), 0x80];
 const EACH = 3;
 const AT_ONCE = 8;
 
-const WORDS = [
-  "load", "store", "add", "sub", "and", "or", "xor", "exchange", "compareExchange", "wait", "notify", "leave", "time-up",
-  "read", "write",
-];
+/** The sizes that go with a deed: of an element, of one at which agents wait, of an ordinary access. */
+const OF_ELEMENT = (size) => [1, 2, 4, 8].includes(size);
+const OF_PLACE = (size) => [4, 8].includes(size);
+const OF_STRETCH = (size) => size >= 1 && size <= 65_536;
+
+/** What an event can do: read, write, atomic and waiters, as letters or dots; whether it is a call; its sizes. */
+const CHANGE = { flags: ["rwa."], isCall: true, fits: OF_ELEMENT };
+const RETURN = { flags: ["...w"], isCall: false, fits: OF_PLACE };
+const DEEDS = {
+  load: { flags: ["r.a."], isCall: true, fits: OF_ELEMENT },
+  store: { flags: [".wa."], isCall: true, fits: OF_ELEMENT },
+  add: CHANGE, sub: CHANGE, and: CHANGE, or: CHANGE, xor: CHANGE, exchange: CHANGE,
+  compareExchange: { flags: ["r.a.", "rwa."], isCall: true, fits: OF_ELEMENT },
+  wait: { flags: ["r.aw"], isCall: true, fits: OF_PLACE },
+  notify: { flags: ["...w"], isCall: true, fits: OF_PLACE },
+  leave: RETURN, "time-up": RETURN,
+  read: { flags: ["r..."], isCall: false, fits: OF_STRETCH },
+  write: { flags: [".w.."], isCall: false, fits: OF_STRETCH },
+};
+
+/** The flags of an event. @param {any} event */
+const flagsOf = ({ read, write, atomic, waiters }) =>
+  `${read ? "r" : "."}${write ? "w" : "."}${atomic ? "a" : "."}${waiters ? "w" : "."}`;
+
+/** Whether the flags are ones that such an event can have. @param {any} event */
+function hasItsFlags(event) {
+  const { flags, isCall } = DEEDS[event.does];
+  const found = flagsOf(event);
+  return flags.includes(found) || (isCall && found === "....");
+}
 
 /** @param {unknown} value */
 const isWhole = (value) => Number.isSafeInteger(value) && !Object.is(value, -0);
@@ -37,7 +63,7 @@ function hasShape(object) {
   const names = Object.keys(MEMBERS);
   if (Object.keys(object).length !== names.length || !names.every((name) => Object.hasOwn(object, name))) return false;
   const hasType = (name) => typeof object[name] === MEMBERS[name] || (name === "source" && object[name] === null);
-  return names.every(hasType) && WORDS.includes(object.does);
+  return names.every(hasType) && Object.hasOwn(DEEDS, object.does) && hasItsFlags(object);
 }
 
 /** @param {any} event */
@@ -50,8 +76,10 @@ function faultOf(event, position) {
   const { agent, call, block, byte, size, read, write, waiters } = event;
   const numbers = [event.event, agent, call, block, byte, size];
   if (!numbers.every(isWhole) || call < 0 || event.event !== position) return "12 BadNumber";
+  const acts = read || write || waiters;
+  if (acts && !DEEDS[event.does].fits(size)) return "12 BadNumber";
   if (agent < 0 || agent > 15) return "15 BadAgent";
-  return (read || write || waiters) && !isThere(event) ? "12 BadNumber" : undefined;
+  return acts && !isThere(event) ? "12 BadNumber" : undefined;
 }
 
 /** The lines of a trace, each without its line feed. @param {Uint8Array} bytes */
@@ -112,4 +140,31 @@ test("a trace of which one byte is changed is refused at its line, or judged as 
     for (const status of await Promise.all(some.map(demandOf))) statuses.add(status);
   }
   assert.deepEqual([...statuses].sort(), [0, 1, 5]);
+});
+
+const SIZES = [0, 1, 2, 3, 4, 8, 65_536, 65_537];
+
+/** Traces of one event: each deed with all flags, and if these can be its flags, at many sizes. */
+function* combinations() {
+  for (const does of Object.keys(DEEDS)) {
+    for (let flags = 0; flags < 16; flags += 1) {
+      const [read, write, atomic, waiters] = [1, 2, 4, 8].map((bit) => (flags & bit) !== 0);
+      const event = { event: 0, agent: 0, call: 0, does, block: 0, byte: 0, size: 4, read, write, atomic, waiters };
+      for (const size of hasItsFlags(event) ? SIZES : [4]) {
+        yield Buffer.from(`${JSON.stringify({ ...event, size, source: null })}\n`);
+      }
+    }
+  }
+}
+
+test("an event is refused if its flags or its size don't go with what it does, and else judged", withSabsim, async () => {
+  const all = [...combinations()];
+  const counts = { 0: 0, 1: 0 };
+  for (let from = 0; from < all.length; from += AT_ONCE) {
+    const some = all.slice(from, from + AT_ONCE);
+    for (const status of await Promise.all(some.map(demandOf))) counts[status] += 1;
+  }
+  // 11 calls that throw, at 8 sizes; 10 accesses by calls at 4, 4 events of waiters at 2, and 2 ordinary ones at 6.
+  const judged = 88 + 40 + 8 + 12;
+  assert.deepEqual(counts, { 0: judged, 1: all.length - judged });
 });

@@ -1,5 +1,10 @@
 pub mod Shapes
-pub mod Events
+pub mod Slots
+pub mod Outcomes
+pub mod TokenReads
+pub mod Takes
+pub mod PlainLines
+pub mod Says
 pub mod Faults
 pub mod LineCuts
 pub mod Spellings

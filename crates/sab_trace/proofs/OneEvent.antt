@@ -1,17 +1,22 @@
 -- A line spells one event at most, and one with a fault spells none.
-use Rattle.std.proofs.Common.{◌≡◌, ℕ, zero, suc, ℤ, pos, negsuc, List, Bool, true, false, refl, ap, sym, ◌∙◌, arith}
-use Rattle.std.specs.Prelude.{IsTrue, ◌||◌}
+use Rattle.std.proofs.Common.{◌≡◌, ℕ, zero, suc, ℤ, pos, negsuc, List, [], Bool, true, false, refl, ap, sym, ◌∙◌, arith}
+use Rattle.std.specs.Prelude.{IsTrue, ◌||◌, codes, if◌then◌else◌}
+use Rattle.std.specs.Str.{bytes_eq}
 use Rattle.serde_json.specs.Data.{Data, Num, unsigned, Members, no_members, member}
 use Rattle.serde_json.specs.Data as json
 use Rattle.serde_json.specs.Find.{of_integer}
 use Rattle.sab_judge.specs.declared.event.Event.{Event}
 use Rattle.sab_judge.specs.declared.place.Place.{Place}
+use Rattle.sab_trace.specs.declared.deed.Deed.{Deed}
+use Rattle.sab_trace.specs.declared.deed.Deed.TheVariants.{Load, Store, Add, Sub, And, Or, Xor, Exchange, CompareExchange, Wait, Notify, Leave, TimeUp, Read, Write}
+use Rattle.sab_trace.specs.declared.flags.Flags.{Flags}
 use Rattle.sab_trace.specs.declared.line_fault.LineFault.{LineFault}
 use Rattle.sab_trace.specs.declared.line_fault.LineFault.TheVariants.{TooMany, OutOfMemory, BadShape, BadNumber, BadAgent, NotJson, TooLong, ReadFailed, BadBytes}
 use Rattle.sab_trace.specs.declared.numbers.Numbers.{Numbers}
-use Rattle.sab_trace.specs.Members.{Values, IsShaped, event_object}
-use Rattle.sab_trace.specs.Numbers.{IsWhole, AreWhole, IsAgent, AreBytes}
-use Rattle.sab_trace.specs.Spelling.{needs_bytes, event_of, SpellsEvent, SpellsLine, ReadsAs}
+use Rattle.sab_trace.specs.Deeds.{word_of, acts}
+use Rattle.sab_trace.specs.Members.{Values, HasMembers, event_object}
+use Rattle.sab_trace.specs.Numbers.{IsWhole, AreNumbers, AreWhole, IsAgent, AreBytes}
+use Rattle.sab_trace.specs.Spelling.{event_of, SpellsEvent, SpellsLine, ReadsAs}
 use Rattle.sab_trace.specs.LineFault.{IsTreeFault, IsLineFault}
 use Rattle.sab_trace.specs.Reading.{IsOfLine}
 
@@ -49,31 +54,79 @@ flag_in (json.string s) = false
 flag_in (json.array ds) = false
 flag_in (json.object ms) = false
 
+abbrev text_in : Data → List ℕ
+text_in json.null = []
+text_in (json.boolean b) = []
+text_in (json.number n) = []
+text_in (json.string s) = s
+text_in (json.array ds) = []
+text_in (json.object ms) = []
+
+-- a word says one thing
+
+abbrev deed_of : List ℕ → Deed
+deed_of word =
+    if bytes_eq (codes "load") word then Load
+    else if bytes_eq (codes "store") word then Store
+    else if bytes_eq (codes "add") word then Add
+    else if bytes_eq (codes "sub") word then Sub
+    else if bytes_eq (codes "and") word then And
+    else if bytes_eq (codes "or") word then Or
+    else if bytes_eq (codes "xor") word then Xor
+    else if bytes_eq (codes "exchange") word then Exchange
+    else if bytes_eq (codes "compareExchange") word then CompareExchange
+    else if bytes_eq (codes "wait") word then Wait
+    else if bytes_eq (codes "notify") word then Notify
+    else if bytes_eq (codes "leave") word then Leave
+    else if bytes_eq (codes "time-up") word then TimeUp
+    else if bytes_eq (codes "read") word then Read
+    else Write
+
+deed_back : (d : Deed) → deed_of (word_of d) ≡ d
+deed_back Load = refl
+deed_back Store = refl
+deed_back Add = refl
+deed_back Sub = refl
+deed_back And = refl
+deed_back Or = refl
+deed_back Xor = refl
+deed_back Exchange = refl
+deed_back CompareExchange = refl
+deed_back Wait = refl
+deed_back Notify = refl
+deed_back Leave = refl
+deed_back TimeUp = refl
+deed_back Read = refl
+deed_back Write = refl
+
+same_deed : (d e : Deed) → word_of d ≡ word_of e → d ≡ e
+same_deed d e same = sym (deed_back d) ∙ ap deed_of same ∙ deed_back e
+
 -- a tree has one value for each member
-same_values : (tree : Data) (v w : Values) → IsShaped tree v → IsShaped tree w → v ≡ w
+pub same_values : (tree : Data) (v w : Values) → HasMembers tree v → HasMembers tree w → v ≡ w
 same_values tree v w p q =
-    let trees : event_object v p.does p.source ≡ event_object w q.does q.source = sym p.is ∙ q.is in
+    let trees : event_object v p.source ≡ event_object w q.source = sym p.is ∙ q.is in
     let agent : v.agent ≡ w.agent = ap (λ d. number_in (value_at 0 (members_in d))) trees in
-    let atomic : v.atomic ≡ w.atomic = ap (λ d. flag_in (value_at 1 (members_in d))) trees in
+    let atomic : v.flags.atomic ≡ w.flags.atomic = ap (λ d. flag_in (value_at 1 (members_in d))) trees in
     let block : v.block ≡ w.block = ap (λ d. number_in (value_at 2 (members_in d))) trees in
     let byte : v.byte ≡ w.byte = ap (λ d. number_in (value_at 3 (members_in d))) trees in
     let call : v.call ≡ w.call = ap (λ d. number_in (value_at 4 (members_in d))) trees in
+    let word : word_of v.does ≡ word_of w.does = ap (λ d. text_in (value_at 5 (members_in d))) trees in
+    let does = same_deed v.does w.does word in
     let event : v.event ≡ w.event = ap (λ d. number_in (value_at 6 (members_in d))) trees in
-    let read : v.read ≡ w.read = ap (λ d. flag_in (value_at 7 (members_in d))) trees in
+    let read : v.flags.read ≡ w.flags.read = ap (λ d. flag_in (value_at 7 (members_in d))) trees in
     let size : v.size ≡ w.size = ap (λ d. number_in (value_at 8 (members_in d))) trees in
-    let waiters : v.waiters ≡ w.waiters = ap (λ d. flag_in (value_at 10 (members_in d))) trees in
-    let write : v.write ≡ w.write = ap (λ d. flag_in (value_at 11 (members_in d))) trees in
+    let waiters : v.flags.waiters ≡ w.flags.waiters = ap (λ d. flag_in (value_at 10 (members_in d))) trees in
+    let write : v.flags.write ≡ w.flags.write = ap (λ d. flag_in (value_at 11 (members_in d))) trees in
     λ i. record {
+      does = does i;
+      flags = record { read = read i; write = write i; atomic = atomic i; waiters = waiters i };
       agent = agent i;
-      atomic = atomic i;
       block = block i;
       byte = byte i;
       call = call i;
       event = event i;
-      read = read i;
       size = size i;
-      waiters = waiters i;
-      write = write i;
     }
 
 -- a number is one whole number
@@ -83,11 +136,11 @@ one_integer (pos m) (negsuc n) e = cc
 one_integer (negsuc m) (pos n) e = cc
 one_integer (negsuc m) (negsuc n) e = cc
 
-same_whole : (x : Num) (y z : ℤ) → IsWhole x y → IsWhole x z → y ≡ z
+pub same_whole : (x : Num) (y z : ℤ) → IsWhole x y → IsWhole x z → y ≡ z
 same_whole x y z p q = one_integer y z (sym p.is ∙ q.is)
 
-same_numbers : (position : ℕ) (v : Values) (m n : Numbers) → AreWhole position v m → AreWhole position v n → m ≡ n
-same_numbers position v m n p q =
+pub same_numbers : (v : Values) (m n : Numbers) → AreNumbers v m → AreNumbers v n → m ≡ n
+same_numbers v m n p q =
     let agent = same_whole v.agent m.agent n.agent p.agent q.agent in
     let block = same_whole v.block m.block n.block p.block q.block in
     let byte = same_whole v.byte m.byte n.byte p.byte q.byte in
@@ -111,36 +164,36 @@ same_len : (n : Numbers) (p q : Place) (k l : ℕ) → AreBytes n p k → AreByt
 same_len n p q k l g h = let sizes : pos k ≡ pos l = sym g.size ∙ h.size in cc
 
 -- where bytes aren't needed, it is one event whichever they are
-same_event : (v : Values) (a : ℕ) (p q : Place) (k l : ℕ)
-    → (IsTrue (needs_bytes v) → p ≡ q) → (IsTrue (needs_bytes v) → k ≡ l) → event_of v a p k ≡ event_of v a q l
-same_event v a p q k l places lens = by (needs_bytes v) refl
+same_event : (f : Flags) (a : ℕ) (p q : Place) (k l : ℕ)
+    → (IsTrue (acts f) → p ≡ q) → (IsTrue (acts f) → k ≡ l) → event_of f a p k ≡ event_of f a q l
+same_event f a p q k l places lens = by (acts f) refl
   where
     idle : (read write waiters : Bool) → ((read || write) || waiters) ≡ false
-        → event_of (record v { read = read; write = write; waiters = waiters }) a p k
-        ≡ event_of (record v { read = read; write = write; waiters = waiters }) a q l
+        → event_of (record f { read = read; write = write; waiters = waiters }) a p k
+        ≡ event_of (record f { read = read; write = write; waiters = waiters }) a q l
     idle false false false e = refl
     idle true write waiters e = cc
     idle false true waiters e = cc
     idle false false true e = cc
 
-    by : (b : Bool) → needs_bytes v ≡ b → event_of v a p k ≡ event_of v a q l
-    by true e = let place = places e in let len = lens e in λ i. event_of v a (place i) (len i)
-    by false e = idle v.read v.write v.waiters e
+    by : (b : Bool) → acts f ≡ b → event_of f a p k ≡ event_of f a q l
+    by true e = let place = places e in let len = lens e in λ i. event_of f a (place i) (len i)
+    by false e = idle f.read f.write f.waiters e
 
 pub one_event : (position : ℕ) (tree : Data) (e f : Event) → SpellsEvent position tree e → SpellsEvent position tree f
     → e ≡ f
 one_event position tree e f p q =
-    let values = same_values tree p.values q.values p.shaped q.shaped in
+    let values = same_values tree p.values q.values p.shaped.members q.shaped.members in
     let whole : AreWhole position p.values q.numbers = rw values q.whole in
-    let numbers = same_numbers position p.values p.numbers q.numbers p.whole whole in
+    let numbers = same_numbers p.values p.numbers q.numbers p.whole.are whole.are in
     let by : IsAgent p.numbers q.agent = rw numbers q.by in
     let agent = same_agent p.numbers p.agent q.agent p.by by in
-    let bytes : IsTrue (needs_bytes p.values) → AreBytes p.numbers q.place q.len = rw (values, numbers) q.bytes in
-    let event : event_of p.values p.agent p.place p.len ≡ event_of p.values p.agent q.place q.len =
-    same_event p.values p.agent p.place q.place p.len q.len
+    let bytes : IsTrue (acts p.values.flags) → AreBytes p.numbers q.place q.len = rw (values, numbers) q.bytes in
+    let event : event_of p.values.flags p.agent p.place p.len ≡ event_of p.values.flags p.agent q.place q.len =
+    same_event p.values.flags p.agent p.place q.place p.len q.len
     (λ needed. same_place p.numbers p.place q.place p.len q.len (p.bytes needed) (bytes needed))
     (λ needed. same_len p.numbers p.place q.place p.len q.len (p.bytes needed) (bytes needed)) in
-    p.is ∙ event ∙ (λ i. event_of (values i) (agent i) q.place q.len) ∙ sym q.is
+    p.is ∙ event ∙ (λ i. event_of ((values i).flags) (agent i) q.place q.len) ∙ sym q.is
 
 pub one_line : (position : ℕ) (line : List ℕ) (e f : Event) → SpellsLine position line e → SpellsLine position line f
     → e ≡ f
@@ -154,19 +207,19 @@ tree_fault : (position : ℕ) (tree : Data) (fault : LineFault) (e : Event) → 
     → IsOfLine fault → SpellsEvent position tree e → ⊥
 tree_fault position tree BadShape e h of s = h s.values s.shaped
 tree_fault position tree BadNumber e h of s =
-    let values = same_values tree h.0 s.values h.1 s.shaped in h.2 s.numbers (rw values s.whole)
+    let values = same_values tree h.0 s.values h.1.members s.shaped.members in h.2 s.numbers (rw values s.whole)
 tree_fault position tree BadAgent e h of s =
     let found = h.0 in
-    let values = same_values tree found.values s.values found.shaped s.shaped in
+    let values = same_values tree found.values s.values found.shaped.members s.shaped.members in
     let whole : AreWhole position found.values s.numbers = rw values s.whole in
-    let numbers = same_numbers position found.values found.numbers s.numbers found.whole whole in
+    let numbers = same_numbers found.values found.numbers s.numbers found.whole.are whole.are in
     h.1 s.agent (rw numbers s.by)
 tree_fault position tree BadBytes e h of s =
     let found = h.0 in
-    let values = same_values tree found.values s.values found.shaped s.shaped in
+    let values = same_values tree found.values s.values found.shaped.members s.shaped.members in
     let whole : AreWhole position found.values s.numbers = rw values s.whole in
-    let numbers = same_numbers position found.values found.numbers s.numbers found.whole whole in
-    let needed : IsTrue (needs_bytes s.values) = rw (← values) h.3 in
+    let numbers = same_numbers found.values found.numbers s.numbers found.whole.are whole.are in
+    let needed : IsTrue (acts s.values.flags) = rw (← values) h.3 in
     h.4 s.place s.len (rw numbers (s.bytes needed))
 tree_fault position tree OutOfMemory e h of s = h
 tree_fault position tree TooMany e h of s = h

@@ -1,24 +1,20 @@
 -- The shape of an event's object.
 use Rattle.std.proofs.Common.{◌≡◌, ℕ, List, Bool, true, Option, Some, None, refl, ap, ◌∙◌}
-use Rattle.std.specs.Prelude.{◌↔◌, IsTrue, IfNone, is_some}
+use Rattle.std.specs.Prelude.{IfNone, is_some}
 use Rattle.serde_json.specs.Data.{Data, Num, object, Members}
 use Rattle.serde_json.specs.Data as json
 use Rattle.serde_json.specs.Find.{as_null, as_str}
-use Rattle.sab_trace.specs.Members.{Values, IsDeed, IsShaped, source_data, agent_to_byte, call_to_read, size_to_write, event_object}
-
--- a word that is on the list
-pub known_deed : (word known : List ℕ) → word ≡ known → IsDeed known → IsTrue true ↔ IsDeed word
-known_deed word known e deed = (λ _. rw e deed, λ _. refl)
+use Rattle.sab_trace.specs.declared.deed.Deed.{Deed}
+use Rattle.sab_trace.specs.Members.{Values, HasMembers, source_data, agent_to_byte, call_to_read, size_to_write, event_object}
 
 -- the last members aren't there
-pub size_missing : (d : Data) (m0 m1 m2 : Members) (agent block byte call event : Num) (atomic read : Bool)
-    (does : List ℕ)
+pub size_missing : (d : Data) (m0 m1 m2 : Members) (agent block byte call event : Num) (atomic read : Bool) (does : Deed)
     → d ≡ object m0 → m0 ≡ agent_to_byte agent atomic block byte m1 → m1 ≡ call_to_read call does event read m2
     → ((size : Num) (source : Option (List ℕ)) (waiters write : Bool) → m2 ≡ size_to_write size source waiters write
-    → ⊥) → (values : Values) → IsShaped d values → ⊥
+    → ⊥) → (values : Values) → HasMembers d values → ⊥
 size_missing d m0 m1 m2 agent block byte call event atomic read does e0 e1 e2 missing v h =
-    let same : object m0 ≡ event_object v h.does h.source = let e = h.is in cc in
-    missing v.size h.source v.waiters v.write cc
+    let same : object m0 ≡ event_object v h.source = let e = h.is in cc in
+    missing v.size h.source v.flags.waiters v.flags.write cc
 
 pub no_value : {X : Type 0} {P : Type 0} (o : Option X) → o ≡ None → P → IfNone o P
 no_value o e p = rw e p

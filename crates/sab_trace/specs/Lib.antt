@@ -1,7 +1,9 @@
 pub mod Lines
+pub mod Deeds
 pub mod Members
-pub mod Seen
 pub mod Numbers
+pub mod Seen
+pub mod Tokens
 pub mod Spelling
 pub mod LineFault
 pub mod Refusal

@@ -5,9 +5,10 @@ use Rattle.sab_judge.specs.declared.place.Place.{Place}
 use Rattle.sab_trace.specs.declared.line_fault.LineFault.{LineFault}
 use Rattle.sab_trace.specs.declared.line_fault.LineFault.TheVariants.{TooMany, OutOfMemory, BadShape, BadNumber, BadAgent, NotJson, TooLong, ReadFailed, BadBytes}
 use Rattle.sab_trace.specs.declared.numbers.Numbers.{Numbers}
+use Rattle.sab_trace.specs.Deeds.{acts}
 use Rattle.sab_trace.specs.Members.{Values, IsShaped}
 use Rattle.sab_trace.specs.Numbers.{AreWhole, IsAgent, AreBytes}
-use Rattle.sab_trace.specs.Spelling.{needs_bytes, ReadsAs}
+use Rattle.sab_trace.specs.Spelling.{ReadsAs}
 use Rattle.sab_judge.specs.declared.trace.TheConstants.Trace.{MAX_EVENTS}
 
 -- the table of names
@@ -38,7 +39,7 @@ IsTreeFault position tree BadAgent =
     (found : HasNumbers position tree) × ((agent : ℕ) → ¬ IsAgent found.numbers agent)
 IsTreeFault position tree BadBytes =
     (found : HasNumbers position tree) × (agent : ℕ) × IsAgent found.numbers agent
-    × IsTrue (needs_bytes found.values) × ((place : Place) (len : ℕ) → ¬ AreBytes found.numbers place len)
+    × IsTrue (acts found.values.flags) × ((place : Place) (len : ℕ) → ¬ AreBytes found.numbers place len)
 IsTreeFault position tree _ = ⊥
 
 -- the first thing that is amiss with a line of at most 1,024 bytes, of which there can be so many

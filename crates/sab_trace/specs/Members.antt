@@ -1,24 +1,9 @@
 -- The members of an event's object.
 use Rattle.std.specs.Prelude.{◌≡◌, ℕ, List, codes, Bool, Option, Some, None}
 use Rattle.serde_json.specs.Data.{Data, Num, null, boolean, number, string, object, Members, no_members, member}
-
--- what an event can be said to do
-pub data IsDeed : List ℕ → Type 0 where
-  does_load : IsDeed (codes "load")
-  does_store : IsDeed (codes "store")
-  does_add : IsDeed (codes "add")
-  does_sub : IsDeed (codes "sub")
-  does_and : IsDeed (codes "and")
-  does_or : IsDeed (codes "or")
-  does_xor : IsDeed (codes "xor")
-  does_exchange : IsDeed (codes "exchange")
-  does_compare_exchange : IsDeed (codes "compareExchange")
-  does_wait : IsDeed (codes "wait")
-  does_notify : IsDeed (codes "notify")
-  does_leave : IsDeed (codes "leave")
-  does_time_up : IsDeed (codes "time-up")
-  does_read : IsDeed (codes "read")
-  does_write : IsDeed (codes "write")
+use Rattle.sab_trace.specs.declared.deed.Deed.{Deed}
+use Rattle.sab_trace.specs.declared.flags.Flags.{Flags}
+use Rattle.sab_trace.specs.Deeds.{word_of, CanHave}
 
 -- a place in the code, if one is told
 abbrev pub source_data : Option (List ℕ) → Data
@@ -31,9 +16,9 @@ agent_to_byte agent atomic block byte rest =
     member (codes "agent") (number agent) (member (codes "atomic") (boolean atomic)
     (member (codes "block") (number block) (member (codes "byte") (number byte) rest)))
 
-abbrev pub call_to_read : Num → List ℕ → Num → Bool → Members → Members
+abbrev pub call_to_read : Num → Deed → Num → Bool → Members → Members
 call_to_read call does event read rest =
-    member (codes "call") (number call) (member (codes "does") (string does)
+    member (codes "call") (number call) (member (codes "does") (string (word_of does))
     (member (codes "event") (number event) (member (codes "read") (boolean read) rest)))
 
 abbrev pub size_to_write : Num → Option (List ℕ) → Bool → Bool → Members
@@ -41,28 +26,29 @@ size_to_write size source waiters write =
     member (codes "size") (number size) (member (codes "source") (source_data source)
     (member (codes "waiters") (boolean waiters) (member (codes "write") (boolean write) no_members)))
 
--- the values of the members that an event takes over, and those of its numbers
+-- what the members say, except the source
 pub record Values : Type 0 where
+  pub does : Deed
+  pub flags : Flags
   pub agent : Num
-  pub atomic : Bool
   pub block : Num
   pub byte : Num
   pub call : Num
   pub event : Num
-  pub read : Bool
   pub size : Num
-  pub waiters : Bool
-  pub write : Bool
 
--- the object of these values, with what the event does and its source
-abbrev pub event_object : Values → List ℕ → Option (List ℕ) → Data
-event_object v does source =
-    object (agent_to_byte v.agent v.atomic v.block v.byte (call_to_read v.call does v.event v.read
-    (size_to_write v.size source v.waiters v.write)))
+-- the object of these values, with a source
+abbrev pub event_object : Values → Option (List ℕ) → Data
+event_object v source =
+    object (agent_to_byte v.agent v.flags.atomic v.block v.byte (call_to_read v.call v.does v.event v.flags.read
+    (size_to_write v.size source v.flags.waiters v.flags.write)))
 
--- the tree is the object of an event, with exactly its members, each of its type
-pub record IsShaped (tree : Data) (values : Values) : Type 0 where
-  pub does : List ℕ
+-- the tree is an object with exactly the members of an event, each of its type
+pub record HasMembers (tree : Data) (values : Values) : Type 0 where
   pub source : Option (List ℕ)
-  pub is : tree ≡ event_object values does source
-  pub deed : IsDeed does
+  pub is : tree ≡ event_object values source
+
+-- and its flags are ones that such an event can have
+pub record IsShaped (tree : Data) (values : Values) : Type 0 where
+  pub members : HasMembers tree values
+  pub can : CanHave values.does values.flags

@@ -1,5 +1,5 @@
 -- Which event a line of a trace spells.
-use Rattle.std.specs.Prelude.{◌≡◌, ℕ, ◌<◌, ◌≤◌, ◌||◌, List, length, Bool, IsTrue, IsUtf8, Option, Some, None, if◌then◌else◌}
+use Rattle.std.specs.Prelude.{◌≡◌, ℕ, ◌<◌, ◌≤◌, List, length, Bool, IsTrue, IsUtf8, Option, Some, None, if◌then◌else◌}
 use Rattle.serde_json.specs.Data.{Data}
 use Rattle.serde_json.specs.Read.{read}
 use Rattle.sab_judge.specs.declared.access.Access.{Access}
@@ -7,41 +7,35 @@ use Rattle.sab_judge.specs.declared.event.Event.{Event}
 use Rattle.sab_judge.specs.declared.order.Order.{Order}
 use Rattle.sab_judge.specs.declared.order.Order.TheVariants.{Unordered, SeqCst}
 use Rattle.sab_judge.specs.declared.place.Place.{Place}
+use Rattle.sab_trace.specs.declared.flags.Flags.{Flags}
 use Rattle.sab_trace.specs.declared.numbers.Numbers.{Numbers}
+use Rattle.sab_trace.specs.Deeds.{accesses, acts}
 use Rattle.sab_trace.specs.Members.{Values, IsShaped}
 use Rattle.sab_trace.specs.Numbers.{AreWhole, IsAgent, AreBytes}
 use Rattle.sab_judge.specs.declared.trace.TheConstants.Trace.{MAX_EVENTS}
 
--- the event accesses bytes
-abbrev pub accesses : Values → Bool
-accesses values = values.read || values.write
-
--- it accesses bytes, or is in a critical section: so the bytes that it tells must be there
-abbrev pub needs_bytes : Values → Bool
-needs_bytes values = accesses values || values.waiters
-
 abbrev pub order_of : Bool → Order
 order_of atomic = if atomic then SeqCst else Unordered
 
-abbrev pub access_of : Values → Place → ℕ → Option Access
-access_of values place len =
-    if accesses values then Some (record {
+abbrev pub access_of : Flags → Place → ℕ → Option Access
+access_of flags place len =
+    if accesses flags then Some (record {
       place = place;
       len = len;
-      reads = values.read;
-      writes = values.write;
-      order = order_of values.atomic;
+      reads = flags.read;
+      writes = flags.write;
+      order = order_of flags.atomic;
     }) else None
 
-abbrev pub waiters_of : Values → Place → Option Place
-waiters_of values place = if values.waiters then Some place else None
+abbrev pub waiters_of : Flags → Place → Option Place
+waiters_of flags place = if flags.waiters then Some place else None
 
 -- the event of an agent, at so many bytes from a place on
-abbrev pub event_of : Values → ℕ → Place → ℕ → Event
-event_of values agent place len = record {
+abbrev pub event_of : Flags → ℕ → Place → ℕ → Event
+event_of flags agent place len = record {
   agent = agent;
-  access = access_of values place len;
-  waiters = waiters_of values place;
+  access = access_of flags place len;
+  waiters = waiters_of flags place;
 }
 
 -- the tree spells the event, which stands at this position
@@ -54,8 +48,8 @@ pub record SpellsEvent (position : ℕ) (tree : Data) (event : Event) : Type 0 w
   pub by : IsAgent numbers agent
   pub place : Place
   pub len : ℕ
-  pub bytes : IsTrue (needs_bytes values) → AreBytes numbers place len
-  pub is : event ≡ event_of values agent place len
+  pub bytes : IsTrue (acts values.flags) → AreBytes numbers place len
+  pub is : event ≡ event_of values.flags agent place len
 
 -- the bytes are a JSON text in UTF-8, which reads as the tree
 pub record ReadsAs (line : List ℕ) (tree : Data) : Type 0 where

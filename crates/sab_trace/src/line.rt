@@ -4,6 +4,7 @@ ghost use Rattle.std.specs.Prelude.{◌≡◌, ◌+◌, ◌<◌, ◌≤◌, ◌+
 ghost use Rattle.sab_trace.specs.Lines.{HasNoLineFeed};
 
 use crate::line_fault::LineFault;
+use memchr::memchr;
 use std::marker::Model;
 
 /// How many bytes a line can have, its line feed not counted.
@@ -18,7 +19,7 @@ pub(crate) fn split_line(bytes: &[u8]) -> Option<(&[u8], &[u8])>
     ensures none { IfNone result (HasNoLineFeed bytes.now) }
     ensures shorter { IfSome result (λ p. length p.1.now < length bytes.now) }
 {
-    let end = bytes.iter().position(|byte| *byte == b'\n')?;
+    let end = memchr(b'\n', bytes)?;
     Some((&bytes[..end], &bytes[end + 1..]))
 }
 

@@ -13,9 +13,11 @@ pub enum LineFault {
     TooMany,
     /// A growth was refused.
     OutOfMemory,
-    /// It is no object, a member is missing or too many, or a member is of another type than its place asks for.
+    /// It is no object, a member is missing or too many, a member is of another type than its place asks for, or the
+    /// flags don't go with what the event does.
     BadShape,
-    /// A number isn't whole or not within its range, or `event` isn't the position of the line.
+    /// A number isn't whole or not within its range, `event` isn't the position of the line, or the size doesn't go
+    /// with what the event does.
     BadNumber,
     /// The agent isn't 0 to 15.
     BadAgent,

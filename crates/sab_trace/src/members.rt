@@ -1,27 +1,32 @@
 //! The members of an event's object.
 
-ghost use Rattle.std.specs.Prelude.{◌≡◌, ◌↔◌, ℕ, Bool, List, Option, IfSome, IfNone, IsTrue, codes};
+ghost use Rattle.std.specs.Prelude.{◌≡◌, ℕ, ℤ, Bool, List, Option, IfSome, IfNone, codes};
 ghost use Rattle.serde_json.specs.Data.{Num, Data, Members as MemberList, number as number_data, boolean, string, object as object_data, member as member_then};
 ghost use Rattle.serde_json.specs.View.{view, members_view, number_view};
-ghost use Rattle.sab_trace.specs.Members.{Values, IsDeed, IsShaped, source_data, agent_to_byte, call_to_read, size_to_write};
+ghost use Rattle.sab_trace.specs.declared.deed.Deed.{Deed};
+ghost use Rattle.sab_trace.specs.declared.numbers.Numbers.{Numbers};
+ghost use Rattle.sab_trace.specs.Deeds.{word_of};
+ghost use Rattle.sab_trace.specs.Members.{Values, HasMembers, source_data, agent_to_byte, call_to_read, size_to_write};
+ghost use Rattle.sab_trace.specs.Numbers.{IsWhole, AreNumbers};
 ghost use Rattle.sab_trace.specs.Seen.{values_of};
 
+use crate::deed::Deed;
+use crate::flags::Flags;
+use crate::numbers::{Numbers, is_safe};
 use serde_json::{Number, Value};
 use std::collections::btree_map::Iter;
 
-/// The values of the members that an event takes over, and of its numbers.
+/// What the members say, except the source.
 #[derive(Clone, Copy)]
 pub(crate) struct Members<'a> {
-    pub(crate) agent: &'a Number,
-    pub(crate) atomic: bool,
-    pub(crate) block: &'a Number,
-    pub(crate) byte: &'a Number,
-    pub(crate) call: &'a Number,
-    pub(crate) event: &'a Number,
-    pub(crate) read: bool,
-    pub(crate) size: &'a Number,
-    pub(crate) waiters: bool,
-    pub(crate) write: bool,
+    pub(crate) does: Deed,
+    pub(crate) flags: Flags,
+    agent: &'a Number,
+    block: &'a Number,
+    byte: &'a Number,
+    call: &'a Number,
+    event: &'a Number,
+    size: &'a Number,
 }
 
 /// The members of an object that are not yet read, in the order of their names.
@@ -64,6 +69,17 @@ fn number<'a>(rest: &mut Rest<'a>, name: &str) -> Option<&'a Number>
     }
 }
 
+/// The whole number within ±(2^53 - 1) that a number is.
+fn whole(number: &Number) -> Option<i64>
+    ensures some { IfSome result (IsWhole (number_view number.now)) }
+    ensures none { IfNone result ((z : ℤ) → IsWhole (number_view number.now) z → ⊥) }
+{
+    match number.as_i64() {
+        Some(n) if is_safe(n) => Some(n),
+        _ => None,
+    }
+}
+
 /// `true` or `false` of the next member, which has this name.
 fn flag(rest: &mut Rest<'_>, name: &str) -> Option<bool>
     ensures some { IfSome result (λ b. members_view rest.old
@@ -77,39 +93,15 @@ fn flag(rest: &mut Rest<'_>, name: &str) -> Option<bool>
     }
 }
 
-/// Whether an event can be said to do it.
-fn is_deed(word: &str) -> bool
-    ensures { IsTrue result ↔ IsDeed word.now }
-{
-    match word {
-        "load" => true,
-        "store" => true,
-        "add" => true,
-        "sub" => true,
-        "and" => true,
-        "or" => true,
-        "xor" => true,
-        "exchange" => true,
-        "compareExchange" => true,
-        "wait" => true,
-        "notify" => true,
-        "leave" => true,
-        "time-up" => true,
-        "read" => true,
-        "write" => true,
-        _ => false,
-    }
-}
-
-/// Passes the next member, if it tells what the event does.
-fn deed(rest: &mut Rest<'_>) -> Option<()>
-    ensures some { IfSome result (λ _. (does : List ℕ) × IsDeed does
-        × (members_view rest.old ≡ member_then (codes "does") (string does) (members_view rest.new))) }
-    ensures none { IfNone result ((does : List ℕ) (ms : MemberList) → IsDeed does
-        → members_view rest.old ≡ member_then (codes "does") (string does) ms → ⊥) }
+/// What the next member says that the event does.
+fn deed(rest: &mut Rest<'_>) -> Option<Deed>
+    ensures some { IfSome result (λ does. members_view rest.old
+        ≡ member_then (codes "does") (string (word_of does)) (members_view rest.new)) }
+    ensures none { IfNone result ((does : Deed) (ms : MemberList)
+        → members_view rest.old ≡ member_then (codes "does") (string (word_of does)) ms → ⊥) }
 {
     match member(rest, "does")? {
-        Value::String(word) if is_deed(word.as_str()) => Some(()),
+        Value::String(word) => Deed::of(word.as_str()),
         _ => None,
     }
 }
@@ -142,18 +134,18 @@ fn agent_to_byte<'a>(rest: &mut Rest<'a>) -> Option<(&'a Number, bool, &'a Numbe
     Some((agent, atomic, block, byte))
 }
 
-/// The call, the event's position, and whether it reads.
-fn call_to_read<'a>(rest: &mut Rest<'a>) -> Option<(&'a Number, &'a Number, bool)>
-    ensures some { IfSome result (λ p. (does : List ℕ) × IsDeed does × (members_view rest.old
-        ≡ call_to_read (number_view p.0.now) does (number_view p.1.now) p.2 (members_view rest.new))) }
-    ensures none { IfNone result ((call : Num) (does : List ℕ) (event : Num) (read : Bool) (ms : MemberList)
-        → IsDeed does → members_view rest.old ≡ call_to_read call does event read ms → ⊥) }
+/// The call, what the event does, its position, and whether it reads.
+fn call_to_read<'a>(rest: &mut Rest<'a>) -> Option<(&'a Number, Deed, &'a Number, bool)>
+    ensures some { IfSome result (λ p. members_view rest.old
+        ≡ call_to_read (number_view p.0.now) p.1 (number_view p.2.now) p.3 (members_view rest.new)) }
+    ensures none { IfNone result ((call : Num) (does : Deed) (event : Num) (read : Bool) (ms : MemberList)
+        → members_view rest.old ≡ call_to_read call does event read ms → ⊥) }
 {
     let call = number(rest, "call")?;
-    deed(rest)?;
+    let does = deed(rest)?;
     let event = number(rest, "event")?;
     let read = flag(rest, "read")?;
-    Some((call, event, read))
+    Some((call, does, event, read))
 }
 
 /// How many bytes, whether it is at waiters, and whether it writes; and nothing more.
@@ -173,25 +165,46 @@ fn size_to_write<'a>(rest: &mut Rest<'a>) -> Option<(&'a Number, bool, bool)>
     Some((size, waiters, write))
 }
 
-/// The members of an event's object; none, where the tree isn't one.
+/// The members of an event's object; `None` if the tree isn't one.
 pub(crate) fn read_members(tree: &Value) -> Option<Members<'_>>
-    ensures some { IfSome result (λ found. IsShaped (view tree.now) (values_of found)) }
-    ensures none { IfNone result ((values : Values) → IsShaped (view tree.now) values → ⊥) }
+    ensures some { IfSome result (λ found. HasMembers (view tree.now) (values_of found)) }
+    ensures none { IfNone result ((values : Values) → HasMembers (view tree.now) values → ⊥) }
 {
     let mut rest = object(tree)?;
     let (agent, atomic, block, byte) = agent_to_byte(&mut rest)?;
-    let (call, event, read) = call_to_read(&mut rest)?;
+    let (call, does, event, read) = call_to_read(&mut rest)?;
     let (size, waiters, write) = size_to_write(&mut rest)?;
-    Some(Members {
-        agent,
+    let flags = Flags {
+        read,
+        write,
         atomic,
+        waiters,
+    };
+    Some(Members {
+        does,
+        flags,
+        agent,
         block,
         byte,
         call,
         event,
-        read,
         size,
-        waiters,
-        write,
     })
+}
+
+impl Members<'_> {
+    /// Its numbers; `None` if one of them isn't whole, or not within ±(2^53 - 1).
+    pub(crate) fn numbers(&self) -> Option<Numbers>
+        ensures some { IfSome result (AreNumbers (values_of self.now)) }
+        ensures none { IfNone result ((numbers : Numbers) → AreNumbers (values_of self.now) numbers → ⊥) }
+    {
+        Some(Numbers {
+            agent: whole(self.agent)?,
+            block: whole(self.block)?,
+            byte: whole(self.byte)?,
+            call: whole(self.call)?,
+            event: whole(self.event)?,
+            size: whole(self.size)?,
+        })
+    }
 }

@@ -1,15 +1,11 @@
 //! The numbers of an event's object.
 
-ghost use Rattle.std.specs.Prelude.{ℕ, ℤ, IfSome, IfNone};
-ghost use Rattle.serde_json.specs.View.{number_view};
+ghost use Rattle.std.specs.Prelude.{◌↔◌, ℕ, IsTrue, IfSome, IfNone};
 ghost use Rattle.sab_judge.specs.declared.place.Place.{Place};
-ghost use Rattle.sab_trace.specs.declared.numbers.Numbers.{Numbers};
-ghost use Rattle.sab_trace.specs.Numbers.{IsWhole, AreWhole, IsAgent, AreBytes};
-ghost use Rattle.sab_trace.specs.Seen.{values_of};
+ghost use Rattle.sab_trace.specs.Numbers.{IsSafe, IsAgent, AreBytes};
+ghost use Rattle.sab_trace.specs.Seen.{AreSafe};
 
-use crate::members::Members;
 use sab_judge::{Place, Trace};
-use serde_json::Number;
 
 /// The largest whole number that a JSON number of a trace can be, 2^53 - 1; the least is its negative.
 const MAX_WHOLE: i64 = 0x1f_ffff_ffff_ffff;
@@ -25,43 +21,29 @@ pub(crate) struct Numbers {
     pub(crate) size: i64,
 }
 
-/// A whole number within ±(2^53 - 1).
-fn whole(number: &Number) -> Option<i64>
-    ensures some { IfSome result (IsWhole (number_view number.now)) }
-    ensures none { IfNone result ((z : ℤ) → IsWhole (number_view number.now) z → ⊥) }
+/// Whether a number is within ±(2^53 - 1).
+pub(crate) fn is_safe(n: i64) -> bool
+    ensures { IsTrue result ↔ IsSafe n }
 {
-    match number.as_i64() {
-        Some(n) if -MAX_WHOLE <= n && n <= MAX_WHOLE => Some(n),
-        _ => None,
-    }
+    -MAX_WHOLE <= n && n <= MAX_WHOLE
 }
 
-/// The numbers of the event that stands at a position; none, where one isn't whole, or the call or the position isn't
-/// right.
-pub(crate) fn read_numbers(position: u32, members: &Members<'_>) -> Option<Numbers>
-    ensures some { IfSome result (AreWhole position (values_of members.now)) }
-    ensures none { IfNone result ((numbers : Numbers) → AreWhole position (values_of members.now) numbers → ⊥) }
+/// Whether three numbers are within ±(2^53 - 1).
+fn three_are_safe(a: i64, b: i64, c: i64) -> bool
+    ensures { IsTrue result ↔ (IsSafe a × IsSafe b × IsSafe c) }
 {
-    let agent = whole(members.agent)?;
-    let block = whole(members.block)?;
-    let byte = whole(members.byte)?;
-    let call = whole(members.call)?;
-    let event = whole(members.event)?;
-    let size = whole(members.size)?;
-    if event != i64::from(position) || call < 0 {
-        return None;
-    }
-    Some(Numbers {
-        agent,
-        block,
-        byte,
-        call,
-        event,
-        size,
-    })
+    is_safe(a) && is_safe(b) && is_safe(c)
 }
 
 impl Numbers {
+    /// Whether all are within ±(2^53 - 1).
+    pub(crate) fn are_safe(&self) -> bool
+        ensures { IsTrue result ↔ AreSafe self.now }
+    {
+        three_are_safe(self.agent, self.block, self.byte)
+            && three_are_safe(self.call, self.event, self.size)
+    }
+
     /// The agent, if it is one of 16.
     pub(crate) fn agent(&self) -> Option<u32>
         ensures some { IfSome result (IsAgent self.now) }

@@ -10,6 +10,7 @@ use crate::line::{Line, split_line};
 use crate::line_fault::LineFault;
 use crate::refusal::Refusal;
 use crate::spelling::read_line;
+use json::Scratch;
 use sab_judge::{Trace, TraceFault};
 use std::alloc::Global;
 use std::io::Read;
@@ -26,7 +27,12 @@ fn refusal(trace: &Trace, fault: LineFault) -> Refusal
 }
 
 /// Appends the event that the line behind those of the trace's events spells.
-fn append(alloc: Global, trace: &mut Trace, line: &[u8]) -> Result<(), LineFault>
+fn append(
+    alloc: Global,
+    scratch: &mut Scratch,
+    trace: &mut Trace,
+    line: &[u8],
+) -> Result<(), LineFault>
     requires { length line.now ≤ 1024 }
     ensures ok { OnOk result (SpellsNext trace.old line.now trace.new) }
     ensures err { IfErr result (IsLineFault (length trace.old) line.now) }
@@ -36,7 +42,7 @@ fn append(alloc: Global, trace: &mut Trace, line: &[u8]) -> Result<(), LineFault
     if position >= Trace::MAX_EVENTS {
         return Err(LineFault::TooMany);
     }
-    let event = read_line(alloc, position as u32, line)?;
+    let event = read_line(alloc, scratch, position as u32, line)?;
     match trace.push(event) {
         Ok(()) => Ok(()),
         Err(TraceFault::OutOfMemory) => Err(LineFault::OutOfMemory),
@@ -45,12 +51,17 @@ fn append(alloc: Global, trace: &mut Trace, line: &[u8]) -> Result<(), LineFault
 }
 
 /// Appends the event that the line spells, and empties the line.
-fn end_line(alloc: Global, trace: &mut Trace, line: &mut Line) -> Result<(), Refusal>
+fn end_line(
+    alloc: Global,
+    scratch: &mut Scratch,
+    trace: &mut Trace,
+    line: &mut Line,
+) -> Result<(), Refusal>
     ensures ok { OnOk result (SpellsNext trace.old line.old trace.new) }
     ensures empty { OnOk result (line.new ≡ []) }
     ensures err { IfErr result (RefusesNext trace.old line.old) }
 {
-    match append(alloc, trace, line.bytes()) {
+    match append(alloc, scratch, trace, line.bytes()) {
         Ok(()) => {
             line.clear();
             Ok(())
@@ -63,6 +74,7 @@ fn end_line(alloc: Global, trace: &mut Trace, line: &mut Line) -> Result<(), Ref
 /// it, and leaves what begins the next one.
 fn read_piece(
     alloc: Global,
+    scratch: &mut Scratch,
     trace: &mut Trace,
     line: &mut Line,
     piece: &[u8],
@@ -76,7 +88,7 @@ fn read_piece(
         if let Err(fault) = line.push(ended) {
             return Err(refusal(trace, fault));
         }
-        end_line(alloc, trace, line)?;
+        end_line(alloc, scratch, trace, line)?;
         rest = behind;
     }
     match line.push(rest) {
@@ -86,7 +98,12 @@ fn read_piece(
 }
 
 /// The trace at the end of the input: what has begun is the last line, where it isn't empty.
-fn finish(alloc: Global, mut trace: Trace, line: &mut Line) -> Result<Trace, Refusal>
+fn finish(
+    alloc: Global,
+    scratch: &mut Scratch,
+    mut trace: Trace,
+    line: &mut Line,
+) -> Result<Trace, Refusal>
     ensures ok { IfOk result (λ whole. (bytes : List ℕ) → IsReadTo bytes trace line.old → SpellsTrace bytes whole) }
     ensures err { IfErr result (λ refusal. (bytes : List ℕ) → IsReadTo bytes trace line.old
         → IsRefusedBy bytes refusal) }
@@ -94,19 +111,26 @@ fn finish(alloc: Global, mut trace: Trace, line: &mut Line) -> Result<Trace, Ref
     if line.bytes().is_empty() {
         return Ok(trace);
     }
-    end_line(alloc, &mut trace, line)?;
+    end_line(alloc, scratch, &mut trace, line)?;
     Ok(trace)
 }
 
 /// The events that the lines of a trace spell, one event a line: reads to the end.
 ///
 /// A line ends with a line feed; behind the last one there is another line where more bytes follow. At the first line
-/// that spells no event reading stops, and that line is told. TooLong, where it has more than 1,024 bytes; TooMany,
-/// where there are 2^20 lines before it; NotJson, where it is no JSON text in UTF-8; BadShape, where that is no object
-/// with exactly the members of an event, each of its type; BadNumber, where a number isn't whole, `call` is below 0, or
-/// `event` isn't the count of the lines before; BadAgent, where `agent` isn't 0 to 15; BadBytes, where the event
-/// accesses bytes or is in a critical section, and no block can have these bytes. Of several the first in this order is
-/// told. ReadFailed at the first read that answers a fault, and OutOfMemory where there is no memory for an event or for
+/// that spells no event reading stops, and that line is reported with the first of these faults that it has:
+///
+/// - TooLong: it has more than 1,024 bytes.
+/// - TooMany: there are 2^20 lines before it.
+/// - NotJson: it is no JSON text in UTF-8.
+/// - BadShape: that is no object with exactly the members of an event, each of its type, or the flags don't go with
+///   what the event does.
+/// - BadNumber: a number isn't whole, `call` is below 0, `event` isn't the count of the lines before, or the size
+///   doesn't go with what the event does.
+/// - BadAgent: `agent` isn't 0 to 15.
+/// - BadBytes: the event accesses bytes or is in a critical section, and no block can have these bytes.
+///
+/// ReadFailed comes at the first read that returns a fault, and OutOfMemory if there is no memory for an event or for
 /// a line's tree.
 ///
 /// It keeps the events, and of the input a piece of 16,384 bytes and a line.
@@ -116,6 +140,7 @@ pub fn read_trace<R: Read>(alloc: Global, r: &mut R) -> Result<Trace, Refusal>
     ensures err { IfErr result (λ refusal. IfSome (R.remaining r.old) (λ bytes. IsRefusedBy bytes refusal)) }
 {
     let mut trace = Trace::new(alloc);
+    let mut scratch = Scratch::new(alloc);
     let mut line = Line::new();
     let mut buffer = [0; 16_384];
     loop {
@@ -125,7 +150,7 @@ pub fn read_trace<R: Read>(alloc: Global, r: &mut R) -> Result<Trace, Refusal>
         if n == 0 {
             break;
         }
-        read_piece(alloc, &mut trace, &mut line, &buffer[..n])?;
+        read_piece(alloc, &mut scratch, &mut trace, &mut line, &buffer[..n])?;
     }
-    finish(alloc, trace, &mut line)
+    finish(alloc, &mut scratch, trace, &mut line)
 }

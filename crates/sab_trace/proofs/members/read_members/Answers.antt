@@ -7,4 +7,4 @@ returns-in_err-size-clause-none c =
     no_value c.from_residual-in_err-size.result c.from_residual-in_err-size.ensures
     (size_missing (view c.args.tree.now) (members_view c.in_ok-rest.rest) (members_view c.agent_to_byte.new.rest)
     (members_view c.call_to_read.new.rest) _ _ _ _ _ _ _ _ c.in_ok-rest.ensures.some c.in_ok-agent.ensures.some
-    c.in_ok-call.ensures.some.2 c.in_err-size.ensures.none)
+    c.in_ok-call.ensures.some c.in_err-size.ensures.none)

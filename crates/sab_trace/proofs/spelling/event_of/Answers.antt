@@ -1,44 +1,25 @@
-use Rattle.std.specs.Prelude.{IsTrue}
-use Rattle.sab_trace.specs.Seen.{values_of}
-use Rattle.sab_trace.specs.Spelling.{needs_bytes}
-use Rattle.sab_trace.proofs.Events.{idle_event, reading_event, writing_event, waiting_event}
+use Rattle.std.proofs.Common.{◌≡◌, false, true, sym, ◌∙◌}
+use Rattle.sab_trace.proofs.Says.{has_numbers, spelled, idle_event}
 use Rattle.sab_trace.proofs.spelling.event_of.Goals as goal
-use Rattle.sab_trace.proofs.spelling.event_of.Goals.{else-not-members-via-then-not-members+then-not-members-2+else-not-members-3, else-not-members-via-then-not-members+else-not-members-2, else-not-members-via-else-not-members}
 
-pub returns-in_default-agent-clause-err : goal.returns-in_default-agent-clause-err
-returns-in_default-agent-clause-err c = (
-  record {
-    values = values_of c.in-Some.members;
-    shaped = c.in-Some.ensures.some;
-    numbers = c.in-Some-read_numbers.numbers;
-    whole = c.in-Some-read_numbers.ensures.some;
-  },
-  c.in_default-agent.ensures.none,
+pub returns-in_default-clause-err : goal.returns-in_default-clause-err
+returns-in_default-clause-err c = λ tree says. (
+  has_numbers c.args.position tree c.args.said.now says (c.fits.ensures.0 c.if-not-fits.false),
+  c.in_default.ensures.none,
 )
 
-pub returns-then-not-members-3-clause-ok : goal.returns-then-not-members-3-clause-ok
-returns-then-not-members-3-clause-ok c =
-    idle_event c.args.position _ (values_of c.in-Some.members) c.in-Some-read_numbers.numbers c.in-Some-agent.agent
-    c.if-not-members.true c.if-not-members-2.true c.if-not-members-3.true
-    c.in-Some.ensures.some c.in-Some-read_numbers.ensures.some c.in-Some-agent.ensures.some
+pub returns-then-not-act-clause-ok : goal.returns-then-not-act-clause-ok
+returns-then-not-act-clause-ok c = λ tree says.
+    spelled c.args.position tree c.args.said.now c.in-Some.agent (record { block = 0; byte = 0 }) 0 _ says
+    (c.fits.ensures.0 c.if-not-fits.false) c.in-Some.ensures.some
+    (λ acting. let bad : false ≡ true = c.if-not-act.ensures ∙ acting in cc)
+    (idle_event c.args.said.now.flags c.in-Some.agent (record { block = 0; byte = 0 }) 0 (sym c.if-not-act.ensures))
 
 pub returns-in_default-bytes-clause-err : goal.returns-in_default-bytes-clause-err
-returns-in_default-bytes-clause-err c =
-    let values = values_of c.in-Some.members in
-    let needed : IsTrue (needs_bytes values) = elim c.else-not-members.branch [
-      | else-not-members-via-then-not-members+then-not-members-2+else-not-members-3 w ↦
-          waiting_event values w.if-not-members-3.false
-      | else-not-members-via-then-not-members+else-not-members-2 w ↦ writing_event values w.if-not-members-2.false
-      | else-not-members-via-else-not-members w ↦ reading_event values w.if-not-members.false
-    ] in (
-      record {
-        values = values;
-        shaped = c.in-Some.ensures.some;
-        numbers = c.in-Some-read_numbers.numbers;
-        whole = c.in-Some-read_numbers.ensures.some;
-      },
-      c.in-Some-agent.agent,
-      c.in-Some-agent.ensures.some,
-      needed,
-      c.in_default-bytes.ensures.none,
-    )
+returns-in_default-bytes-clause-err c = λ tree says. (
+  has_numbers c.args.position tree c.args.said.now says (c.fits.ensures.0 c.if-not-fits.false),
+  c.in-Some.agent,
+  c.in-Some.ensures.some,
+  sym c.if-not-act.ensures,
+  c.in_default-bytes.ensures.none,
+)
