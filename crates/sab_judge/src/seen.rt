@@ -162,14 +162,7 @@ impl Seen {
     }
 
     /// How many events with accesses that begin in a cell are in a race of the kind with the `j`-th.
-    fn count_in(
-        &self,
-        trace: &[Event],
-        clock: &Clock,
-        j: usize,
-        kind: RaceKind,
-        cell: Cell,
-    ) -> u64
+    fn count_in(&self, trace: &[Event], clock: &Clock, j: usize, kind: RaceKind, cell: Cell) -> u64
         requires event_clock { HasClock trace.now j clock.now }
         requires seen { IsSeen trace.now j self.now }
         requires few { cell.class < CLASSES }

@@ -291,12 +291,7 @@ fn a_check_without_room_for_what_it_says_fails(rt: HostRuntime) -> Result<(), Fa
 }
 
 /// Whether this is said of a replay of a script that is refused, where the script is read from a file.
-fn complains(
-    alloc: Global,
-    script: &str,
-    explain: bool,
-    text: &str,
-) -> Result<bool, AllocError> {
+fn complains(alloc: Global, script: &str, explain: bool, text: &str) -> Result<bool, AllocError> {
     let mut input = script.as_bytes();
     let mut output = Vec::new(alloc);
     let job = Job::Replay {
