@@ -114,10 +114,13 @@ pub fn from_raw(kind: Kind, raw: u64) -> Operand
     Operand::of(kind.is_big(), unwrapped(kind, raw))
 }
 
-/// The raw element that a whole number is written as, whether or not the kind's elements are BigInts: its low bits, as
-/// many as an element has (NumericToRawBytes).
+/// The raw element that a whole number is written as in an element of the kind, whether or not its elements are BigInts:
+/// the number's low bits, as many as an element has (NumericToRawBytes).
+///
+/// The kind is one that the functions of `Atomics` take: of clamped and float kinds the standard says otherwise.
 #[tactic(auto, using(crate::proofs::RawElements::wraps))]
 pub fn wrapped(kind: Kind, v: i128) -> u64
+    requires { IsTrue (is_atomic kind) }
     ensures value { result ≡ raw kind v }
     ensures fits { result < raw_count kind }
 {

@@ -194,7 +194,7 @@ unwritten v call w T T' none p at block byte h = absurd (differ (none p block by
     differ : {b : Bool} → b ≡ false → b ≡ true → ⊥
     differ e f = cc
 
-some-one : (p q : ℕ) → Some p ≡ Some q → p ≡ q
+pub some-one : (p q : ℕ) → Some p ≡ Some q → p ≡ q
 some-one p q h = cc
 
 -- an access reads the bytes of its element

@@ -9,7 +9,7 @@ use Rattle.sab_block.specs.declared.access.Access.TheVariants as X
 use Rattle.sab_block.specs.declared.operand.Operand.{Operand}
 use Rattle.sab_block.specs.declared.view.View.{View}
 use Rattle.sab_block.specs.Block.{digits, put}
-use Rattle.sab_block.specs.Kind.{element_size, is_big, raw_count}
+use Rattle.sab_block.specs.Kind.{element_size, is_atomic, is_big, raw_count}
 use Rattle.sab_block.specs.Operand.{operand, raw, value, whole_of}
 use Rattle.sab_block.specs.View.{kind_of, place}
 use Rattle.sab_block.specs.Access.{ActsAt, element, raw_of}
@@ -39,9 +39,9 @@ use Rattle.sab_judge.specs.Event.{idle_event}
 use Rattle.sab_events.specs.declared.target.Target.{Target}
 use Rattle.sab_events.specs.Events.{target_of, access_of, access_by, enters, waiters_by}
 use Rattle.sab_events.specs.Acting.{IsOfElement, reads_element, WritesElement, is_in_section, Reports, ReportsItsCall, IsOfItsAgent}
-use Rattle.sab_events.proofs.WrittenBytes.{put-before, put-inside, put-after, place-inside, is_inside, raw-value, fits-value}
+use Rattle.sab_events.proofs.WrittenBytes.{atomic-kind, put-before, put-inside, put-after, place-inside, is_inside, raw-value, fits-value}
 use Rattle.sab_events.proofs.Runs.{AreOf, HasBlock, has_block, target_at, writes_at, Does-leaves, zeros_are, zeros_in}
-use Rattle.sab_events.proofs.Depending.{of_element, inside, inside-from, inside-below, reads_at, place_parts, target_place}
+use Rattle.sab_events.proofs.Depending.{of_element, inside, inside-from, inside-below, reads_at, place_parts, target_place, some-one}
 
 -- ---- blocks have bytes
 
@@ -156,9 +156,6 @@ element-of v call p block byte at h =
       below = inside-below p size byte parts.1;
     }
 
-some-one : (p q : ℕ) → Some p ≡ Some q → p ≡ q
-some-one p q h = cc
-
 of-element : (v : PlanView) (call : Call) (p block byte : ℕ) → place v.view (index_of call) ≡ Some p
     → IsOfElement v call block byte → of_element v p block byte ≡ true
 of-element v call p block byte at is =
@@ -211,16 +208,13 @@ record WritesSo (flag : Bool) (Writes : Type 0) : Type 0 where
   there : flag ≡ true → Writes
   back : Writes → flag ≡ true
 
-never : (Writes : Type 0) → (Writes → ⊥) → WritesSo false Writes
-never W not = record { there = λ h. absurd (cc); back = λ h. absurd (not h) }
-
--- whether an access's event writes
+-- a compareExchange
 exchange-writes : (v : PlanView) (n : ℕ) (index : ℤ) (y z x : Operand) (S : State) (p : ℕ)
-    → place v.view index ≡ Some p → AreBytes S.mem
+    → place v.view index ≡ Some p → is_atomic (kind_of v.view) ≡ true → AreBytes S.mem
     → x ≡ operand (kind_of v.view) (element v.view (bytes_of S.mem v.block) p)
     → WritesSo (access_of (X.CompareExchange index y z) x (target_at (C.Access n (X.CompareExchange index y z)) v p)).writes
     (WritesElement (Acted (A.Value x)) (C.Access n (X.CompareExchange index y z)) v S)
-exchange-writes v n index y z x S p at are answers =
+exchange-writes v n index y z x S p at atomic are answers =
     let r = element v.view (bytes_of S.mem v.block) p in
     let fits : r < raw_count (kind_of v.view) =
     number-lt (bytes_of S.mem v.block) p (element_size (kind_of v.view)) (λ k. are v.block k) in
@@ -228,14 +222,16 @@ exchange-writes v n index y z x S p at are answers =
       there = λ h. (
         record { block = v.block; byte = p },
         ap (λ (o : Option ℕ). option_map (λ b. record { block = v.block; byte = b }) o) at,
-        sym (eqb-true (raw_of v.view y) (raw_of v.view x) h ∙ is),
+        sym (eqb-true (raw_of v.view y) (raw_of v.view x)
+            (and_parts (is_atomic (kind_of v.view)) (raw_of v.view y == raw_of v.view x) h).1 ∙ is),
       );
       back = λ w.
           let parts = place_parts v (place v.view index) w.0 w.1 in
           let same : w.0.byte ≡ p = some-one w.0.byte p (sym parts.0 ∙ at) in
           let equal : r ≡ raw_of v.view y =
           ap (λ q. element v.view (bytes_of S.mem v.block) q) (sym same) ∙ w.2 in
-          eq-eqb (raw_of v.view y) (raw_of v.view x) (sym (is ∙ equal));
+          ap (λ b. b && (raw_of v.view y == raw_of v.view x)) atomic
+          ∙ eq-eqb (raw_of v.view y) (raw_of v.view x) (sym (is ∙ equal));
     }
 
 -- so its event writes a byte of its element
@@ -266,7 +262,8 @@ writes-is cb a v (C.Access n (X.CompareExchange index y z)) S (Acted (A.Value x)
     let same : d.1.1.0 ≡ p = some-one d.1.1.0 p (sym d.1.1.1 ∙ at) in
     let answers : x ≡ operand (kind_of v.view) (element v.view (bytes_of S.mem v.block) p) =
     d.1.1.2.0 ∙ ap (λ q. operand (kind_of v.view) (element v.view (bytes_of S.mem v.block) q)) same in
-    so-there _ v p block byte _ (exchange-writes v n index y z x S p at are answers)
+    so-there _ v p block byte _ (exchange-writes v n index y z x S p at
+    (atomic-kind v.view (X.CompareExchange index y z) d.0) are answers)
 writes-is cb a v (C.Access n access) S (Acted (A.Threw e)) T p block byte are at d = unwritten v p block byte _ (λ h. h)
 writes-is cb a v (C.Notify n index count) S (Acted (A.Threw e)) T p block byte are at d = unwritten v p block byte _ (λ h. h)
 writes-is cb a v (C.Notify n index count) S (Acted (A.Count k)) T p block byte are at d = unwritten v p block byte _ (λ h. h)

@@ -36,7 +36,7 @@ use Rattle.sab_judge.specs.declared.access.Access as Accesses
 use Rattle.sab_events.specs.declared.target.Target.{Target}
 use Rattle.sab_events.specs.Events.{target_of, access_of, access_by, event_of, events_of}
 use Rattle.sab_events.specs.Reading.{ChangesWhatItWrites, ReadsWhatWasLeft, ReadsZeros}
-use Rattle.sab_events.proofs.WrittenBytes.{ActsAt-outside, ActsAt-length, place-inside, is_inside}
+use Rattle.sab_events.proofs.WrittenBytes.{ActsAt-outside, ActsAt-length, atomic-kind, place-inside, is_inside}
 
 -- ---- one act
 
@@ -129,7 +129,7 @@ DoesCall-leaves cb a v (C.Access n access) S (Acted (A.Value x)) T block byte ha
     subst (λ (mem : List (List ℕ)). Leaves (IsUnwrittenBy v (C.Access n access) (Acted (A.Value x)) block byte) S.mem mem block byte) (sym (ap (λ (U : State). U.mem) d.1.2))
     (set_leaves (IsUnwrittenBy v (C.Access n access) (Acted (A.Value x)) block byte) S.mem v bytes block byte has
     (ActsAt-length v.view access p (bytes_of S.mem v.block) x bytes inside d.1.1.2)
-    (λ e same. ActsAt-outside t access p (bytes_of S.mem v.block) x bytes byte inside d.1.1.2
+    (λ e same. ActsAt-outside t access p (bytes_of S.mem v.block) x bytes byte (atomic-kind v.view access d.0) inside d.1.1.2
     (here (access_of access x t).writes (v.block == block) (is_inside p (element_size (kind_of v.view)) byte)
     (eq-eqb v.block block (sym same))
     (sym (ap (λ b. (access_of access x t).writes && b) (covers-access access x t block byte)) ∙ e p d.1.1.1))))

@@ -1,5 +1,5 @@
 -- The bytes that an access leaves.
-use Rattle.std.proofs.Common.{◌≡◌, Some, ◌⊎◌, inl, inr, ℕ, ◌+◌, ◌-◌, ◌*◌, ◌^◌, ◌<◌, ◌≤◌, Bool, true, false, ◌&&◌, nat_le, nat_lt, ℤ, pos, negsuc, ◌+ℤ◌, ◌-ℤ◌, List, ◌++◌, length, take, drop, slice_index, cond, ap, sym, ◌∙◌, arith, rules, length-append, length-drop, eq-eqb}
+use Rattle.std.proofs.Common.{◌≡◌, Some, None, Option, ◌∷◌, map, refl, ◌⊎◌, inl, inr, ℕ, ◌+◌, ◌-◌, ◌*◌, ◌^◌, ◌<◌, ◌≤◌, Bool, true, false, ◌&&◌, nat_le, nat_lt, ℤ, pos, negsuc, ◌+ℤ◌, ◌-ℤ◌, List, ◌++◌, length, take, drop, slice_index, cond, ap, sym, ◌∙◌, arith, rules, length-append, length-drop, eq-eqb}
 use Rattle.std.proofs.lemmas.Bool.{cases_eq}
 use Rattle.std.proofs.lemmas.Option.{cond_some}
 use borrow.Author.Tests.{ltb-true}
@@ -10,17 +10,20 @@ use Rattle.std.proofs.Math.ListN.{get_or-append}
 use Rattle.std.proofs.lemmas.List.{length-map, length-take, get_or-take, get_or-append_right, get_or-drop}
 use Rattle.std.proofs.lemmas.List.FromFn.{length-range_with_len}
 use Rattle.std.specs.Int.{w128}
-use Rattle.std.specs.Prelude.{FitsSigned, ◌==◌}
+use Rattle.std.specs.Prelude.{FitsSigned, ◌==◌, option_map}
 use Rattle.sab_block.specs.declared.kind.Kind.{Kind}
 use Rattle.sab_block.specs.declared.access.Access.{Access}
 use Rattle.sab_block.specs.declared.access.Access.TheVariants as X
 use Rattle.sab_block.specs.declared.operand.Operand.{Operand}
 use Rattle.sab_block.specs.declared.view.View.{View}
 use Rattle.sab_block.specs.Block.{digits, put}
-use Rattle.sab_block.specs.Kind.{element_size, is_signed, is_big, raw_count}
+use Rattle.sab_block.specs.Kind.{element_size, is_atomic, is_signed, is_big, raw_count}
 use Rattle.sab_block.specs.Operand.{raw, value, modulo, whole_of, operand}
 use Rattle.sab_block.specs.View.{kind_of, block_len_of, offset_of, len_of, place}
-use Rattle.sab_block.specs.Access.{ActsAt, element, raw_of}
+use Rattle.sab_block.specs.declared.check.Check.{Check}
+use Rattle.sab_block.specs.declared.check.Check.TheVariants as K
+use Rattle.sab_block.specs.Check.{thrown_by, first_failed}
+use Rattle.sab_block.specs.Access.{ActsAt, access_verdict, element, index_check, index_of, operand_check, operands_of, raw_of}
 use Rattle.sab_block.proofs.RawElements.{modulo-pow, raw-lt, element_bits}
 use Rattle.sab_block.proofs.WholeNumbers.{kept}
 use Rattle.sab_events.specs.declared.target.Target.{Target}
@@ -134,30 +137,44 @@ put-outside mem p size r byte h e = elim (side p size byte e) [
     side : (p size byte : ℕ) → is_inside p size byte ≡ false → (byte < p) ⊎ (p + size ≤ byte)
     side p size byte e = grind (arith, nat_tests)
 
+-- an access whose checks pass is of a kind that the functions of Atomics take
+passing : (b : Bool) (o : Option Check) → option_map thrown_by (cond b o (Some K.AtomicKind)) ≡ None → b ≡ true
+passing true o h = refl
+passing false o h = absurd (cc)
+
+pub atomic-kind : (view : View) (access : Access) → access_verdict view access ≡ None
+    → is_atomic (kind_of view) ≡ true
+atomic-kind view access h =
+    passing (is_atomic (kind_of view))
+    (first_failed (index_check view (index_of access) ∷ map (operand_check view) (operands_of access))) h
+
 -- where an exchange was made, the answer is the element expected
-exchanged : (view : View) (y x : Operand) (r : ℕ) → r ≡ raw_of view y → x ≡ operand (kind_of view) r
-    → (raw_of view y == raw_of view x) ≡ true
-exchanged view y x r e f =
+exchanged : (view : View) (y x : Operand) (r : ℕ) → is_atomic (kind_of view) ≡ true → r ≡ raw_of view y
+    → x ≡ operand (kind_of view) r
+    → (is_atomic (kind_of view) && (raw_of view y == raw_of view x)) ≡ true
+exchanged view y x r atomic e f =
     let kind = kind_of view in
     let fits : r < raw_count kind = rw e (raw-lt kind (whole_of y)) in
     let whole : whole_of x ≡ value kind r = ap whole_of f ∙ kept (is_big kind) (value kind r) (fits-value kind r fits) in
     let back : raw_of view x ≡ r = ap (raw kind) whole ∙ raw-value kind r fits in
-    eq-eqb (raw_of view y) (raw_of view x) (sym e ∙ sym back)
+    ap (λ b. b && (raw_of view y == raw_of view x)) atomic
+    ∙ eq-eqb (raw_of view y) (raw_of view x) (sym e ∙ sym back)
 
 -- an access leaves the bytes that its event doesn't write
 pub ActsAt-outside : (t : Target) (access : Access) (p : ℕ) (mem : List ℕ) (x : Operand) (mem' : List ℕ) (byte : ℕ)
-    → p + element_size (kind_of t.view) ≤ length mem → ActsAt t.view access p mem x mem'
+    → is_atomic (kind_of t.view) ≡ true → p + element_size (kind_of t.view) ≤ length mem
+    → ActsAt t.view access p mem x mem'
     → ((access_of access x t).writes && is_inside p (element_size (kind_of t.view)) byte) ≡ false
     → slice_index mem' byte ≡ slice_index mem byte
-ActsAt-outside t (X.Load index) p mem x mem' byte h acts e = ap (λ bytes. slice_index bytes byte) acts.1
-ActsAt-outside t (X.Store index y) p mem x mem' byte h acts e =
+ActsAt-outside t (X.Load index) p mem x mem' byte atomic h acts e = ap (λ bytes. slice_index bytes byte) acts.1
+ActsAt-outside t (X.Store index y) p mem x mem' byte atomic h acts e =
     ap (λ bytes. slice_index bytes byte) acts.1 ∙ put-outside mem p (element_size (kind_of t.view)) _ byte h e
-ActsAt-outside t (X.Rmw op index y) p mem x mem' byte h acts e =
+ActsAt-outside t (X.Rmw op index y) p mem x mem' byte atomic h acts e =
     ap (λ bytes. slice_index bytes byte) acts.1 ∙ put-outside mem p (element_size (kind_of t.view)) _ byte h e
-ActsAt-outside t (X.CompareExchange index y z) p mem x mem' byte h acts e =
+ActsAt-outside t (X.CompareExchange index y z) p mem x mem' byte atomic h acts e =
     elim (cases_eq (element t.view mem p) (raw_of t.view y)) [
       | inl same ↦
-          let writes = exchanged t.view y x (element t.view mem p) same acts.0 in
+          let writes = exchanged t.view y x (element t.view mem p) atomic same acts.0 in
           ap (λ bytes. slice_index bytes byte) (acts.1 same)
           ∙ put-outside mem p (element_size (kind_of t.view)) _ byte h
           (sym (ap (λ b. b && is_inside p (element_size (kind_of t.view)) byte) writes) ∙ e)

@@ -1,9 +1,9 @@
 -- The events of a journal (Agent Events Records).
-use Rattle.std.specs.Prelude.{◌==◌, Bool, true, false, if◌then◌else◌, List, map, slice_get, Option, Some, None, option_map, option_and_then}
+use Rattle.std.specs.Prelude.{◌==◌, ◌&&◌, Bool, true, false, if◌then◌else◌, List, map, slice_get, Option, Some, None, option_map, option_and_then}
 use Rattle.sab_block.specs.declared.access.Access as B
 use Rattle.sab_block.specs.declared.access.Access.TheVariants as X
 use Rattle.sab_block.specs.declared.operand.Operand.{Operand}
-use Rattle.sab_block.specs.Kind.{element_size}
+use Rattle.sab_block.specs.Kind.{element_size, is_atomic}
 use Rattle.sab_block.specs.View.{kind_of, place}
 use Rattle.sab_block.specs.Access.{raw_of}
 use Rattle.sab_plan.specs.declared.call.Call.{Call}
@@ -52,8 +52,9 @@ access_of (X.Store index y) x t = seq_cst t false true
 -- AtomicReadModifyWrite: ReadModifyWriteSharedMemory
 access_of (X.Rmw op index y) x t = seq_cst t true true
 -- Atomics.compareExchange: ReadModifyWriteSharedMemory where the element, which is the answer, is the one expected
--- (ByteListEqual), and else ReadSharedMemory
-access_of (X.CompareExchange index y z) x t = seq_cst t true (raw_of t.view y == raw_of t.view x)
+-- (ByteListEqual), and else ReadSharedMemory; it has an answer only of a kind that the functions of Atomics take
+access_of (X.CompareExchange index y z) x t =
+    seq_cst t true (is_atomic (kind_of t.view) && (raw_of t.view y == raw_of t.view x))
 
 -- the access that a call makes where it does this
 abbrev pub access_by : What → Call → Target → Option Access

@@ -1,8 +1,8 @@
 //! The elements that calls name, and what is accessed there.
 
-ghost use Rattle.std.specs.Prelude.{◌≡◌, ◌+◌, ◌≤◌, IfSome, Some, slice_get};
+ghost use Rattle.std.specs.Prelude.{◌≡◌, ◌+◌, ◌≤◌, IfSome, IsTrue, Some, slice_get};
 ghost use Rattle.std.specs.Option.{ForSome};
-ghost use Rattle.sab_block.specs.Kind.{element_size};
+ghost use Rattle.sab_block.specs.Kind.{element_size, is_atomic};
 ghost use Rattle.sab_block.specs.View.{kind_of, block_len_of};
 ghost use Rattle.sab_block.specs.Access as accesses;
 ghost use Rattle.sab_judge.specs.Trace.{HasBytes};
@@ -116,7 +116,9 @@ impl Target {
             sab_block::Access::Store { .. } => self.seq_cst(false, true),
             sab_block::Access::Rmw { .. } => self.seq_cst(true, true),
             sab_block::Access::CompareExchange { expected, .. } => {
-                self.seq_cst(true, self.raw_of(expected) == self.raw_of(answer))
+                let exchanged = self.view.kind().is_atomic()
+                    && self.raw_of(expected) == self.raw_of(answer);
+                self.seq_cst(true, exchanged)
             }
         }
     }
@@ -136,6 +138,7 @@ impl Target {
 
     /// The raw element that an operand is written as (NumericToRawBytes).
     fn raw_of(self, operand: Operand) -> u64
+        requires { IsTrue (is_atomic (kind_of self.view)) }
         ensures { result ≡ accesses.raw_of self.view operand }
     {
         wrapped(self.view.kind(), operand.whole())

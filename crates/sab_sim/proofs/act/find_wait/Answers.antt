@@ -1,15 +1,18 @@
 -- All checks of a wait passed, and the raw element was compared.
-use Rattle.std.proofs.Common.{◌≡◌, ℕ, zero, suc, ℤ, Bool, List, [], ◌∷◌, length, map, slice_get, get_or, Option, Some, None, Result, Ok, Err, sym, ap, subst, ◌∙◌, rules}
+use Rattle.std.proofs.Common.{◌≡◌, ℕ, zero, suc, ℤ, Bool, true, false, cond, refl, List, [], ◌∷◌, length, map, slice_get, get_or, Option, Some, None, Result, Ok, Err, sym, ap, subst, ◌∙◌, rules}
 use Rattle.std.specs.Prelude.{option_map}
 use Rattle.std.specs.Result.{MatchResult}
 use Rattle.std.proofs.lemmas.Int.{to_z-of_z}
 use Rattle.std.specs.Int.{w64, w128}
 use Rattle.sab_block.specs.declared.check.Check.{Check}
+use Rattle.sab_block.specs.declared.check.Check.TheVariants as C
 use Rattle.sab_block.specs.declared.thrown.Thrown.{Thrown}
 use Rattle.sab_block.specs.declared.kind.Kind.{Kind}
+use Rattle.sab_block.specs.declared.kind.Kind.TheVariants as K
+use Rattle.sab_block.specs.declared.view.View.{View}
 use Rattle.sab_block.specs.declared.operand.Operand.{Operand}
 use Rattle.sab_block.specs.Operand.{raw, whole_of}
-use Rattle.sab_block.specs.Kind.{element_size}
+use Rattle.sab_block.specs.Kind.{element_size, is_atomic, is_waitable}
 use Rattle.sab_block.specs.View.{kind_of, place}
 use Rattle.sab_block.specs.Block.{number}
 use Rattle.sab_block.specs.Check.{Checked, thrown_by, first_failed, first_thrown, Places}
@@ -41,6 +44,26 @@ passed_by : (checks : List Checked) (o : Option ℕ) (answer : Result ℕ Check)
     → (first_failed checks ≡ None) × (o ≡ Some byte)
 passed_by checks o (Ok p) byte is h = (h.0, rw h.1 (cc))
 passed_by checks o (Err check) byte is h = absurd is
+
+-- the kind of an element that is waited at is one that the functions of Atomics take
+waitable_is_atomic : (kind : Kind) → is_waitable kind ≡ true → is_atomic kind ≡ true
+waitable_is_atomic K.Int32 h = refl
+waitable_is_atomic K.BigInt64 h = refl
+waitable_is_atomic kind h = absurd (cc)
+
+first_passes : (passes : Bool) (check : Check) (rest : Option Check) → cond passes rest (Some check) ≡ None → passes ≡ true
+first_passes true check rest h = refl
+first_passes false check rest h = absurd (cc)
+
+-- the kind of a view on which a wait's byte was answered
+atomic_by : (can_block : Bool) (view : View) (z : ℤ) (x : Operand) (kind : Kind) (answer : Result ℕ Check) (byte : ℕ)
+    → kind ≡ kind_of view → AnswersByte answer byte → Places (wait_checks can_block view z x) (place view z) answer
+    → is_atomic kind ≡ true
+atomic_by can_block view z x kind answer byte same answers placed =
+    waitable_is_atomic kind
+    (ap is_waitable same
+    ∙ first_passes (is_waitable (kind_of view)) C.WaitableKind _
+    (passed_by (wait_checks can_block view z x) (place view z) answer byte answers placed).0)
 
 -- all checks pass, and the element at the index was read
 record HasRead (can_block : Bool) (v : PlanView) (index : ℤ) (x : Operand) (mem : List (List ℕ)) (byte r read : ℕ) :
@@ -77,6 +100,11 @@ has_read can_block v index z x mem kind w byte r size read len bytes kind_is sam
           ∙ (ap (λ (k : Kind). number bytes byte (element_size k)) (sym kind_is)
           ∙ (ap (number bytes byte) (sym size_is) ∙ sym read_is));
     }
+
+pub wrapped-requires : goal.wrapped-requires
+wrapped-requires c =
+    atomic_by c.args.can_block c.args.view.now.view _ c.args.value c.kind-kind.result c.wait_place.result c.in_ok-byte.byte
+    c.kind-kind.ensures c.in_ok-byte.ensures.cases c.wait_place.ensures.place
 
 pub returns-then-element-wrapped : goal.returns-then-element-wrapped
 returns-then-element-wrapped c =
