@@ -1,11 +1,18 @@
 -- What the tokens of a text tell, where no tree is made of them.
-use Rattle.std.specs.Prelude.{◌≡◌, ◌≤◌, ◌⊎◌, ℕ, List, [], ◌∷◌, map, Some, codes}
+use Rattle.std.specs.Prelude.{◌≡◌, ◌≤◌, ◌⊎◌, ℕ, pos, List, [], ◌∷◌, map, Some, codes}
 use Rattle.json.specs.Token.{Token}
 use Rattle.json.specs.Json as text
 use Rattle.json.specs.Tree.{depth, items_depth}
 use Rattle.json.specs.Find.{BeginsWith, InItems}
-use Rattle.serde_json.specs.Data.{Data, Items}
+use Rattle.serde_json.specs.Data.{Data, string, Items}
 use Rattle.serde_json.specs.Read.{of_json, of_items}
+use Rattle.sab_block.specs.Kind.{kind_name}
+use Rattle.sab_script.specs.declared.form.Form.{Form}
+use Rattle.sab_script.specs.declared.form.Form.TheVariants.{Bytes, Blocks}
+use Rattle.sab_script.specs.declared.view_spec.ViewSpec.{ViewSpec}
+use Rattle.sab_script.specs.Blocks.{lens_name}
+use Rattle.sab_script.specs.Numbers.{whole, SpellsWhole, SpellsOptional}
+use Rattle.sab_script.specs.Views.{IsName}
 
 -- the value that the tokens begin with nests so deep at most, and reads as a tree of this kind
 abbrev pub Tells : ℕ → (Data → Type 0) → List Token → Type 0
@@ -59,11 +66,34 @@ IsObjectOf parts j = (ms : text.Members) × (j ≡ text.object ms) × AreNamed (
 abbrev pub agent_members : text.Json → text.Json → List (List ℕ × text.Json)
 agent_members block calls = (codes "block", block) ∷ (codes "calls", calls) ∷ []
 
-abbrev pub view_members : text.Json → text.Json → text.Json → text.Json → text.Json → List (List ℕ × text.Json)
-view_members block kind length name offset =
-    (codes "block", block) ∷ (codes "kind", kind) ∷ (codes "length", length) ∷ (codes "name", name)
-    ∷ (codes "offset", offset) ∷ []
+abbrev pub description_members : text.Json → text.Json → text.Json → text.Json → List (List ℕ × text.Json)
+description_members kind length name offset =
+    (codes "kind", kind) ∷ (codes "length", length) ∷ (codes "name", name) ∷ (codes "offset", offset) ∷ []
 
-abbrev pub script_members : text.Json → text.Json → text.Json → text.Json → List (List ℕ × text.Json)
-script_members agents blocks schedule views =
-    (codes "agents", agents) ∷ (codes "blocks", blocks) ∷ (codes "schedule", schedule) ∷ (codes "views", views) ∷ []
+abbrev pub script_members : Form → text.Json → text.Json → text.Json → text.Json → List (List ℕ × text.Json)
+script_members form agents lens schedule views =
+    (codes "agents", agents) ∷ (lens_name form, lens) ∷ (codes "schedule", schedule) ∷ (codes "views", views) ∷ []
+
+-- the value that the tokens begin with is an object of just the members of a script of this form, whose values begin so
+abbrev pub HasScriptParts : Form → List Token → List Token → List Token → List Token → List Token → Type 0
+HasScriptParts form tokens agents lens schedule views = (j : text.Json) → BeginsWith tokens j
+    → (a : text.Json) × (l : text.Json) × (s : text.Json) × (v : text.Json) × IsObjectOf (script_members form a l s v) j
+    × BeginsWith agents a × BeginsWith lens l × BeginsWith schedule s × BeginsWith views v
+
+-- the object that the tokens begin with has just one member of this name, which reads as a tree of this kind
+abbrev pub TellsMember : List ℕ → (Data → Type 0) → List Token → Type 0
+TellsMember name Kind tokens = (ms : text.Members) → BeginsWith tokens (text.object ms)
+    → (j : text.Json) × HasOnly name j ms × ((d : Data) × ((of_json j ≡ Some d) × (depth j ≤ 0)) × Kind d)
+
+-- its block is at this position: that of its member, if the form has one
+abbrev pub TellsBlock : Form → List Token → ℕ → Type 0
+TellsBlock Bytes tokens block = block ≡ 0
+TellsBlock Blocks tokens block = TellsMember (codes "block") (λ d. d ≡ whole (pos block)) tokens
+
+-- its other members are those of a view, by its name
+pub record TellsDescription (tokens : List Token) (v : List ℕ × ViewSpec) : Type 0 where
+  pub kind : TellsMember (codes "kind") (λ d. d ≡ string (kind_name v.1.kind)) tokens
+  pub length : TellsMember (codes "length") (λ d. SpellsOptional d v.1.length) tokens
+  pub name : TellsMember (codes "name") (λ d. d ≡ string v.0) tokens
+  pub is_name : IsName v.0
+  pub offset : TellsMember (codes "offset") (λ d. SpellsWhole d v.1.offset) tokens

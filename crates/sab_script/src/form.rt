@@ -15,7 +15,7 @@ impl Form {
     ghost use Rattle.std.specs.Prelude.{◌≡◌};
     ghost use Rattle.sab_script.specs.Blocks.{lens_name};
     ghost use Rattle.sab_refusal.specs.Location.{member_name};
-    ghost use Rattle.sab_script.specs.Places.{lens_member};
+    ghost use Rattle.sab_script.specs.Places.{lens_member, view_members};
 
     /// The member of a script that tells of its blocks.
     pub(crate) fn lens_member(self) -> Member
@@ -25,6 +25,22 @@ impl Form {
         match self {
             Form::Bytes => Member::Bytes,
             Form::Blocks => Member::Blocks,
+        }
+    }
+
+    /// The members of a view.
+    pub(crate) fn view_members(self) -> &'static [Member]
+        ensures { result.now ≡ view_members self }
+    {
+        match self {
+            Form::Bytes => &[Member::Kind, Member::Length, Member::Name, Member::Offset],
+            Form::Blocks => &[
+                Member::Block,
+                Member::Kind,
+                Member::Length,
+                Member::Name,
+                Member::Offset,
+            ],
         }
     }
 }

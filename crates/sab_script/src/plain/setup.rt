@@ -1,17 +1,18 @@
 //! Setups, from the tokens of a script.
 
-ghost use Rattle.std.specs.Prelude.{◌≡◌, IfOk, IfSome};
-ghost use Rattle.json.specs.Json.{Json};
-ghost use Rattle.json.specs.Find.{BeginsWith, HasValue};
-ghost use Rattle.sab_script.specs.Plain.{Tells, IsObjectOf, script_members};
+ghost use Rattle.std.specs.Prelude.{IfOk, IfSome};
+ghost use Rattle.json.specs.Find.{HasValue};
+ghost use Rattle.sab_script.specs.Plain.{Tells, HasScriptParts};
 ghost use Rattle.sab_script.specs.Script.{IsScriptOf};
 ghost use Rattle.sab_script.specs.Setup.{Spells};
 
+use crate::form::Form;
 use crate::plain::agents::scan_agents;
+use crate::plain::blocks::scan_lens;
 use crate::plain::lists::Miss;
 use crate::plain::members::{are_named, only_member};
 use crate::plain::schedule::scan_schedule;
-use crate::plain::views::{scan_lens, scan_views};
+use crate::plain::views::scan_views;
 use crate::setup::{Setup, setup_by_parts};
 use json::{Element, Error, Scratch, Tape};
 use sab_refusal::Member;
@@ -27,23 +28,17 @@ struct ScriptValues<'t, 'a> {
     views: Element<'t, 'a>,
 }
 
-/// The values of a script's members; `None` where the value has other members.
-fn script_values<'t, 'a>(element: &Element<'t, 'a>) -> Option<ScriptValues<'t, 'a>>
-    ensures { IfSome result (λ p. (j : Json) → BeginsWith element.now j
-        → (a : Json) × (l : Json) × (s : Json) × (v : Json) × IsObjectOf (script_members a l s v) j
-        × BeginsWith p.agents a × BeginsWith p.lens l × BeginsWith p.schedule s × BeginsWith p.views v) }
+/// The values of the members of a script of one form; `None` if the value isn't an object of just these members.
+fn values_in<'t, 'a>(form: Form, element: &Element<'t, 'a>) -> Option<ScriptValues<'t, 'a>>
+    ensures { IfSome result (λ p. HasScriptParts form element.now p.agents p.lens p.schedule p.views) }
 {
+    let lens_member = form.lens_member();
     are_named(
         element,
-        &[
-            Member::Agents,
-            Member::Blocks,
-            Member::Schedule,
-            Member::Views,
-        ],
+        &[Member::Agents, lens_member, Member::Schedule, Member::Views],
     )?;
     let agents = only_member(element, Member::Agents)?;
-    let lens = only_member(element, Member::Blocks)?;
+    let lens = only_member(element, lens_member)?;
     let schedule = only_member(element, Member::Schedule)?;
     let views = only_member(element, Member::Views)?;
     Some(ScriptValues {
@@ -54,16 +49,27 @@ fn script_values<'t, 'a>(element: &Element<'t, 'a>) -> Option<ScriptValues<'t, '
     })
 }
 
+/// The form of a script, and the values of its members; `None` if the value has neither form.
+fn script_values<'t, 'a>(element: &Element<'t, 'a>) -> Option<(Form, ScriptValues<'t, 'a>)>
+    ensures { IfSome result
+        (λ p. HasScriptParts p.0 element.now p.1.agents p.1.lens p.1.schedule p.1.views) }
+{
+    match values_in(Form::Blocks, element) {
+        Some(values) => Some((Form::Blocks, values)),
+        None => Some((Form::Bytes, values_in(Form::Bytes, element)?)),
+    }
+}
+
 /// The setup that a value spells.
 fn scan_setup(alloc: Global, element: &Element<'_, '_>) -> Result<Setup, Miss>
     requires { HasValue element.now }
     ensures { IfOk result (λ setup. Tells 5 (λ d. Spells d setup) element.now) }
 {
-    let Some(parts) = script_values(element) else {
+    let Some((form, parts)) = script_values(element) else {
         return Err(Miss::NotPlain);
     };
-    let lens = scan_lens(alloc, &parts.lens)?;
-    let (views, plan_views) = scan_views(alloc, &lens, &parts.views)?;
+    let lens = scan_lens(alloc, form, &parts.lens)?;
+    let (views, plan_views) = scan_views(alloc, form, &lens, &parts.views)?;
     let scripts = scan_agents(alloc, &views, &parts.agents)?;
     let schedule = scan_schedule(alloc, scripts.len() as u32, &parts.schedule)?;
     Ok(setup_by_parts(lens, views, plan_views, scripts, schedule))

@@ -1,18 +1,15 @@
-//! Blocks and views, from their tokens.
+//! Views, from their tokens.
 
 ghost use Rattle.std.specs.Prelude.{◌≡◌, ◌<◌, ◌≤◌, IfOk, IfSome, length as count};
-ghost use Rattle.json.specs.Json.{Json};
-ghost use Rattle.json.specs.Find.{BeginsWith};
 ghost use Rattle.serde_json.specs.Data.{Items as Trees, array, string};
 ghost use Rattle.sab_block.specs.Kind.{kind_name};
-ghost use Rattle.sab_script.specs.Blocks.{SpellsLen, SpellsLens};
 ghost use Rattle.sab_script.specs.Numbers.{SpellsOptional};
-ghost use Rattle.sab_script.specs.Plain.{Tells, IsObjectOf, view_members};
+ghost use Rattle.sab_script.specs.Plain.{Tells, TellsBlock, TellsDescription};
 ghost use Rattle.sab_script.specs.Views.{IsName, SpellsView, SpellsViews, IsDescribed, AreDescribed};
 
 use crate::form::Form;
 use crate::names::{is_name, kind};
-use crate::plain::lists::{Miss, Scanner, scan_items};
+use crate::plain::lists::Miss;
 use crate::plain::members::{are_named, only_member};
 use crate::plain::numbers::{scan_position, scan_whole};
 use crate::view_entry::plan_view;
@@ -23,77 +20,6 @@ use sab_block::Kind;
 use sab_plan::{Plan, PlanView};
 use sab_refusal::{Location, Member};
 use std::alloc::{AllocError, Global};
-
-/// Reads the length of a block.
-#[derive(Clone, Copy)]
-struct LenScanner;
-
-impl Scanner for LenScanner {
-    type Item = u32;
-
-    ghost nests = { λ _. 0 };
-
-    ghost Spells = { λ _. SpellsLen };
-
-    fn scan(&self, element: &Element<'_, '_>) -> Result<u32, Miss> {
-        match scan_position(Plan::MAX_BLOCK_LEN + 1, element) {
-            Some(len) => Ok(len),
-            None => Err(Miss::NotPlain),
-        }
-    }
-}
-
-/// The lengths of the blocks, in order.
-pub(crate) fn scan_lens(alloc: Global, element: &Element<'_, '_>) -> Result<Vec<u32>, Miss>
-    ensures { IfOk result (λ lens. Tells 1 (λ d. SpellsLens Form.Blocks d lens.items) element.now) }
-{
-    let lens = scan_items(alloc, &LenScanner, Plan::MAX_BLOCKS, element)?;
-    if lens.is_empty() {
-        return Err(Miss::NotPlain);
-    }
-    Ok(lens)
-}
-
-/// The values of a view's members.
-#[derive(Drop)]
-struct ViewValues<'t, 'a> {
-    block: Element<'t, 'a>,
-    kind: Element<'t, 'a>,
-    length: Element<'t, 'a>,
-    name: Element<'t, 'a>,
-    offset: Element<'t, 'a>,
-}
-
-/// The values of a view's members; `None` where the value has other members.
-fn view_values<'t, 'a>(element: &Element<'t, 'a>) -> Option<ViewValues<'t, 'a>>
-    ensures { IfSome result (λ p. (j : Json) → BeginsWith element.now j
-        → (b : Json) × (k : Json) × (l : Json) × (n : Json) × (o : Json) × IsObjectOf (view_members b k l n o) j
-        × BeginsWith p.block b × BeginsWith p.kind k × BeginsWith p.length l × BeginsWith p.name n
-        × BeginsWith p.offset o) }
-{
-    are_named(
-        element,
-        &[
-            Member::Block,
-            Member::Kind,
-            Member::Length,
-            Member::Name,
-            Member::Offset,
-        ],
-    )?;
-    let block = only_member(element, Member::Block)?;
-    let kind = only_member(element, Member::Kind)?;
-    let length = only_member(element, Member::Length)?;
-    let name = only_member(element, Member::Name)?;
-    let offset = only_member(element, Member::Offset)?;
-    Some(ViewValues {
-        block,
-        kind,
-        length,
-        name,
-        offset,
-    })
-}
 
 /// The kind of a name; `None` where there is none.
 fn kind_named(name: &str) -> Option<Kind>
@@ -136,21 +62,51 @@ fn view_on(lens: &[u32], spec: ViewSpec) -> Option<PlanView>
     plan_view(Location::Script, lens, spec).ok()
 }
 
-/// A view's name, what it is, and the view of a plan; `None` where the value spells none.
-fn scan_view<'a>(lens: &[u32], element: &Element<'_, 'a>) -> Option<(&'a str, ViewSpec, PlanView)>
-    requires { count lens.now ≤ Plan.MAX_BLOCKS }
-    ensures read { IfSome result
-        (λ p. Tells 1 (λ d. SpellsView Form.Blocks lens.now d (p.0.now, p.1)) element.now) }
+/// The position of a view's block, of so many blocks: the first, if a view of this form tells none; `None` if the
+/// value tells no such position.
+fn scan_block(form: Form, blocks: u32, element: &Element<'_, '_>) -> Option<u32>
+    requires { 0 < blocks }
+    ensures told { IfSome result (TellsBlock form element.now) }
+    ensures there { IfSome result (λ block. block < blocks) }
+{
+    match form {
+        Form::Bytes => Some(0),
+        Form::Blocks => scan_position(blocks, &only_member(element, Member::Block)?),
+    }
+}
+
+/// A view's name, and what it is on a block, by the members of a value; `None` if they spell no view.
+fn scan_description<'a>(block: u32, element: &Element<'_, 'a>) -> Option<(&'a str, ViewSpec)>
+    ensures told { IfSome result (λ p. TellsDescription element.now (p.0.now, p.1)) }
+    ensures block { IfSome result (λ p. p.1.block ≡ block) }
+{
+    let kind = scan_kind(&only_member(element, Member::Kind)?)?;
+    let length = scan_length(&only_member(element, Member::Length)?)?;
+    let name = scan_name(&only_member(element, Member::Name)?)?;
+    let offset = scan_whole(&only_member(element, Member::Offset)?)?;
+    let spec = ViewSpec {
+        kind,
+        offset,
+        length,
+        block,
+    };
+    Some((name, spec))
+}
+
+/// A view's name, what it is, and the view of a plan; `None` if the value spells none in this form.
+fn scan_view<'a>(
+    form: Form,
+    lens: &[u32],
+    element: &Element<'_, 'a>,
+) -> Option<(&'a str, ViewSpec, PlanView)>
+    requires some { 0 < count lens.now }
+    requires few { count lens.now ≤ Plan.MAX_BLOCKS }
+    ensures read { IfSome result (λ p. Tells 1 (λ d. SpellsView form lens.now d (p.0.now, p.1)) element.now) }
     ensures made { IfSome result (λ p. IsDescribed lens.now p.1 p.2) }
 {
-    let parts = view_values(element)?;
-    let spec = ViewSpec {
-        kind: scan_kind(&parts.kind)?,
-        offset: scan_whole(&parts.offset)?,
-        length: scan_length(&parts.length)?,
-        block: scan_position(lens.len() as u32, &parts.block)?,
-    };
-    let name = scan_name(&parts.name)?;
+    are_named(element, form.view_members())?;
+    let block = scan_block(form, lens.len() as u32, element)?;
+    let (name, spec) = scan_description(block, element)?;
     let plan_view = view_on(lens, spec)?;
     Some((name, spec, plan_view))
 }
@@ -158,12 +114,14 @@ fn scan_view<'a>(lens: &[u32], element: &Element<'_, 'a>) -> Option<(&'a str, Vi
 /// The views by name, and as a plan's on blocks of these lengths, in order.
 pub(crate) fn scan_views(
     alloc: Global,
+    form: Form,
     lens: &[u32],
     element: &Element<'_, '_>,
 ) -> Result<(Views, Vec<PlanView>), Miss>
-    requires { count lens.now ≤ Plan.MAX_BLOCKS }
+    requires some { 0 < count lens.now }
+    requires few { count lens.now ≤ Plan.MAX_BLOCKS }
     ensures read { IfOk result (λ p. Tells 2 (λ d. (ds : Trees) × (d ≡ array ds)
-        × SpellsViews Form.Blocks lens.now ds p.0) element.now) }
+        × SpellsViews form lens.now ds p.0) element.now) }
     ensures made { IfOk result (λ p. AreDescribed lens.now p.0 p.1.items) }
 {
     let Some(mut items) = element.items() else {
@@ -172,7 +130,7 @@ pub(crate) fn scan_views(
     let mut views = Views::new(alloc);
     let mut plan_views = Vec::new(alloc);
     while let Some(item) = items.next() {
-        let Some((name, spec, plan_view)) = scan_view(lens, &item) else {
+        let Some((name, spec, plan_view)) = scan_view(form, lens, &item) else {
             return Err(Miss::NotPlain);
         };
         if plan_views.len() >= Plan::MAX_VIEWS || views.position(name).is_some() {

@@ -1,14 +1,21 @@
 use Rattle.std.proofs.Common.{◌≡◌, length, arith}
-use Rattle.sab_script.specs.declared.form.Form.TheVariants.{Blocks}
 use Rattle.sab_script.specs.Setup.{script_object}
 use Rattle.sab_script.proofs.ObjectTokens.{script_read}
 use Rattle.sab_script.proofs.WholePlan.{makes_plan}
+use Rattle.sab_script.proofs.WholeScript.{lens_limits}
 use Rattle.sab_script.proofs.plain.setup.scan_setup.Goals as goal
 
-pub scan_views-requires : goal.scan_views-requires
-scan_views-requires c =
+pub scan_views-requires-clause-some : goal.scan_views-requires-clause-some
+scan_views-requires-clause-some c =
     let p = c.in-Some.ensures c.requires.0 c.requires.1 in
-    let l = c.in_ok-lens.ensures p.1 p.6 in rw c.deref.ensures.value l.2.2.1
+    let l = c.in_ok-lens.ensures p.1 p.6 in
+    rw c.deref.ensures.value (lens_limits c.in-Some.form l.0 c.in_ok-lens.lens.items l.2).0
+
+pub scan_views-requires-clause-few : goal.scan_views-requires-clause-few
+scan_views-requires-clause-few c =
+    let p = c.in-Some.ensures c.requires.0 c.requires.1 in
+    let l = c.in_ok-lens.ensures p.1 p.6 in
+    rw c.deref.ensures.value (lens_limits c.in-Some.form l.0 c.in_ok-lens.lens.items l.2).1
 
 pub overflow_cast-len : goal.overflow_cast-len
 overflow_cast-len c =
@@ -21,7 +28,7 @@ setup_by_parts-requires-clause-plan c =
     let a = c.in_ok-scripts.ensures p.0 p.5 in
     let l = c.in_ok-lens.ensures p.1 p.6 in
     let v = c.in_ok-views.ensures.read p.3 p.8 in
-    makes_plan Blocks l.0 c.in_ok-lens.lens.items v.2.0 a.2.0 c.in_ok-views.views c.in_ok-views.plan_views.items
+    makes_plan c.in-Some.form l.0 c.in_ok-lens.lens.items v.2.0 a.2.0 c.in_ok-views.views c.in_ok-views.plan_views.items
     c.in_ok-scripts.scripts.items l.2 (rw c.deref.ensures.value at v.2.2)
     (rw c.deref.ensures.value at c.in_ok-views.ensures.made) a.2.2
 
@@ -33,16 +40,16 @@ returns c = λ j begins.
     let s = c.in_ok-schedule.ensures p.2 p.7 in
     let v = c.in_ok-views.ensures.read p.3 p.8 in
     let count : c.len.result ≡ length c.in_ok-scripts.scripts.items = omega (arith, c.len.ensures) in (
-      script_object Blocks a.0 l.0 s.0 v.0,
-      script_read 4 j p.0 p.1 p.2 p.3 a.0 l.0 s.0 v.0 p.4 a.1 (l.1.0, omega (arith, l.1.1)) (s.1.0, omega (arith, s.1.1))
+      script_object c.in-Some.form a.0 l.0 s.0 v.0,
+      script_read c.in-Some.form 4 j p.0 p.1 p.2 p.3 a.0 l.0 s.0 v.0 p.4 a.1 (l.1.0, omega (arith, l.1.1)) (s.1.0, omega (arith, s.1.1))
           (v.1.0, omega (arith, v.1.1)),
       rw c.setup_by_parts.ensures (record {
-        form = Blocks;
+        form = c.in-Some.form;
         agent_trees = a.2.0;
         lens_tree = l.0;
         move_trees = s.2.0;
         view_trees = v.2.0;
-        tree = λ i. script_object Blocks (a.2.1 i) l.0 (s.2.1 i) (v.2.1 i);
+        tree = λ i. script_object c.in-Some.form (a.2.1 i) l.0 (s.2.1 i) (v.2.1 i);
         lens = l.2;
         views = rw c.deref.ensures.value at v.2.2;
         described = rw c.deref.ensures.value at c.in_ok-views.ensures.made;

@@ -1,5 +1,4 @@
 use Rattle.std.proofs.Common.{ℕ, List, [], ◌∷◌, sym, arith, length-append}
-use Rattle.sab_script.specs.declared.form.Form.TheVariants.{Blocks}
 use Rattle.sab_script.specs.declared.view_spec.ViewSpec.{ViewSpec}
 use Rattle.sab_script.specs.Views.{SpellsView}
 use Rattle.sab_script.proofs.Described.{described_more}
@@ -9,7 +8,7 @@ use Rattle.sab_script.proofs.plain.views.scan_views.Goals as goal
 
 pub loop-item-init : goal.loop-item-init
 loop-item-init c = rw (c.new-views.ensures, c.new-plan_views.ensures.items) (record {
-  read = items_none 1 (SpellsView Blocks c.args.lens.now) c.args.element.now c.in-Some.items c.in-Some.ensures;
+  read = items_none 1 (SpellsView c.args.form c.args.lens.now) c.args.element.now c.in-Some.items c.in-Some.ensures;
   views = none_are_views;
   made = tt;
   filled = sym c.new-plan_views.ensures.len;
@@ -17,7 +16,7 @@ loop-item-init c = rw (c.new-views.ensures, c.new-plan_views.ensures.items) (rec
 
 pub loop-item-preserved : goal.loop-item-preserved
 loop-item-preserved c =
-    let S = SpellsView Blocks c.args.lens.now in
+    let S = SpellsView c.args.form c.args.lens.now in
     let found = c.in-Some-scan_view in
     let view : List ℕ × ViewSpec = (found.name.now, found.spec) in
     let added = c.in_ok-add.ensures.added in
@@ -42,5 +41,5 @@ pub returns-clause-read : goal.returns-clause-read
 returns-clause-read c =
     tells_by c.args.element.now
     (λ d h. (h.0, h.1, record { each = h.2; views = c.loop-item.invariant.views }))
-    (items_all 1 (SpellsView Blocks c.args.lens.now) c.args.element.now c.loop-item.items c.next.new.self c.loop-item.views
+    (items_all 1 (SpellsView c.args.form c.args.lens.now) c.args.element.now c.loop-item.items c.next.new.self c.loop-item.views
     c.in_default-next.ensures.value c.loop-item.invariant.read)

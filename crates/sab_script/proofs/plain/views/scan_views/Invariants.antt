@@ -1,12 +1,11 @@
 use Rattle.std.proofs.Common.{◌≡◌, length, vec_len}
-use Rattle.sab_script.specs.declared.form.Form.TheVariants.{Blocks}
 use Rattle.sab_script.specs.Views.{SpellsView, AreViews, AreDescribed}
 use Rattle.sab_script.proofs.Tokens.{ItemsSoFar}
 use Rattle.sab_script.proofs.plain.views.scan_views.Given as goal
 
 abbrev pub invariant-loop-item : goal.invariant-loop-item
 invariant-loop-item l = record {
-  read : ItemsSoFar 1 (SpellsView Blocks l.lens) l.element l.items l.views;
+  read : ItemsSoFar 1 (SpellsView l.form l.lens) l.element l.items l.views;
   views : AreViews l.views;
   made : AreDescribed l.lens l.views l.plan_views.items;
   filled : length l.views ≡ vec_len l.plan_views;

@@ -1,4 +1,4 @@
-use Rattle.sab_script.proofs.plain.setup.script_values.Goals as goal
+use Rattle.sab_script.proofs.plain.setup.values_in.Goals as goal
 
 pub returns : goal.returns
 returns c = λ j begins.
@@ -8,4 +8,5 @@ returns c = λ j begins.
     let l = c.in_ok-lens.ensures m.0 object_begins in
     let s = c.in_ok-schedule.ensures m.0 object_begins in
     let v = c.in_ok-views.ensures m.0 object_begins in
-    (a.0, l.0, s.0, v.0, (m.0, m.1, m.2, (a.1, (l.1, (s.1, (v.1, tt))))), a.2, l.2, s.2, v.2)
+    let name = c.lens_member-lens_member.ensures.name in
+    (a.0, l.0, s.0, v.0, (m.0, m.1, rw name at m.2, (a.1, (rw name at l.1, (s.1, (v.1, tt))))), a.2, l.2, s.2, v.2)
