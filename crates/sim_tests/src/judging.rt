@@ -204,6 +204,10 @@ fn races_beyond_the_most_are_counted(rt: HostRuntime) -> Result<(), Fail> {
         "other races are told",
     )?;
     expect(verdict.rest == 4, "another number is left")?;
+    expect(
+        verdict.data_races == 6,
+        "another number of data races is counted",
+    )?;
     expect(Order::SeqCst.is_seq_cst(), "an order is mistaken")
 }
 
