@@ -194,7 +194,7 @@ TRACES = [
 
 
 def rows():
-    """Gives each row: its name, the words of the command, how many events a trace has (0 of a script), and the input."""
+    """Gives each row: its name, the words of the command, how many events it has (a script 0), and the input."""
     for maker in SCRIPTS:
         for form in ("blocks", "bytes"):
             yield f"{maker.__name__}, {form}", ["replay"], 0, maker(form)
