@@ -89,8 +89,8 @@ impl Judge {
         self.events.push(event);
     }
 
-    /// Learns what the writes by `Atomics` knew that an access reads. Returns whether everything that conflicts with the
-    /// access happens before it.
+    /// Learns what the writes by `Atomics` knew that an access reads.
+    /// Returns whether everything that conflicts with the access happens before it.
     fn is_ordered(&mut self, access: &Event, clock: &mut Clock) -> bool {
         let shadow = &mut self.blocks[access.range.block];
         shadow.split(access.range);
