@@ -5,8 +5,8 @@ import { test } from "node:test";
 import { Board } from "../lib/board/board.mjs";
 import { STEP } from "../lib/board/clock.mjs";
 import { JOIN, LEAVE, MAKE, TIME_UP } from "../lib/board/journal.mjs";
-import { ORDER, PHASE } from "../lib/board/layout.mjs";
 import { waysOf } from "../lib/board/strategy/ways.mjs";
+import { ORDER, PHASE } from "../lib/memory/layout.mjs";
 
 const RULES = { ways: waysOf("uniform", true), maxMoves: 100_000, timeouts: 0.05 };
 

@@ -6,13 +6,13 @@ import { readdirSync } from "node:fs";
 import { describe, it, test } from "node:test";
 import { Board } from "../lib/board/board.mjs";
 import { waysOf } from "../lib/board/strategy/ways.mjs";
-import { PHASE } from "../lib/board/layout.mjs";
 import { check as checkWithSabsim, checkable } from "../lib/check/sabsim.mjs";
+import { PHASE } from "../lib/memory/layout.mjs";
 import { keptScript } from "../lib/shorter/kept-script.mjs";
 import { shorten } from "../lib/shorter/shorten.mjs";
-import { agentsPath } from "./common.mjs";
-import { firstFailing, groupOf } from "./groups.mjs";
-import { SABSIM, hasSabsim } from "./needs.mjs";
+import { agentsPath } from "./helpers/common.mjs";
+import { firstFailing, groupOf } from "./helpers/groups.mjs";
+import { SABSIM, hasSabsim } from "./helpers/needs.mjs";
 
 const { ASKS, WAITS, WAITS_TIMED, WOKEN, DONE } = PHASE;
 

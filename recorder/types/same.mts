@@ -1,10 +1,10 @@
 // Holds the types that the package declares (recorder.d.mts) against those of the code: each pair must be the same.
 
 import * as declared from "../recorder.mjs";
-import * as written from "../lib/recorder.mjs";
+import * as written from "../lib/library/recorder.mjs";
 import * as declaredTesting from "../testing.mjs";
 import * as writtenTesting from "../lib/suite/tests.mjs";
-import type { ExploreOptions, TrialOptions, WithBuffers } from "../lib/library-options.mjs";
+import type { ExploreOptions, TrialOptions, WithBuffers } from "../lib/library/library-options.mjs";
 import type { Ending } from "../lib/run/group.mjs";
 import type { Side, Told } from "../lib/run/findings.mjs";
 import type { Shortened } from "../lib/shorter/shorten.mjs";

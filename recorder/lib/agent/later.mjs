@@ -7,8 +7,8 @@ import util from "node:util";
 import { promiseHooks } from "node:v8";
 import {
   apply, defineProperty, getOwnPropertyDescriptor, uncurried, weakHas, weakSet,
-} from "../../kept/own.mjs";
-import { framesHere } from "./sources.mjs";
+} from "../primordials.mjs";
+import { framesHere } from "./frames.mjs";
 import { withoutOwn } from "./stack.mjs";
 
 const { inspect } = util;

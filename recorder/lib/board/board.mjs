@@ -2,12 +2,12 @@
 // row of random numbers, the time, what was done, and how the run ended. Only the thread that has the turn changes it.
 
 import { SCRIPT_LIMITS } from "../../script/limits.mjs";
-import { Random } from "../run/random.mjs";
+import { KnownPlaces } from "../memory/known-places.mjs";
+import { ORDER, PHASE, WORD, wordsFor } from "../memory/layout.mjs";
+import { Random } from "../memory/random.mjs";
 import { Clock } from "./clock.mjs";
 import { End } from "./end.mjs";
 import { EVENTS, Journal } from "./journal.mjs";
-import { KnownPlaces } from "./known-places.mjs";
-import { ORDER, PHASE, WORD, wordsFor } from "./layout.mjs";
 import { Line } from "./line.mjs";
 import { Row, STRAYS } from "./row.mjs";
 import { NOBODY_MOVES, Strategy } from "./strategy.mjs";

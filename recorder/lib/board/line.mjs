@@ -1,6 +1,6 @@
 // Who is at what, and the line of waiters: who waits where, in order of arrival.
 
-import { AGENT_WORD, PHASE, WORD, wordOf } from "./layout.mjs";
+import { AGENT_WORD, PHASE, WORD, wordOf } from "../memory/layout.mjs";
 
 const { load } = Atomics;
 

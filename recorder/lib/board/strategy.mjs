@@ -2,7 +2,7 @@
 // and then one whose wait has a timeout, which ends it. Where nothing else can move, the end of a time is what is left.
 // How it is drawn is a strategy's affair. A call that is nobody else's affair is made without a draw.
 
-import { AGENT_WORD, PHASE, WORD, wordOf } from "./layout.mjs";
+import { AGENT_WORD, PHASE, WORD, wordOf } from "../memory/layout.mjs";
 import { MOST_MOVES } from "./journal.mjs";
 import { Able } from "./strategy/able.mjs";
 import { Asked } from "./strategy/asked.mjs";
@@ -32,8 +32,8 @@ export class Strategy {
   /**
    * @param {Int32Array} words of the board
    * @param {Rules} rules
-   * @param {import("../run/random.mjs").Random} random
-   * @param {import("./known-places.mjs").KnownPlaces} places
+   * @param {import("../memory/random.mjs").Random} random
+   * @param {import("../memory/known-places.mjs").KnownPlaces} places
    * @param {import("./row.mjs").Row} row
    */
   constructor(words, rules, random, places, row) {

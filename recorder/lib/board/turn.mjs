@@ -2,8 +2,8 @@
 // who moves next, and the turn is handed to that agent's thread. No thread stands in between, so a call costs one
 // change of threads at most, and none where the same agent goes on.
 
-import { AGENT_WORD, NOBODY, STATUS, WORD, agentOf, inCall, inCode, wordOf } from "./layout.mjs";
-import { uncurried } from "../../kept/own.mjs";
+import { AGENT_WORD, NOBODY, STATUS, WORD, agentOf, inCall, inCode, wordOf } from "../memory/layout.mjs";
+import { uncurried } from "../primordials.mjs";
 
 const { load, store, add, compareExchange, wait, notify } = Atomics;
 const writeText = uncurried(Buffer.prototype.write);

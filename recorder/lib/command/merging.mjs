@@ -1,7 +1,7 @@
 // Summaries of several command lines, joined as if one had made all runs.
 
 import { readFileSync } from "node:fs";
-import { Refused } from "../run/plan.mjs";
+import { Refused } from "../options/refused.mjs";
 import { united, without } from "../seeds/ranges.mjs";
 import { differenceOf } from "./asked.mjs";
 import { FORM, whyNoSummary } from "./summary-form.mjs";

@@ -1,9 +1,9 @@
 // The plain text of a summary. It is made from the object that `--format json` tells, and from nothing else.
 
 import { HOW_TO_BUILD } from "../check/sabsim.mjs";
+import { counted, digits, listed } from "../keeping/words.mjs";
 import { rangeText } from "../seeds/ranges.mjs";
 import { shortenedLines } from "./shortened.mjs";
-import { counted, digits, listed } from "./words.mjs";
 
 /** @typedef {import("./summary.mjs").Told} Told */
 

@@ -124,7 +124,7 @@ export class Summary {
     this.scriptless = new Tally();
     /** @type {Failing | undefined} the failing run of the least seed */
     this.failing = undefined;
-    /** @type {import("../shorter/in-job.mjs").ShortenedByJob | undefined} what its shortening came to */
+    /** @type {import("../seeds/in-job.mjs").ShortenedByJob | undefined} what its shortening came to */
     this.shortened = undefined;
   }
 

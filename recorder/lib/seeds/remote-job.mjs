@@ -3,9 +3,9 @@
 
 import { fork } from "node:child_process";
 import { fileURLToPath } from "node:url";
-import { Refused } from "../run/plan.mjs";
 import { Difference, NoSabsim } from "../check/sabsim.mjs";
-import { endGroup } from "./group-end.mjs";
+import { Refused } from "../options/refused.mjs";
+import { endGroup } from "../processes/group-end.mjs";
 import { jobWords } from "./node-words.mjs";
 
 /** @typedef {import("../run/group.mjs").Outcome} Outcome */
@@ -104,7 +104,7 @@ export class RemoteJob {
   /**
    * @param {import("../shorter/alike.mjs").Told} told of a run that was found
    * @param {(tried: import("../shorter/shorten.mjs").Tried) => void} onTry
-   * @returns {Promise<import("../shorter/in-job.mjs").ShortenedByJob>}
+   * @returns {Promise<import("./in-job.mjs").ShortenedByJob>}
    */
   shorten(told, onTry) {
     this.onTry = onTry;

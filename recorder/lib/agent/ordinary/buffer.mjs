@@ -2,7 +2,7 @@
 // are told by what they read and write.
 
 import { KINDS } from "../../../script/kinds.mjs";
-import { apply, bufferOf, lengthOf, offsetOf, put, setPrototypeOf, tagOf, uncurried } from "../../../kept/own.mjs";
+import { apply, bufferOf, lengthOf, offsetOf, put, setPrototypeOf, tagOf, uncurried } from "../../primordials.mjs";
 import { blockNumber, refused } from "./context.mjs";
 import { wrappedArray } from "./elements.mjs";
 import { constructing, copying, looking, madePrivate } from "./guards.mjs";
