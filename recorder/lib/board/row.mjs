@@ -234,7 +234,7 @@ export class Row {
 
   /** @param {number} agent */
   #phase(agent) {
-    return this.words[wordOf(agent, AGENT_WORD.AT)];
+    return this.words[wordOf(agent, AGENT_WORD.PHASE)];
   }
 
   /** @param {number} agent */

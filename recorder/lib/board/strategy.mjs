@@ -139,7 +139,7 @@ export class Strategy {
 
   /** @param {number} agent */
   #goesOn(agent) {
-    return this.words[wordOf(agent, AGENT_WORD.AT)] === PHASE.ASKS && this.asked.goesOn(agent);
+    return this.words[wordOf(agent, AGENT_WORD.PHASE)] === PHASE.ASKS && this.asked.goesOn(agent);
   }
 
   /**
@@ -151,7 +151,7 @@ export class Strategy {
     able.clear();
     let timed = 0;
     for (let agent = 0; agent < this.rules.agents; agent += 1) {
-      const phase = this.words[wordOf(agent, AGENT_WORD.AT)];
+      const phase = this.words[wordOf(agent, AGENT_WORD.PHASE)];
       if (phase === PHASE.WAITS_TIMED) timed += 1;
       if (phase !== PHASE.ASKS && phase !== PHASE.WOKEN) continue;
       able.add(agent);
@@ -159,7 +159,7 @@ export class Strategy {
     }
     if (timed === 0 || (able.count > 0 && this.random.fraction() >= this.rules.timeouts)) return NOBODY_MOVES;
     for (let agent = 0; agent < this.rules.agents; agent += 1) {
-      if (this.words[wordOf(agent, AGENT_WORD.AT)] === PHASE.WAITS_TIMED) able.add(agent);
+      if (this.words[wordOf(agent, AGENT_WORD.PHASE)] === PHASE.WAITS_TIMED) able.add(agent);
     }
     return NOBODY_MOVES;
   }

@@ -32,7 +32,7 @@ export const WORD = Object.freeze({
 export const AGENT_WORD = Object.freeze({
   GO: 0,
   STATE: 1,
-  AT: 2,
+  PHASE: 2,
   WHERE_BLOCK: 3,
   WHERE_BYTE: 4,
   TICKET: 5,

@@ -72,7 +72,7 @@ export class Asked {
 
   /** @param {number} agent @returns {number} what its next move does, as flags */
   #does(agent) {
-    const phase = this.words[wordOf(agent, AGENT_WORD.AT)];
+    const phase = this.words[wordOf(agent, AGENT_WORD.PHASE)];
     if (phase === PHASE.ASKS) return this.words[wordOf(agent, AGENT_WORD.ASKS_HOW)];
     // The end of a time takes an agent off the line; of one that was woken nothing is left to be decided.
     return phase === PHASE.WAITS_TIMED ? FLAG.WAITERS : 0;

@@ -53,7 +53,7 @@ export class PartialOrder {
     const { words } = this;
     const word = wordOf(agent, AGENT_WORD.PRIORITY);
     // The end of a time is offered now and then, each time anew: a low priority would put it off for long.
-    const isOffered = words[wordOf(agent, AGENT_WORD.AT)] === PHASE.WAITS_TIMED;
+    const isOffered = words[wordOf(agent, AGENT_WORD.PHASE)] === PHASE.WAITS_TIMED;
     if (isOffered || words[word] === NONE) words[word] = (this.random.next() >>> 2) + 1;
     return words[word];
   }
