@@ -31,7 +31,7 @@ export const WORD = Object.freeze({
 /** Words of each agent; each agent has a line of the processor's cache for itself. */
 export const AGENT_WORD = Object.freeze({
   GO: 0,
-  STATE: 1,
+  STATUS: 1,
   PHASE: 2,
   WHERE_BLOCK: 3,
   WHERE_BYTE: 4,
