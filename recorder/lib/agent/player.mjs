@@ -371,7 +371,7 @@ export class Player {
       hasTurn = false;
     }
     this.isPlaying = false;
-    board.line.become(this.agent, PHASE.DONE);
+    board.line.become(this.agent, PHASE.FINISHED);
     board.turn.goHome(this.agent);
     if (!hasTurn) return;
     const why = problem ?? this.#undone("an agent");

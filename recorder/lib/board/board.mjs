@@ -92,7 +92,7 @@ export class Board {
     this.end.dismiss();
     for (let agent = 0; agent < this.rules.agents; agent += 1) {
       const phase = this.line.phase(agent);
-      if (phase !== PHASE.RUNS && phase !== PHASE.DONE) this.turn.wake(agent);
+      if (phase !== PHASE.RUNS && phase !== PHASE.FINISHED) this.turn.wake(agent);
     }
   }
 
@@ -146,7 +146,7 @@ export class Board {
   #somebodyCan() {
     for (let agent = 0; agent < this.rules.agents; agent += 1) {
       const phase = this.line.phase(agent);
-      if (phase !== PHASE.WAITS && phase !== PHASE.DONE && phase !== PHASE.RUNS) return true;
+      if (phase !== PHASE.WAITS && phase !== PHASE.FINISHED && phase !== PHASE.RUNS) return true;
     }
     return false;
   }

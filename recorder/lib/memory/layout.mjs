@@ -65,7 +65,7 @@ export const wordOf = (agent, word) => AGENTS + AGENT_WORDS * agent + word;
 export const wordsFor = (agents) => AGENTS + AGENT_WORDS * agents;
 
 /** What an agent is at. */
-export const PHASE = Object.freeze({ RUNS: 0, ASKS: 1, WAITS: 2, WAITS_TIMED: 3, WOKEN: 4, DONE: 5 });
+export const PHASE = Object.freeze({ RUNS: 0, ASKS: 1, WAITS: 2, WAITS_TIMED: 3, WOKEN: 4, FINISHED: 5 });
 
 /** What an agent's worker is at. */
 export const STATUS = Object.freeze({ IDLE: 0, BUSY: 1, DEAD: 2 });
