@@ -66,7 +66,7 @@ export class Job {
 
   /**
    * Looks for the shortest run that fails as one that was found, and has it checked.
-   * @param {import("../shorter/alike.mjs").Told} told of that run
+   * @param {import("../shorter/alike.mjs").RunSummary} told of that run
    * @param {(tried: import("../shorter/shorten.mjs").Tried) => void} onTry
    * @returns {Promise<import("./in-job.mjs").ShortenedByJob>} fails where the check has failed
    */

@@ -14,7 +14,7 @@ import { jobWords } from "./node-words.mjs";
  * @typedef {object} Request what a job's process is asked for: one of these
  * @property {Parameters<typeof import("./job.mjs").Job.open>[0]} [open]
  * @property {import("../run/group.mjs").Wanted[]} [run]
- * @property {import("../shorter/alike.mjs").Told} [shorten]
+ * @property {import("../shorter/alike.mjs").RunSummary} [shorten]
  * @property {true} [finish]
  */
 
@@ -102,7 +102,7 @@ export class RemoteJob {
   }
 
   /**
-   * @param {import("../shorter/alike.mjs").Told} told of a run that was found
+   * @param {import("../shorter/alike.mjs").RunSummary} told of a run that was found
    * @param {(tried: import("../shorter/shorten.mjs").Tried) => void} onTry
    * @returns {Promise<import("./in-job.mjs").ShortenedByJob>}
    */
