@@ -6,7 +6,7 @@ import * as declaredTesting from "../testing.mjs";
 import * as writtenTesting from "../lib/suite/tests.mjs";
 import type { ExploreOptions, TrialOptions, WithBuffers } from "../lib/library/library-options.mjs";
 import type { Ending } from "../lib/run/group.mjs";
-import type { Side, Told } from "../lib/run/findings.mjs";
+import type { Side, RaceReport } from "../lib/run/findings.mjs";
 import type { Shortened } from "../lib/shorter/shorten.mjs";
 
 type Same<One, Other> =
@@ -24,7 +24,7 @@ export type Held = [
   Holds<Same<keyof typeof declaredTesting, keyof typeof writtenTesting>>,
   Holds<Same<Flat<declared.Outcome>, Flat<written.Outcome>>>,
   Holds<Same<declared.Ending, Ending>>,
-  Holds<Same<Flat<declared.Race>, Flat<Told>>>,
+  Holds<Same<Flat<declared.Race>, Flat<RaceReport>>>,
   Holds<Same<Flat<declared.RaceSide>, Flat<Side>>>,
   Holds<Same<Flat<declared.Shortened>, Flat<Shortened>>>,
   Holds<Same<Parameters<declared.WithBuffers>, Parameters<WithBuffers>>>,

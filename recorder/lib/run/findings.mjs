@@ -20,7 +20,7 @@ import { ownCalls } from "./transcript.mjs";
  */
 
 /**
- * @typedef {object} Told two unordered accesses
+ * @typedef {object} RaceReport two unordered accesses
  * @property {[string, string]} lines of code, in their order; of one that isn't known, what it did
  * @property {string} text
  * @property {[Side, Side]} sides the one that was made first before the other
@@ -123,12 +123,12 @@ class Teller {
  * The races of a run: each pair of lines of code once, and at most a thousand of them; the last one's text says how
  * many there are besides.
  * @param {Telling} telling
- * @returns {Told[]} in the order of their later accesses
+ * @returns {RaceReport[]} in the order of their later accesses
  */
 export function racesTold(telling) {
   const teller = new Teller(telling);
   const { log, records } = telling.run;
-  /** @type {Told[]} */
+  /** @type {RaceReport[]} */
   const told = [];
   const pairs = new Set();
   for (const { one, other, byte } of racesOf(log, records.length)) {

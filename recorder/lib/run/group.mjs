@@ -23,7 +23,7 @@ import { Thread } from "../processes/thread.mjs";
  * @property {{ returned: number, calls: number }[]} progress of each agent: calls that returned, and that began
  * @property {{ hash: string, shown: string[] }} state of the end: a hash of how it ended and of all bytes, and the
  * beginnings of each buffer in hexadecimal digits
- * @property {import("./findings.mjs").Told[]} races the unordered accesses, each pair of lines of code once
+ * @property {import("./findings.mjs").RaceReport[]} races the unordered accesses, each pair of lines of code once
  * @property {string[]} [bytes] of each buffer as it was left, in hexadecimal digits; this and what follows is told of
  * runs that fail, and where it is asked for
  * @property {(string | null)[][]} [answers] of each agent's calls, as a report spells them; null: a wait that goes on
