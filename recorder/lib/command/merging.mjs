@@ -78,7 +78,7 @@ export function merged(parts) {
   const problems = summaries.flatMap((summary) => summary.problems);
   const told = joined.told({ stopped: stoppedOf(summaries), missing, problems });
   const shard = null;
-  return { summary: FORM, asked: { ...asked, seeds: askedSeeds, shard }, seeds, ...told, ...leftBy(summaries, told) };
+  return { summary: FORM, asked: { ...asked, seeds: askedSeeds, shard }, seeds, ...told, ...keptOf(summaries, told) };
 }
 
 /** @param {WholeSummary} summary */
@@ -121,7 +121,7 @@ function stoppedOf(summaries) {
  * @param {import("./summary.mjs").SummaryData} told of all
  * @returns {Pick<WholeSummary, "shortened" | "kept" | "notKept">}
  */
-function leftBy(summaries, { firstFailing }) {
+function keptOf(summaries, { firstFailing }) {
   const owner = firstFailing === null
     ? summaries.find(({ kept }) => kept !== null)
     : summaries.find((summary) => summary.firstFailing?.seed === firstFailing.seed);
