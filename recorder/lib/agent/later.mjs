@@ -218,7 +218,7 @@ export class Later {
       const found = getOwnPropertyDescriptor(globalThis, LOADED_LATE[at]);
       if (found?.get === undefined) continue;
       const { get } = found;
-      found.get = () => this.#aside(() => apply(get, globalThis, []));
+      found.get = () => this.#unwatched(() => apply(get, globalThis, []));
       defineProperty(globalThis, LOADED_LATE[at], found);
     }
   }
@@ -229,7 +229,7 @@ export class Later {
    * @param {() => T} act
    * @returns {T}
    */
-  #aside(act) {
+  #unwatched(act) {
     const { isWatching } = this;
     this.isWatching = false;
     try {
