@@ -1,5 +1,5 @@
-// The recorder's folders depend on each other in one direction. docs/ARCHITECTURE.md draws them in rows, and each folder
-// imports only from lower rows. Types in comments count, and so do the files that workers and processes begin with.
+// The recorder's folders depend on each other in one direction. docs/ARCHITECTURE.md draws them in rows: each folder
+// imports only from lower rows. Types in comments count, and so do the files that workers begin with.
 
 import assert from "node:assert/strict";
 import { existsSync, readFileSync, readdirSync } from "node:fs";

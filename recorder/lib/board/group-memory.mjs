@@ -1,4 +1,4 @@
-// The memory that the threads of a group share: the agents' buffers, and beside them all that the recorder has of a run.
+// The memory that the threads of a group share: the agents' buffers, and what the recorder writes down of a run.
 
 import { Log } from "../memory/log.mjs";
 import { Records } from "../memory/records.mjs";

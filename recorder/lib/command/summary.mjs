@@ -42,7 +42,8 @@ import { Tally } from "./tally.mjs";
  */
 
 /**
- * @typedef {object} SummaryData what is told of many runs: an object of JSON, with members that docs/FORMATS.md explains
+ * @typedef {object} SummaryData what a summary says of many runs: an object of JSON, whose members docs/FORMATS.md
+ * explains
  * @property {Stop | null} stopped
  * @property {import("../seeds/ranges.mjs").Range[]} missing seeds that were asked for, and of which nothing is known
  * @property {number} runs
@@ -73,7 +74,10 @@ import { Tally } from "./tally.mjs";
  * runs
  */
 
-/** @typedef {Partial<Pick<SummaryData, "stopped" | "missing" | "kept" | "notKept" | "problems">>} Ending how all ended */
+/**
+ * How all ended.
+ * @typedef {Partial<Pick<SummaryData, "stopped" | "missing" | "kept" | "notKept" | "problems">>} Ending
+ */
 
 // In the order in which they are told.
 const FAILING = ["deadlock", "failed", "check", "race", "bound"];

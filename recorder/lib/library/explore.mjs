@@ -7,6 +7,8 @@ import { BATCH, recordSeeds } from "../seeds/seeds.mjs";
 import { exploreOptions } from "./library-options.mjs";
 import { folderOfCaller } from "./module-url.mjs";
 
+/** @typedef {import("../check/sabsim.mjs").NoSabsim} NoSabsim */
+/** @typedef {import("../options/refused.mjs").Refused} Refused */
 /** @typedef {import("./recorder.mjs").Outcome} Outcome */
 /** @typedef {import("./library-options.mjs").ExploreOptions} ExploreOptions */
 
@@ -17,8 +19,7 @@ import { folderOfCaller } from "./module-url.mjs";
  * @param {ExploreOptions} options
  * @returns {AsyncGenerator<Outcome, void, void>} it fails with a Difference where sabsim says something else, and with
  * LostJob where the process of a job has ended
- * @throws {import("../options/refused.mjs").Refused | import("../check/sabsim.mjs").NoSabsim} for options that can't be,
- * and where sabsim was asked for and isn't there
+ * @throws {Refused | NoSabsim} for options that can't be, and where sabsim was asked for and isn't there
  */
 export function explore(options) {
   return explored(options, () => folderOfCaller(explore));
