@@ -4,7 +4,8 @@
 import assert from "node:assert/strict";
 import { readFileSync } from "node:fs";
 import { test } from "node:test";
-import { moduleUrl, record } from "../lib/library/recorder.mjs";
+import { moduleUrl } from "../lib/library/module-url.mjs";
+import { record } from "../lib/library/recorder.mjs";
 import { recordSeeds } from "../lib/seeds/seeds.mjs";
 import { CONSTRUCTORS, KINDS } from "../script/kinds.mjs";
 import { agentsPath } from "./helpers/common.mjs";

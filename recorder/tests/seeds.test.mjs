@@ -3,7 +3,7 @@
 import assert from "node:assert/strict";
 import { test } from "node:test";
 import { optionsOf } from "../lib/command/options.mjs";
-import { moduleUrl } from "../lib/library/recorder.mjs";
+import { moduleUrl } from "../lib/library/module-url.mjs";
 import { recordSeeds } from "../lib/seeds/seeds.mjs";
 import { agentsPath, recordCase } from "./helpers/common.mjs";
 import { CHECKER, hasSabsim } from "./helpers/needs.mjs";

@@ -34,8 +34,7 @@ export type Held = [
   Holds<Same<keyof declared.Difference, keyof written.Difference>>,
   Holds<Same<keyof declared.NoSabsim, keyof written.NoSabsim>>,
   Holds<Same<ConstructorParameters<typeof declared.LostJob>, ConstructorParameters<typeof written.LostJob>>>,
-  // What the library has besides is for the command line.
-  Holds<Same<keyof typeof declared, Exclude<keyof typeof written, "moduleUrl">>>,
+  Holds<Same<keyof typeof declared, keyof typeof written>>,
 ];
 
 export const record: typeof declared.record = written.record;

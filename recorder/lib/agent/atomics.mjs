@@ -4,7 +4,7 @@
 import { CALLS, CALL_NUMBERS, kindOf } from "../../script/kinds.mjs";
 import { OutsideProfile, countOf, indexOf, operandOf, timeoutOf } from "../../script/operands.mjs";
 import { apply, bufferOf, likeEngine, lengthOf, offsetOf, put } from "../primordials.mjs";
-import { unwrapped } from "./ordinary/watch.mjs";
+import { unwrapped } from "./ordinary/watched.mjs";
 
 const { wait: WAIT, notify: NOTIFY, compareExchange: COMPARE_EXCHANGE } = CALL_NUMBERS;
 const { isNaN } = Number;

@@ -25,7 +25,7 @@ const clearMap = uncurried(Map.prototype.clear);
 const MOST_TOLD_AGAIN = 100;
 
 /** @typedef {import("../memory/records.mjs").Call} Call */
-/** @typedef {import("./ordinary/watch.mjs").Place} Place */
+/** @typedef {import("./ordinary/context.mjs").Place} Place */
 
 /**
  * What an agent plays with.

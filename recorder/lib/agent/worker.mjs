@@ -185,7 +185,7 @@ const asking = {
   refuse: (why) => refuse("made a call", why),
 };
 
-/** @type {import("./ordinary/watch.mjs").Watching} */
+/** @type {import("./ordinary/context.mjs").Watching} */
 const watching = {
   blockOf,
   seen: (place, from, to, writes) => {

@@ -3,7 +3,7 @@
 import { Difference, NoSabsim } from "../check/sabsim.mjs";
 import { NotKept } from "../keeping/keep.mjs";
 import { Refused } from "../options/refused.mjs";
-import { LostJob } from "../seeds/seeds.mjs";
+import { LostJob } from "../seeds/remote-job.mjs";
 import { NoLongerTheSame } from "../shorter/differing.mjs";
 import { NotPrinted } from "./print.mjs";
 

@@ -9,9 +9,8 @@ import { folderOfCaller } from "./module-url.mjs";
 
 export { Difference, NoSabsim } from "../check/sabsim.mjs";
 export { explore } from "./explore.mjs";
-export { moduleUrl } from "./module-url.mjs";
 export { Refused } from "../options/refused.mjs";
-export { LostJob } from "../seeds/seeds.mjs";
+export { LostJob } from "../seeds/remote-job.mjs";
 
 /** @typedef {import("../check/unchecked.mjs").Check} Check */
 /** @typedef {import("../run/group.mjs").Outcome & Check & Shortening} Outcome */

@@ -5,8 +5,6 @@ import { InOrder } from "./in-order.mjs";
 import { LocalJob } from "./local-job.mjs";
 import { LostJob, RemoteJob } from "./remote-job.mjs";
 
-export { LostJob } from "./remote-job.mjs";
-
 /** @typedef {import("../run/group.mjs").Outcome} Outcome */
 
 /**

@@ -1,7 +1,7 @@
 // Groups of workers in this process, for tests that make single runs.
 
 import assert from "node:assert/strict";
-import { moduleUrl } from "../../lib/library/recorder.mjs";
+import { moduleUrl } from "../../lib/library/module-url.mjs";
 import { Group } from "../../lib/run/group.mjs";
 
 /**
