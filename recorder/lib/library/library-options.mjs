@@ -2,8 +2,9 @@
 
 import { DEFAULT_CHECK_EVERY, DEFAULT_SECONDS, MOST_JOBS, SCRIPT_LIMITS } from "../../script/limits.mjs";
 import { meant } from "../options/nearest.mjs";
-import { CHOICES, DEFAULTS } from "../options/plan.mjs";
-import { checkedAgents, checkedBuffers, checkedChoice, checkedNoBlock, checkedStrategy } from "../options/plan.mjs";
+import {
+  CHOICES, DEFAULTS, checkedAgents, checkedBuffers, checkedChoice, checkedNoBlock, checkedStrategy,
+} from "../options/plan.mjs";
 import { Refused } from "../options/refused.mjs";
 import { moduleUrlOf } from "./module-url.mjs";
 
