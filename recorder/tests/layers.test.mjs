@@ -13,7 +13,7 @@ const MAP = new URL("../../docs/ARCHITECTURE.md", import.meta.url);
 const ROW = /^ {4} ?(\d+) {2,}(\S.*)$/gm;
 
 /** An import of a file of the recorder, and a file that a worker or a process begins with. */
-const IMPORT = /\b(?:from|import)\s*\(?\s*(["'`])(\.[^"'`]*)\1|\bnew URL\(\s*(["'`])(\.[^"'`]*\.mjs)\3,\s*import\.meta/g;
+const IMPORT = /\b(?:from|import)\s*\(?\s*(["'])(\.[^"']*)\1|\bnew URL\(\s*(["'])(\.[^"']*\.mjs)\3,\s*import\.meta/g;
 
 /** @returns {Map<string, number>} the row of each folder and file that the picture names */
 function rowsDrawn() {
@@ -101,6 +101,7 @@ test("imports are found in each form", () => {
     'await import("../../d.mjs")', '/** @type {import("./e/f.mjs").One} */', 'new URL("./g.mjs", import.meta.url)',
     'import { join } from "node:path";', 'new URL("./folder/", import.meta.url)', "import one from '../h.mjs';",
   ];
-  const found = ["lib/run/a.mjs", "lib/run/b.mjs", "lib/c.mjs", "d.mjs", "lib/run/e/f.mjs", "lib/run/g.mjs", "lib/h.mjs"];
-  assert.deepEqual(importedBy("lib/run/group.mjs", forms.join("\n")), found);
+  assert.deepEqual(importedBy("lib/run/group.mjs", forms.join("\n")), [
+    "lib/run/a.mjs", "lib/run/b.mjs", "lib/c.mjs", "d.mjs", "lib/run/e/f.mjs", "lib/run/g.mjs", "lib/h.mjs",
+  ]);
 });
