@@ -8,7 +8,7 @@ import { print } from "./lib/command/print.mjs";
 import { toldOf } from "./lib/command/problems.mjs";
 import { STATUS } from "./lib/command/status.mjs";
 import { missingText } from "./lib/command/summary-text.mjs";
-import { Refused } from "./lib/run/plan.mjs";
+import { Refused } from "./lib/options/refused.mjs";
 
 const USAGE = `usage: node recorder/merge.mjs FILE.. [options]
 

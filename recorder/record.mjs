@@ -10,8 +10,8 @@ import { toldOf } from "./lib/command/problems.mjs";
 import { Replay } from "./lib/command/replay.mjs";
 import { Session } from "./lib/command/session.mjs";
 import { STATUS } from "./lib/command/status.mjs";
-import { moduleUrl } from "./lib/module-url.mjs";
-import { Refused } from "./lib/run/plan.mjs";
+import { moduleUrl } from "./lib/library/module-url.mjs";
+import { Refused } from "./lib/options/refused.mjs";
 
 /** @param {string} module @returns {string} its URL */
 function existing(module) {

@@ -1,3 +1,3 @@
 // The recorder as a library: `import { explore, record } from "./recorder.mjs"`.
 
-export { Difference, LostJob, NoSabsim, Refused, explore, record } from "./lib/recorder.mjs";
+export { Difference, LostJob, NoSabsim, Refused, explore, record } from "./lib/library/recorder.mjs";

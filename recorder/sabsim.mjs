@@ -5,7 +5,7 @@
 import { spawn } from "node:child_process";
 import { existsSync } from "node:fs";
 import { constants } from "node:os";
-import { MACHINE, programPath } from "./lib/program.mjs";
+import { MACHINE, programPath } from "./lib/check/program.mjs";
 
 const NOT_RUN = 2;
 

@@ -7,7 +7,7 @@
 import { readdirSync } from "node:fs";
 import { parseArgs } from "node:util";
 import { fileURLToPath } from "node:url";
-import { checkedOptions } from "../lib/library-options.mjs";
+import { checkedOptions } from "../lib/library/library-options.mjs";
 import { recordSeeds } from "../lib/seeds/seeds.mjs";
 
 const FOLDER = new URL("./programs/", import.meta.url);

@@ -1,6 +1,6 @@
 // The kinds of typed arrays that a script can have, and the functions of Atomics that it can call.
 
-import { mapGet, tagOf } from "../kept/own.mjs";
+import { mapGet, tagOf } from "../lib/primordials.mjs";
 
 /**
  * The names of the kinds, as scripts spell them. A kind's position here is its number in a record.

@@ -1,7 +1,7 @@
 // Which Numbers and BigInts a script can have; which arguments of Atomics stand inside sabsim's profile, and what a
 // script has in their place. What stands outside is refused: a refusal's text says what was handed.
 
-import { uncurried } from "../kept/own.mjs";
+import { uncurried } from "../lib/primordials.mjs";
 
 // Agents may change what they find, so the engine's own functions are kept here, before.
 const { isSafeInteger, isNaN, MAX_SAFE_INTEGER } = Number;

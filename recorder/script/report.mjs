@@ -30,7 +30,7 @@ export const answerText = (answer) => (typeof answer === "bigint" ? `${answer}n`
 
 /**
  * What the next step of a call is written as; a call steps through its words.
- * @param {import("../lib/run/transcript.mjs").Done} call
+ * @param {import("./text.mjs").Done} call
  * @returns {string[]}
  */
 function wordsOf(call) {
@@ -42,7 +42,7 @@ function wordsOf(call) {
 
 /**
  * What each move did.
- * @param {import("../lib/run/transcript.mjs").Transcript} transcript
+ * @param {import("./text.mjs").Transcript} transcript
  * @returns {Entry[]}
  */
 function entriesOf(transcript) {
@@ -63,7 +63,7 @@ function entriesOf(transcript) {
 /**
  * The report of what the agents' code saw, in the form of `sabsim replay`: every answer, how far each agent came, and
  * the bytes at the end.
- * @param {import("../lib/run/transcript.mjs").Transcript} transcript
+ * @param {import("./text.mjs").Transcript} transcript
  * @param {string[]} bytes of each block, in hexadecimal digits
  * @returns {string}
  */

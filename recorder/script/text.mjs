@@ -1,14 +1,43 @@
 // The text of a run's script. It has one layout, so the same run is the same text.
 
+/**
+ * @typedef {object} View as a script has it
+ * @property {string} name
+ * @property {string} kind
+ * @property {number} block
+ * @property {number} offset
+ * @property {number} length
+ */
+
+/**
+ * @typedef {object} Done a call that has begun
+ * @property {string} text the call as a script has it
+ * @property {boolean} joined whether it joined the line of waiters
+ * @property {string | null} answer as a report spells it, or null while it waits
+ * @property {boolean} isOwn whether the agent called it; else it stands for an ordinary write
+ * @property {string} [name] of its element, where that has one
+ */
+
+/** @typedef {{ agent: number, timeUp: boolean }} Move */
+
+/**
+ * @typedef {object} Transcript
+ * @property {number[]} lengths of the blocks
+ * @property {boolean[]} canBlock of each agent
+ * @property {View[]} views
+ * @property {Done[][]} calls of each agent
+ * @property {Move[]} moves
+ */
+
 const MOVES_ON_A_LINE = 24;
 
-/** @param {import("../lib/run/transcript.mjs").View} view */
+/** @param {View} view */
 function viewText({ name, kind, block, offset, length }) {
   return `{"name": "${name}", "kind": "${kind}", "block": ${block}, "offset": ${offset}, "length": ${length}}`;
 }
 
 /**
- * @param {import("../lib/run/transcript.mjs").Done[]} calls
+ * @param {Done[]} calls
  * @param {boolean} canBlock
  */
 function agentText(calls, canBlock) {
@@ -16,7 +45,7 @@ function agentText(calls, canBlock) {
   return `{"block": ${canBlock}, "calls": [\n      ${calls.map((call) => call.text).join(",\n      ")}\n    ]}`;
 }
 
-/** @param {import("../lib/run/transcript.mjs").Move[]} moves */
+/** @param {Move[]} moves */
 function scheduleText(moves) {
   const texts = moves.map((move) => (move.timeUp ? `{"timeout": ${move.agent}}` : String(move.agent)));
   const lines = [];
@@ -33,7 +62,7 @@ function listText(items) {
 
 /**
  * The script of what was done.
- * @param {import("../lib/run/transcript.mjs").Transcript} transcript
+ * @param {Transcript} transcript
  * @returns {string}
  */
 export function scriptText(transcript) {

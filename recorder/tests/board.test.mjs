@@ -5,8 +5,8 @@ import { test } from "node:test";
 import { Board } from "../lib/board/board.mjs";
 import { STEP } from "../lib/board/clock.mjs";
 import { JOIN, LEAVE, MAKE, TIME_UP } from "../lib/board/journal.mjs";
-import { ORDER, PHASE } from "../lib/board/layout.mjs";
 import { waysOf } from "../lib/board/strategy/ways.mjs";
+import { ORDER, PHASE } from "../lib/memory/layout.mjs";
 
 const RULES = { ways: waysOf("uniform", true), maxMoves: 100_000, timeouts: 0.05 };
 
@@ -62,7 +62,7 @@ test("places of equal bytes in different blocks, and of different bytes, have li
 });
 
 test("agents move that ask, that were woken, or that wait with a timeout, and all of them in time", () => {
-  const phases = [PHASE.ASKS, PHASE.WAITS, PHASE.WAITS_TIMED, PHASE.DONE, PHASE.WOKEN];
+  const phases = [PHASE.ASKS, PHASE.WAITS, PHASE.WAITS_TIMED, PHASE.FINISHED, PHASE.WOKEN];
   assert.deepEqual([...new Set(drawn(boardAt(phases), 4, 500))].sort(), [0, 2, 4]);
 });
 
@@ -84,7 +84,7 @@ test("with switch:0 an agent goes on as long as it can, and with switch:1 never 
   assert.equal(new Set(drawn(boardAt(asking, switching(0)), 2, 50)).size, 1);
   const turns = drawn(boardAt(asking, switching(1)), 2, 50);
   turns.forEach((turn, at) => assert.notEqual(turn, turns[at - 1]));
-  assert.equal(new Set(drawn(boardAt([PHASE.ASKS, PHASE.DONE], switching(1)), 1, 5)).size, 1);
+  assert.equal(new Set(drawn(boardAt([PHASE.ASKS, PHASE.FINISHED], switching(1)), 1, 5)).size, 1);
 });
 
 test("a run in which nobody can move has finished, or is a deadlock where somebody waits", () => {
@@ -93,8 +93,8 @@ test("a run in which nobody can move has finished, or is a deadlock where somebo
     board.pass(0);
     return board.end.told().ending;
   };
-  assert.equal(end([PHASE.DONE, PHASE.DONE]), "finished");
-  assert.equal(end([PHASE.DONE, PHASE.WAITS]), "deadlock");
+  assert.equal(end([PHASE.FINISHED, PHASE.FINISHED]), "finished");
+  assert.equal(end([PHASE.FINISHED, PHASE.WAITS]), "deadlock");
   assert.equal(end([PHASE.ASKS, PHASE.WAITS], { maxMoves: 2 }), "bound");
 });
 
@@ -135,7 +135,7 @@ test("an agent whose worker died ends the run when it has the turn, and only the
 });
 
 test("an agent that died before it gets the turn is told of with what it died of", () => {
-  const board = boardAt([PHASE.ASKS, PHASE.DONE]);
+  const board = boardAt([PHASE.ASKS, PHASE.FINISHED]);
   board.turn.die(0, "out of memory");
   board.pass(1);
   assert.deepEqual(board.end.told(), { ending: "failed", detail: "agent 0's worker died: out of memory" });

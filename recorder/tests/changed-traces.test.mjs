@@ -4,10 +4,10 @@
 import assert from "node:assert/strict";
 import { readFileSync } from "node:fs";
 import { test } from "node:test";
-import { SABSIM, withSabsim } from "./needs.mjs";
-import { start } from "./programs.mjs";
-import { slowJudge } from "./slow-judge.mjs";
-import { jsonText, statusOf } from "./verdict-texts.mjs";
+import { SABSIM, withSabsim } from "./helpers/needs.mjs";
+import { start } from "./helpers/programs.mjs";
+import { slowJudge } from "./helpers/slow-judge.mjs";
+import { jsonText, statusOf } from "./helpers/verdict-texts.mjs";
 
 const ROWS = new URL("./judge-rows/", import.meta.url);
 const LINE_FEED = 10;

@@ -6,11 +6,11 @@ import { execFile } from "node:child_process";
 import { readFileSync, readdirSync, writeFileSync } from "node:fs";
 import { join } from "node:path";
 import { describe, it } from "node:test";
-import { Refused, record } from "../recorder.mjs";
 import { sabsim } from "../lib/check/sabsim.mjs";
-import { RECORD, agentsPath, temporaryFolder } from "./common.mjs";
-import { CHECKER, SABSIM, withSabsim } from "./needs.mjs";
-import { different, recorded, seedsTo } from "./recorded.mjs";
+import { Refused, record } from "../recorder.mjs";
+import { RECORD, agentsPath, temporaryFolder } from "./helpers/common.mjs";
+import { CHECKER, SABSIM, withSabsim } from "./helpers/needs.mjs";
+import { different, recorded, seedsTo } from "./helpers/recorded.mjs";
 
 const program = (name, options = {}) => ({ module: agentsPath("checked"), args: [name], ...options });
 

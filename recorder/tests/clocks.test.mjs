@@ -3,8 +3,8 @@
 
 import assert from "node:assert/strict";
 import { describe, it } from "node:test";
-import { agentsPath } from "./common.mjs";
-import { recorded, seedsTo } from "./recorded.mjs";
+import { agentsPath } from "./helpers/common.mjs";
+import { recorded, seedsTo } from "./helpers/recorded.mjs";
 
 /** The outcomes of one program. */
 const outcomesOf = (name, seeds, options = {}) =>

@@ -8,11 +8,11 @@ import { Crew, EngineFault } from "../engine/crew.mjs";
 import { replay } from "../engine/replay.mjs";
 import { summary } from "../engine/report.mjs";
 import { readScript, ScriptFault } from "../engine/script.mjs";
-import { withSabsim } from "./needs.mjs";
-import { Opinions } from "./opinions.mjs";
-import { pathOf, replayBySabsim, runNode, start } from "./programs.mjs";
-import { seedsTo } from "./recorded.mjs";
-import { generatedScript, timedScript } from "./scripts.mjs";
+import { withSabsim } from "./helpers/needs.mjs";
+import { Opinions } from "./helpers/opinions.mjs";
+import { pathOf, replayBySabsim, runNode, start } from "./helpers/programs.mjs";
+import { seedsTo } from "./helpers/recorded.mjs";
+import { generatedScript, timedScript } from "./helpers/scripts.mjs";
 
 const DATA = pathOf("crates/check_scripts/data");
 const EXAMPLES = `${DATA}/examples`;

@@ -9,9 +9,9 @@ import { join } from "node:path";
 import { after, describe, test } from "node:test";
 import { pathToFileURL } from "node:url";
 import { recordSeeds } from "../lib/seeds/seeds.mjs";
-import { CHECKER, hasSabsim } from "./needs.mjs";
-import { Opinions } from "./opinions.mjs";
-import { pathOf } from "./programs.mjs";
+import { CHECKER, hasSabsim } from "./helpers/needs.mjs";
+import { Opinions } from "./helpers/opinions.mjs";
+import { pathOf } from "./helpers/programs.mjs";
 
 const FOLDER = pathOf("recorder/examples");
 const SEEDS = 200;

@@ -7,10 +7,10 @@ import { readFileSync, readdirSync, writeFileSync } from "node:fs";
 import { join } from "node:path";
 import { test } from "node:test";
 import { setTimeout as sleep } from "node:timers/promises";
-import { Difference, LostJob, NoSabsim, Refused, explore, record } from "../recorder.mjs";
 import { Delivery } from "../lib/seeds/delivery.mjs";
-import { agentsOf, agentsPath, temporaryFolder } from "./common.mjs";
-import { CHECKER, NOWHERE, SABSIM, onLinux, withSabsim } from "./needs.mjs";
+import { Difference, LostJob, NoSabsim, Refused, explore, record } from "../recorder.mjs";
+import { agentsOf, agentsPath, temporaryFolder } from "./helpers/common.mjs";
+import { CHECKER, NOWHERE, SABSIM, onLinux, withSabsim } from "./helpers/needs.mjs";
 
 const LIBRARY = new URL("../recorder.mjs", import.meta.url).href;
 /** Drawn for before each call, so that there are no pilots, which call `init` too. */

@@ -3,9 +3,9 @@
 import assert from "node:assert/strict";
 import { spawnSync } from "node:child_process";
 import { test } from "node:test";
-import { RECORD, agentsOf, temporaryFolder } from "./common.mjs";
+import { RECORD, agentsOf, temporaryFolder } from "./helpers/common.mjs";
 
-const GARBAGE = new URL("../lib/run/garbage.mjs", import.meta.url).href;
+const GARBAGE = new URL("../lib/processes/garbage.mjs", import.meta.url).href;
 
 /** Code that says of an object that nobody has any more whether it is there after so many runs. */
 const WATCHING = `

@@ -8,8 +8,8 @@ import { join } from "node:path";
 import { test } from "node:test";
 import { InOrder } from "../lib/seeds/in-order.mjs";
 import { jobWords } from "../lib/seeds/node-words.mjs";
-import { RECORD, agentsOf, agentsPath, temporaryFolder } from "./common.mjs";
-import { CHECKING, hasSabsim, onLinux } from "./needs.mjs";
+import { RECORD, agentsOf, agentsPath, temporaryFolder } from "./helpers/common.mjs";
+import { CHECKING, hasSabsim, onLinux } from "./helpers/needs.mjs";
 
 /**
  * Runs the command line to its end.

@@ -5,14 +5,14 @@ import assert from "node:assert/strict";
 import { fork } from "node:child_process";
 import { readFileSync, readdirSync } from "node:fs";
 import { describe, it, test } from "node:test";
-import { checkedOptions } from "../lib/library-options.mjs";
+import { checkedOptions } from "../lib/library/library-options.mjs";
 import { Group } from "../lib/run/group.mjs";
-import { detected, detectedPairs } from "./detected.mjs";
-import { SABSIM, hasSabsim, withSabsim } from "./needs.mjs";
-import { pathOf, start } from "./programs.mjs";
-import { seedsTo } from "./recorded.mjs";
-import { eventsOfTrace, slowJudge } from "./slow-judge.mjs";
-import { jsonText, plainText, statusOf } from "./verdict-texts.mjs";
+import { detected, detectedPairs } from "./helpers/detected.mjs";
+import { SABSIM, hasSabsim, withSabsim } from "./helpers/needs.mjs";
+import { pathOf, start } from "./helpers/programs.mjs";
+import { seedsTo } from "./helpers/recorded.mjs";
+import { eventsOfTrace, slowJudge } from "./helpers/slow-judge.mjs";
+import { jsonText, plainText, statusOf } from "./helpers/verdict-texts.mjs";
 
 const ROWS = new URL("./judge-rows/", import.meta.url);
 const KNOWN = new URL("./known/", import.meta.url);
@@ -75,7 +75,7 @@ test("what is no event's line is refused, and it is said which line", withSabsim
 /** What a process finds of the random traces from a seed on. @param {number} first */
 const foundFrom = (first) => new Promise((done) => {
   const words = [first, RANDOM, PROCESSES].map(String);
-  const child = fork(pathOf("recorder/tests/judge-process.mjs"), hasSabsim ? [...words, SABSIM] : words);
+  const child = fork(pathOf("recorder/tests/helpers/judge-process.mjs"), hasSabsim ? [...words, SABSIM] : words);
   const found = { seeds: 0, racy: 0, differing: [] };
   child.on("message", ({ isRacy, differing }) => {
     found.seeds += 1;

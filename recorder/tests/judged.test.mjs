@@ -7,10 +7,10 @@ import { join } from "node:path";
 import { describe, it } from "node:test";
 import { fileURLToPath } from "node:url";
 import { Difference, NoSabsim, record } from "../recorder.mjs";
-import { RECORD, agentsPath, recordCase, temporaryFolder } from "./common.mjs";
-import { SABSIM, withSabsim } from "./needs.mjs";
-import { eventsOfTrace, slowJudge } from "./slow-judge.mjs";
-import { plainText, statusOf } from "./verdict-texts.mjs";
+import { RECORD, agentsPath, recordCase, temporaryFolder } from "./helpers/common.mjs";
+import { SABSIM, withSabsim } from "./helpers/needs.mjs";
+import { eventsOfTrace, slowJudge } from "./helpers/slow-judge.mjs";
+import { plainText, statusOf } from "./helpers/verdict-texts.mjs";
 
 const RING = fileURLToPath(new URL("./known/ring-frees-first.mjs", import.meta.url));
 const RACING_SEED = 3;

@@ -5,10 +5,10 @@ import { spawn, spawnSync } from "node:child_process";
 import { mkdirSync, readFileSync, readdirSync, symlinkSync, writeFileSync } from "node:fs";
 import { join } from "node:path";
 import { test } from "node:test";
-import { Keeper, NotKept } from "../lib/command/keep.mjs";
-import { Refused } from "../lib/run/plan.mjs";
-import { RECORD, agentsPath, temporaryFolder } from "./common.mjs";
-import { CHECKING, hasSabsim } from "./needs.mjs";
+import { Keeper, NotKept } from "../lib/keeping/keep.mjs";
+import { Refused } from "../lib/options/refused.mjs";
+import { RECORD, agentsPath, temporaryFolder } from "./helpers/common.mjs";
+import { CHECKING, hasSabsim } from "./helpers/needs.mjs";
 
 const run = (seed, parts) => ({ seed, script: `script ${seed}`, report: `report ${seed}`, ...parts });
 const filesOf = (seed) => [`seed-${seed}.json`, `seed-${seed}.report`];

@@ -7,7 +7,7 @@ import { readFileSync, readdirSync } from "node:fs";
 import { describe, it } from "node:test";
 import { RemoteJob } from "../lib/seeds/remote-job.mjs";
 import { keptScript } from "../lib/shorter/kept-script.mjs";
-import { SABSIM, hasSabsim } from "./needs.mjs";
+import { SABSIM, hasSabsim } from "./helpers/needs.mjs";
 
 const FOLDER = new URL("./known/", import.meta.url);
 const NAMES = readdirSync(FOLDER).filter((name) => name.endsWith(".mjs"));

@@ -7,8 +7,8 @@ import { join } from "node:path";
 import { test } from "node:test";
 import { pathToFileURL } from "node:url";
 import { Difference, NoSabsim, Refused, record } from "../recorder.mjs";
-import { agentsOf, agentsPath, recordCase, temporaryFolder } from "./common.mjs";
-import { CHECKER, NOWHERE, SABSIM, withSabsim } from "./needs.mjs";
+import { agentsOf, agentsPath, recordCase, temporaryFolder } from "./helpers/common.mjs";
+import { CHECKER, NOWHERE, SABSIM, withSabsim } from "./helpers/needs.mjs";
 
 const module = agentsPath("cases");
 

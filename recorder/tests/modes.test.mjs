@@ -6,8 +6,8 @@ import { fileURLToPath } from "node:url";
 import { before, describe, it } from "node:test";
 import { UNSEEN } from "../lib/run/transcript.mjs";
 import { PROGRAMS } from "./agents/modes.mjs";
-import { agentsPath } from "./common.mjs";
-import { different, hexOf, placesOf, recorded, seedsTo, summaryLines } from "./recorded.mjs";
+import { agentsPath } from "./helpers/common.mjs";
+import { different, hexOf, placesOf, recorded, seedsTo, summaryLines } from "./helpers/recorded.mjs";
 
 const MODES = ["watch", "store", "refuse"];
 const NAMES = Object.keys(PROGRAMS);

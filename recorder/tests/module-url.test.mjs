@@ -8,7 +8,7 @@ import { join } from "node:path";
 import { test } from "node:test";
 import { pathToFileURL } from "node:url";
 import { Refused, record } from "../recorder.mjs";
-import { temporaryFolder } from "./common.mjs";
+import { temporaryFolder } from "./helpers/common.mjs";
 
 const LIBRARY = new URL("../recorder.mjs", import.meta.url).href;
 

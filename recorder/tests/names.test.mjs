@@ -6,12 +6,12 @@ import { spawnSync } from "node:child_process";
 import { writeFileSync } from "node:fs";
 import { join } from "node:path";
 import { test } from "node:test";
-import { checkedNames, Names } from "../lib/run/names.mjs";
-import { Refused } from "../lib/run/refused.mjs";
+import { checkedNames, Names } from "../lib/options/names.mjs";
+import { Refused } from "../lib/options/refused.mjs";
 import { KINDS } from "../script/kinds.mjs";
-import { temporaryFolder } from "./common.mjs";
-import { SABSIM, withSabsim } from "./needs.mjs";
-import { recorded, seedsTo } from "./recorded.mjs";
+import { temporaryFolder } from "./helpers/common.mjs";
+import { SABSIM, withSabsim } from "./helpers/needs.mjs";
+import { recorded, seedsTo } from "./helpers/recorded.mjs";
 
 const INT32 = KINDS.indexOf("Int32");
 const UINT8 = KINDS.indexOf("Uint8");

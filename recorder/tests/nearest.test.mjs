@@ -2,7 +2,7 @@
 
 import assert from "node:assert/strict";
 import { test } from "node:test";
-import { meant, nearest, slipOf } from "../lib/nearest.mjs";
+import { meant, nearest, slipOf } from "../lib/options/nearest.mjs";
 
 const KNOWN = ["agents", "buffers", "noBlock", "check", "init", "maxMoves"];
 

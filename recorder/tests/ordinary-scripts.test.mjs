@@ -4,8 +4,8 @@
 import assert from "node:assert/strict";
 import { describe, it } from "node:test";
 import { SCRIPT_LIMITS } from "../script/limits.mjs";
-import { agentsPath } from "./common.mjs";
-import { hexOf, recorded, seedsTo, summaryLines } from "./recorded.mjs";
+import { agentsPath } from "./helpers/common.mjs";
+import { hexOf, recorded, seedsTo, summaryLines } from "./helpers/recorded.mjs";
 
 const MOST = SCRIPT_LIMITS.calls;
 const LARGEST = SCRIPT_LIMITS.bytes;

@@ -6,10 +6,10 @@ import { writeFileSync } from "node:fs";
 import { join } from "node:path";
 import { pathToFileURL } from "node:url";
 import { after, before, describe, it } from "node:test";
-import { pageData, pageOf } from "../lib/command/page.mjs";
-import { Browser, withBrowser } from "./browser.mjs";
-import { temporaryFolder } from "./common.mjs";
-import { FACTS, FILE, OUTCOME, lines } from "./page-run.mjs";
+import { pageData, pageOf } from "../lib/keeping/page.mjs";
+import { Browser, withBrowser } from "./helpers/browser.mjs";
+import { temporaryFolder } from "./helpers/common.mjs";
+import { FACTS, FILE, OUTCOME, lines } from "./helpers/page-run.mjs";
 
 /** What is chosen, and what is highlighted of it. */
 const SHOWN = `(() => {

@@ -7,11 +7,11 @@ import { readFileSync, readdirSync } from "node:fs";
 import { join } from "node:path";
 import { fileURLToPath } from "node:url";
 import { test } from "node:test";
-import { pageData, pageOf } from "../lib/command/page.mjs";
+import { pageData, pageOf } from "../lib/keeping/page.mjs";
 import { valueAt } from "../page/model.mjs";
 import { entryText, standingText } from "../page/words.mjs";
 import { KINDS, SIZES } from "../script/kinds.mjs";
-import { EVENTS, FACTS, FILE, FLAG, OUTCOME, SCRIPT, lines, runOf, view } from "./page-run.mjs";
+import { EVENTS, FACTS, FILE, FLAG, OUTCOME, SCRIPT, lines, runOf, view } from "./helpers/page-run.mjs";
 
 const CASES = fileURLToPath(new URL("../../crates/check_scripts/data", import.meta.url));
 

@@ -5,7 +5,7 @@ import assert from "node:assert/strict";
 import { spawnSync } from "node:child_process";
 import { test } from "node:test";
 import { record } from "../recorder.mjs";
-import { RECORD, agentsOf, agentsPath, recordCase, temporaryFolder } from "./common.mjs";
+import { RECORD, agentsOf, agentsPath, recordCase, temporaryFolder } from "./helpers/common.mjs";
 
 /** Runs the command line to its end, without sabsim. @param {string[]} words */
 function run(words) {

@@ -7,9 +7,9 @@ import { closeSync, mkdirSync, openSync, readFileSync, readdirSync, writeFileSyn
 import { join } from "node:path";
 import { test } from "node:test";
 import { optionsOf, USAGE } from "../lib/command/options.mjs";
-import { Refused } from "../lib/run/plan.mjs";
-import { RECORD, WITHOUT_SABSIM, agentsOf, agentsPath, temporaryFolder } from "./common.mjs";
-import { CHECKING, NOWHERE, SABSIM, onLinux, withSabsim } from "./needs.mjs";
+import { Refused } from "../lib/options/refused.mjs";
+import { RECORD, WITHOUT_SABSIM, agentsOf, agentsPath, temporaryFolder } from "./helpers/common.mjs";
+import { CHECKING, NOWHERE, SABSIM, onLinux, withSabsim } from "./helpers/needs.mjs";
 
 /**
  * Runs the command line to its end.

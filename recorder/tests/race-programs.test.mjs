@@ -4,12 +4,13 @@
 import assert from "node:assert/strict";
 import { readFileSync } from "node:fs";
 import { test } from "node:test";
-import { moduleUrl, record } from "../lib/recorder.mjs";
+import { moduleUrl } from "../lib/library/module-url.mjs";
+import { record } from "../lib/library/recorder.mjs";
 import { recordSeeds } from "../lib/seeds/seeds.mjs";
 import { CONSTRUCTORS, KINDS } from "../script/kinds.mjs";
-import { agentsPath } from "./common.mjs";
-import { CHECKER, hasSabsim } from "./needs.mjs";
-import { slowRaces } from "./second-detector.mjs";
+import { agentsPath } from "./helpers/common.mjs";
+import { CHECKER, hasSabsim } from "./helpers/needs.mjs";
+import { slowRaces } from "./helpers/second-detector.mjs";
 
 /**
  * How the agents keep out of each other's way, what else their runs are recorded with, and from how many to how many
@@ -40,7 +41,10 @@ async function recorded(way, options) {
   return outcomes.sort((one, other) => one.seed - other.seed);
 }
 
-/** @returns {import("./second-detector.mjs").Event[]} the events of a trace, with the source as it is told in short */
+/**
+ * The events of a trace, with the source as it is told in short.
+ * @returns {import("./helpers/second-detector.mjs").Event[]}
+ */
 function eventsOf(trace) {
   return trace.split("\n").slice(0, -1).map((line, index) => {
     const { event, source, ...rest } = JSON.parse(line);

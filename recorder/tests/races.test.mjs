@@ -3,12 +3,12 @@
 
 import assert from "node:assert/strict";
 import { test } from "node:test";
+import { FLAG, Log, NO_CALL, READ, WRITE } from "../lib/memory/log.mjs";
 import { racesTold } from "../lib/run/findings.mjs";
-import { FLAG, Log, NO_CALL, READ, WRITE } from "../lib/run/log.mjs";
 import { isRacy, racesOf } from "../lib/run/races.mjs";
 import { SourceNames } from "../lib/run/source-names.mjs";
-import { randomEvents } from "./events.mjs";
-import { slowRaces } from "./second-detector.mjs";
+import { randomEvents } from "./helpers/events.mjs";
+import { slowRaces } from "./helpers/second-detector.mjs";
 
 // Events of the runs below. Bytes are of block 0 if no other is given.
 

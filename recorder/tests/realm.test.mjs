@@ -7,10 +7,10 @@ import { writeFileSync } from "node:fs";
 import { join } from "node:path";
 import { describe, test } from "node:test";
 import { pathToFileURL } from "node:url";
-import { Refused, record } from "../recorder.mjs";
 import { Group } from "../lib/run/group.mjs";
-import { agentsOf, temporaryFolder } from "./common.mjs";
-import { CHECKER } from "./needs.mjs";
+import { Refused, record } from "../recorder.mjs";
+import { agentsOf, temporaryFolder } from "./helpers/common.mjs";
+import { CHECKER } from "./helpers/needs.mjs";
 
 const AT_ONCE = 4;
 

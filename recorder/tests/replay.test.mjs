@@ -9,12 +9,12 @@ import { test } from "node:test";
 import { pathToFileURL } from "node:url";
 import { optionsOf } from "../lib/command/options.mjs";
 import { Replay } from "../lib/command/replay.mjs";
-import { Refused } from "../lib/run/plan.mjs";
+import { Refused } from "../lib/options/refused.mjs";
 import { NoLongerTheSame } from "../lib/shorter/differing.mjs";
 import { keptScript } from "../lib/shorter/kept-script.mjs";
 import { record } from "../recorder.mjs";
-import { RECORD, temporaryFolder } from "./common.mjs";
-import { CHECKING, hasSabsim } from "./needs.mjs";
+import { RECORD, temporaryFolder } from "./helpers/common.mjs";
+import { CHECKING, hasSabsim } from "./helpers/needs.mjs";
 
 // A relay with an `init`, ordinary writes, waits with and without a time, and an end that its `check` may find wrong.
 const CODE = `

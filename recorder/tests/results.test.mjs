@@ -5,8 +5,8 @@ import { spawnSync } from "node:child_process";
 import { writeFileSync } from "node:fs";
 import { join } from "node:path";
 import { test } from "node:test";
-import { temporaryFolder } from "./common.mjs";
-import { readReport, skippedLine, sumOf } from "./results.mjs";
+import { temporaryFolder } from "./helpers/common.mjs";
+import { readReport, skippedLine, sumOf } from "./helpers/results.mjs";
 
 /** What comes of a file of tests. @param {import("node:test").TestContext} context @param {string} code */
 function resultOf(context, code) {

@@ -6,15 +6,15 @@ import { readdirSync } from "node:fs";
 import { describe, it, test } from "node:test";
 import { Board } from "../lib/board/board.mjs";
 import { waysOf } from "../lib/board/strategy/ways.mjs";
-import { PHASE } from "../lib/board/layout.mjs";
 import { check as checkWithSabsim, checkable } from "../lib/check/sabsim.mjs";
+import { PHASE } from "../lib/memory/layout.mjs";
 import { keptScript } from "../lib/shorter/kept-script.mjs";
 import { shorten } from "../lib/shorter/shorten.mjs";
-import { agentsPath } from "./common.mjs";
-import { firstFailing, groupOf } from "./groups.mjs";
-import { SABSIM, hasSabsim } from "./needs.mjs";
+import { agentsPath } from "./helpers/common.mjs";
+import { firstFailing, groupOf } from "./helpers/groups.mjs";
+import { SABSIM, hasSabsim } from "./helpers/needs.mjs";
 
-const { ASKS, WAITS, WAITS_TIMED, WOKEN, DONE } = PHASE;
+const { ASKS, WAITS, WAITS_TIMED, WOKEN, FINISHED } = PHASE;
 
 /**
  * A board whose agents have all been started, and are at a phase.
@@ -39,22 +39,22 @@ function drawn(board, times) {
 }
 
 test("a row is followed, entries of agents that can't move are left out, and a wait's time may be up", () => {
-  const board = boardAt([ASKS, WAITS, WAITS_TIMED, DONE, WOKEN], { row: [4, 1, 2, 3, 0, 4, 4] });
+  const board = boardAt([ASKS, WAITS, WAITS_TIMED, FINISHED, WOKEN], { row: [4, 1, 2, 3, 0, 4, 4] });
   assert.deepEqual(drawn(board, 5), [4, 2, 0, 4, 4]);
 });
 
 test("behind its end the agent goes on that moved last, then the next one in number that can", () => {
   const board = boardAt([ASKS, WAITS_TIMED, WAITS, ASKS], { row: [0] });
   assert.deepEqual(drawn(board, 3), [0, 0, 0]);
-  board.line.become(0, DONE);
+  board.line.become(0, FINISHED);
   assert.deepEqual(drawn(board, 2), [0, 0, 0, 3, 3]);
   board.line.become(0, WOKEN);
   board.line.become(3, WAITS);
   assert.deepEqual(drawn(board, 1).slice(5), [0]);
   // Now nothing is left but the end of a time.
-  board.line.become(0, DONE);
+  board.line.become(0, FINISHED);
   assert.deepEqual(drawn(board, 1).slice(6), [1]);
-  board.line.become(1, DONE);
+  board.line.become(1, FINISHED);
   board.pass(1);
   assert.equal(board.end.told().ending, "deadlock");
   assert.deepEqual(drawn(boardAt([ASKS, ASKS], { row: [] }), 2), [0, 0]);
@@ -75,12 +75,12 @@ test("a row that can't be followed exactly ends the run, and it is told why", ()
     return [board.end.hasEnded() && board.end.told().ending, board.row.strayed()];
   };
   assert.deepEqual(strayed([ASKS, WAITS], [0, 1], 2), ["failed", { reason: "waits", agent: 1, draw: 1 }]);
-  assert.deepEqual(strayed([ASKS, DONE], [0, 0, 1], 3), ["failed", { reason: "ended", agent: 1, draw: 2 }]);
+  assert.deepEqual(strayed([ASKS, FINISHED], [0, 0, 1], 3), ["failed", { reason: "ended", agent: 1, draw: 2 }]);
   assert.deepEqual(strayed([ASKS, WOKEN], [1], 2), ["failed", { reason: "goes on", agent: 0, draw: 1 }]);
-  assert.deepEqual(strayed([WAITS_TIMED, DONE], [], 1), ["failed", { reason: "goes on", agent: 0, draw: 0 }]);
-  assert.deepEqual(strayed([WAITS, DONE], [0], 1), ["failed", { reason: "waits", agent: 0, draw: 0 }]);
-  assert.deepEqual(strayed([WAITS, DONE], [], 1), ["deadlock", undefined]);
-  assert.deepEqual(strayed([DONE, DONE], [], 1), ["finished", undefined]);
+  assert.deepEqual(strayed([WAITS_TIMED, FINISHED], [], 1), ["failed", { reason: "goes on", agent: 0, draw: 0 }]);
+  assert.deepEqual(strayed([WAITS, FINISHED], [0], 1), ["failed", { reason: "waits", agent: 0, draw: 0 }]);
+  assert.deepEqual(strayed([WAITS, FINISHED], [], 1), ["deadlock", undefined]);
+  assert.deepEqual(strayed([FINISHED, FINISHED], [], 1), ["finished", undefined]);
 });
 
 test("time and chance come from the seed, whatever the row is", async (context) => {

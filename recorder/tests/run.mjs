@@ -12,7 +12,7 @@ import { existsSync, readdirSync } from "node:fs";
 import { availableParallelism } from "node:os";
 import { join, resolve } from "node:path";
 import { fileURLToPath } from "node:url";
-import { readReport, skippedLine, sumOf } from "./results.mjs";
+import { readReport, skippedLine, sumOf } from "./helpers/results.mjs";
 
 const FOLDER = fileURLToPath(new URL("./", import.meta.url));
 const BUILT = fileURLToPath(new URL("../../crates/sabsim/out/sabsim", import.meta.url));
@@ -20,7 +20,7 @@ const BUILT = fileURLToPath(new URL("../../crates/sabsim/out/sabsim", import.met
 // The slowest files begin first, so that none of them is left alone at the end.
 const SLOWEST = ["known", "realm", "race-programs", "judge", "examples", "program"].map((name) => `${name}.test.mjs`);
 
-/** @typedef {import("./results.mjs").Result & { name: string, seconds: number }} FileResult */
+/** @typedef {import("./helpers/results.mjs").Result & { name: string, seconds: number }} FileResult */
 
 /** The names of the files, in the order in which they begin. */
 function namesOfFiles() {

@@ -3,11 +3,11 @@
 import assert from "node:assert/strict";
 import { writeFileSync } from "node:fs";
 import { test } from "node:test";
-import { Difference, NoSabsim, Refused, record } from "../recorder.mjs";
 import { Group } from "../lib/run/group.mjs";
+import { Difference, NoSabsim, Refused, record } from "../recorder.mjs";
 import { NAMES } from "./agents/refused.mjs";
-import { agentsOf, agentsPath, recordCase, temporaryFolder } from "./common.mjs";
-import { CHECKER } from "./needs.mjs";
+import { agentsOf, agentsPath, recordCase, temporaryFolder } from "./helpers/common.mjs";
+import { CHECKER } from "./helpers/needs.mjs";
 
 /** Records a module of the tests. Sabsim checks the run where it is given. */
 function recordChecked(name, options) {

@@ -3,10 +3,10 @@
 import assert from "node:assert/strict";
 import { test } from "node:test";
 import { optionsOf } from "../lib/command/options.mjs";
-import { moduleUrl } from "../lib/recorder.mjs";
+import { moduleUrl } from "../lib/library/module-url.mjs";
 import { recordSeeds } from "../lib/seeds/seeds.mjs";
-import { agentsPath, recordCase } from "./common.mjs";
-import { CHECKER, hasSabsim } from "./needs.mjs";
+import { agentsPath, recordCase } from "./helpers/common.mjs";
+import { CHECKER, hasSabsim } from "./helpers/needs.mjs";
 
 /**
  * The outcomes of some seeds, in the order of the seeds.

@@ -9,11 +9,11 @@ import { after, before, test } from "node:test";
 import { fileURLToPath } from "node:url";
 import { merged, partsOf } from "../lib/command/merging.mjs";
 import { optionsOf } from "../lib/command/options.mjs";
-import { Refused } from "../lib/run/plan.mjs";
+import { Refused } from "../lib/options/refused.mjs";
 import { Coverage } from "../lib/seeds/coverage.mjs";
 import { shardOf, united, without } from "../lib/seeds/ranges.mjs";
-import { RECORD, agentsOf, agentsPath, temporaryFolder } from "./common.mjs";
-import { CHECKING, SABSIM, hasSabsim, needing } from "./needs.mjs";
+import { RECORD, agentsOf, agentsPath, temporaryFolder } from "./helpers/common.mjs";
+import { CHECKING, SABSIM, hasSabsim, needing } from "./helpers/needs.mjs";
 
 const MERGE = fileURLToPath(new URL("../merge.mjs", import.meta.url));
 const known = (name) => fileURLToPath(new URL(`./known/${name}.mjs`, import.meta.url));

@@ -14,9 +14,9 @@ import { keptScript } from "../lib/shorter/kept-script.mjs";
 import { shorten } from "../lib/shorter/shorten.mjs";
 import { changesOf, joinedFrom, rowOf, shortenedAt, stretchesOf, without } from "../lib/shorter/stretches.mjs";
 import { record } from "../recorder.mjs";
-import { RECORD, agentsOf, agentsPath, temporaryFolder } from "./common.mjs";
-import { firstFailing, groupOf } from "./groups.mjs";
-import { SABSIM, withSabsim } from "./needs.mjs";
+import { RECORD, agentsOf, agentsPath, temporaryFolder } from "./helpers/common.mjs";
+import { firstFailing, groupOf } from "./helpers/groups.mjs";
+import { SABSIM, withSabsim } from "./helpers/needs.mjs";
 
 const MODULE = agentsPath("shortest");
 

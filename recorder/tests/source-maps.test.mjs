@@ -7,8 +7,8 @@ import { pathToFileURL } from "node:url";
 import { test } from "node:test";
 import { SourceMaps } from "../lib/run/source-maps.mjs";
 import { SourceNames } from "../lib/run/source-names.mjs";
-import { temporaryFolder } from "./common.mjs";
-import { recorded } from "./recorded.mjs";
+import { temporaryFolder } from "./helpers/common.mjs";
+import { recorded } from "./helpers/recorded.mjs";
 
 const DIGITS = "ABCDEFGHIJKLMNOPQRSTUVWXYZabcdefghijklmnopqrstuvwxyz0123456789+/";
 

@@ -3,8 +3,8 @@
 import assert from "node:assert/strict";
 import { before, describe, it } from "node:test";
 import { SCRIPT_LIMITS } from "../script/limits.mjs";
-import { agentsPath } from "./common.mjs";
-import { placesOf, recorded, seedsTo, summaryLines } from "./recorded.mjs";
+import { agentsPath } from "./helpers/common.mjs";
+import { placesOf, recorded, seedsTo, summaryLines } from "./helpers/recorded.mjs";
 
 /** The outcomes of some ways to go on, by their names. With a trace each run is made once, and is the next way. */
 async function outcomesOf(ways, seconds) {

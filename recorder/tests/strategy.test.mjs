@@ -3,10 +3,10 @@
 import assert from "node:assert/strict";
 import { test } from "node:test";
 import { Board } from "../lib/board/board.mjs";
-import { KnownPlaces, placeNumber } from "../lib/board/known-places.mjs";
-import { PHASE } from "../lib/board/layout.mjs";
 import { waysOf } from "../lib/board/strategy/ways.mjs";
-import { FLAG, Log } from "../lib/run/log.mjs";
+import { KnownPlaces, placeNumber } from "../lib/memory/known-places.mjs";
+import { PHASE } from "../lib/memory/layout.mjs";
+import { FLAG, Log } from "../lib/memory/log.mjs";
 import { Pilots } from "../lib/run/pilots.mjs";
 import { Coverage } from "../lib/seeds/coverage.mjs";
 

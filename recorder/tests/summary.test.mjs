@@ -3,11 +3,11 @@
 import assert from "node:assert/strict";
 import { createHash } from "node:crypto";
 import { test } from "node:test";
+import { whyNoSummary } from "../lib/command/summary-form.mjs";
 import { summaryText } from "../lib/command/summary-text.mjs";
 import { Summary } from "../lib/command/summary.mjs";
-import { whyNoSummary } from "../lib/command/summary-form.mjs";
 import { MOST_KEYS, Tally } from "../lib/command/tally.mjs";
-import { counted, digits } from "../lib/command/words.mjs";
+import { counted, digits } from "../lib/keeping/words.mjs";
 
 const SEEN = { ordinary: "watch", races: "fail", checks: true };
 

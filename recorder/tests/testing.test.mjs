@@ -6,8 +6,8 @@ import { existsSync, mkdirSync, readFileSync, readdirSync, writeFileSync } from 
 import { join } from "node:path";
 import { test } from "node:test";
 import { assertAgents } from "../testing.mjs";
-import { WITHOUT_SABSIM, agentsPath, temporaryFolder } from "./common.mjs";
-import { SABSIM, hasSabsim, withSabsim } from "./needs.mjs";
+import { WITHOUT_SABSIM, agentsPath, temporaryFolder } from "./helpers/common.mjs";
+import { SABSIM, hasSabsim, withSabsim } from "./helpers/needs.mjs";
 
 const HELPER = new URL("../testing.mjs", import.meta.url).href;
 

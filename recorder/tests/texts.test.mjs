@@ -3,10 +3,10 @@
 import assert from "node:assert/strict";
 import { readFileSync, readdirSync } from "node:fs";
 import { test } from "node:test";
+import { callText, textRoom, viewKey, viewName } from "../lib/memory/spelling.mjs";
 import { KINDS } from "../script/kinds.mjs";
 import { firstDifference, reportText } from "../script/report.mjs";
 import { scriptText } from "../script/text.mjs";
-import { callText, textRoom, viewKey, viewName } from "../lib/run/spelling.mjs";
 
 const EXAMPLES = new URL("../../examples/", import.meta.url);
 const kind = (name) => KINDS.indexOf(name);

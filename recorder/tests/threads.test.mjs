@@ -6,8 +6,8 @@ import { join } from "node:path";
 import { test } from "node:test";
 import { setTimeout as sleep } from "node:timers/promises";
 import { pathToFileURL } from "node:url";
-import { Thread } from "../lib/run/thread.mjs";
-import { temporaryFolder } from "./common.mjs";
+import { Thread } from "../lib/processes/thread.mjs";
+import { temporaryFolder } from "./helpers/common.mjs";
 
 /**
  * A thread that runs some code, in which `port` is where its messages go.

@@ -6,19 +6,19 @@ import { readFileSync } from "node:fs";
 import { join } from "node:path";
 import { fileURLToPath } from "node:url";
 import { describe, it } from "node:test";
-import { RECORD, agentsPath, temporaryFolder } from "./common.mjs";
-import { checkedOptions } from "../lib/library-options.mjs";
+import { checkedOptions } from "../lib/library/library-options.mjs";
 import { Group } from "../lib/run/group.mjs";
-import { CHECKING } from "./needs.mjs";
-import { recorded } from "./recorded.mjs";
-import { slowRaces } from "./second-detector.mjs";
+import { RECORD, agentsPath, temporaryFolder } from "./helpers/common.mjs";
+import { CHECKING } from "./helpers/needs.mjs";
+import { recorded } from "./helpers/recorded.mjs";
+import { slowRaces } from "./helpers/second-detector.mjs";
 
 const knownPath = (name) => fileURLToPath(new URL(`./known/${name}.mjs`, import.meta.url));
 const MEMBERS = [
   "event", "agent", "call", "does", "block", "byte", "size", "read", "write", "atomic", "waiters", "source",
 ];
 
-/** The events of a trace. @returns {import("./second-detector.mjs").Event[]} */
+/** The events of a trace. @returns {import("./helpers/second-detector.mjs").Event[]} */
 function eventsOf(trace) {
   assert.ok(trace.endsWith("\n"));
   return trace.slice(0, -1).split("\n").map((line, at) => {

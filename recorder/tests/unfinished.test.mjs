@@ -4,8 +4,8 @@ import assert from "node:assert/strict";
 import { it } from "node:test";
 import { EARLIER, NOTHING_AFTER } from "./agents/unfinished-earlier.mjs";
 import { WAYS } from "./agents/unfinished.mjs";
-import { agentsPath } from "./common.mjs";
-import { recorded, seedsTo } from "./recorded.mjs";
+import { agentsPath } from "./helpers/common.mjs";
+import { recorded, seedsTo } from "./helpers/recorded.mjs";
 
 it("an agent that leaves something for later fails its run, and one that doesn't passes", async () => {
   // With a trace each run is made once: so each is the next way.

@@ -8,9 +8,9 @@ import { join } from "node:path";
 import { describe, it } from "node:test";
 import { fileURLToPath } from "node:url";
 import { SCRIPT_LIMITS } from "../script/limits.mjs";
-import { RECORD, agentsPath, temporaryFolder } from "./common.mjs";
-import { CHECKING, SABSIM, hasSabsim, needing, withSabsim } from "./needs.mjs";
-import { recorded, summaryLines } from "./recorded.mjs";
+import { RECORD, agentsPath, temporaryFolder } from "./helpers/common.mjs";
+import { CHECKING, SABSIM, hasSabsim, needing, withSabsim } from "./helpers/needs.mjs";
+import { recorded, summaryLines } from "./helpers/recorded.mjs";
 
 const RING = fileURLToPath(new URL("./known/ring-frees-first.mjs", import.meta.url));
 const RACING_SEED = 3;

@@ -2,10 +2,10 @@
 
 import assert from "node:assert/strict";
 import { test } from "node:test";
+import { Random } from "../lib/memory/random.mjs";
+import { Records } from "../lib/memory/records.mjs";
 import { CALLS, KINDS, kindOf } from "../script/kinds.mjs";
 import { OutsideProfile, countOf, indexOf, operandOf, shown, timeoutOf } from "../script/operands.mjs";
-import { Random } from "../lib/run/random.mjs";
-import { Records } from "../lib/run/records.mjs";
 
 test("each of the eleven typed arrays has its kind, and nothing else has one", () => {
   const names = KINDS.map((_, number) => KINDS[kindOf(new globalThis[`${KINDS[number]}Array`](1))]);

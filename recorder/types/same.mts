@@ -1,12 +1,12 @@
 // Holds the types that the package declares (recorder.d.mts) against those of the code: each pair must be the same.
 
 import * as declared from "../recorder.mjs";
-import * as written from "../lib/recorder.mjs";
+import * as written from "../lib/library/recorder.mjs";
 import * as declaredTesting from "../testing.mjs";
 import * as writtenTesting from "../lib/suite/tests.mjs";
-import type { ExploreOptions, TrialOptions, WithBuffers } from "../lib/library-options.mjs";
+import type { ExploreOptions, TrialOptions, WithBuffers } from "../lib/library/library-options.mjs";
 import type { Ending } from "../lib/run/group.mjs";
-import type { Side, Told } from "../lib/run/findings.mjs";
+import type { Side, RaceReport } from "../lib/run/findings.mjs";
 import type { Shortened } from "../lib/shorter/shorten.mjs";
 
 type Same<One, Other> =
@@ -24,7 +24,7 @@ export type Held = [
   Holds<Same<keyof typeof declaredTesting, keyof typeof writtenTesting>>,
   Holds<Same<Flat<declared.Outcome>, Flat<written.Outcome>>>,
   Holds<Same<declared.Ending, Ending>>,
-  Holds<Same<Flat<declared.Race>, Flat<Told>>>,
+  Holds<Same<Flat<declared.Race>, Flat<RaceReport>>>,
   Holds<Same<Flat<declared.RaceSide>, Flat<Side>>>,
   Holds<Same<Flat<declared.Shortened>, Flat<Shortened>>>,
   Holds<Same<Parameters<declared.WithBuffers>, Parameters<WithBuffers>>>,
@@ -34,8 +34,7 @@ export type Held = [
   Holds<Same<keyof declared.Difference, keyof written.Difference>>,
   Holds<Same<keyof declared.NoSabsim, keyof written.NoSabsim>>,
   Holds<Same<ConstructorParameters<typeof declared.LostJob>, ConstructorParameters<typeof written.LostJob>>>,
-  // What the library has besides is for the command line.
-  Holds<Same<keyof typeof declared, Exclude<keyof typeof written, "moduleUrl">>>,
+  Holds<Same<keyof typeof declared, keyof typeof written>>,
 ];
 
 export const record: typeof declared.record = written.record;

@@ -3,13 +3,13 @@
 
 import { CALLS, CALL_NUMBERS, kindOf } from "../../script/kinds.mjs";
 import { OutsideProfile, countOf, indexOf, operandOf, timeoutOf } from "../../script/operands.mjs";
-import { unwrapped } from "./ordinary/watch.mjs";
-import { apply, bufferOf, likeEngine, lengthOf, offsetOf, put } from "../../kept/own.mjs";
+import { apply, bufferOf, likeEngine, lengthOf, offsetOf, put } from "../primordials.mjs";
+import { unwrapped } from "./ordinary/watched.mjs";
 
 const { wait: WAIT, notify: NOTIFY, compareExchange: COMPARE_EXCHANGE } = CALL_NUMBERS;
 const { isNaN } = Number;
 
-/** @typedef {import("../run/records.mjs").Call} Call */
+/** @typedef {import("../memory/records.mjs").Call} Call */
 /** @typedef {Record<string, any>} Functions an Atomics: its functions by their names */
 
 /**

@@ -10,7 +10,7 @@ const { wait: WAIT, notify: NOTIFY } = CALL_NUMBERS;
 
 /**
  * Makes a call. A wait has no time, and a notify wakes nobody: who waits is the board's.
- * @param {import("../run/records.mjs").Call} call
+ * @param {import("../memory/records.mjs").Call} call
  * @param {object} view
  * @returns {any} what the engine answers: a value, or of a wait a word
  */

@@ -7,8 +7,8 @@ import util from "node:util";
 import { promiseHooks } from "node:v8";
 import {
   apply, defineProperty, getOwnPropertyDescriptor, uncurried, weakHas, weakSet,
-} from "../../kept/own.mjs";
-import { framesHere } from "./sources.mjs";
+} from "../primordials.mjs";
+import { framesHere } from "./frames.mjs";
 import { withoutOwn } from "./stack.mjs";
 
 const { inspect } = util;
@@ -218,7 +218,7 @@ export class Later {
       const found = getOwnPropertyDescriptor(globalThis, LOADED_LATE[at]);
       if (found?.get === undefined) continue;
       const { get } = found;
-      found.get = () => this.#aside(() => apply(get, globalThis, []));
+      found.get = () => this.#unwatched(() => apply(get, globalThis, []));
       defineProperty(globalThis, LOADED_LATE[at], found);
     }
   }
@@ -229,7 +229,7 @@ export class Later {
    * @param {() => T} act
    * @returns {T}
    */
-  #aside(act) {
+  #unwatched(act) {
     const { isWatching } = this;
     this.isWatching = false;
     try {

@@ -2,19 +2,19 @@
 // turn is its own, and writes down what came of it. Between its calls its ordinary reads and writes are noted, as they
 // are seen, and what they have changed is taken before its next call.
 
-import { placeNumber } from "../board/known-places.mjs";
-import { JOIN, LEAVE, MAKE, TIME_UP } from "../board/journal.mjs";
-import { PHASE, WORD } from "../board/layout.mjs";
 import { CALL_NUMBERS, SIZES } from "../../script/kinds.mjs";
 import { SCRIPT_LIMITS } from "../../script/limits.mjs";
-import { FLAG, NO_CALL, READ, WRITE } from "../run/log.mjs";
-import { byteOf } from "../run/memory.mjs";
-import { callText, textRoom, viewKey, viewName } from "../run/spelling.mjs";
+import { JOIN, LEAVE, MAKE, TIME_UP } from "../board/journal.mjs";
+import { placeNumber } from "../memory/known-places.mjs";
+import { PHASE, WORD } from "../memory/layout.mjs";
+import { FLAG, NO_CALL, READ, WRITE } from "../memory/log.mjs";
+import { byteOf } from "../memory/memory.mjs";
+import { callText, textRoom, viewKey, viewName } from "../memory/spelling.mjs";
+import { mapGet, mapSet, mapHas, uncurried } from "../primordials.mjs";
 import { foundBy, leftOpen } from "./answer.mjs";
 import { engineCall, isEqualElement } from "./engine.mjs";
+import { numberAbove, numberHere, sourceHere } from "./frames.mjs";
 import { RunIsOver } from "./over.mjs";
-import { mapGet, mapSet, mapHas, uncurried } from "../../kept/own.mjs";
-import { sourceHere } from "./sources.mjs";
 import { Repeats } from "./repeats.mjs";
 
 const { wait: WAIT, notify: NOTIFY, load: LOAD, store: STORE, compareExchange: COMPARE_EXCHANGE } = CALL_NUMBERS;
@@ -24,18 +24,18 @@ const clearMap = uncurried(Map.prototype.clear);
 // Where sources are told, each access is; but of one that is repeated no more than so many in a row.
 const MOST_TOLD_AGAIN = 100;
 
-/** @typedef {import("../run/records.mjs").Call} Call */
-/** @typedef {import("./ordinary/watch.mjs").Place} Place */
+/** @typedef {import("../memory/records.mjs").Call} Call */
+/** @typedef {import("./ordinary/context.mjs").Place} Place */
 
 /**
  * What an agent plays with.
  * @typedef {object} Table
  * @property {import("../board/board.mjs").Board} board
- * @property {import("../run/memory.mjs").Memory} memory
- * @property {import("../run/log.mjs").Log} log
- * @property {import("../run/stores.mjs").Stores} stores
- * @property {import("../run/records.mjs").Records} records of its own calls
- * @property {import("./sources.mjs").Sources} sources of its own code
+ * @property {import("../memory/memory.mjs").Memory} memory
+ * @property {import("../memory/log.mjs").Log} log
+ * @property {import("../memory/stores.mjs").Stores} stores
+ * @property {import("../memory/records.mjs").Records} records of its own calls
+ * @property {import("../memory/sources.mjs").Sources} sources of its own code
  * @property {import("./later.mjs").Later} later
  * @property {import("./time.mjs").Chance} chance
  * @property {number[]} lengths of the buffers
@@ -174,7 +174,7 @@ export class Player {
       if (tellsSources && !(writes && isNew)) return;
       this.#bound(`more than ${log.most} reads and writes were made that differ`);
     }
-    const source = tellsSources ? this.table.sources.here() : 0;
+    const source = tellsSources ? numberHere(this.table.sources) : 0;
     const flags = (writes ? FLAG.WRITES : FLAG.READS) | (isNew ? 0 : FLAG.AGAIN);
     log.append(what, this.agent, NO_CALL, flags, this.made, place.block, from, to, place, source);
     this.repeats.keep(place, from, to, writes);
@@ -371,7 +371,7 @@ export class Player {
       hasTurn = false;
     }
     this.isPlaying = false;
-    board.line.become(this.agent, PHASE.DONE);
+    board.line.become(this.agent, PHASE.FINISHED);
     board.turn.goHome(this.agent);
     if (!hasTurn) return;
     const why = problem ?? this.#undone("an agent");
@@ -508,7 +508,7 @@ export class Player {
 
   /** @param {Function} called @returns {number} where the agent's code is, where sources are told */
   #source(called) {
-    return this.table.board.words[WORD.TELLS_SOURCES] === 1 ? this.table.sources.above(called) : 0;
+    return this.table.board.words[WORD.TELLS_SOURCES] === 1 ? numberAbove(this.table.sources, called) : 0;
   }
 
   /**
@@ -526,7 +526,7 @@ export class Player {
     return rejected === undefined ? undefined : `left a rejected promise, which nobody handles: ${rejected}`;
   }
 
-  /** @param {import("../run/memory.mjs").Change} change */
+  /** @param {import("../memory/memory.mjs").Change} change */
   #changeText({ block, byte, was, is }) {
     const { agent, made, last, table } = this;
     const when = last === undefined || made === 0

@@ -1,6 +1,6 @@
 // What is told of an error's stack.
 
-import { uncurried } from "../../kept/own.mjs";
+import { uncurried } from "../primordials.mjs";
 
 const includes = uncurried(String.prototype.includes);
 const indexOf = uncurried(String.prototype.indexOf);

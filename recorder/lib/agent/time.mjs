@@ -3,8 +3,8 @@
 
 import crypto from "node:crypto";
 import process from "node:process";
-import { apply, construct, likeEngine, put, uncurried } from "../../kept/own.mjs";
-import { Random } from "../run/random.mjs";
+import { Random } from "../memory/random.mjs";
+import { apply, construct, likeEngine, put, uncurried } from "../primordials.mjs";
 
 const { Date: EngineDate, Proxy: EngineProxy, Int32Array, Uint8Array, BigInt: big, RangeError, TypeError } = globalThis;
 const { floor } = Math;

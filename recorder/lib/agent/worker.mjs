@@ -9,20 +9,20 @@ import { writeSync } from "node:fs";
 import { syncBuiltinESMExports } from "node:module";
 import { Writable } from "node:stream";
 import { workerData } from "node:worker_threads";
-import { Board } from "../board/board.mjs";
-import { ORDER, WORD } from "../board/layout.mjs";
-import { onceMore } from "../run/garbage.mjs";
-import { Log } from "../run/log.mjs";
-import { Memory } from "../run/memory.mjs";
-import { Records } from "../run/records.mjs";
-import { Stores } from "../run/stores.mjs";
 import { shown } from "../../script/operands.mjs";
+import { Board } from "../board/board.mjs";
+import { ORDER, WORD } from "../memory/layout.mjs";
+import { Log } from "../memory/log.mjs";
+import { Memory } from "../memory/memory.mjs";
+import { Records } from "../memory/records.mjs";
+import { Sources } from "../memory/sources.mjs";
+import { Stores } from "../memory/stores.mjs";
+import { ownKeys, put, uncurried } from "../primordials.mjs";
+import { onceMore } from "../processes/garbage.mjs";
 import { recordedAtomics } from "./atomics.mjs";
 import { Later } from "./later.mjs";
 import { watchOrdinary } from "./ordinary/watch.mjs";
-import { ownKeys, put, uncurried } from "../../kept/own.mjs";
 import { Player } from "./player.mjs";
-import { Sources } from "./sources.mjs";
 import { withoutOwn } from "./stack.mjs";
 import { Chance, simulateChance, simulateTime } from "./time.mjs";
 
@@ -133,8 +133,8 @@ const NO_AGENT = "it has no function as its default export, as `export default f
 
 /**
  * @typedef {object} Handed what it gets when all workers have loaded that module
- * @property {ReturnType<typeof import("../run/group.mjs").memoryOf>} memory
- * @property {import("../run/plan.mjs").Plan} plan
+ * @property {ReturnType<typeof import("../board/group-memory.mjs").memoryOf>} memory
+ * @property {import("../options/plan.mjs").Plan} plan
  * @property {import("../board/strategy.mjs").Rules} rules
  */
 
@@ -185,7 +185,7 @@ const asking = {
   refuse: (why) => refuse("made a call", why),
 };
 
-/** @type {import("./ordinary/watch.mjs").Watching} */
+/** @type {import("./ordinary/context.mjs").Watching} */
 const watching = {
   blockOf,
   seen: (place, from, to, writes) => {

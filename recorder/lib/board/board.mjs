@@ -2,12 +2,12 @@
 // row of random numbers, the time, what was done, and how the run ended. Only the thread that has the turn changes it.
 
 import { SCRIPT_LIMITS } from "../../script/limits.mjs";
-import { Random } from "../run/random.mjs";
+import { KnownPlaces } from "../memory/known-places.mjs";
+import { ORDER, PHASE, WORD, wordsFor } from "../memory/layout.mjs";
+import { Random } from "../memory/random.mjs";
 import { Clock } from "./clock.mjs";
 import { End } from "./end.mjs";
 import { EVENTS, Journal } from "./journal.mjs";
-import { KnownPlaces } from "./known-places.mjs";
-import { ORDER, PHASE, WORD, wordsFor } from "./layout.mjs";
 import { Line } from "./line.mjs";
 import { Row, STRAYS } from "./row.mjs";
 import { NOBODY_MOVES, Strategy } from "./strategy.mjs";
@@ -92,7 +92,7 @@ export class Board {
     this.end.dismiss();
     for (let agent = 0; agent < this.rules.agents; agent += 1) {
       const phase = this.line.phase(agent);
-      if (phase !== PHASE.RUNS && phase !== PHASE.DONE) this.turn.wake(agent);
+      if (phase !== PHASE.RUNS && phase !== PHASE.FINISHED) this.turn.wake(agent);
     }
   }
 
@@ -146,7 +146,7 @@ export class Board {
   #somebodyCan() {
     for (let agent = 0; agent < this.rules.agents; agent += 1) {
       const phase = this.line.phase(agent);
-      if (phase !== PHASE.WAITS && phase !== PHASE.DONE && phase !== PHASE.RUNS) return true;
+      if (phase !== PHASE.WAITS && phase !== PHASE.FINISHED && phase !== PHASE.RUNS) return true;
     }
     return false;
   }

@@ -1,7 +1,7 @@
 // How a run ends, and that it has ended.
 
-import { NOBODY, WORD } from "./layout.mjs";
-import { uncurried } from "../../kept/own.mjs";
+import { NOBODY, WORD } from "../memory/layout.mjs";
+import { uncurried } from "../primordials.mjs";
 
 // Agents get another Atomics, and may change what they find: the engine's own functions are kept here, before.
 const { load, store, compareExchange, wait, notify } = Atomics;

@@ -1,7 +1,7 @@
 // What was done, counted: calls and moves of each agent, and what there is room for in a script.
 
 import { SCRIPT_LIMITS } from "../../script/limits.mjs";
-import { AGENT_WORD, WORD, wordOf } from "./layout.mjs";
+import { AGENT_WORD, WORD, wordOf } from "../memory/layout.mjs";
 
 /** What is done at a time, and how many moves it takes. Its position is its number in the log. */
 export const EVENTS = Object.freeze([

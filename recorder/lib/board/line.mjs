@@ -1,6 +1,6 @@
 // Who is at what, and the line of waiters: who waits where, in order of arrival.
 
-import { AGENT_WORD, PHASE, WORD, wordOf } from "./layout.mjs";
+import { AGENT_WORD, PHASE, WORD, wordOf } from "../memory/layout.mjs";
 
 const { load } = Atomics;
 
@@ -24,7 +24,7 @@ export class Line {
 
   /** @param {number} agent @returns {number} one of `PHASE` */
   phase(agent) {
-    return load(this.words, wordOf(agent, AGENT_WORD.AT));
+    return load(this.words, wordOf(agent, AGENT_WORD.PHASE));
   }
 
   /**
@@ -32,7 +32,7 @@ export class Line {
    * @param {number} phase one of `PHASE`
    */
   become(agent, phase) {
-    this.words[wordOf(agent, AGENT_WORD.AT)] = phase;
+    this.words[wordOf(agent, AGENT_WORD.PHASE)] = phase;
   }
 
   /**
@@ -86,7 +86,7 @@ export class Line {
 
   /** @param {number} agent */
   waits(agent) {
-    const phase = this.words[wordOf(agent, AGENT_WORD.AT)];
+    const phase = this.words[wordOf(agent, AGENT_WORD.PHASE)];
     return phase === PHASE.WAITS || phase === PHASE.WAITS_TIMED;
   }
 

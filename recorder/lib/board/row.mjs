@@ -8,9 +8,9 @@
 // All of it lies in shared memory. Only the thread that has the turn changes it, as the words of the board.
 
 import { SCRIPT_LIMITS } from "../../script/limits.mjs";
-import { uncurried } from "../../kept/own.mjs";
-import { placedCallText } from "../run/spelling.mjs";
-import { AGENT_WORD, NOBODY, PHASE, wordOf } from "./layout.mjs";
+import { AGENT_WORD, NOBODY, PHASE, wordOf } from "../memory/layout.mjs";
+import { placedCallText } from "../memory/spelling.mjs";
+import { uncurried } from "../primordials.mjs";
 
 // Agents may change what they find, so the engine's own functions are kept here, before.
 const { Int32Array, Uint8Array, SharedArrayBuffer } = globalThis;
@@ -181,7 +181,7 @@ export class Row {
   /**
    * Whether an agent that was drawn does what it is to do; where that isn't known, all is right.
    * @param {number} agent
-   * @param {import("../run/records.mjs").Call} [call] that it makes; else it goes on from a wait
+   * @param {import("../memory/records.mjs").Call} [call] that it makes; else it goes on from a wait
    */
   allows(agent, call) {
     const { state } = this;
@@ -234,7 +234,7 @@ export class Row {
 
   /** @param {number} agent */
   #phase(agent) {
-    return this.words[wordOf(agent, AGENT_WORD.AT)];
+    return this.words[wordOf(agent, AGENT_WORD.PHASE)];
   }
 
   /** @param {number} agent */

@@ -2,7 +2,7 @@
 // and then one whose wait has a timeout, which ends it. Where nothing else can move, the end of a time is what is left.
 // How it is drawn is a strategy's affair. A call that is nobody else's affair is made without a draw.
 
-import { AGENT_WORD, PHASE, WORD, wordOf } from "./layout.mjs";
+import { AGENT_WORD, PHASE, WORD, wordOf } from "../memory/layout.mjs";
 import { MOST_MOVES } from "./journal.mjs";
 import { Able } from "./strategy/able.mjs";
 import { Asked } from "./strategy/asked.mjs";
@@ -32,8 +32,8 @@ export class Strategy {
   /**
    * @param {Int32Array} words of the board
    * @param {Rules} rules
-   * @param {import("../run/random.mjs").Random} random
-   * @param {import("./known-places.mjs").KnownPlaces} places
+   * @param {import("../memory/random.mjs").Random} random
+   * @param {import("../memory/known-places.mjs").KnownPlaces} places
    * @param {import("./row.mjs").Row} row
    */
   constructor(words, rules, random, places, row) {
@@ -139,7 +139,7 @@ export class Strategy {
 
   /** @param {number} agent */
   #goesOn(agent) {
-    return this.words[wordOf(agent, AGENT_WORD.AT)] === PHASE.ASKS && this.asked.goesOn(agent);
+    return this.words[wordOf(agent, AGENT_WORD.PHASE)] === PHASE.ASKS && this.asked.goesOn(agent);
   }
 
   /**
@@ -151,7 +151,7 @@ export class Strategy {
     able.clear();
     let timed = 0;
     for (let agent = 0; agent < this.rules.agents; agent += 1) {
-      const phase = this.words[wordOf(agent, AGENT_WORD.AT)];
+      const phase = this.words[wordOf(agent, AGENT_WORD.PHASE)];
       if (phase === PHASE.WAITS_TIMED) timed += 1;
       if (phase !== PHASE.ASKS && phase !== PHASE.WOKEN) continue;
       able.add(agent);
@@ -159,7 +159,7 @@ export class Strategy {
     }
     if (timed === 0 || (able.count > 0 && this.random.fraction() >= this.rules.timeouts)) return NOBODY_MOVES;
     for (let agent = 0; agent < this.rules.agents; agent += 1) {
-      if (this.words[wordOf(agent, AGENT_WORD.AT)] === PHASE.WAITS_TIMED) able.add(agent);
+      if (this.words[wordOf(agent, AGENT_WORD.PHASE)] === PHASE.WAITS_TIMED) able.add(agent);
     }
     return NOBODY_MOVES;
   }

@@ -2,8 +2,8 @@
 // who moves next, and the turn is handed to that agent's thread. No thread stands in between, so a call costs one
 // change of threads at most, and none where the same agent goes on.
 
-import { AGENT_WORD, NOBODY, STATUS, WORD, agentOf, inCall, inCode, wordOf } from "./layout.mjs";
-import { uncurried } from "../../kept/own.mjs";
+import { AGENT_WORD, NOBODY, STATUS, WORD, agentOf, inCall, inCode, wordOf } from "../memory/layout.mjs";
+import { uncurried } from "../primordials.mjs";
 
 const { load, store, add, compareExchange, wait, notify } = Atomics;
 const writeText = uncurried(Buffer.prototype.write);
@@ -59,7 +59,7 @@ export class Turn {
   /** @param {number} agent gets the turn; its worker may just have died */
   give(agent) {
     store(this.words, WORD.TURN, inCall(agent));
-    if (load(this.words, wordOf(agent, AGENT_WORD.STATE)) === STATUS.DEAD) this.#dies(agent);
+    if (load(this.words, wordOf(agent, AGENT_WORD.STATUS)) === STATUS.DEAD) this.#dies(agent);
     else this.wake(agent);
   }
 
@@ -69,9 +69,9 @@ export class Turn {
    */
   start(agent) {
     const { words } = this;
-    compareExchange(words, wordOf(agent, AGENT_WORD.STATE), STATUS.IDLE, STATUS.BUSY);
+    compareExchange(words, wordOf(agent, AGENT_WORD.STATUS), STATUS.IDLE, STATUS.BUSY);
     store(words, WORD.TURN, inCall(agent));
-    if (load(words, wordOf(agent, AGENT_WORD.STATE)) === STATUS.DEAD) {
+    if (load(words, wordOf(agent, AGENT_WORD.STATUS)) === STATUS.DEAD) {
       this.#dies(agent);
       return;
     }
@@ -113,7 +113,7 @@ export class Turn {
 
   /** @param {number} agent whose code has ended, and that can begin again */
   goHome(agent) {
-    const word = wordOf(agent, AGENT_WORD.STATE);
+    const word = wordOf(agent, AGENT_WORD.STATUS);
     store(this.words, word, STATUS.IDLE);
     notify(this.words, word);
   }
@@ -126,7 +126,7 @@ export class Turn {
    * @param {number} milliseconds for how long to wait for it
    */
   isBack(agent, milliseconds) {
-    const word = wordOf(agent, AGENT_WORD.STATE);
+    const word = wordOf(agent, AGENT_WORD.STATUS);
     const until = performance.now() + milliseconds;
     while (load(this.words, word) === STATUS.BUSY) {
       const left = until - performance.now();
@@ -163,7 +163,7 @@ export class Turn {
 
   /** @param {number} agent whose worker was started anew */
   arrive(agent) {
-    store(this.words, wordOf(agent, AGENT_WORD.STATE), STATUS.IDLE);
+    store(this.words, wordOf(agent, AGENT_WORD.STATUS), STATUS.IDLE);
   }
 
   /**
@@ -175,7 +175,7 @@ export class Turn {
     const text = this.#reason(agent);
     text.fill(0);
     writeText(text, why, "utf8");
-    const word = wordOf(agent, AGENT_WORD.STATE);
+    const word = wordOf(agent, AGENT_WORD.STATUS);
     store(this.words, word, STATUS.DEAD);
     notify(this.words, word);
     this.#dies(agent);

@@ -3,7 +3,7 @@
 
 import { fork } from "node:child_process";
 import { fileURLToPath } from "node:url";
-import { endGroup } from "../seeds/group-end.mjs";
+import { endGroup } from "../processes/group-end.mjs";
 import { NoSabsim, differenceError } from "./sabsim.mjs";
 
 /** @typedef {import("./sabsim.mjs").Checkable} Checkable */

@@ -3,9 +3,9 @@
 import { spawnSync } from "node:child_process";
 import { accessSync, constants, statSync } from "node:fs";
 import { firstDifference } from "../../script/report.mjs";
-import { programPath } from "../program.mjs";
-import { Log } from "../run/log.mjs";
+import { Log } from "../memory/log.mjs";
 import { traceText } from "../run/trace.mjs";
+import { programPath } from "./program.mjs";
 
 /** @typedef {import("../run/group.mjs").Outcome} Outcome */
 /** @typedef {import("../run/group.mjs").Judgement} Judgement */

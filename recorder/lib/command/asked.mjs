@@ -3,7 +3,7 @@
 import { createHash } from "node:crypto";
 import { readFileSync } from "node:fs";
 import { fileURLToPath } from "node:url";
-import { Refused } from "../run/plan.mjs";
+import { Refused } from "../options/refused.mjs";
 
 /** @typedef {import("../seeds/ranges.mjs").Range} Range */
 

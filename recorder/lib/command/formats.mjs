@@ -1,6 +1,6 @@
 // The forms in which a summary is told.
 
-import { Refused } from "../run/plan.mjs";
+import { Refused } from "../options/refused.mjs";
 import { summaryText } from "./summary-text.mjs";
 
 /** @typedef {import("./summary-form.mjs").WholeSummary} WholeSummary */

@@ -1,7 +1,7 @@
 // Summaries of several command lines, joined as if one had made all runs.
 
 import { readFileSync } from "node:fs";
-import { Refused } from "../run/plan.mjs";
+import { Refused } from "../options/refused.mjs";
 import { united, without } from "../seeds/ranges.mjs";
 import { differenceOf } from "./asked.mjs";
 import { FORM, whyNoSummary } from "./summary-form.mjs";
@@ -78,7 +78,7 @@ export function merged(parts) {
   const problems = summaries.flatMap((summary) => summary.problems);
   const told = joined.told({ stopped: stoppedOf(summaries), missing, problems });
   const shard = null;
-  return { summary: FORM, asked: { ...asked, seeds: askedSeeds, shard }, seeds, ...told, ...leftBy(summaries, told) };
+  return { summary: FORM, asked: { ...asked, seeds: askedSeeds, shard }, seeds, ...told, ...keptOf(summaries, told) };
 }
 
 /** @param {WholeSummary} summary */
@@ -118,10 +118,10 @@ function stoppedOf(summaries) {
 /**
  * What the run of the first failing seed has left: its files, and what belongs to it alone.
  * @param {WholeSummary[]} summaries
- * @param {import("./summary.mjs").Told} told of all
+ * @param {import("./summary.mjs").SummaryData} told of all
  * @returns {Pick<WholeSummary, "shortened" | "kept" | "notKept">}
  */
-function leftBy(summaries, { firstFailing }) {
+function keptOf(summaries, { firstFailing }) {
   const owner = firstFailing === null
     ? summaries.find(({ kept }) => kept !== null)
     : summaries.find((summary) => summary.firstFailing?.seed === firstFailing.seed);

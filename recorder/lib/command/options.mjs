@@ -2,12 +2,12 @@
 
 import { parseArgs } from "node:util";
 import { DEFAULT_CHECK_EVERY, DEFAULT_SECONDS, MOST_JOBS, SCRIPT_LIMITS } from "../../script/limits.mjs";
-import { nearest } from "../nearest.mjs";
-import { DEFAULT_TIMEOUTS, Refused } from "../run/plan.mjs";
-import { checkedAgents, checkedBuffers, checkedChoice, checkedStrategy } from "../run/plan.mjs";
+import { counted } from "../keeping/words.mjs";
+import { nearest } from "../options/nearest.mjs";
+import { DEFAULT_TIMEOUTS, checkedAgents, checkedBuffers, checkedChoice, checkedStrategy } from "../options/plan.mjs";
+import { Refused } from "../options/refused.mjs";
 import { countOf, shardOf } from "../seeds/ranges.mjs";
 import { checkedFormat } from "./formats.mjs";
-import { counted } from "./words.mjs";
 
 export const USAGE = `usage: node recorder/record.mjs MODULE [options] [-- arguments for the agents]
 

@@ -1,6 +1,6 @@
 // A line that tells how far it is, on a terminal only.
 
-import { digits } from "./words.mjs";
+import { digits } from "../keeping/words.mjs";
 
 const BETWEEN_LINES_MILLISECONDS = 100;
 

@@ -4,9 +4,9 @@
 import { readFileSync } from "node:fs";
 import { basename } from "node:path";
 import { checkable, check as checkWithSabsim, sabsimFor, sabsimPlaces } from "../check/sabsim.mjs";
-import { preloads } from "../preloads.mjs";
+import { Refused } from "../options/refused.mjs";
+import { preloads } from "../processes/preloads.mjs";
 import { Group } from "../run/group.mjs";
-import { Refused } from "../run/plan.mjs";
 import { NoLongerTheSame, differenceText, strayedText } from "../shorter/differing.mjs";
 import { callNumbers, keptScript } from "../shorter/kept-script.mjs";
 import { print } from "./print.mjs";

@@ -2,16 +2,16 @@
 
 import { resolve } from "node:path";
 import { Difference, sabsimFor, sabsimPlaces, versionOf } from "../check/sabsim.mjs";
-import { preloads } from "../preloads.mjs";
-import { collectGarbage, onceMore } from "../run/garbage.mjs";
+import { Keeper } from "../keeping/keep.mjs";
+import { keepPictures } from "../keeping/pictures.mjs";
+import { collectGarbage, onceMore } from "../processes/garbage.mjs";
+import { preloads } from "../processes/preloads.mjs";
 import { Coverage } from "../seeds/coverage.mjs";
+import { shortenInJob } from "../seeds/in-job.mjs";
 import { recordSeeds } from "../seeds/seeds.mjs";
-import { shortenInJob } from "../shorter/in-job.mjs";
 import { askedOf } from "./asked.mjs";
 import { formatted } from "./formats.mjs";
 import { Interrupted, Interruption } from "./interruption.mjs";
-import { Keeper } from "./keep.mjs";
-import { keepPictures } from "./pictures.mjs";
 import { print } from "./print.mjs";
 import { toldOf } from "./problems.mjs";
 import { Progress } from "./progress.mjs";

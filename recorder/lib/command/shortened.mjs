@@ -1,8 +1,8 @@
 // What is told of the shortening of the run that is kept.
 
-import { counted, digits } from "./words.mjs";
+import { counted, digits } from "../keeping/words.mjs";
 
-/** @typedef {import("../shorter/in-job.mjs").ShortenedByJob} ShortenedByJob */
+/** @typedef {import("../seeds/in-job.mjs").ShortenedByJob} ShortenedByJob */
 /** @typedef {import("../shorter/shorten.mjs").Change} Change */
 
 /**

@@ -1,7 +1,7 @@
 // The form of a summary as JSON (docs/FORMATS.md): whether what a file has is one.
 
 /**
- * @typedef {import("./summary.mjs").Told & {
+ * @typedef {import("./summary.mjs").SummaryData & {
  *   summary: number, asked: import("./asked.mjs").Asked, seeds: import("../seeds/ranges.mjs").Range[],
  * }} WholeSummary what is told of many runs, and what was asked for
  */

@@ -1,11 +1,11 @@
 // The plain text of a summary. It is made from the object that `--format json` tells, and from nothing else.
 
 import { HOW_TO_BUILD } from "../check/sabsim.mjs";
+import { counted, digits, listed } from "../keeping/words.mjs";
 import { rangeText } from "../seeds/ranges.mjs";
 import { shortenedLines } from "./shortened.mjs";
-import { counted, digits, listed } from "./words.mjs";
 
-/** @typedef {import("./summary.mjs").Told} Told */
+/** @typedef {import("./summary.mjs").SummaryData} SummaryData */
 
 /**
  * @template T
@@ -15,7 +15,7 @@ import { counted, digits, listed } from "./words.mjs";
 const MOST_LISTED = 8;
 
 /**
- * @param {Told} summary
+ * @param {SummaryData} summary
  * @returns {string} lines, each with its end
  */
 export function summaryText(summary) {
@@ -37,7 +37,7 @@ export function summaryText(summary) {
  */
 export const missingText = (range) => `no summary has the ${rangeText(range)}`;
 
-/** @param {Told} summary */
+/** @param {SummaryData} summary */
 function endingLine({ runs, failed, endings }) {
   const failing = endings.failing.map((each) => `${digits(each.runs)} ${each.ending}`).join(", ");
   const passing = endings.passing.map((each) => `${digits(each.runs)} ${passingText(each.ending)}`).join(", ");
@@ -46,7 +46,7 @@ function endingLine({ runs, failed, endings }) {
   return failed === runs ? first : `${first}; ${passing}`;
 }
 
-/** @param {Told} summary */
+/** @param {SummaryData} summary */
 function failingLines({ firstFailing, shortened }) {
   if (firstFailing === null) return [];
   const { seed, ending, detail, noScript } = firstFailing;
@@ -54,7 +54,7 @@ function failingLines({ firstFailing, shortened }) {
   return [`first failing seed: ${seed}, ${ending}`, ...lines.map(indented), ...shortenedLines(shortened)];
 }
 
-/** @param {Told} summary */
+/** @param {SummaryData} summary */
 function raceLines({ races: { allowed, runs, pairs } }) {
   if (runs === 0) return [];
   const title = allowed ? "unordered accesses, allowed" : "unordered accesses";
@@ -65,7 +65,7 @@ function raceLines({ races: { allowed, runs, pairs } }) {
   return [`${title}: ${counted(runs, "run")}, ${many} of lines`, ...lines.map(indented), ...othersLines(pairs.others)];
 }
 
-/** @param {Told} summary */
+/** @param {SummaryData} summary */
 function stateLines({ states: { failing, passing } }) {
   const passed = passing.listed.map((state) => ({ ...state, ending: passingText(state.ending) }));
   const lines = listed([...failing.listed, ...passed], MOST_LISTED, ({ runs, first, ending, shown }) => {
@@ -77,7 +77,7 @@ function stateLines({ states: { failing, passing } }) {
   return [`${many}: how it ended, and the bytes`, ...lines.map(indented), ...othersLines(others)];
 }
 
-/** @param {Told} summary */
+/** @param {SummaryData} summary */
 function coverageLines({ coverage }) {
   if (coverage === null) return [];
   const { pairs, last, row, unplaced, covered } = coverage;
@@ -90,7 +90,7 @@ function coverageLines({ coverage }) {
   return [seen, indented(`of ${accesses} the line isn't known, so pairs may be missing`), enough];
 }
 
-/** @param {Told} summary */
+/** @param {SummaryData} summary */
 function checkLines({ runs, sabsim: { checked, judges, missing } }) {
   const lines = missing === null ? [] : uncheckedLines(missing, runs);
   if (checked === 0) return lines.length === 0 ? ["no run was checked"] : lines;
@@ -100,7 +100,7 @@ function checkLines({ runs, sabsim: { checked, judges, missing } }) {
   return [same, ...judged, ...lines];
 }
 
-/** @param {Told} summary */
+/** @param {SummaryData} summary */
 function scriptLines({ sabsim: { asked }, scripts: { parts, none } }) {
   const lines = listed(none.listed, MOST_LISTED, ({ why, runs }) => {
     const [have, were] = runs === 1 ? ["1 run has", "wasn't"] : [`${digits(runs)} runs have`, "weren't"];
@@ -113,7 +113,7 @@ function scriptLines({ sabsim: { asked }, scripts: { parts, none } }) {
   return [`${touched}; ${their} other bytes weren't compared`, ...all];
 }
 
-/** @param {Told} summary */
+/** @param {SummaryData} summary */
 function accessLine({ runs, calls, accesses }) {
   const made = `${counted(runs, "run")} made ${calls === 0 ? "no call" : counted(calls, "call")} of Atomics`;
   if (accesses === null) return made;

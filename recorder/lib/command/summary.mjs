@@ -42,7 +42,8 @@ import { Tally } from "./tally.mjs";
  */
 
 /**
- * @typedef {object} Told what is told of many runs: an object of JSON, with members that docs/FORMATS.md explains
+ * @typedef {object} SummaryData what a summary says of many runs: an object of JSON, whose members docs/FORMATS.md
+ * explains
  * @property {Stop | null} stopped
  * @property {import("../seeds/ranges.mjs").Range[]} missing seeds that were asked for, and of which nothing is known
  * @property {number} runs
@@ -73,7 +74,10 @@ import { Tally } from "./tally.mjs";
  * runs
  */
 
-/** @typedef {Partial<Pick<Told, "stopped" | "missing" | "kept" | "notKept" | "problems">>} Ending how all ended */
+/**
+ * How all ended.
+ * @typedef {Partial<Pick<SummaryData, "stopped" | "missing" | "kept" | "notKept" | "problems">>} Ending
+ */
 
 // In the order in which they are told.
 const FAILING = ["deadlock", "failed", "check", "race", "bound"];
@@ -124,7 +128,7 @@ export class Summary {
     this.scriptless = new Tally();
     /** @type {Failing | undefined} the failing run of the least seed */
     this.failing = undefined;
-    /** @type {import("../shorter/in-job.mjs").ShortenedByJob | undefined} what its shortening came to */
+    /** @type {import("../seeds/in-job.mjs").ShortenedByJob | undefined} what its shortening came to */
     this.shortened = undefined;
   }
 
@@ -152,7 +156,7 @@ export class Summary {
 
   /**
    * Adds all that is told of other runs.
-   * @param {Told} told
+   * @param {SummaryData} told
    */
   join(told) {
     const { runs, failed, calls, accesses, firstFailing } = told;
@@ -179,7 +183,7 @@ export class Summary {
 
   /**
    * @param {Ending} [ending]
-   * @returns {Told} all that is told, as an object of JSON: the plain text is made from it
+   * @returns {SummaryData} all that is told, as an object of JSON: the plain text is made from it
    */
   told(ending = {}) {
     const { stopped = null, missing = [], kept = null, notKept = [], problems = [] } = ending;
@@ -294,12 +298,12 @@ function endingsTold(order, tally) {
   return entries.sort((one, other) => order.indexOf(one.ending) - order.indexOf(other.ending));
 }
 
-/** @param {Failing} failing @returns {NonNullable<Told["firstFailing"]>} */
+/** @param {Failing} failing @returns {NonNullable<SummaryData["firstFailing"]>} */
 function failingTold({ seed, ending, detail, noScript }) {
   return { seed, ending, detail: detail === "" ? [] : detail.split("\n"), noScript: noScript ?? null };
 }
 
-/** @param {NonNullable<Told["firstFailing"]>} told @returns {Failing} */
+/** @param {NonNullable<SummaryData["firstFailing"]>} told @returns {Failing} */
 function failingOf({ seed, ending, detail, noScript }) {
   const known = /** @type {import("../run/group.mjs").Ending} */ (ending);
   return { seed, ending: known, detail: detail.join("\n"), noScript: noScript ?? undefined };

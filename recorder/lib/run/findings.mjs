@@ -1,7 +1,7 @@
 // The unordered accesses of a run, as they are told.
 
-import { FLAG } from "./log.mjs";
-import { NO_NAMES } from "./names.mjs";
+import { FLAG } from "../memory/log.mjs";
+import { NO_NAMES } from "../options/names.mjs";
 import { deedOf, elementName, whenOf } from "./places.mjs";
 import { racesOf } from "./races.mjs";
 import { ownCalls } from "./transcript.mjs";
@@ -20,7 +20,7 @@ import { ownCalls } from "./transcript.mjs";
  */
 
 /**
- * @typedef {object} Told two unordered accesses
+ * @typedef {object} RaceReport two unordered accesses
  * @property {[string, string]} lines of code, in their order; of one that isn't known, what it did
  * @property {string} text
  * @property {[Side, Side]} sides the one that was made first before the other
@@ -38,7 +38,7 @@ function accessOf(flags) {
 /**
  * @typedef {object} Telling what is needed to tell of races
  * @property {import("./transcript.mjs").Run} run
- * @property {import("./transcript.mjs").Transcript} transcript
+ * @property {import("../../script/text.mjs").Transcript} transcript
  * @property {string[][]} sources the positions of each agent's code by their numbers; empty where none were taken
  * @property {import("./source-names.mjs").SourceNames} sourceNames
  */
@@ -71,7 +71,7 @@ class Teller {
     return `agent ${agent}'s ${accessOf(log.flagsAt(event))} of ${this.#element(log.at(event), byte)}`;
   }
 
-  /** @param {import("./log.mjs").LogEvent} event @param {number} byte on which the two meet */
+  /** @param {import("../memory/log.mjs").LogEvent} event @param {number} byte on which the two meet */
   #element(event, byte) {
     return elementName(event, byte, this.run.lengths, this.run.names ?? NO_NAMES);
   }
@@ -123,12 +123,12 @@ class Teller {
  * The races of a run: each pair of lines of code once, and at most a thousand of them; the last one's text says how
  * many there are besides.
  * @param {Telling} telling
- * @returns {Told[]} in the order of their later accesses
+ * @returns {RaceReport[]} in the order of their later accesses
  */
 export function racesTold(telling) {
   const teller = new Teller(telling);
   const { log, records } = telling.run;
-  /** @type {Told[]} */
+  /** @type {RaceReport[]} */
   const told = [];
   const pairs = new Set();
   for (const { one, other, byte } of racesOf(log, records.length)) {

@@ -1,16 +1,16 @@
 // Which ordinary writes stand in a run's script: all of them as they were written, where they fit; else as the largest
 // whole aligned elements; else only those of bytes that some call touches, which is what the answers rest on.
 
-import { EVENTS, LEAVE, MAKE, TIME_UP } from "../board/journal.mjs";
 import { KINDS, SIZES } from "../../script/kinds.mjs";
 import { SCRIPT_LIMITS } from "../../script/limits.mjs";
 import { scriptText } from "../../script/text.mjs";
-import { FLAG, READ } from "./log.mjs";
-import { NO_NAMES } from "./names.mjs";
+import { EVENTS, LEAVE, MAKE, TIME_UP } from "../board/journal.mjs";
+import { FLAG, READ } from "../memory/log.mjs";
+import { NO_NAMES } from "../options/names.mjs";
 import { UNSEEN, transcriptOf } from "./transcript.mjs";
 
-/** @typedef {import("./stores.mjs").Store} Store */
-/** @typedef {import("./transcript.mjs").Transcript} Transcript */
+/** @typedef {import("../memory/stores.mjs").Store} Store */
+/** @typedef {import("../../script/text.mjs").Transcript} Transcript */
 
 /**
  * @typedef {object} Fitted
@@ -32,7 +32,7 @@ const endOf = (store) => store.byte + SIZES[store.kind];
 
 /**
  * The bytes that some call reads or writes, of each block.
- * @param {import("./log.mjs").Log} log
+ * @param {import("../memory/log.mjs").Log} log
  * @param {number[]} lengths
  * @returns {Uint8Array[]} 1 for each such byte
  */
@@ -129,7 +129,7 @@ function placesOf(stores) {
 
 /**
  * How many calls each agent makes by itself, and how many moves are made.
- * @param {import("./log.mjs").Log} log
+ * @param {import("../memory/log.mjs").Log} log
  * @param {number} agents how many
  */
 function countsOf(log, agents) {
@@ -210,7 +210,7 @@ function bytesLeft(final, touched, stores) {
 /**
  * The script of a run, with as much of the ordinary writes as fits.
  * @param {import("./transcript.mjs").Run} run
- * @param {import("./stores.mjs").Stores} stores
+ * @param {import("../memory/stores.mjs").Stores} stores
  * @param {Store[]} initial what fills the buffers before the run, by an agent of its own
  * @param {string[]} final the bytes of each block at the end, in hexadecimal digits
  * @returns {Fitted}

@@ -1,15 +1,13 @@
 // A group of workers: one for each agent, and one for their referee. All end with the process, however it ends.
 
-import { foundBy, leftOpen } from "../agent/answer.mjs";
-import { Sources } from "../agent/sources.mjs";
-import { Board } from "../board/board.mjs";
-import { waysOf } from "../board/strategy/ways.mjs";
 import { SCRIPT_LIMITS } from "../../script/limits.mjs";
-import { Log } from "./log.mjs";
-import { DEFAULTS, needsRightNames, planOf, Refused } from "./plan.mjs";
-import { Records } from "./records.mjs";
-import { Stores } from "./stores.mjs";
-import { Thread } from "./thread.mjs";
+import { foundBy, leftOpen } from "../agent/answer.mjs";
+import { Board } from "../board/board.mjs";
+import { memoryOf } from "../board/group-memory.mjs";
+import { waysOf } from "../board/strategy/ways.mjs";
+import { DEFAULTS, needsRightNames, planOf } from "../options/plan.mjs";
+import { Refused } from "../options/refused.mjs";
+import { Thread } from "../processes/thread.mjs";
 
 /** @typedef {"finished" | "deadlock" | "failed" | "check" | "race" | "bound"} Ending */
 
@@ -25,7 +23,7 @@ import { Thread } from "./thread.mjs";
  * @property {{ returned: number, calls: number }[]} progress of each agent: calls that returned, and that began
  * @property {{ hash: string, shown: string[] }} state of the end: a hash of how it ended and of all bytes, and the
  * beginnings of each buffer in hexadecimal digits
- * @property {import("./findings.mjs").Told[]} races the unordered accesses, each pair of lines of code once
+ * @property {import("./findings.mjs").RaceReport[]} races the unordered accesses, each pair of lines of code once
  * @property {string[]} [bytes] of each buffer as it was left, in hexadecimal digits; this and what follows is told of
  * runs that fail, and where it is asked for
  * @property {(string | null)[][]} [answers] of each agent's calls, as a report spells them; null: a wait that goes on
@@ -126,23 +124,6 @@ async function within(promise, seconds) {
 }
 
 /**
- * The memory that a group shares.
- * @param {import("./plan.mjs").Plan} plan
- * @param {number} [logEvents] how many events its log has room for
- */
-export function memoryOf({ agents, buffers }, logEvents) {
-  return {
-    board: Board.memory(),
-    log: Log.memory(logEvents),
-    stores: Stores.memory(buffers),
-    sources: Array.from({ length: agents }, () => Sources.memory()),
-    buffers: buffers.map((bytes) => new SharedArrayBuffer(bytes)),
-    copies: buffers.map((bytes) => new SharedArrayBuffer(bytes)),
-    records: Array.from({ length: agents }, () => Records.memory()),
-  };
-}
-
-/**
  * A part of a group, which is there when it has started.
  * @template Part
  * @param {Part | undefined} part
@@ -177,7 +158,7 @@ export class Group {
     this.agents = [];
     /** @type {Thread | undefined} */
     this.referee = undefined;
-    /** @type {import("./plan.mjs").Plan | undefined} */
+    /** @type {import("../options/plan.mjs").Plan | undefined} */
     this.plan = undefined;
     /** @type {import("../board/strategy.mjs").Rules | undefined} */
     this.rules = undefined;

@@ -7,12 +7,12 @@ const UINT8 = KINDS.indexOf("Uint8");
 
 /**
  * Takes over what the buffers were filled with.
- * @param {import("./memory.mjs").Memory} memory whose known bytes are all zero
+ * @param {import("../memory/memory.mjs").Memory} memory whose known bytes are all zero
  * @param {number} agent
- * @returns {import("./stores.mjs").Store[]} words where they are whole, and else bytes; none where all is zero
+ * @returns {import("../memory/stores.mjs").Store[]} words where they are whole, and else bytes; none where all is zero
  */
 export function initialStores(memory, agent) {
-  /** @type {import("./stores.mjs").Store[]} */
+  /** @type {import("../memory/stores.mjs").Store[]} */
   const stores = [];
   memory.real.forEach((real, block) => {
     const whole = real.length - (real.length % SIZES[INT32]);

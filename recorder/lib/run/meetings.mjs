@@ -1,10 +1,10 @@
 // Who went after whom: for each two accesses of different agents that come one after the other at a place, the pair of
 // their positions in the code. So it is seen which orders of lines runs have tried, and when nothing new comes.
 
-import { placeNumber, PLACES } from "../board/known-places.mjs";
+import { placeNumber, PLACES } from "../memory/known-places.mjs";
 
-/** @typedef {import("./log.mjs").Log} Log */
-/** @typedef {import("../agent/sources.mjs").Sources} Sources */
+/** @typedef {import("../memory/log.mjs").Log} Log */
+/** @typedef {import("../memory/sources.mjs").Sources} Sources */
 /** @typedef {import("./source-names.mjs").SourceNames} SourceNames */
 
 // A pair's number: that of the earlier position, and below it that of the later one.

@@ -2,10 +2,10 @@
 // ordinary access to such a byte. There it matters who moves first. Pilots are runs of fixed seeds, so that each group
 // learns the same, whatever runs it makes afterwards.
 
-import { KnownPlaces, PLACES, placeNumber } from "../board/known-places.mjs";
-import { FLAG, READ } from "./log.mjs";
+import { KnownPlaces, PLACES, placeNumber } from "../memory/known-places.mjs";
+import { FLAG, READ } from "../memory/log.mjs";
 
-/** @typedef {import("./log.mjs").Log} Log */
+/** @typedef {import("../memory/log.mjs").Log} Log */
 
 /** How many pilots there are. */
 export const PILOTS = 8;

@@ -1,18 +1,18 @@
 // What was accessed, and when, as people read it.
 
 import { CALLS, KINDS, SIZES } from "../../script/kinds.mjs";
-import { FLAG, NO_CALL } from "./log.mjs";
-import { nameText } from "./names.mjs";
-import { viewName } from "./spelling.mjs";
+import { FLAG, NO_CALL } from "../memory/log.mjs";
+import { viewName } from "../memory/spelling.mjs";
+import { nameText } from "../options/names.mjs";
 
-/** @typedef {import("./log.mjs").LogEvent} LogEvent */
+/** @typedef {import("../memory/log.mjs").LogEvent} LogEvent */
 
 /**
  * The element of an access that has a byte, by its own name or by its view's name and index.
  * @param {LogEvent} event
  * @param {number} byte
  * @param {number[]} lengths of the blocks
- * @param {import("./names.mjs").Names} names
+ * @param {import("../options/names.mjs").Names} names
  * @returns {string}
  */
 export function elementName({ kind, block, offset, length }, byte, lengths, names) {

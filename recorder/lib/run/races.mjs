@@ -11,10 +11,10 @@
 // agent's own time goes on when it lets others know: with an atomic write, and with the end of a critical section.
 
 import { SCRIPT_LIMITS } from "../../script/limits.mjs";
-import { FLAG } from "./log.mjs";
-import { viewKey } from "./spelling.mjs";
+import { FLAG } from "../memory/log.mjs";
+import { viewKey } from "../memory/spelling.mjs";
 
-/** @typedef {import("./log.mjs").Log} Log */
+/** @typedef {import("../memory/log.mjs").Log} Log */
 
 /**
  * Is told of two accesses that race, with each byte on which they meet.

@@ -4,25 +4,25 @@
 
 import { createHash } from "node:crypto";
 import { workerData } from "node:worker_threads";
-import { Board } from "../board/board.mjs";
-import { ORDER, WORD } from "../board/layout.mjs";
-import { strayText } from "../board/row.mjs";
-import { Sources } from "../agent/sources.mjs";
-import { preloads } from "../preloads.mjs";
 import { reportText } from "../../script/report.mjs";
+import { Board } from "../board/board.mjs";
+import { strayText } from "../board/row.mjs";
+import { ORDER, WORD } from "../memory/layout.mjs";
+import { Log } from "../memory/log.mjs";
+import { Memory } from "../memory/memory.mjs";
+import { Records } from "../memory/records.mjs";
+import { Sources } from "../memory/sources.mjs";
+import { Stores } from "../memory/stores.mjs";
+import { Names } from "../options/names.mjs";
+import { onceMore } from "../processes/garbage.mjs";
+import { preloads } from "../processes/preloads.mjs";
 import { racesTold } from "./findings.mjs";
 import { fitted } from "./fitting.mjs";
-import { onceMore } from "./garbage.mjs";
 import { initialStores } from "./initial.mjs";
-import { Log } from "./log.mjs";
 import { Meetings } from "./meetings.mjs";
-import { Memory } from "./memory.mjs";
-import { Names } from "./names.mjs";
 import { PILOTS, PILOT_SECONDS, Pilots } from "./pilots.mjs";
 import { isRacy } from "./races.mjs";
-import { Records } from "./records.mjs";
 import { SourceNames } from "./source-names.mjs";
-import { Stores } from "./stores.mjs";
 import { placesIn, traceText } from "./trace.mjs";
 import { ownCalls, transcriptOf, waitingText } from "./transcript.mjs";
 
@@ -38,7 +38,7 @@ import { ownCalls, transcriptOf, waitingText } from "./transcript.mjs";
  * @property {string[]} bytes of each block, in hexadecimal digits
  * @property {number[]} gone agents that can't run again
  * @property {boolean} racy
- * @property {import("./stores.mjs").Store[]} initial what filled the buffers at first
+ * @property {import("../memory/stores.mjs").Store[]} initial what filled the buffers at first
  * @property {{ agent: number, block: number, byte: number }[]} waiting who waits where, in order of arrival
  * @property {import("../board/row.mjs").Stray} [stray] how it has strayed from the row that it was to go by
  */
@@ -60,8 +60,8 @@ import { ownCalls, transcriptOf, waitingText } from "./transcript.mjs";
 /**
  * @typedef {object} Given what this thread is started with
  * @property {import("node:worker_threads").MessagePort} port
- * @property {ReturnType<typeof import("./group.mjs").memoryOf>} memory
- * @property {import("./plan.mjs").Plan} plan
+ * @property {ReturnType<typeof import("../board/group-memory.mjs").memoryOf>} memory
+ * @property {import("../options/plan.mjs").Plan} plan
  * @property {import("../board/strategy.mjs").Rules} rules
  * @property {RefereeOptions} options
  */

@@ -1,13 +1,13 @@
 // The trace of a run: each of its events as an object of JSON, a line each. It is what another program needs to judge
 // anew whether the run has unordered accesses.
 
-import { LEAVE, TIME_UP } from "../board/journal.mjs";
 import { CALLS } from "../../script/kinds.mjs";
-import { FLAG, NO_CALL, WRITE } from "./log.mjs";
+import { LEAVE, TIME_UP } from "../board/journal.mjs";
+import { FLAG, NO_CALL, WRITE } from "../memory/log.mjs";
 
 /**
  * What an event is called.
- * @param {import("./log.mjs").LogEvent} event
+ * @param {import("../memory/log.mjs").LogEvent} event
  */
 function nameOf({ what, method }) {
   if (what === LEAVE) return "leave";
@@ -24,7 +24,7 @@ const EFFECTS = Array.from({ length: 16 }, (_, flags) =>
 /**
  * What JSON.stringify makes of an event as an object, faster: a trace may have a million lines.
  * @param {number} position
- * @param {import("./log.mjs").LogEvent} event
+ * @param {import("../memory/log.mjs").LogEvent} event
  * @param {string} source in JSON
  */
 function lineOf(position, event, source) {
@@ -37,7 +37,7 @@ function lineOf(position, event, source) {
 const JOINED = 1_024;
 
 /**
- * @param {import("./log.mjs").Log} log
+ * @param {import("../memory/log.mjs").Log} log
  * @param {string[][]} [sources] the positions of each agent's code, by their numbers; without, none is told
  * @returns {string}
  */
@@ -50,7 +50,7 @@ export function traceText(log, sources = []) {
 
 /**
  * The lines of some events.
- * @param {import("./log.mjs").Log} log
+ * @param {import("../memory/log.mjs").Log} log
  * @param {number} first
  * @param {string[][]} spelled the positions of each agent's code, in JSON
  */
@@ -66,7 +66,7 @@ function linesFrom(log, first, spelled) {
 
 /**
  * The places of the agents' code that a trace names.
- * @param {import("./log.mjs").Log} log
+ * @param {import("../memory/log.mjs").Log} log
  * @param {string[][]} sources the positions of each agent's code, by their numbers
  * @returns {Set<string>}
  */

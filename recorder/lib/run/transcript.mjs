@@ -2,51 +2,26 @@
 // writes stand among the calls as stores. What agents call is counted apart: they are none of theirs. Ordinary reads
 // aren't among the calls. So a view without an element says that the run has ordinary accesses, or may have some.
 
-import { EVENTS, LEAVE, TIME_UP } from "../board/journal.mjs";
 import { CONSTRUCTORS, KINDS, SIZES } from "../../script/kinds.mjs";
 import { answerText } from "../../script/report.mjs";
-import { READ } from "./log.mjs";
-import { NO_NAMES, nameText } from "./names.mjs";
-import { callText, viewName } from "./spelling.mjs";
+import { EVENTS, LEAVE, TIME_UP } from "../board/journal.mjs";
+import { READ } from "../memory/log.mjs";
+import { callText, viewName } from "../memory/spelling.mjs";
+import { NO_NAMES, nameText } from "../options/names.mjs";
 
-/** @typedef {import("./stores.mjs").Store} Store */
-
-/**
- * @typedef {object} View as a script has it
- * @property {string} name
- * @property {string} kind
- * @property {number} block
- * @property {number} offset
- * @property {number} length
- */
-
-/**
- * @typedef {object} Done a call that has begun
- * @property {string} text the call as a script has it
- * @property {boolean} joined whether it joined the line of waiters
- * @property {string | null} answer as a report spells it, or null while it waits
- * @property {boolean} isOwn whether the agent called it; else it stands for an ordinary write
- * @property {string} [name] of its element, where that has one
- */
-
-/** @typedef {{ agent: number, timeUp: boolean }} Move */
-
-/**
- * @typedef {object} Transcript
- * @property {number[]} lengths of the blocks
- * @property {boolean[]} canBlock of each agent
- * @property {View[]} views
- * @property {Done[][]} calls of each agent
- * @property {Move[]} moves
- */
+/** @typedef {import("../memory/stores.mjs").Store} Store */
+/** @typedef {import("../../script/text.mjs").Done} Done */
+/** @typedef {import("../../script/text.mjs").Move} Move */
+/** @typedef {import("../../script/text.mjs").Transcript} Transcript */
+/** @typedef {import("../../script/text.mjs").View} View */
 
 /**
  * @typedef {object} Run what a transcript is made from
- * @property {import("./log.mjs").Log} log
- * @property {import("./records.mjs").Records[]} records of each agent
+ * @property {import("../memory/log.mjs").Log} log
+ * @property {import("../memory/records.mjs").Records[]} records of each agent
  * @property {number[]} lengths of the blocks
  * @property {boolean[]} canBlock of each agent
- * @property {import("./names.mjs").Names} [names] of words and of whole arrays
+ * @property {import("../options/names.mjs").Names} [names] of words and of whole arrays
  * @property {boolean} [isOrdinary] whether ordinary accesses were made, or may have been made unseen
  */
 
@@ -68,7 +43,7 @@ const STORED = new Uint8Array(Math.max(...SIZES));
 const ELEMENTS = CONSTRUCTORS.map((Kind) => new Kind(STORED.buffer, 0, 1));
 
 class Writer {
-  /** @param {number[]} lengths @param {boolean[]} canBlock @param {import("./names.mjs").Names} names */
+  /** @param {number[]} lengths @param {boolean[]} canBlock @param {import("../options/names.mjs").Names} names */
   constructor(lengths, canBlock, names) {
     this.lengths = lengths;
     this.canBlock = canBlock;
@@ -133,7 +108,7 @@ class Writer {
     return names[number];
   }
 
-  /** @param {import("./records.mjs").Records} records @param {number} agent @param {number} event */
+  /** @param {import("../memory/records.mjs").Records} records @param {number} agent @param {number} event */
   addEvent(records, agent, event) {
     if (event !== LEAVE && event !== TIME_UP) {
       const call = records.callAt(this.own[agent]);

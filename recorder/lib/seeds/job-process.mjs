@@ -1,7 +1,7 @@
 // The process of a job. It ends with the process that has started it, however that one ends.
 
-import { collectGarbage, onceMore } from "../run/garbage.mjs";
-import { endGroup } from "./group-end.mjs";
+import { collectGarbage, onceMore } from "../processes/garbage.mjs";
+import { endGroup } from "../processes/group-end.mjs";
 import { Job } from "./job.mjs";
 import { packed } from "./remote-job.mjs";
 

@@ -1,8 +1,8 @@
 // One job: a group of workers, and the checks of its runs.
 
 import { Checker } from "../check/checker.mjs";
-import { Group } from "../run/group.mjs";
 import { checkable, foundSabsim } from "../check/sabsim.mjs";
+import { Group } from "../run/group.mjs";
 import { shorten } from "../shorter/shorten.mjs";
 
 /**
@@ -66,9 +66,9 @@ export class Job {
 
   /**
    * Looks for the shortest run that fails as one that was found, and has it checked.
-   * @param {import("../shorter/alike.mjs").Told} told of that run
+   * @param {import("../shorter/alike.mjs").RunSummary} told of that run
    * @param {(tried: import("../shorter/shorten.mjs").Tried) => void} onTry
-   * @returns {Promise<import("../shorter/in-job.mjs").ShortenedByJob>} fails where the check has failed
+   * @returns {Promise<import("./in-job.mjs").ShortenedByJob>} fails where the check has failed
    */
   async shorten(told, onTry) {
     const { shortest, shortened } = await shorten(this.group, told, { onTry });

@@ -3,9 +3,9 @@
 
 import { fork } from "node:child_process";
 import { fileURLToPath } from "node:url";
-import { Refused } from "../run/plan.mjs";
 import { Difference, NoSabsim } from "../check/sabsim.mjs";
-import { endGroup } from "./group-end.mjs";
+import { Refused } from "../options/refused.mjs";
+import { endGroup } from "../processes/group-end.mjs";
 import { jobWords } from "./node-words.mjs";
 
 /** @typedef {import("../run/group.mjs").Outcome} Outcome */
@@ -14,7 +14,7 @@ import { jobWords } from "./node-words.mjs";
  * @typedef {object} Request what a job's process is asked for: one of these
  * @property {Parameters<typeof import("./job.mjs").Job.open>[0]} [open]
  * @property {import("../run/group.mjs").Wanted[]} [run]
- * @property {import("../shorter/alike.mjs").Told} [shorten]
+ * @property {import("../shorter/alike.mjs").RunSummary} [shorten]
  * @property {true} [finish]
  */
 
@@ -102,9 +102,9 @@ export class RemoteJob {
   }
 
   /**
-   * @param {import("../shorter/alike.mjs").Told} told of a run that was found
+   * @param {import("../shorter/alike.mjs").RunSummary} told of a run that was found
    * @param {(tried: import("../shorter/shorten.mjs").Tried) => void} onTry
-   * @returns {Promise<import("../shorter/in-job.mjs").ShortenedByJob>}
+   * @returns {Promise<import("./in-job.mjs").ShortenedByJob>}
    */
   shorten(told, onTry) {
     this.onTry = onTry;

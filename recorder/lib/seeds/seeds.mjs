@@ -5,8 +5,6 @@ import { InOrder } from "./in-order.mjs";
 import { LocalJob } from "./local-job.mjs";
 import { LostJob, RemoteJob } from "./remote-job.mjs";
 
-export { LostJob } from "./remote-job.mjs";
-
 /** @typedef {import("../run/group.mjs").Outcome} Outcome */
 
 /**
@@ -39,7 +37,7 @@ export { LostJob } from "./remote-job.mjs";
  */
 
 /**
- * @typedef {object} Told what is done with what comes of runs
+ * @typedef {object} Sink what is done with what comes of runs
  * @property {(outcome: Outcome) => void} add
  * @property {(seed: number) => void} addCheck
  * @property {(seed: number) => void} lose an outcome that will never come
@@ -134,7 +132,7 @@ export async function recordSeeds(options, onOutcome, listening = {}) {
  * @param {Row} row
  * @param {(outcome: Outcome) => void} onOutcome
  * @param {(seed: number) => void} onCheck
- * @returns {Told}
+ * @returns {Sink}
  */
 function listener({ first, failFast, coverage }, row, onOutcome, onCheck) {
   if (!failFast && coverage === undefined) return { add: onOutcome, addCheck: onCheck, lose() {}, finish() {} };
@@ -179,7 +177,7 @@ export function unlessStopped(signal, promise) {
  * @param {AnyJob[]} jobs
  * @param {Parameters<RemoteJob["open"]>[0]} options
  * @param {Row} row
- * @param {Told} told
+ * @param {Sink} told
  * @param {Pace} pace
  */
 async function recordAll(jobs, options, row, told, pace) {
@@ -207,7 +205,7 @@ async function settled(promises) {
  * Keeps one job at work until there are no seeds, or something failed. Where the job is lost the others go on.
  * @param {AnyJob} job
  * @param {Row} row
- * @param {Told} told
+ * @param {Sink} told
  * @param {Pace} pace
  * @returns {Promise<void>}
  */
@@ -243,7 +241,7 @@ async function taken(job, row, pace) {
 /**
  * @param {AnyJob} job
  * @param {import("../run/group.mjs").Wanted[]} seeds in their order
- * @param {Told} told
+ * @param {Sink} told
  */
 async function runBatch(job, seeds, told) {
   let made = 0;

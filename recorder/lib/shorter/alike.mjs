@@ -43,13 +43,13 @@ export function failsAlike(run, other) {
 
 /**
  * Whether two runs did the same, as far as is told of every run.
- * @param {Told} one
- * @param {Told} other
+ * @param {RunSummary} one
+ * @param {RunSummary} other
  */
 export function areSame(one, other) {
-  /** @param {Told} told */
+  /** @param {RunSummary} told */
   const parts = ({ ending, moves, calls, state }) => [ending, moves, calls, state.hash].join(" ");
   return parts(one) === parts(other);
 }
 
-/** @typedef {Pick<Outcome, "seed" | "ending" | "detail" | "moves" | "calls" | "state">} Told */
+/** @typedef {Pick<Outcome, "seed" | "ending" | "detail" | "moves" | "calls" | "state">} RunSummary */

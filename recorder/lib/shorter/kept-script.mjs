@@ -6,8 +6,8 @@
 
 import { CALLS, KINDS, SIZES } from "../../script/kinds.mjs";
 import { callNumber } from "../board/row.mjs";
-import { Refused } from "../run/plan.mjs";
-import { viewKey } from "../run/spelling.mjs";
+import { viewKey } from "../memory/spelling.mjs";
+import { Refused } from "../options/refused.mjs";
 
 /**
  * @typedef {object} Step a call that begins, or a store that stands for an ordinary write
@@ -59,7 +59,7 @@ function need(holds, why) {
 /** @type {(value: unknown) => value is number} */
 const isCount = (value) => Number.isInteger(value) && Number(value) >= 0;
 
-/** @typedef {import("../run/spelling.mjs").Range} View */
+/** @typedef {import("../memory/spelling.mjs").Range} View */
 
 /** @param {any} script @returns {Map<string, View>} by their names */
 function viewsOf({ views }) {

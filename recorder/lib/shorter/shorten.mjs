@@ -11,7 +11,7 @@ import { changesOf, joinedFrom, rowOf, shortenedAt, stretchesOf, without } from 
 /** @typedef {import("../run/group.mjs").Outcome} Outcome */
 /** @typedef {import("../run/group.mjs").One} One */
 /** @typedef {import("./stretches.mjs").Stretch} Stretch */
-/** @typedef {import("./alike.mjs").Told} Told */
+/** @typedef {import("./alike.mjs").RunSummary} RunSummary */
 
 /** @typedef {{ before: number, after: number }} Change */
 
@@ -68,7 +68,7 @@ function isShorter(one, other) {
 /**
  * Why a failing run isn't shortened, if so. How far a run gets that meets a bound says little; and where a worker dies
  * in each run that is tried, it takes too long.
- * @param {Told} told
+ * @param {RunSummary} told
  * @returns {string | undefined}
  */
 function whyNot({ ending, detail }) {
@@ -212,7 +212,7 @@ const droppedAt = (stretches, at) => [without(stretches, at, 1)];
 /**
  * Looks for the shortest run that fails in the same way as one that was found by its seed.
  * @param {import("../run/group.mjs").Group} group of the same agents
- * @param {Told} told of the run that was found
+ * @param {RunSummary} told of the run that was found
  * @param {Limits} [limits]
  * @returns {Promise<Found>}
  */
@@ -240,7 +240,7 @@ export async function shorten(group, told, limits = {}) {
 
 /**
  * What is told of a run that stays as it was found.
- * @param {Told} told
+ * @param {RunSummary} told
  * @param {Pick<Outcome, "row">} first
  * @param {number} runs
  * @param {string} unchanged why it stays so

@@ -1,7 +1,7 @@
 // What a test says of a run that failed: the seed and how it ended, how it came to that, and where its files lie.
 
 import { sabsim } from "../check/sabsim.mjs";
-import { digits } from "../command/words.mjs";
+import { digits } from "../keeping/words.mjs";
 
 const TITLE = "Its last acts, as sabsim explains them (the move, the agent, how many of its calls had returned):";
 
@@ -11,7 +11,7 @@ const MOST_CHARACTERS = 160;
 
 /**
  * @param {object} about
- * @param {import("../recorder.mjs").Outcome} about.outcome of the run
+ * @param {import("../library/recorder.mjs").Outcome} about.outcome of the run
  * @param {number} about.passed how many runs of lower seeds didn't fail
  * @param {string | undefined} about.sabsim its path; undefined: it isn't there, or isn't asked
  * @param {string[]} about.kept what lies where, and what doesn't
@@ -30,7 +30,7 @@ export function failureText({ outcome, passed, sabsim: path, kept }) {
 
 /**
  * The end of a run as sabsim explains it: the last acts, and then the bytes and how far each agent came.
- * @param {import("../recorder.mjs").Outcome} outcome
+ * @param {import("../library/recorder.mjs").Outcome} outcome
  * @param {string | undefined} path of sabsim
  * @returns {string[]} none where there is no sabsim, or no script
  */

@@ -1,10 +1,10 @@
 // Tests of modules of agents, for node's own test runner and for others.
 
 import { test } from "node:test";
-import { callerOf } from "../module-url.mjs";
+import { callerOf } from "../library/module-url.mjs";
 import { tried } from "./trial.mjs";
 
-/** @typedef {import("../library-options.mjs").TrialOptions} TrialOptions */
+/** @typedef {import("../library/library-options.mjs").TrialOptions} TrialOptions */
 
 /**
  * A test of node:test that runs agents under the schedules of many seeds, up to the first run that fails.

@@ -4,17 +4,17 @@ import { AssertionError } from "node:assert";
 import { mkdtempSync } from "node:fs";
 import { tmpdir } from "node:os";
 import { join, resolve } from "node:path";
-import { Keeper } from "../command/keep.mjs";
-import { keepPictures } from "../command/pictures.mjs";
 import { toldOf } from "../command/problems.mjs";
-import { counted, digits } from "../command/words.mjs";
-import { explored, sabsimOf } from "../explore.mjs";
-import { checkedOwn, exploreOptions } from "../library-options.mjs";
+import { Keeper } from "../keeping/keep.mjs";
+import { keepPictures } from "../keeping/pictures.mjs";
+import { counted, digits } from "../keeping/words.mjs";
+import { explored, sabsimOf } from "../library/explore.mjs";
+import { checkedOwn, exploreOptions } from "../library/library-options.mjs";
 import { failureText } from "./failure.mjs";
 import { shortestOf } from "./shortest.mjs";
 
-/** @typedef {import("../recorder.mjs").Outcome} Outcome */
-/** @typedef {import("../library-options.mjs").TrialOptions} TrialOptions */
+/** @typedef {import("../library/recorder.mjs").Outcome} Outcome */
+/** @typedef {import("../library/library-options.mjs").TrialOptions} TrialOptions */
 
 /**
  * @typedef {object} Caller whose code asks for the trial

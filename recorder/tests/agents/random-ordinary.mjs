@@ -1,7 +1,7 @@
 // Agents that read and write few bytes ordinarily, in many ways, between calls of Atomics of several sizes. What they
 // do is drawn from the run's seed; the first argument names how they keep out of each other's way, or that they don't.
 
-import { Dice } from "../scripts.mjs";
+import { Dice } from "../helpers/scripts.mjs";
 
 export const setup = { agents: 3, buffers: [24, 16] };
 

@@ -2,7 +2,8 @@
 // one too, and what was told is collected.
 
 import { syncBuiltinESMExports } from "node:module";
-import { unwrapped, watchOrdinary } from "../../lib/agent/ordinary/watch.mjs";
+import { watchOrdinary } from "../../lib/agent/ordinary/watch.mjs";
+import { unwrapped } from "../../lib/agent/ordinary/watched.mjs";
 import { CONSTRUCTORS, KINDS } from "../../script/kinds.mjs";
 
 export { KINDS, unwrapped };

@@ -1,7 +1,7 @@
 // The methods of typed arrays that answer an array, for watched ones. What they answer is private, unless the
 // receiver's species makes another one.
 
-import { TypedArray, uncurried } from "../../../kept/own.mjs";
+import { TypedArray, uncurried } from "../../primordials.mjs";
 import { elementOf, needsComparator, needsFunction, positionOf, wholeOf } from "./numbers.mjs";
 import { answered, partOf } from "./species.mjs";
 import { copied, read, setElements, written } from "./stretches.mjs";

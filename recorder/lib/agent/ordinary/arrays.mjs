@@ -5,7 +5,7 @@ import { KINDS, kindOf } from "../../../script/kinds.mjs";
 import {
   TypedArray, apply, bufferOf, byteLengthOf, construct, copyProperty, get, getPrototypeOf, hasOwn, lengthOf, likeEngine,
   offsetOf, ownKeys, put, setPrototypeOf, tagOf, uncurried,
-} from "../../../kept/own.mjs";
+} from "../../primordials.mjs";
 import { ANSWERING } from "./answering.mjs";
 import { blockNumber, refused } from "./context.mjs";
 import { last, wrapped } from "./elements.mjs";

@@ -2,7 +2,7 @@
 // are told by what they read and write.
 
 import { KINDS } from "../../../script/kinds.mjs";
-import { apply, bufferOf, lengthOf, offsetOf, put, setPrototypeOf, tagOf, uncurried } from "../../../kept/own.mjs";
+import { apply, bufferOf, lengthOf, offsetOf, put, setPrototypeOf, tagOf, uncurried } from "../../primordials.mjs";
 import { blockNumber, refused } from "./context.mjs";
 import { wrappedArray } from "./elements.mjs";
 import { constructing, copying, looking, madePrivate } from "./guards.mjs";
@@ -188,7 +188,7 @@ const reading = (engine) => ({
  * A method that answers another Buffer on the same memory.
  * @param {Function} engine
  */
-const parting = (engine) => ({
+const sharingSlice = (engine) => ({
   /** @param {any[]} given */
   method(...given) {
     const answer = apply(engine, this, given);
@@ -232,7 +232,7 @@ function replaceMethods() {
   replace(buffers, "toString", (engine) => forBytes(engine, textOf));
   put(buffers, "toLocaleString", buffers.toString);
   replaceEach(buffers, ["equals", "compare", "indexOf", "lastIndexOf", "includes"], reading);
-  replaceEach(buffers, ["subarray", "slice"], parting);
+  replaceEach(buffers, ["subarray", "slice"], sharingSlice);
   replace(buffers, "swap16", swapping(2));
   replace(buffers, "swap32", swapping(4));
   replace(buffers, "swap64", swapping(8));

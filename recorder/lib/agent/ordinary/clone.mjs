@@ -1,7 +1,7 @@
 // Copies of values, in the agent itself and in messages. A clone of a shared buffer is another object on the same
 // memory: here it is known, elsewhere nobody would see what is done with it.
 
-import { apply, put, tagOf } from "../../../kept/own.mjs";
+import { apply, put, tagOf } from "../../primordials.mjs";
 import { blockNumber, learn, originalOf, refused } from "./context.mjs";
 import { wrappedView } from "./data-view.mjs";
 import { wrapped } from "./elements.mjs";

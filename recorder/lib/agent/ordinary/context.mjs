@@ -1,6 +1,6 @@
 // Who is asked and told in a watched realm: which buffers are recorded, who hears of accesses, and who ends a run.
 
-import { weakGet, weakSet } from "../../../kept/own.mjs";
+import { weakGet, weakSet } from "../../primordials.mjs";
 
 /**
  * @typedef {object} Place what a watched array stands on; one object for each watched array, made once

@@ -4,7 +4,7 @@
 import {
   apply, construct, copyProperty, create, getPrototypeOf, likeEngine, ownKeys, put,
   uncurried, viewBufferOf, viewLengthOf, viewOffsetOf,
-} from "../../../kept/own.mjs";
+} from "../../primordials.mjs";
 import { blockNumber, refused } from "./context.mjs";
 import { byteIndexOf, elementOf } from "./numbers.mjs";
 import { replace, replaceGetter } from "./patch.mjs";

@@ -3,7 +3,7 @@
 
 import {
   bufferOf, defineProperty, get, getOwnPropertyDescriptor, hasOwn, set, setPrototypeOf,
-} from "../../../kept/own.mjs";
+} from "../../primordials.mjs";
 import { blockNumber, watching } from "./context.mjs";
 import { elementOf, indexIn } from "./numbers.mjs";
 import { Watched, arrayOn, keepArray } from "./watched.mjs";

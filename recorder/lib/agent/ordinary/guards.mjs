@@ -1,6 +1,6 @@
 // Functions of node and the engine that see through no watched array: what is done where recorded memory is given them.
 
-import { apply, construct, isArray, put, setPrototypeOf } from "../../../kept/own.mjs";
+import { apply, construct, isArray, put, setPrototypeOf } from "../../primordials.mjs";
 import { refused } from "./context.mjs";
 import { SHALLOW, WHOLLY, mirrored, reaches } from "./reach.mjs";
 import { anyWatchedOf, tellAll, unwrapped } from "./watched.mjs";

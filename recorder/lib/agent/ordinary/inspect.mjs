@@ -2,7 +2,7 @@
 // each is told as read, and looks like the engine's.
 
 import util from "node:util";
-import { TypedArray, apply, getOwnPropertyDescriptor, put, uncurried } from "../../../kept/own.mjs";
+import { TypedArray, apply, getOwnPropertyDescriptor, put, uncurried } from "../../primordials.mjs";
 import { blockNumber } from "./context.mjs";
 import { copying, madePrivate } from "./guards.mjs";
 import { replace, replaceEach } from "./patch.mjs";

@@ -11,7 +11,7 @@ import stringDecoder from "node:string_decoder";
 import util from "node:util";
 import v8 from "node:v8";
 import zlib from "node:zlib";
-import { apply, is, ownKeys, put, tagOf, uncurried } from "../../../kept/own.mjs";
+import { apply, is, ownKeys, put, tagOf, uncurried } from "../../primordials.mjs";
 import {
   constructing, copying, copyingGiven, looking, madePrivate, refusing, refusingGiven, writing,
 } from "./guards.mjs";

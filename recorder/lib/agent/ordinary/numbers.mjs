@@ -1,6 +1,6 @@
 // Conversions of the language, as its own methods make them of what they are given.
 
-import { uncurried } from "../../../kept/own.mjs";
+import { uncurried } from "../../primordials.mjs";
 
 const { trunc, max, min } = Math;
 const { BigInt: EngineBigInt, RangeError: EngineRangeError, TypeError: EngineTypeError } = globalThis;

@@ -2,7 +2,7 @@
 
 import {
   apply, copyProperty, defineProperty, getOwnPropertyDescriptor, likeEngine, ownKeys, put,
-} from "../../../kept/own.mjs";
+} from "../../primordials.mjs";
 import { watchedOf } from "./watched.mjs";
 
 const { Error: EngineError } = globalThis;

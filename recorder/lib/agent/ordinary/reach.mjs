@@ -3,7 +3,7 @@
 import {
   copyProperty, create, defineProperty, getOwnPropertyDescriptor, getPrototypeOf, hasOwn, isArray, lengthOf, mapGet,
   mapSet, ownKeys, setPrototypeOf, sharedLengthOf, tagOf, uncurried,
-} from "../../../kept/own.mjs";
+} from "../../primordials.mjs";
 import { blockNumber, watching } from "./context.mjs";
 import { DATA_VIEW, ENGINE, WHOLE_BUFFER, anyWatchedOf, tellAll } from "./watched.mjs";
 

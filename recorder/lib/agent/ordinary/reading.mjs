@@ -1,7 +1,7 @@
 // The methods of typed arrays that read, for watched ones: what the standard says, with each read told. A read that
 // agents' code can come between is told by itself; else those of a stretch are told together.
 
-import { TypedArray, uncurried } from "../../../kept/own.mjs";
+import { TypedArray, uncurried } from "../../primordials.mjs";
 import { listed } from "./elements.mjs";
 import { needsFunction, positionOf, wholeOf } from "./numbers.mjs";
 import { copied, read } from "./stretches.mjs";

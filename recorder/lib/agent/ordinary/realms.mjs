@@ -1,7 +1,7 @@
 // Other realms: a context of node's vm has constructors of its own. It gets those of the agents' realm in their place.
 
 import { KINDS } from "../../../script/kinds.mjs";
-import { apply, put } from "../../../kept/own.mjs";
+import { apply, put } from "../../primordials.mjs";
 import { refused } from "./context.mjs";
 import { constructing } from "./guards.mjs";
 import { replaceNeeded } from "./patch.mjs";

@@ -1,6 +1,6 @@
 // Recorded buffers themselves: a part of one is a copy, which is read.
 
-import { construct, sharedLengthOf, uncurried } from "../../../kept/own.mjs";
+import { construct, sharedLengthOf, uncurried } from "../../primordials.mjs";
 import { blockNumber, watching } from "./context.mjs";
 import { positionOf } from "./numbers.mjs";
 import { replaceNeeded } from "./patch.mjs";

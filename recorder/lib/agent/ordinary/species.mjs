@@ -1,6 +1,6 @@
 // Which array a method answers: the language asks the receiver's constructor for it.
 
-import { construct, get, lengthOf, tagOf, uncurried } from "../../../kept/own.mjs";
+import { construct, get, lengthOf, tagOf, uncurried } from "../../primordials.mjs";
 import { ENGINE, unwrapped, watchedOf } from "./watched.mjs";
 
 const { TypeError: EngineTypeError, Symbol: EngineSymbol } = globalThis;

@@ -1,6 +1,6 @@
 // Elements of watched arrays, one by one and in stretches: what is read and written is told.
 
-import { bufferOf, lengthOf, TypedArray, uncurried } from "../../../kept/own.mjs";
+import { bufferOf, lengthOf, TypedArray, uncurried } from "../../primordials.mjs";
 import { ENGINE, tell, unwrapped, watchedOf } from "./watched.mjs";
 
 /** @typedef {import("./watched.mjs").Watched} Watched */

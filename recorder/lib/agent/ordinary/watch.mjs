@@ -15,15 +15,9 @@ import { watchNatives } from "./natives.mjs";
 import { watchRealms } from "./realms.mjs";
 import { watchBuffers } from "./shared.mjs";
 
-export { blockNumber } from "./context.mjs";
-export { unwrapped } from "./watched.mjs";
-
-/** @typedef {import("./context.mjs").Place} Place */
-/** @typedef {import("./context.mjs").Watching} Watching */
-
 /**
  * Patches this realm's globals and node's modules. It is called once, before any of the agents' code is loaded.
- * @param {Watching} watching
+ * @param {import("./context.mjs").Watching} watching
  */
 export function watchOrdinary(watching) {
   begin(watching);

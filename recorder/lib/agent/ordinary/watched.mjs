@@ -4,7 +4,7 @@ import { CONSTRUCTORS, KINDS } from "../../../script/kinds.mjs";
 import {
   bufferOf, create, getPrototypeOf, lengthOf, offsetOf, setPrototypeOf, tagOf, viewBufferOf, viewLengthOf, viewOffsetOf,
   weakGet, weakSet,
-} from "../../../kept/own.mjs";
+} from "../../primordials.mjs";
 import { originalOf, refused, watching } from "./context.mjs";
 
 /** The numbers of places that are no typed array. */

@@ -1,7 +1,7 @@
 // The methods of typed arrays that write, for watched ones: all that can throw or call agents' code comes first, then
 // what is accessed is told, and then it is.
 
-import { lengthOf, tagOf, TypedArray, uncurried } from "../../../kept/own.mjs";
+import { lengthOf, tagOf, TypedArray, uncurried } from "../../primordials.mjs";
 import { elementOf, lengthFrom, needsComparator, needsObject, positionOf, wholeOf } from "./numbers.mjs";
 import { hasBigs } from "./species.mjs";
 import { copied, setElements } from "./stretches.mjs";

@@ -1,8 +1,8 @@
 // What agents ask for, before it is done: which bytes a call will touch, and how. So whoever draws knows which calls
 // get in each other's way, and which are nobody else's affair.
 
-import { FLAG } from "../../run/log.mjs";
-import { AGENT_WORD, PHASE, wordOf } from "../layout.mjs";
+import { AGENT_WORD, PHASE, wordOf } from "../../memory/layout.mjs";
+import { FLAG } from "../../memory/log.mjs";
 
 /** Set beside the flags of a call that needs no draw. */
 const GOES_ON = 64;
@@ -14,7 +14,7 @@ const MOST_IN_A_ROW = 128;
 export class Asked {
   /**
    * @param {Int32Array} words of the board
-   * @param {import("../known-places.mjs").KnownPlaces} places
+   * @param {import("../../memory/known-places.mjs").KnownPlaces} places
    */
   constructor(words, places) {
     this.words = words;
@@ -72,7 +72,7 @@ export class Asked {
 
   /** @param {number} agent @returns {number} what its next move does, as flags */
   #does(agent) {
-    const phase = this.words[wordOf(agent, AGENT_WORD.AT)];
+    const phase = this.words[wordOf(agent, AGENT_WORD.PHASE)];
     if (phase === PHASE.ASKS) return this.words[wordOf(agent, AGENT_WORD.ASKS_HOW)];
     // The end of a time takes an agent off the line; of one that was woken nothing is left to be decided.
     return phase === PHASE.WAITS_TIMED ? FLAG.WAITERS : 0;

@@ -2,7 +2,7 @@
 // the moves that conflict with it get new priorities. So orders of moves that conflict are about alike, however many
 // other moves there are.
 
-import { AGENT_WORD, PHASE, wordOf } from "../layout.mjs";
+import { AGENT_WORD, PHASE, wordOf } from "../../memory/layout.mjs";
 
 // No priority was drawn yet.
 const NONE = 0;
@@ -14,7 +14,7 @@ const RENEWAL = 64;
 export class PartialOrder {
   /**
    * @param {Int32Array} words of the board
-   * @param {import("../../run/random.mjs").Random} random
+   * @param {import("../../memory/random.mjs").Random} random
    * @param {import("./asked.mjs").Asked} asked
    * @param {number} agents how many
    */
@@ -53,7 +53,7 @@ export class PartialOrder {
     const { words } = this;
     const word = wordOf(agent, AGENT_WORD.PRIORITY);
     // The end of a time is offered now and then, each time anew: a low priority would put it off for long.
-    const isOffered = words[wordOf(agent, AGENT_WORD.AT)] === PHASE.WAITS_TIMED;
+    const isOffered = words[wordOf(agent, AGENT_WORD.PHASE)] === PHASE.WAITS_TIMED;
     if (isOffered || words[word] === NONE) words[word] = (this.random.next() >>> 2) + 1;
     return words[word];
   }

@@ -2,7 +2,7 @@
 
 export class Switching {
   /**
-   * @param {import("../../run/random.mjs").Random} random
+   * @param {import("../../memory/random.mjs").Random} random
    * @param {number} likelihood from 0 to 1
    */
   constructor(random, likelihood) {

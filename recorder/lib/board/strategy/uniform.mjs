@@ -1,7 +1,7 @@
 // All that can move are alike.
 
 export class Uniform {
-  /** @param {import("../../run/random.mjs").Random} random */
+  /** @param {import("../../memory/random.mjs").Random} random */
   constructor(random) {
     this.random = random;
   }

@@ -1,10 +1,12 @@
 // The options of the library: each is looked at before anything is started, and one that isn't known is refused.
 
-import { DEFAULT_CHECK_EVERY, DEFAULT_SECONDS, MOST_JOBS, SCRIPT_LIMITS } from "../script/limits.mjs";
+import { DEFAULT_CHECK_EVERY, DEFAULT_SECONDS, MOST_JOBS, SCRIPT_LIMITS } from "../../script/limits.mjs";
+import { meant } from "../options/nearest.mjs";
+import {
+  CHOICES, DEFAULTS, checkedAgents, checkedBuffers, checkedChoice, checkedNoBlock, checkedStrategy,
+} from "../options/plan.mjs";
+import { Refused } from "../options/refused.mjs";
 import { moduleUrlOf } from "./module-url.mjs";
-import { meant } from "./nearest.mjs";
-import { CHOICES, DEFAULTS, Refused } from "./run/plan.mjs";
-import { checkedAgents, checkedBuffers, checkedChoice, checkedNoBlock, checkedStrategy } from "./run/plan.mjs";
 
 /**
  * @callback WithBuffers what is called with the buffers, when no agent runs
@@ -72,7 +74,7 @@ const that = (holds, must) => (value, name) => {
   throw new Refused(`\`${name}\` must be ${must}`);
 };
 
-/** @typedef {import("./run/plan.mjs").Choices} Choices */
+/** @typedef {import("../options/plan.mjs").Choices} Choices */
 
 /** @param {unknown} value */
 const isPart = (value) => typeof value === "number" && value >= 0 && value <= 1;
@@ -144,7 +146,7 @@ const MANY_DEFAULTS = {
 /**
  * The seeds that an option names.
  * @param {unknown} value
- * @returns {import("./seeds/ranges.mjs").Range}
+ * @returns {import("../seeds/ranges.mjs").Range}
  */
 function rangeOf(value) {
   const { first, last } = /** @type {any} */ (givenRange(value) ?? {});
@@ -183,11 +185,11 @@ function checkedBy(options, checks, defaults, callersFolder) {
   return { ...rest, module: moduleUrlOf(module, callersFolder), strategy };
 }
 
-/** @typedef {import("./run/group.mjs").GroupOptions & { sabsim?: string | boolean }} OfAll what all runs have */
+/** @typedef {import("../run/group.mjs").GroupOptions & { sabsim?: string | boolean }} OfAll what all runs have */
 
 /**
  * @typedef {object} OfMany what many runs have besides
- * @property {import("./seeds/ranges.mjs").Range} seeds
+ * @property {import("../seeds/ranges.mjs").Range} seeds
  * @property {number} jobs
  * @property {number} checkEvery
  * @property {boolean} failFast

@@ -9,7 +9,7 @@ import { Worker } from "node:worker_threads";
  * @param {string} name of a module in `agents`
  */
 export async function testWatched(name) {
-  const path = (file) => new URL(`./agents/${file}.mjs`, import.meta.url);
+  const path = (file) => new URL(`../agents/${file}.mjs`, import.meta.url);
   const worker = new Worker(path("watched-worker"), { workerData: { module: path(name).href } });
   const results = await new Promise((done, failed) => {
     worker.on("message", done);

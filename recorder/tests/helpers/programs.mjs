@@ -5,7 +5,7 @@ import { fileURLToPath } from "node:url";
 import { SABSIM } from "./needs.mjs";
 
 /** The path of something in this repository. */
-export const pathOf = (path) => fileURLToPath(new URL(`../../${path}`, import.meta.url));
+export const pathOf = (path) => fileURLToPath(new URL(`../../../${path}`, import.meta.url));
 
 /** @typedef {{ status: number | null, signal: string | null, output: string, errors: string }} Ended */
 

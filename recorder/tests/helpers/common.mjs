@@ -4,17 +4,17 @@ import { mkdtempSync, rmSync, writeFileSync } from "node:fs";
 import { tmpdir } from "node:os";
 import { join } from "node:path";
 import { fileURLToPath } from "node:url";
-import { record } from "../recorder.mjs";
+import { record } from "../../recorder.mjs";
 import { NOWHERE } from "./needs.mjs";
 
 /** An environment in which sabsim is looked for where it isn't. */
 export const WITHOUT_SABSIM = Object.freeze({ ...process.env, SABSIM: NOWHERE });
 
 /** @param {string} name of a module of agents */
-export const agentsPath = (name) => fileURLToPath(new URL(`./agents/${name}.mjs`, import.meta.url));
+export const agentsPath = (name) => fileURLToPath(new URL(`../agents/${name}.mjs`, import.meta.url));
 
 /** The command line's program. */
-export const RECORD = fileURLToPath(new URL("../record.mjs", import.meta.url));
+export const RECORD = fileURLToPath(new URL("../../record.mjs", import.meta.url));
 
 /**
  * Records one of the cases of `agents/cases.mjs`; without a check unless it is asked for.

@@ -1,26 +1,26 @@
 // Shortening in the process of a job, as all runs of the command line.
 
-import { RemoteJob } from "../seeds/remote-job.mjs";
-import { unlessStopped } from "../seeds/seeds.mjs";
+import { RemoteJob } from "./remote-job.mjs";
+import { unlessStopped } from "./seeds.mjs";
 
 /** @typedef {import("../run/group.mjs").Outcome} Outcome */
 
 /**
  * @typedef {object} Listening
- * @property {(tried: import("./shorten.mjs").Tried) => void} onTry is told of each run that was made
+ * @property {(tried: import("../shorter/shorten.mjs").Tried) => void} onTry is told of each run that was made
  * @property {AbortSignal} signal that it is to stop
  */
 
 /**
  * @typedef {object} ShortenedByJob
  * @property {Outcome} [shortest] undefined: the run stays as it was found
- * @property {import("./shorten.mjs").Shortened} shortened
+ * @property {import("../shorter/shorten.mjs").Shortened} shortened
  * @property {boolean} checked whether sabsim has replayed and judged the shortest run, and says the same
  */
 
 /**
  * Has a job of its own look for the shortest run that fails as one that was found.
- * @param {import("../run/group.mjs").GroupOptions & import("../seeds/seeds.mjs").SeedsOptions} options
+ * @param {import("../run/group.mjs").GroupOptions & import("./seeds.mjs").SeedsOptions} options
  * @param {Outcome} outcome
  * @param {Listening} listening
  * @returns {Promise<ShortenedByJob>} fails with a Difference where sabsim says something else of the shortest run,

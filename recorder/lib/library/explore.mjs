@@ -1,12 +1,14 @@
 // Many runs of the library, one for each of some seeds, handed out as they are asked for.
 
-import { sabsimFor } from "./check/sabsim.mjs";
+import { sabsimFor } from "../check/sabsim.mjs";
+import { whyUnchecked } from "../check/unchecked.mjs";
+import { Delivery } from "../seeds/delivery.mjs";
+import { BATCH, recordSeeds } from "../seeds/seeds.mjs";
 import { exploreOptions } from "./library-options.mjs";
 import { folderOfCaller } from "./module-url.mjs";
-import { Delivery } from "./seeds/delivery.mjs";
-import { BATCH, recordSeeds } from "./seeds/seeds.mjs";
-import { whyUnchecked } from "./unchecked.mjs";
 
+/** @typedef {import("../check/sabsim.mjs").NoSabsim} NoSabsim */
+/** @typedef {import("../options/refused.mjs").Refused} Refused */
 /** @typedef {import("./recorder.mjs").Outcome} Outcome */
 /** @typedef {import("./library-options.mjs").ExploreOptions} ExploreOptions */
 
@@ -17,8 +19,7 @@ import { whyUnchecked } from "./unchecked.mjs";
  * @param {ExploreOptions} options
  * @returns {AsyncGenerator<Outcome, void, void>} it fails with a Difference where sabsim says something else, and with
  * LostJob where the process of a job has ended
- * @throws {import("./run/plan.mjs").Refused | import("./check/sabsim.mjs").NoSabsim} for options that can't be, and
- * where sabsim was asked for and isn't there
+ * @throws {Refused | NoSabsim} for options that can't be, and where sabsim was asked for and isn't there
  */
 export function explore(options) {
   return explored(options, () => folderOfCaller(explore));
@@ -57,7 +58,7 @@ export function sabsimOf(options) {
 
 /**
  * @param {Parameters<typeof recordSeeds>[0]} options
- * @param {import("./unchecked.mjs").Asking} asking
+ * @param {import("../check/unchecked.mjs").Asking} asking
  * @param {AbortSignal | undefined} signal
  * @returns {AsyncGenerator<Outcome, void, void>}
  */

@@ -1,33 +1,26 @@
 // The recorder as a library.
 
-import { sabsimFor } from "./check/sabsim.mjs";
+import { sabsimFor } from "../check/sabsim.mjs";
+import { checkedBy } from "../check/unchecked.mjs";
+import { Group } from "../run/group.mjs";
+import { shorten } from "../shorter/shorten.mjs";
 import { checkedOptions } from "./library-options.mjs";
 import { folderOfCaller } from "./module-url.mjs";
-import { Group } from "./run/group.mjs";
-import { shorten } from "./shorter/shorten.mjs";
-import { checkedBy } from "./unchecked.mjs";
 
-export { Difference, NoSabsim } from "./check/sabsim.mjs";
+export { Difference, NoSabsim } from "../check/sabsim.mjs";
 export { explore } from "./explore.mjs";
-export { moduleUrl } from "./module-url.mjs";
-export { Refused } from "./run/plan.mjs";
-export { LostJob } from "./seeds/seeds.mjs";
+export { Refused } from "../options/refused.mjs";
+export { LostJob } from "../seeds/remote-job.mjs";
 
-/** @typedef {import("./run/group.mjs").Outcome & Check & Shortening} Outcome */
+/** @typedef {import("../check/unchecked.mjs").Check} Check */
+/** @typedef {import("../run/group.mjs").Outcome & Check & Shortening} Outcome */
 /** @typedef {import("./library-options.mjs").RecordOptions} RecordOptions */
 
 /**
- * @typedef {object} Check
- * @property {boolean} checked whether sabsim has replayed the run, and judged whether it has unordered accesses, and
- * said the same
- * @property {string} [unchecked] why it hasn't
- */
-
-/**
  * @typedef {object} Shortening what is told besides of a failing run that was to be shortened
- * @property {import("./run/group.mjs").Outcome & Check} [original] the run as it was found by its seed, where the
+ * @property {import("../run/group.mjs").Outcome & Check} [original] the run as it was found by its seed, where the
  * outcome is that of a shorter one
- * @property {import("./shorter/shorten.mjs").Shortened} [shortened]
+ * @property {import("../shorter/shorten.mjs").Shortened} [shortened]
  */
 
 /**
@@ -45,7 +38,7 @@ export async function record(options) {
   const sabsim = isLeftOut ? undefined : sabsimFor({ path, isAsked: asked === true });
   const group = await Group.open({ ...rest, fresh: false });
   try {
-    /** @param {import("./run/group.mjs").One} run */
+    /** @param {import("../run/group.mjs").One} run */
     const checked = (run) => checkedBy({ isLeftOut, sabsim }, run);
     const found = checked(await group.one({ seed, whole: true }));
     if (!isShortened || !found.fails) return found;

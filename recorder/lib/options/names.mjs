@@ -2,9 +2,9 @@
 
 import { KINDS, SIZES } from "../../script/kinds.mjs";
 import { SCRIPT_LIMITS } from "../../script/limits.mjs";
-import { meant } from "../nearest.mjs";
+import { viewKey } from "../memory/spelling.mjs";
+import { meant } from "./nearest.mjs";
 import { Refused } from "./refused.mjs";
-import { viewKey } from "./spelling.mjs";
 
 /**
  * @typedef {object} Name a view that has a name
@@ -147,7 +147,7 @@ export class Names {
 
   /**
    * The element of a call, by its name.
-   * @param {import("./records.mjs").Call} call
+   * @param {import("../memory/records.mjs").Call} call
    * @returns {Named | undefined} undefined also where its view hasn't that element: it throws by that view alone
    */
   ofCall({ kind, block, offset, length, index }) {

@@ -2,17 +2,17 @@
 // where it is given.
 
 import { readFileSync } from "node:fs";
-import { check as checkWithSabsim, checkable } from "../lib/check/sabsim.mjs";
-import { Summary } from "../lib/command/summary.mjs";
-import { checkedOptions } from "../lib/library-options.mjs";
-import { Group } from "../lib/run/group.mjs";
+import { check as checkWithSabsim, checkable } from "../../lib/check/sabsim.mjs";
+import { Summary } from "../../lib/command/summary.mjs";
+import { checkedOptions } from "../../lib/library/library-options.mjs";
+import { Group } from "../../lib/run/group.mjs";
 import { agentsPath } from "./common.mjs";
 import { SABSIM, hasSabsim } from "./needs.mjs";
 
-/** @typedef {import("../lib/run/group.mjs").Outcome} Outcome */
+/** @typedef {import("../../lib/run/group.mjs").Outcome} Outcome */
 
 /**
- * @param {import("../lib/library-options.mjs").RecordOptions} options
+ * @param {import("../../lib/library/library-options.mjs").RecordOptions} options
  * @param {number[]} [seeds]
  * @returns {Promise<Outcome[]>} in the order of the seeds; fails with a Difference where sabsim says something else
  */

@@ -7,7 +7,7 @@
 
 import { KINDS, SIZES } from "../../script/kinds.mjs";
 import { SCRIPT_LIMITS } from "../../script/limits.mjs";
-import { WORD } from "../board/layout.mjs";
+import { WORD } from "./layout.mjs";
 
 const { Int32Array, Uint8Array, SharedArrayBuffer } = globalThis;
 

@@ -1,6 +1,13 @@
 // The check of one run by sabsim, and in words why it wasn't made.
 
-import { HOW_TO_BUILD, check, checkable, sabsimPlaces } from "./check/sabsim.mjs";
+import { HOW_TO_BUILD, check, checkable, sabsimPlaces } from "./sabsim.mjs";
+
+/**
+ * @typedef {object} Check
+ * @property {boolean} checked whether sabsim has replayed the run, and judged whether it has unordered accesses, and
+ * said the same
+ * @property {string} [unchecked] why it hasn't
+ */
 
 /**
  * @typedef {object} Asking
@@ -11,7 +18,7 @@ import { HOW_TO_BUILD, check, checkable, sabsimPlaces } from "./check/sabsim.mjs
 
 /**
  * @param {Asking} asking
- * @param {import("./run/group.mjs").Outcome} outcome
+ * @param {import("../run/group.mjs").Outcome} outcome
  * @returns {string | undefined} undefined where nothing stands against it
  */
 export function whyUnchecked({ isLeftOut, sabsim, every = 1 }, { script, noScript }) {
@@ -26,8 +33,8 @@ export function whyUnchecked({ isLeftOut, sabsim, every = 1 }, { script, noScrip
 /**
  * A run's outcome, which sabsim has checked where it can.
  * @param {Asking} asking
- * @param {import("./run/group.mjs").One} run
- * @returns {import("./run/group.mjs").Outcome & import("./recorder.mjs").Check}
+ * @param {import("../run/group.mjs").One} run
+ * @returns {import("../run/group.mjs").Outcome & Check}
  */
 export function checkedBy(asking, { outcome, judgement }) {
   const unchecked = whyUnchecked(asking, outcome);

@@ -3,7 +3,7 @@
 import { randomBytes } from "node:crypto";
 import { closeSync, mkdirSync, openSync, renameSync, rmSync, writeFileSync } from "node:fs";
 import { join } from "node:path";
-import { Refused } from "../run/plan.mjs";
+import { Refused } from "../options/refused.mjs";
 
 /** A file couldn't be written. */
 export class NotKept extends Error {}

@@ -3,11 +3,9 @@
 
 import { SCRIPT_LIMITS } from "../../script/limits.mjs";
 import { PLAIN, SWITCH } from "../board/strategy/ways.mjs";
-import { meant, slipOf } from "../nearest.mjs";
 import { checkedNames } from "./names.mjs";
+import { meant, slipOf } from "./nearest.mjs";
 import { Refused } from "./refused.mjs";
-
-export { Refused };
 
 /**
  * @typedef {object} Choices what can be chosen by a word

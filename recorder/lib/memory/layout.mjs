@@ -31,8 +31,8 @@ export const WORD = Object.freeze({
 /** Words of each agent; each agent has a line of the processor's cache for itself. */
 export const AGENT_WORD = Object.freeze({
   GO: 0,
-  STATE: 1,
-  AT: 2,
+  STATUS: 1,
+  PHASE: 2,
   WHERE_BLOCK: 3,
   WHERE_BYTE: 4,
   TICKET: 5,
@@ -65,7 +65,7 @@ export const wordOf = (agent, word) => AGENTS + AGENT_WORDS * agent + word;
 export const wordsFor = (agents) => AGENTS + AGENT_WORDS * agents;
 
 /** What an agent is at. */
-export const PHASE = Object.freeze({ RUNS: 0, ASKS: 1, WAITS: 2, WAITS_TIMED: 3, WOKEN: 4, DONE: 5 });
+export const PHASE = Object.freeze({ RUNS: 0, ASKS: 1, WAITS: 2, WAITS_TIMED: 3, WOKEN: 4, FINISHED: 5 });
 
 /** What an agent's worker is at. */
 export const STATUS = Object.freeze({ IDLE: 0, BUSY: 1, DEAD: 2 });

@@ -7,7 +7,7 @@ const PROCESSES = 4;
 
 /** One process, which is asked for one opinion at a time. */
 class Engine {
-  #child = fork(pathOf("recorder/tests/opinion-process.mjs"));
+  #child = fork(pathOf("recorder/tests/helpers/opinion-process.mjs"));
   #tell = (_told) => {};
 
   constructor() {

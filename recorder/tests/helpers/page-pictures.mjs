@@ -1,7 +1,7 @@
 // Draws the pictures of recorder/README.md: the page of the ring that frees its slots first, at each of the two
 // accesses that race. It needs a browser and sabsim.
 //
-// usage: SABSIM=crates/sabsim/out/sabsim node recorder/tests/page-pictures.mjs
+// usage: SABSIM=crates/sabsim/out/sabsim node recorder/tests/helpers/page-pictures.mjs
 
 import { spawnSync } from "node:child_process";
 import { mkdirSync, mkdtempSync, readdirSync, rmSync, writeFileSync } from "node:fs";
@@ -13,8 +13,8 @@ import { Browser } from "./browser.mjs";
 import { RECORD } from "./common.mjs";
 import { SABSIM } from "./needs.mjs";
 
-const PICTURES = fileURLToPath(new URL("../pictures/", import.meta.url));
-const RING = fileURLToPath(new URL("./known/ring-frees-first.mjs", import.meta.url));
+const PICTURES = fileURLToPath(new URL("../../pictures/", import.meta.url));
+const RING = fileURLToPath(new URL("../known/ring-frees-first.mjs", import.meta.url));
 const WINDOW = { width: 1120, height: 700 };
 const MOST_COLOURS = 256;
 

@@ -2,7 +2,7 @@
 // that changed otherwise. Both are shared memory, so that each thread sees what the others did.
 
 import { SIZES } from "../../script/kinds.mjs";
-import { uncurried } from "../../kept/own.mjs";
+import { uncurried } from "../primordials.mjs";
 
 const { Uint8Array } = globalThis;
 const areEqual = uncurried(Buffer.prototype.equals);

@@ -1,8 +1,8 @@
 // The calls of one agent in a run and their answers, in shared memory: the agent writes them as they are made, and who
 // tells of the run reads them at its end.
 
-import { SCRIPT_LIMITS } from "../../script/limits.mjs";
 import { CALLS, CALL_NUMBERS } from "../../script/kinds.mjs";
+import { SCRIPT_LIMITS } from "../../script/limits.mjs";
 import { answerText } from "../../script/report.mjs";
 
 // Agents may change what they find, so the engine's own functions are kept here, before.

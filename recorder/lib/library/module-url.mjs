@@ -3,11 +3,11 @@
 import { statSync } from "node:fs";
 import { dirname, isAbsolute, resolve } from "node:path";
 import { fileURLToPath, pathToFileURL } from "node:url";
-import { framesHere } from "./agent/sources.mjs";
-import { Refused } from "./run/plan.mjs";
+import { framesHere } from "../agent/frames.mjs";
+import { Refused } from "../options/refused.mjs";
 
 // The library itself: what calls its functions is looked for.
-const FILES = ["./", "../recorder.mjs", "../testing.mjs"];
+const FILES = ["../", "../../recorder.mjs", "../../testing.mjs"];
 const OWN = [...FILES.map((place) => new URL(place, import.meta.url).href), "node:"];
 
 // Code that is typed in has no file: it is taken to be in the working directory, as node itself takes it.

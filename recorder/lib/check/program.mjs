@@ -7,7 +7,7 @@ import { fileURLToPath } from "node:url";
 export const MACHINE = `${process.platform}-${process.arch}`;
 
 /** @param {string} place in the package or the repository @returns {string} its path */
-const fromTop = (place) => fileURLToPath(new URL(`../../${place}`, import.meta.url));
+const fromTop = (place) => fileURLToPath(new URL(`../../../${place}`, import.meta.url));
 const IN_PACKAGE = fromTop(`program/${MACHINE}/sabsim`);
 const AS_BUILT = fromTop("crates/sabsim/out/sabsim");
 const IS_REPOSITORY = existsSync(fromTop("crates/sabsim"));

@@ -1,8 +1,8 @@
 // What the recorder's own detector says of the events of a trace, where each access has a line of code of its own, so
 // that it tells of every race; and what it must say.
 
-import { Log } from "../lib/run/log.mjs";
-import { isRacy, racesOf } from "../lib/run/races.mjs";
+import { Log } from "../../lib/memory/log.mjs";
+import { isRacy, racesOf } from "../../lib/run/races.mjs";
 
 /** @typedef {{ isRacy: boolean, pairs: [number, number][] }} Detected by later events, and then by earlier ones */
 

@@ -1,0 +1,122 @@
+// Where in its code an agent is: the frame of what has called the recorder, or a function of the engine that the
+// recorder stands for.
+
+import { UNKNOWN } from "../memory/sources.mjs";
+import { mapGet, mapSet, set, uncurried } from "../primordials.mjs";
+import { watching } from "./ordinary/context.mjs";
+
+/** @typedef {import("../memory/sources.mjs").Sources} Sources */
+
+const { Error: EngineError, Map: EngineMap } = globalThis;
+const { captureStackTrace } = EngineError;
+const begins = uncurried(String.prototype.startsWith);
+
+// How many frames are looked at: each costs time, and few of the recorder's own stand above the agent's as a rule.
+const FEW_FRAMES = 3;
+const SOME_FRAMES = 12;
+const MOST_FRAMES = 100;
+
+// The recorder's own files, and node's.
+const RECORDER = new URL("../../", import.meta.url).href;
+const OWN = [`${RECORDER}lib/`, `${RECORDER}script/`, "node:"];
+
+/** @type {(error: Error, frames: NodeJS.CallSite[]) => NodeJS.CallSite[]} */
+const sites = (_error, frames) => frames;
+
+/**
+ * The frames of the code that runs now, the innermost first.
+ * @param {Function} [from] the one whose frame, with those above it, is left out
+ * @param {number} [most] how many
+ * @returns {NodeJS.CallSite[]}
+ */
+export function framesHere(from = framesHere, most = MOST_FRAMES) {
+  const { stackTraceLimit, prepareStackTrace } = EngineError;
+  try {
+    // Neither throws where the agents' code has made them constant: then no frames are known.
+    set(EngineError, "stackTraceLimit", most);
+    set(EngineError, "prepareStackTrace", sites);
+    /** @type {{ stack?: any }} */
+    const holder = {};
+    captureStackTrace(holder, from);
+    const { stack } = holder;
+    return typeof stack === "object" ? stack : [];
+  } finally {
+    // Where the stack has come to its end nothing can be called.
+    if (EngineError.stackTraceLimit !== stackTraceLimit) EngineError.stackTraceLimit = stackTraceLimit;
+    if (EngineError.prepareStackTrace !== prepareStackTrace) EngineError.prepareStackTrace = prepareStackTrace;
+  }
+}
+
+/** @param {string} file */
+function isOwn(file) {
+  for (let at = 0; at < OWN.length; at += 1) {
+    if (begins(file, OWN[at])) return true;
+  }
+  return false;
+}
+
+/** @type {Map<string, boolean>} for each file whether it is one of the agents' code */
+const agentsFiles = new EngineMap();
+
+/** @param {string | null} file */
+function isAgents(file) {
+  if (typeof file !== "string") return false;
+  const known = mapGet(agentsFiles, file);
+  if (known !== undefined) return known;
+  const found = !isOwn(file);
+  mapSet(agentsFiles, file, found);
+  return found;
+}
+
+/**
+ * The innermost of some frames that is of the agents' code.
+ * @param {NodeJS.CallSite[]} frames
+ */
+function firstOfAgents(frames) {
+  for (let at = 0; at < frames.length; at += 1) {
+    if (isAgents(frames[at].getFileName())) return frames[at];
+  }
+  return undefined;
+}
+
+/**
+ * The innermost frame of the agents' code. An ordinary access is told by `watching.seen`, and its own frame is near.
+ * @param {Function} from a function whose frame, with those above it, is left out
+ */
+function agentsFrame(from) {
+  const near = firstOfAgents(framesHere(watching.seen, FEW_FRAMES));
+  if (near !== undefined) return near;
+  const some = framesHere(from, SOME_FRAMES);
+  return firstOfAgents(some) ?? (some.length < SOME_FRAMES ? undefined : firstOfAgents(framesHere(from)));
+}
+
+/** @returns {string | undefined} file, line and column of the agent's own code */
+export function sourceHere() {
+  const frame = agentsFrame(sourceHere);
+  return frame && `${frame.getFileName()}:${frame.getLineNumber()}:${frame.getColumnNumber()}`;
+}
+
+/**
+ * The number of where the agent's code is.
+ * @param {Sources} sources of the agent
+ * @returns {number} `UNKNOWN` where no frame of it is found, or there is no room for it
+ */
+export function numberHere(sources) {
+  const frame = agentsFrame(numberHere);
+  return frame === undefined ? UNKNOWN : numberOf(sources, frame);
+}
+
+/**
+ * The same as `numberHere`, where it is known what the agent's code has called: so a single frame is enough as a rule.
+ * @param {Sources} sources of the agent
+ * @param {Function} called
+ * @returns {number}
+ */
+export function numberAbove(sources, called) {
+  const frame = framesHere(called, 1)[0];
+  return frame !== undefined && isAgents(frame.getFileName()) ? numberOf(sources, frame) : numberHere(sources);
+}
+
+/** @param {Sources} sources @param {NodeJS.CallSite} frame */
+const numberOf = (sources, frame) =>
+  sources.numberOf(frame.getFileName(), frame.getLineNumber(), frame.getColumnNumber());

@@ -1,0 +1,24 @@
+// The memory that the threads of a group share: the agents' buffers, and what the recorder writes down of a run.
+
+import { Log } from "../memory/log.mjs";
+import { Records } from "../memory/records.mjs";
+import { Sources } from "../memory/sources.mjs";
+import { Stores } from "../memory/stores.mjs";
+import { Board } from "./board.mjs";
+
+/**
+ * The memory that a group shares.
+ * @param {{ agents: number, buffers: number[] }} plan how many agents there are, and the length of each buffer in bytes
+ * @param {number} [logEvents] how many events its log has room for
+ */
+export function memoryOf({ agents, buffers }, logEvents) {
+  return {
+    board: Board.memory(),
+    log: Log.memory(logEvents),
+    stores: Stores.memory(buffers),
+    sources: Array.from({ length: agents }, () => Sources.memory()),
+    buffers: buffers.map((bytes) => new SharedArrayBuffer(bytes)),
+    copies: buffers.map((bytes) => new SharedArrayBuffer(bytes)),
+    records: Array.from({ length: agents }, () => Records.memory()),
+  };
+}
