@@ -1,5 +1,5 @@
 -- Why a job isn't done.
-use Rattle.std.specs.Prelude.{◌≡◌, ◌⊎◌, ◌≢◌, ℕ, List, [], Option, Some, None, true, string_bytes, ⊤}
+use Rattle.std.specs.Prelude.{◌≡◌, ◌⊎◌, ◌≢◌, ℕ, List, [], Option, Some, None, true, false, string_bytes, ⊤}
 use Rattle.std.specs.List.{list_any}
 use Rattle.std.specs.Borrow.{Bor}
 use Rattle.std.specs.Char.{is_ascii_control}
@@ -32,4 +32,5 @@ abbrev pub TellsFile : Source → ToolFault → Option (Bor (List ℕ)) → Type
 TellsFile Standard fault None = ⊤
 TellsFile Standard fault (Some told) = ⊥
 TellsFile (File name) fault None = (fault ≢ ReadFailed) ⊎ (list_any is_ascii_control name.now ≡ true)
-TellsFile (File name) fault (Some told) = (fault ≡ ReadFailed) × (told.now ≡ name.now)
+TellsFile (File name) fault (Some told) =
+    (fault ≡ ReadFailed) × (told.now ≡ name.now) × (list_any is_ascii_control name.now ≡ false)

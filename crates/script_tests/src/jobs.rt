@@ -343,12 +343,17 @@ fn is_unopened(alloc: Global, name: &str, text: &str) -> Result<bool, AllocError
 }
 
 /// Names, and what is said of files of them.
-const UNOPENED: [(&str, &str); 2] = [
+const UNOPENED: [(&str, &str); 7] = [
     (
         "d\u{e9}j\u{e0} vu.json",
         "sabsim: 19 ReadFailed: d\u{e9}j\u{e0} vu.json\n",
     ),
     ("two\nlines", "sabsim: 19 ReadFailed\n"),
+    ("a\ttab", "sabsim: 19 ReadFailed\n"),
+    ("\rover", "sabsim: 19 ReadFailed\n"),
+    ("red \x1b[31m", "sabsim: 19 ReadFailed\n"),
+    ("\x7f", "sabsim: 19 ReadFailed\n"),
+    ("a ~", "sabsim: 19 ReadFailed: a ~\n"),
 ];
 
 #[test]
