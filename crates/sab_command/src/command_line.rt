@@ -137,7 +137,7 @@ fn with_threads<'a>(alloc: Global, command: Command<'a>) -> Result<Command<'a>, 
     command.args(thread_arguments(alloc)?)
 }
 
-/// The command that judges a run for data races.
+/// The command that judges a run for unordered accesses.
 fn judge_command<'a>(alloc: Global) -> Result<Command<'a>, AllocError> {
     let arguments = judge_arguments(alloc)?;
     described(alloc, "judge", help::JUDGE, help::JUDGE_FORMS).args(arguments)

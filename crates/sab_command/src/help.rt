@@ -15,7 +15,7 @@ Exit status:
   2  the command line was refused
   3  the script couldn't be read, or standard output failed
   4  there is no memory, or no thread
-  5  a run that was judged has a data race; with --finish, some call hasn't returned
+  5  two accesses of a run that was judged are unordered; with --finish, some call hasn't returned
 
 Where the status is 1, 3 or 4, standard error has one line with the fault's number
 and name, as `sabsim: 14 BadView`, and of a file that couldn't be read its name too. On
@@ -128,7 +128,7 @@ too long (18 TooLong)."#;
 
 /// What `judge` does.
 pub(crate) const JUDGE: &str =
-    "Makes a script's moves, or takes a recorder's trace, and tells the data races of the run";
+    "Makes a script's moves, or takes a recorder's trace, and reports the run's unordered accesses";
 
 /// What a verdict says, and an example.
 pub(crate) const JUDGE_FORMS: &str =
@@ -136,25 +136,28 @@ pub(crate) const JUDGE_FORMS: &str =
 --trace the input is a trace that the recorder kept, seed-N.trace.jsonl: a line for each event,
 of at most 1,024 bytes, and at most 1,048,576 lines.
 
-Two accesses race where different agents make them, they overlap, one of them writes, they aren't
-both by Atomics on the same bytes, and nothing orders them: not the order of one agent's calls,
-no read by Atomics of what another agent wrote by Atomics to the same bytes, and no line of
-waiters that both agents went through. ECMA-262 promises one order of whole accesses only where
-no data race is: where one is told, the agents may see what no schedule shows.
+Two accesses are unordered if different agents make them, they overlap, one of them writes, they
+aren't both by Atomics on the same bytes, and nothing orders them: not the order of one agent's
+calls, no read by Atomics of what another agent wrote by Atomics to the same bytes, and no line of
+waiters that both agents went through. They are a data race, as ECMA-262 has it, if both write, or
+if the later one reads what the earlier one wrote. ECMA-262 promises one order of whole accesses
+only if there is no data race. If there is one, the agents may see what no schedule shows.
 
-Standard output has a line for each of the first 100 races, by their later accesses:
+Standard output has a line for each of the first 100 of these pairs, by their later accesses:
   data race at byte 1 of block 0: agent 0 in store(w, 0, 1) at 1, agent 1 in load(b, 1) at 4; nothing of agent 0 happens before 4
 A number behind `at`, `up to` and `before` is the position of an entry of the report, or of an
 event of the trace. Behind the semicolon stands how much of the one agent the other had seen.
-A line begins with `race` where the two aren't in a data race of this very run, as the standard
-has it, but would be in another order of the same accesses. Where there are more races, the last
-line has their number: `12 more, 3 of them data races`. Where there is none, standard output has
+A line begins with `race` if the two aren't a data race of this very run, but would be one in
+another order of the same accesses. If there are more pairs, the last line has their number:
+`12 more, 3 of them data races`. If there is none, standard output has
   no data race: 12 accesses by 3 agents in the script's calls of Atomics
 and for a trace the same up to `agents`.
-With --format json each race is an object on a line, and the last line has the counts.
+With --format json each pair is an object on a line, and the last line has the counts.
 
-In a script all accesses are by Atomics. So only those race that overlap and aren't on the same
-bytes, as a store to a word and a load of one of its bytes.
+In a script all accesses are by Atomics. So only those are unordered that overlap and aren't on
+the same bytes, as a store to a word and a load of one of its bytes. A script with a view whose
+name begins with ordinary_ or init_ is of a run with ordinary accesses, which only the run's trace
+has: such a script is refused (21 OrdinaryData). Judge its trace with --trace.
 
 Example:
   echo '{"blocks":[4],"views":[{"name":"w","kind":"Int32","block":0,"offset":0,"length":null},
@@ -162,15 +165,15 @@ Example:
   "agents":[{"block":true,"calls":[["store","w",0,1]]},{"block":true,"calls":[["load","b",1]]}],
   "schedule":[0,0,0,1,1,1]}' | sabsim judge
 
-Exit status: 0 no two accesses race; 5 some do, or with --finish some call hasn't returned; 1 the
-script or a line of the trace is refused; 2, 3 and 4 as for replay. Where a line of a trace is
-refused, standard error tells which one, as `sabsim: 10 BadShape: line 12`."#;
+Exit status: 0 no two accesses are unordered; 5 some are, or with --finish some call hasn't
+returned; 1 the script or a line of the trace is refused; 2, 3 and 4 as for replay. Where a line of
+a trace is refused, standard error tells which one, as `sabsim: 10 BadShape: line 12`."#;
 
 /// What `--trace` says.
 pub(crate) const TRACE: &str = "The input isn't a script, but a recorder's trace";
 
 /// What `--format` chooses of a verdict.
-pub(crate) const VERDICT_FORMAT: &str = "How the races are told: in words, or as JSON";
+pub(crate) const VERDICT_FORMAT: &str = "How the verdict is told: in words, or as JSON";
 
 /// What `race` does.
 pub(crate) const RACE: &str =

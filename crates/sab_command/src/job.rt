@@ -24,7 +24,7 @@ pub enum Job {
     },
     /// To check the script.
     Check,
-    /// To replay it, and to judge the run for data races.
+    /// To replay it, and to judge the run for unordered accesses.
     Judge {
         /// How the verdict is told.
         format: VerdictFormat,

@@ -10,7 +10,7 @@ pub enum Task {
     OfScript(Job),
     /// The input is a script, and its agents are to be run in threads.
     OfRace(RaceJob),
-    /// The input is a trace of a run, which is to be judged for data races; the verdict is told so.
+    /// The input is a trace of a run, which is to be judged for unordered accesses; the verdict is told so.
     OfTrace(VerdictFormat),
 }
 

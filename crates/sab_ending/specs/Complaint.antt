@@ -1,6 +1,8 @@
 -- What is told of a job that failed.
 use Rattle.std.specs.Prelude.{ℕ, List, [], ◌++◌, Option, Some, None, codes, decimal}
 use Rattle.std.specs.Borrow.{Bor}
+use Rattle.sab_tool.specs.declared.tool_fault.ToolFault.{ToolFault}
+use Rattle.sab_tool.specs.declared.tool_fault.ToolFault.TheVariants.{OrdinaryData}
 use Rattle.sab_ending.specs.declared.complaint.Complaint.{Complaint}
 use Rattle.sab_ending.specs.FaultLine.{text_of}
 
@@ -14,6 +16,14 @@ abbrev pub line_text : Option ℕ → List ℕ
 line_text None = []
 line_text (Some line) = codes ": line " ++ decimal line
 
--- the line of the fault, and what a check says
+-- what can be done instead, as a line
+abbrev pub advice_text : ToolFault → List ℕ
+advice_text OrdinaryData =
+    codes "the script stands for a run with ordinary accesses, which only its trace has: "
+    ++ codes "sabsim judge --trace FILE.trace.jsonl\n"
+advice_text _ = []
+
+-- the line of the fault, what can be done instead, and what a check says
 abbrev pub complaint_text : Complaint → List ℕ
-complaint_text c = text_of c.fault ++ (file_text c.file ++ (line_text c.line ++ (codes "\n" ++ c.why.now)))
+complaint_text c = text_of c.fault ++ (file_text c.file ++ (line_text c.line
+    ++ (codes "\n" ++ (advice_text c.fault ++ c.why.now))))

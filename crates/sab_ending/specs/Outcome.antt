@@ -11,7 +11,7 @@ outcome_of E.Finished finish = Done
 outcome_of E.Unfinished false = Done
 outcome_of E.Unfinished true = Unfinished
 
--- where the run was judged besides, and has a data race or none
+-- where the run was judged besides, and has unordered accesses or none
 abbrev pub judged_outcome : Bool → Ended → Bool → Outcome
 judged_outcome true ended finish = Racy
 judged_outcome false ended finish = outcome_of ended finish

@@ -1,7 +1,7 @@
 -- The exit statuses after faults.
 use Rattle.std.specs.Prelude.{ℕ}
 use Rattle.sab_tool.specs.declared.tool_fault.ToolFault.{ToolFault}
-use Rattle.sab_tool.specs.declared.tool_fault.ToolFault.TheVariants.{TooMany, OutOfMemory, TooManyMoves, NoThread, BadShape, BadName, BadNumber, BadCall, BadView, BadAgent, NotJson, WriteFailed, TooLong, ReadFailed, NoBlock}
+use Rattle.sab_tool.specs.declared.tool_fault.ToolFault.TheVariants.{TooMany, OutOfMemory, TooManyMoves, NoThread, BadShape, BadName, BadNumber, BadCall, BadView, BadAgent, NotJson, WriteFailed, TooLong, ReadFailed, NoBlock, OrdinaryData}
 
 -- the table: 1 for a script that is refused, 3 for a device that failed, 4 for want of memory or of a thread
 abbrev pub status_after : ToolFault → ℕ
@@ -20,3 +20,4 @@ status_after WriteFailed = 3
 status_after TooLong = 1
 status_after ReadFailed = 3
 status_after NoBlock = 1
+status_after OrdinaryData = 1

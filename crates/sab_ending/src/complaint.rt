@@ -1,5 +1,8 @@
 //! What is told of a job that failed.
 
+ghost use Rattle.std.specs.Prelude.{◌≡◌};
+ghost use Rattle.sab_ending.specs.Complaint.{advice_text};
+
 use crate::fault_line::FaultLine;
 use sab_tool::ToolFault;
 use std::fmt;
@@ -7,7 +10,8 @@ use std::fmt;
 /// What the program says on standard error of a job that failed, in lines.
 ///
 /// Its text is that of the [`FaultLine`], with the file's name behind it where there is one, and the line of the input
-/// where it is told, each behind a colon and a space, and a line feed; and then what a check says.
+/// where it is told, each behind a colon and a space, and a line feed. Behind it is a line that says what can be judged
+/// instead, if the fault is OrdinaryData, and then what a check says.
 #[derive(Clone, Copy, Debug)]
 pub struct Complaint<'a> {
     /// The fault.
@@ -36,6 +40,20 @@ impl fmt::Display for Complaint<'_> {
             write!(f, ": line {line}")?;
         }
         f.write_str("\n")?;
+        f.write_str(advice_of(self.fault))?;
         f.write_str(self.why)
+    }
+}
+
+/// What can be done instead of what ended with this fault, as a line; empty if there is nothing to say.
+fn advice_of(fault: ToolFault) -> &'static str
+    ensures { result.now ≡ advice_text fault }
+{
+    match fault {
+        ToolFault::OrdinaryData => concat!(
+            "the script stands for a run with ordinary accesses, which only its trace has: ",
+            "sabsim judge --trace FILE.trace.jsonl\n"
+        ),
+        _ => "",
     }
 }

@@ -18,7 +18,7 @@ pub enum Ending {
     ScriptRefused,
     /// The script was run, and some call hasn't returned, though all were to.
     Unfinished,
-    /// The run has data races, as standard output tells.
+    /// Two accesses of the run are unordered, as standard output tells.
     Racy,
     /// A fault, which the program tells of with a [`FaultLine`](crate::FaultLine).
     Failed(ToolFault),
@@ -38,8 +38,8 @@ impl Ending {
         }
     }
 
-    /// The exit status: 0 where all is done, 1 where the script was refused, 2 where the command line was, 5 where
-    /// some call hasn't returned that was to or the run has data races, and else that of the fault.
+    /// The exit status: 0 if all is done, 1 if the script was refused, 2 if the command line was, 5 if some call hasn't
+    /// returned that was to or two accesses of the run are unordered, and else that of the fault.
     pub fn status(self) -> u8
         ensures { result ≡ status_at self }
     {

@@ -23,6 +23,7 @@ pub(crate) fn status_of(fault: ToolFault) -> u8
         | ToolFault::BadAgent
         | ToolFault::NotJson
         | ToolFault::TooLong
-        | ToolFault::NoBlock => 1,
+        | ToolFault::NoBlock
+        | ToolFault::OrdinaryData => 1,
     }
 }

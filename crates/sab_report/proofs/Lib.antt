@@ -9,6 +9,7 @@ pub mod Formats
 pub mod ViewNames
 pub mod Equality
 pub mod Verdicts
+pub mod Judgeable
 pub mod SpelledCalls
 pub mod Memory
 pub mod Driving

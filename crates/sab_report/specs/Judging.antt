@@ -1,6 +1,6 @@
 -- What judging a script's run answers.
-use Rattle.std.specs.Prelude.{◌≡◌, ◌↔◌, ℕ, false, Bool, List, Option}
-use Rattle.std.specs.Io.KnownBytes.{Appends}
+use Rattle.std.specs.Prelude.{◌≡◌, ◌⊎◌, ◌↔◌, ℕ, true, false, Bool, List, Option}
+use Rattle.std.specs.Io.KnownBytes.{Appends, Keeps}
 use Rattle.sab_plan.specs.Plan.{PlanParts}
 use Rattle.sab_plan.specs.Report.{ReportParts}
 use Rattle.sab_script.specs.Views.{view_names}
@@ -14,10 +14,13 @@ use Rattle.sab_text.specs.declared.format.VerdictFormat.{VerdictFormat}
 use Rattle.sab_verdict.specs.Json.{call_side}
 use Rattle.sab_verdict.specs.ReadsBack.{LinesReadBack}
 use Rattle.sab_verdict.specs.Verdict.{run_verdict_text}
-use Rattle.sab_tool.specs.Replay.{IsReportOf}
+use Rattle.sab_tool.specs.declared.tool_fault.ToolFault.{ToolFault}
+use Rattle.sab_tool.specs.declared.tool_fault.ToolFault.TheVariants.{OrdinaryData, WriteFailed}
+use Rattle.sab_tool.specs.Replay.{IsRefused, IsReportOf}
 use Rattle.sab_tool.specs.Ended.{ended_of}
 use Rattle.sab_report.specs.declared.judging.TheConstants.{MAX_TOLD}
 use Rattle.sab_report.specs.declared.judging.Judged.{Judged}
+use Rattle.sab_report.specs.Ordinary.{has_ordinary_data}
 
 -- just the verdict on the events of the run came behind what the writer held, its lines as JSON are read as their trees,
 -- and it is said truly whether two of them race
@@ -33,12 +36,24 @@ pub record TellsVerdict (format : VerdictFormat) (names : List (List ℕ)) (plan
   pub read_back :
       LinesReadBack (call_side names plan report.journal) (events_of plan report.journal) races rest data_races
 
--- the script spells a setup, the run of its one report was judged, and so it ended
+-- the script spells a setup without ordinary data, the run of its one report was judged, and so it ended
 pub record JudgesAs (format : VerdictFormat) (old new : Option (List ℕ)) (script : List ℕ) (judged : Judged) :
     Type 0 where
   pub setup : SetupParts
   pub spelled : IsScriptOf script setup
+  pub by_atomics : has_ordinary_data setup ≡ false
   pub report : ReportParts
   pub is_its : IsReportOf setup report
   pub told : TellsVerdict format (view_names setup.views) setup.plan report old new judged.is_racy
   pub ended_is : judged.ended ≡ ended_of report
+
+-- the script spells a setup, which has ordinary data or hasn't
+abbrev pub IsScriptWith : Bool → List ℕ → Type 0
+IsScriptWith is_ordinary script =
+    (setup : SetupParts) × IsScriptOf script setup × (has_ordinary_data setup ≡ is_ordinary)
+
+-- the script is refused, or has ordinary data, and nothing was written; or it has none and a write failed
+abbrev pub IsJudgeFault : Option (List ℕ) → Option (List ℕ) → List ℕ → ToolFault → Type 0
+IsJudgeFault old new script fault =
+    (Keeps old new × (IsRefused script fault ⊎ (fault ≡ OrdinaryData) × IsScriptWith true script))
+    ⊎ ((fault ≡ WriteFailed) × IsScriptWith false script)

@@ -4,6 +4,7 @@ pub mod Formats
 pub mod Telling
 pub mod Racing
 pub mod Reporting
+pub mod Ordinary
 pub mod Judging
 pub mod Spelling
 pub mod Driver

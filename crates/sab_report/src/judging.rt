@@ -5,11 +5,11 @@ ghost use Rattle.sab_plan.specs.Plan.{IsPlan};
 ghost use Rattle.sab_sim.specs.Fits.{Fits};
 ghost use Rattle.sab_json.specs.CallData.{AreNames};
 ghost use Rattle.sab_json.specs.SafeNumbers.{HasSafeNumbers};
-ghost use Rattle.sab_tool.specs.Replay.{IsReplayFault};
 ghost use Rattle.sab_report.specs.Telling.{IsTellingFault};
-ghost use Rattle.sab_report.specs.Judging.{JudgesAs, TellsVerdict};
+ghost use Rattle.sab_report.specs.Judging.{IsJudgeFault, JudgesAs, TellsVerdict};
 
 use crate::names::names_of;
+use crate::ordinary::has_ordinary;
 use sab_events::trace_of;
 use sab_judge::judge;
 use sab_sim::{Plan, Report};
@@ -35,11 +35,14 @@ pub struct Judged {
     pub is_racy: bool,
 }
 
-/// Runs a script, judges the run for data races, writes the verdict, and answers what the run came to; it doesn't flush.
+/// Runs a script, judges the run for unordered accesses, writes the verdict, and returns what the run came to; it doesn't
+/// flush.
 ///
-/// Told are the first races, at most [`MAX_TOLD`]. WriteFailed where a write failed; nothing is said then of how much
-/// was written. Every other fault is a refusal of the script, or want of memory, and nothing was written.
-#[tactic(auto, using(sab_tool::proofs::ReplaySteps::keeps_same))]
+/// Told are the first races, at most [`MAX_TOLD`]. OrdinaryData if a view's name begins with `ordinary_` or `init_`: such
+/// a script stands for a run with ordinary accesses, which it has as stores or not at all, so no verdict on it would be
+/// one on that run. WriteFailed where a write failed; nothing is said then of how much was written. Every other fault is
+/// a refusal of the script, or want of memory. But for WriteFailed nothing was written.
+#[tactic(auto, using(sab_tool::proofs::ReplaySteps::keeps_same, crate::proofs::Judgeable::ordinary_found, crate::proofs::Judgeable::ordinary_refused, crate::proofs::Judgeable::unwritten_verdict))]
 pub fn judge_as<W: Write>(
     alloc: Global,
     script: &[u8],
@@ -47,10 +50,13 @@ pub fn judge_as<W: Write>(
     w: &mut W,
 ) -> Result<Judged, ToolFault>
     ensures ok { IfOk result (JudgesAs format (W.contents w.old) (W.contents w.new) script.now) }
-    ensures err { IfErr result (IsReplayFault (W.contents w.old) (W.contents w.new) script.now) }
+    ensures err { IfErr result (IsJudgeFault (W.contents w.old) (W.contents w.new) script.now) }
 {
     let setup = setup_of(alloc, script)?;
     let names = names_of(alloc, &setup)?;
+    if has_ordinary(&names) {
+        return Err(ToolFault::OrdinaryData);
+    }
     let (plan, schedule) = setup.into_parts();
     let report = replay_moves(alloc, plan.copy(alloc)?, schedule.as_slice())?;
     let is_racy = judge_report(alloc, &plan, &names, &report, format, w)?;

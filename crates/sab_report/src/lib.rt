@@ -7,6 +7,7 @@ mod judging;
 mod laws;
 mod names;
 mod noting;
+mod ordinary;
 mod racing;
 mod replaying;
 mod standings;

@@ -16,7 +16,7 @@ use Rattle.sab_text.specs.declared.format.Telling.{Telling}
 use Rattle.sab_text.specs.declared.format.VerdictFormat.{VerdictFormat}
 use Rattle.sab_report.specs.Telling.{Tells}
 use Rattle.sab_report.specs.declared.judging.Judged.{Judged}
-use Rattle.sab_report.specs.Judging.{JudgesAs}
+use Rattle.sab_report.specs.Judging.{JudgesAs, IsJudgeFault}
 use Rattle.sab_report.specs.Reporting.{ReplaysAs, RacesAs}
 
 pub appends_kept : (old mid new : Option (List ℕ)) (bs : List ℕ) → Appends old mid bs → Keeps mid new
@@ -48,6 +48,7 @@ pub flushed_verdict : (format : VerdictFormat) (old mid new : Option (List ℕ))
 flushed_verdict format old mid new script judged j k = record {
   setup = j.setup;
   spelled = j.spelled;
+  by_atomics = j.by_atomics;
   report = j.report;
   is_its = j.is_its;
   told = record {
@@ -99,3 +100,7 @@ pub unflushed_race : (form : RunForm) (old mid new : Option (List ℕ)) (script 
     → RacesIn form spins old mid script ended → IsFaultOfRace form spins old new script WriteFailed
 unflushed_race (Report telling) old mid new script spins ended r = inr (refl, (r.setup, r.spelled))
 unflushed_race Script old mid new script spins ended r = inr (refl, (r.1.1.setup, r.1.1.spelled))
+
+pub unflushed_verdict : (format : VerdictFormat) (old mid new : Option (List ℕ)) (script : List ℕ) (judged : Judged)
+    → JudgesAs format old mid script judged → IsJudgeFault old new script WriteFailed
+unflushed_verdict format old mid new script judged j = inr (refl, (j.setup, j.spelled, j.by_atomics))

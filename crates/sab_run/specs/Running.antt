@@ -12,7 +12,7 @@ use Rattle.sab_tool.specs.declared.ended.Ended.{Ended}
 use Rattle.sab_tool.specs.Ended.{ended_of}
 use Rattle.sab_report.specs.Reporting.{ReplaysAs}
 use Rattle.sab_report.specs.declared.judging.Judged.{Judged}
-use Rattle.sab_report.specs.Judging.{JudgesAs}
+use Rattle.sab_report.specs.Judging.{JudgesAs, IsJudgeFault}
 use Rattle.sab_kept.specs.Keeping.{KeepsRun, IsReplayUnkept, IsKeepFault}
 use Rattle.sab_check.specs.Checked.{IsAccepted, IsRefused}
 use Rattle.sab_command.specs.declared.job.RunForm.{RunForm}
@@ -63,7 +63,7 @@ IsFaultOfReplay Script old new script fault = IsKeepFault IsReplayUnkept old new
 abbrev pub IsFaultOf : Job → Option (List ℕ) → Option (List ℕ) → List ℕ → ToolFault → Type 0
 IsFaultOf (Replay form finish) old new script fault = IsFaultOfReplay form old new script fault
 IsFaultOf Check old new script fault = IsCheckFault old new fault
-IsFaultOf (Judge format finish) old new script fault = IsReplayFault old new script fault
+IsFaultOf (Judge format finish) old new script fault = IsJudgeFault old new script fault
 
 -- the script isn't too long, and the job came to this
 abbrev pub RunsGiven : Job → Outcome → Option (List ℕ) → Option (List ℕ) → List ℕ → Type 0

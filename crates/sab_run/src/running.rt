@@ -104,8 +104,8 @@ fn replay<W: Write>(
     }
 }
 
-/// Replays it, and judges the run for data races.
-#[tactic(auto, using(crate::proofs::Flushed::flushed_verdict))]
+/// Replays it, and judges the run for unordered accesses.
+#[tactic(auto, using(crate::proofs::Flushed::flushed_verdict, crate::proofs::Flushed::unflushed_verdict))]
 fn judge<W: Write>(
     alloc: Global,
     format: VerdictFormat,

@@ -18,7 +18,7 @@ use sab_verdict::write_trace_verdict;
 use std::alloc::Global;
 use std::io::{Read, Write};
 
-/// Judges a trace that a reader gives for data races, writes the verdict, and flushes.
+/// Judges a trace that a reader gives for unordered accesses, writes the verdict, and flushes.
 ///
 /// Told are the first races, at most [`MAX_TOLD`]. A line of the trace that is refused is told with its fault. ReadFailed
 /// where a read failed, OutOfMemory where there is no memory, and WriteFailed where a write or the flush failed; nothing

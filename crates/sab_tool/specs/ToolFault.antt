@@ -1,7 +1,7 @@
 -- The numbers and names of faults.
 use Rattle.std.specs.Prelude.{ℕ, List, codes}
 use Rattle.sab_tool.specs.declared.tool_fault.ToolFault.{ToolFault}
-use Rattle.sab_tool.specs.declared.tool_fault.ToolFault.TheVariants.{TooMany, OutOfMemory, TooManyMoves, NoThread, BadShape, BadName, BadNumber, BadCall, BadView, BadAgent, NotJson, WriteFailed, TooLong, ReadFailed, NoBlock}
+use Rattle.sab_tool.specs.declared.tool_fault.ToolFault.TheVariants.{TooMany, OutOfMemory, TooManyMoves, NoThread, BadShape, BadName, BadNumber, BadCall, BadView, BadAgent, NotJson, WriteFailed, TooLong, ReadFailed, NoBlock, OrdinaryData}
 
 -- what a fault is called
 pub record Label : Type 0 where
@@ -28,6 +28,7 @@ label_of WriteFailed = label 17 (codes "WriteFailed")
 label_of TooLong = label 18 (codes "TooLong")
 label_of ReadFailed = label 19 (codes "ReadFailed")
 label_of NoBlock = label 20 (codes "NoBlock")
+label_of OrdinaryData = label 21 (codes "OrdinaryData")
 
 abbrev pub number_of : ToolFault → ℕ
 number_of fault = (label_of fault).number

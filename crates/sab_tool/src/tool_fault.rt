@@ -59,6 +59,9 @@ pub enum ToolFault {
     /// A script has no block, or a view's block is the position of none.
     #[error("NoBlock")]
     NoBlock,
+    /// A script that is to be judged stands for a run with ordinary accesses, which only the run's trace has.
+    #[error("OrdinaryData")]
+    OrdinaryData,
 }
 
 impl ToolFault {
@@ -84,6 +87,7 @@ impl ToolFault {
             ToolFault::TooLong => 18,
             ToolFault::ReadFailed => 19,
             ToolFault::NoBlock => 20,
+            ToolFault::OrdinaryData => 21,
         }
     }
 
@@ -107,6 +111,7 @@ impl ToolFault {
             ToolFault::TooLong => "TooLong",
             ToolFault::ReadFailed => "ReadFailed",
             ToolFault::NoBlock => "NoBlock",
+            ToolFault::OrdinaryData => "OrdinaryData",
         }
     }
 

@@ -1,4 +1,5 @@
-//! Runs scripts of agents that share blocks of bytes, by their schedule or in threads, and judges runs for data races.
+//! Runs scripts of agents that share blocks of bytes, by their schedule or in threads, and judges runs for
+//! unordered accesses.
 #![tactic(auto)]
 
 ghost use Rattle.sab_command.specs.Job.{IsTaskWithinLimits};

@@ -11,7 +11,7 @@ fn is_named(alloc: Global, fault: ToolFault, number: u32, name: &str) -> Result<
     Ok(fault.number() == number && fault.name() == name && text.as_str() == name)
 }
 
-const TOOL_FAULTS: [(ToolFault, u32, &str); 15] = [
+const TOOL_FAULTS: [(ToolFault, u32, &str); 16] = [
     (ToolFault::TooMany, 3, "TooMany"),
     (ToolFault::OutOfMemory, 5, "OutOfMemory"),
     (ToolFault::TooManyMoves, 8, "TooManyMoves"),
@@ -27,6 +27,7 @@ const TOOL_FAULTS: [(ToolFault, u32, &str); 15] = [
     (ToolFault::TooLong, 18, "TooLong"),
     (ToolFault::ReadFailed, 19, "ReadFailed"),
     (ToolFault::NoBlock, 20, "NoBlock"),
+    (ToolFault::OrdinaryData, 21, "OrdinaryData"),
 ];
 
 #[test]

@@ -224,6 +224,47 @@ fn a_judge_flushes_what_it_says(rt: HostRuntime) -> Result<(), Fail> {
     Ok(())
 }
 
+/// A script with a view of what was written before the run.
+const OF_INIT: &str = concat!(
+    r#"{"agents":[],"bytes":1,"schedule":[],"#,
+    r#""views":[{"kind":"Uint8","length":null,"name":"init_Uint8","offset":0}]}"#
+);
+
+/// What is said of it.
+const ITS_TRACE: &str = concat!(
+    "sabsim: 21 OrdinaryData\n",
+    "the script stands for a run with ordinary accesses, which only its trace has: ",
+    "sabsim judge --trace FILE.trace.jsonl\n"
+);
+
+/// Whether a judge refuses a script in these words, and writes nothing.
+fn is_unjudged(alloc: Global, script: &str, explain: bool, text: &str) -> Result<bool, AllocError> {
+    let mut input = script.as_bytes();
+    let mut output = Vec::new(alloc);
+    let job = Job::Judge {
+        format: VerdictFormat::Plain,
+        finish: false,
+    };
+    match run(alloc, job, explain, &mut input, &mut output) {
+        Ok(_) => Ok(false),
+        Err(failure) => {
+            let complaint = failure.complaint(Source::Standard).to_string(alloc)?;
+            Ok(output.is_empty() && complaint.as_str() == text)
+        }
+    }
+}
+
+#[test]
+fn a_judge_refuses_ordinary_accesses(rt: HostRuntime) -> Result<(), Fail> {
+    for explain in [false, true] {
+        let is_refused = is_unjudged(rt.alloc(), OF_INIT, explain, ITS_TRACE)?;
+        expect(is_refused, "it is judged, or the line is another")?;
+    }
+    let check = "ok: 1 block, 1 view, 0 agents, 0 calls, 0 moves\n";
+    let is_checked = comes_to(rt.alloc(), Job::Check, OF_INIT, Ok(Outcome::Done), check);
+    expect(is_checked, "a check refuses it")
+}
+
 /// Two agents that write one byte.
 const RACY_TRACE: &str =
     r#"{"event":0,"agent":0,"call":0,"does":"write","block":0,"byte":7,"size":1,"read":false,"write":true,"atomic":false,"waiters":false,"source":null}

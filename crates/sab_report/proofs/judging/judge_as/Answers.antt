@@ -16,7 +16,7 @@ replay_moves-requires-clause-named g c =
 
 pub judge_report-requires-clause-names : goal.judge_report-requires-clause-names
 judge_report-requires-clause-names g c =
-    rw (c.deref.ensures.value, c.in_ok-names.ensures) (spelled_plain _ _ c.in_ok-setup.ensures.ok.spelled)
+    rw (c.deref-2.ensures.value, c.in_ok-names.ensures) (spelled_plain _ _ c.in_ok-setup.ensures.ok.spelled)
 
 pub judge_report-requires-clause-numbers : goal.judge_report-requires-clause-numbers
 judge_report-requires-clause-numbers g c =
