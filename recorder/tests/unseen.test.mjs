@@ -9,7 +9,7 @@ import { describe, it } from "node:test";
 import { fileURLToPath } from "node:url";
 import { SCRIPT_LIMITS } from "../script/limits.mjs";
 import { RECORD, agentsPath, temporaryFolder } from "./helpers/common.mjs";
-import { CHECKING, SABSIM, hasSabsim, needing, withSabsim } from "./helpers/needs.mjs";
+import { CHECKING, SABSIM, withSabsim } from "./helpers/needs.mjs";
 import { recorded, summaryLines } from "./helpers/recorded.mjs";
 
 const RING = fileURLToPath(new URL("./known/ring-frees-first.mjs", import.meta.url));
@@ -32,12 +32,6 @@ function saidOf(words, input) {
   const { status, stdout, stderr } = spawnSync(SABSIM, words, { input, encoding: "utf8" });
   return { status, output: stdout, errors: stderr };
 }
-
-/** Whether the program refuses to judge a script that says that it doesn't show all accesses. */
-const refuses = hasSabsim && saidOf(["judge"], JSON.stringify({
-  blocks: [4], views: [EMPTY], agents: [], schedule: [],
-})).status === 1;
-const withRefusal = needing("a sabsim that refuses to judge scripts of ordinary accesses", refuses);
 
 describe("a script of a run with ordinary accesses", () => {
   it("says so by an empty view: the ring whose kept scripts show no race", (context) => {
@@ -148,7 +142,7 @@ describe("sabsim takes such a script", () => {
     assert.equal(saidOf(["race", "--share", "lock"], script).status, 0);
   });
 
-  it("not for a verdict, which would be about other accesses than the run's", withRefusal, async () => {
+  it("not for a verdict, which would be about other accesses than the run's", withSabsim, async () => {
     const programs = [["reads", {}], ["atomics", { ordinary: "store" }], ["atomics", { ordinary: "refuse" }]];
     for (const [program, options] of programs) {
       const { script, trace, races } = await outcomeOf(program, { trace: true, ...options });
