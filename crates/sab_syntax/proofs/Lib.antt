@@ -1,0 +1,13 @@
+pub mod Spots
+pub mod Stacks
+pub mod Walks
+pub mod Skips
+pub mod Tails
+pub mod Numbers
+pub mod Strings
+pub mod StringSteps
+pub mod Steps
+pub mod Readings
+pub mod Fits
+pub mod Endings
+pub mod Walking

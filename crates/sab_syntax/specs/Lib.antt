@@ -1,0 +1,10 @@
+pub mod Fault
+pub mod Brackets
+pub mod Literal
+pub mod Number
+pub mod String
+pub mod Reader
+pub mod Spot
+pub mod Stop
+pub mod Place
+pub mod Begins

@@ -1,0 +1,32 @@
+//! The place where a text stops being JSON, by line and column.
+
+ghost use Rattle.sab_syntax.specs.Place.{IsPlace};
+
+use crate::fault::Fault;
+use crate::spot::Spot;
+use crate::stop::{Stop, stop_of};
+
+/// The place where a text stops being JSON, and what is wrong there.
+#[derive(Clone, Copy, Debug)]
+pub struct Place {
+    /// The line and the column of the token; if the text ends too early, those behind its last byte.
+    pub spot: Spot,
+    /// What is wrong with the token; nothing if the text ends too early.
+    pub fault: Option<Fault>,
+}
+
+/// The place where a text stops being JSON.
+pub fn place_of(text: &[u8]) -> Place
+    ensures { IsPlace text.now result }
+{
+    match stop_of(text) {
+        Stop::Token { at, fault } => Place {
+            spot: Spot::after(&text[..at]),
+            fault: Some(fault),
+        },
+        Stop::End => Place {
+            spot: Spot::after(text),
+            fault: None,
+        },
+    }
+}
