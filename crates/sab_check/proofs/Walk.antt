@@ -6,8 +6,7 @@ use Rattle.std.proofs.lemmas.Bool.{cases_eq}
 use Rattle.std.specs.Prelude.{fold, find, ◌==◌}
 use Rattle.sab_check.specs.declared.foreign.Foreign.{Foreign}
 use Rattle.sab_check.specs.declared.scanning.Side.{Side}
-use Rattle.sab_check.specs.Checked.{spot}
-use Rattle.sab_check.specs.Foreign.{side_behind, side_after, is_white, foreign_on, foreign_behind, HasNoneBefore, FindsFirst, spot_behind, spot_after}
+use Rattle.sab_check.specs.Foreign.{side_behind, side_after, is_white, foreign_on, foreign_behind, HasNoneBefore, FindsFirst}
 
 fold_last : {A B : Type 0} (f : B → A → B) (b : B) (xs : List A) (x : A)
     → fold f b (xs ++ x ∷ []) ≡ f (fold f b xs) x
@@ -39,24 +38,6 @@ none_here text rest i side s r nothing none k lt = go (cases_eq k i)
 -- and nowhere
 pub none_at_all : (text : List ℕ) (i : ℕ) → i ≡ length text → HasNoneBefore text i → FindsFirst text None
 none_at_all text i e none = subst (λ n. HasNoneBefore text n) e none
-
--- the spot behind a line feed, and behind another byte
-pub next_line : (bytes : List ℕ) (i b line column : ℕ) → i < length bytes → b ≡ get_or bytes i b
-    → spot line column ≡ spot_after (take i bytes) → b ≡ 10
-    → spot (line + 1) 1 ≡ spot_after (take (i + 1) bytes)
-next_line bytes i b line column lt e p feed =
-    rw (take_more bytes i b lt, ← e, fold_last spot_behind _ (take i bytes) b, ← p, feed, add-one) refl
-
-pub next_column : (bytes : List ℕ) (i b line column : ℕ) → i < length bytes → b ≡ get_or bytes i b
-    → spot line column ≡ spot_after (take i bytes) → (b == 10) ≡ false
-    → spot line (column + 1) ≡ spot_after (take (i + 1) bytes)
-next_column bytes i b line column lt e p other =
-    rw (take_more bytes i b lt, ← e, fold_last spot_behind _ (take i bytes) b, ← p, other, add-one) refl
-
--- and behind the last
-pub last_spot : (bytes : List ℕ) (i line column : ℕ) → i ≡ length bytes
-    → spot line column ≡ spot_after (take i bytes) → spot line column ≡ spot_after bytes
-last_spot bytes i line column e p = rw (e, take_all (length bytes) bytes (omega arith)) at p
 
 -- a byte that stands between JSON's parts, and another one
 pub found_white : (text : List ℕ) (i b : ℕ) → i < length text → b ≡ get_or text i b → is_white b ≡ true

@@ -8,8 +8,8 @@ use Rattle.sab_script.specs.Script.{IsScriptOf, IsRefusedBy, IsTrueRefusal}
 use Rattle.sab_check.specs.declared.check.Checked.{Checked}
 use Rattle.sab_check.specs.declared.check.Checked.TheVariants.{Accepted, Refused}
 use Rattle.sab_check.specs.declared.scanning.ForeignAt.{ForeignAt}
-use Rattle.sab_check.specs.declared.spot.Spot.{Spot}
-use Rattle.sab_check.specs.Foreign.{FindsFirst, spot_after, is_by, foreign_line}
+use Rattle.sab_syntax.specs.Spot.{spot_after, is_by}
+use Rattle.sab_check.specs.Foreign.{FindsFirst, foreign_line}
 use Rattle.sab_check.specs.Text.{accepted_text}
 
 -- the script spells one setup, and the text is what is said of it
@@ -18,24 +18,21 @@ pub record IsAccepted (script text : List ℕ) : Type 0 where
   pub spelled : IsScriptOf script setup
   pub said : text ≡ accepted_text setup
 
-abbrev pub spot : ℕ → ℕ → Spot
-spot line column = record { line = line; column = column }
-
--- what is said of a refusal where this was found, which JSON hasn't: it is told where it stands where the reader ended,
--- or before
+-- what is said of a refusal where this was found, which JSON hasn't: it is told if it begins at the place where the text
+-- stops being JSON, or before
 abbrev pub said_of : List ℕ → Refusal → Option ForeignAt → List ℕ
-said_of script (NotJson line column is_cut) (Some found) =
-    if is_by (spot_after (take found.at script)) (spot line column)
+said_of script (NotJson place) (Some found) =
+    if is_by (spot_after (take found.at script)) place.spot
     then foreign_line (spot_after (take found.at script)) found.what
-    else refusal_text (NotJson line column is_cut)
-said_of script (NotJson line column is_cut) None = refusal_text (NotJson line column is_cut)
+    else refusal_text (NotJson place)
+said_of script (NotJson place) None = refusal_text (NotJson place)
 said_of script (Tree e) found = refusal_text (Tree e)
 
 -- what is said of a refusal: where the script is no JSON text, of the first thing in it that JSON hasn't
 abbrev pub Says : List ℕ → Refusal → List ℕ → Type 0
-Says script (NotJson line column is_cut) text =
+Says script (NotJson place) text =
     (found : Option ForeignAt) × FindsFirst script found
-    × (text ≡ said_of script (NotJson line column is_cut) found ++ codes "\n")
+    × (text ≡ said_of script (NotJson place) found ++ codes "\n")
 Says script (Tree e) text = text ≡ refusal_text (Tree e) ++ codes "\n"
 
 -- the script spells none, and the text says where and why, which is true of the script

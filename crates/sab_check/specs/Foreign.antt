@@ -1,5 +1,5 @@
 -- What stands in a text, outside of its strings, and isn't JSON.
-use Rattle.std.specs.Prelude.{◌≡◌, ℕ, suc, ◌<◌, ◌==◌, ◌&&◌, ◌||◌, not, nat_eq, nat_lt, nat_le, Bool, true, List, [], ◌∷◌, ◌++◌, length, take, drop, fold, find, slice_get, Option, Some, None, codes, decimal, if◌then◌else◌}
+use Rattle.std.specs.Prelude.{◌≡◌, ℕ, ◌<◌, ◌==◌, ◌&&◌, ◌||◌, not, nat_eq, Bool, true, List, [], ◌∷◌, ◌++◌, length, take, drop, fold, find, slice_get, Option, Some, None, codes, if◌then◌else◌}
 use Rattle.std.specs.List.{starts_with}
 use Rattle.std.specs.Char.{is_ascii_alphanumeric}
 use Rattle.sab_check.specs.declared.foreign.Foreign.{Foreign}
@@ -7,7 +7,8 @@ use Rattle.sab_check.specs.declared.foreign.Foreign.TheVariants.{Nan, Infinity, 
 use Rattle.sab_check.specs.declared.scanning.Side.{Side}
 use Rattle.sab_check.specs.declared.scanning.Side.TheVariants.{Outside, Inside, Escaped}
 use Rattle.sab_check.specs.declared.scanning.ForeignAt.{ForeignAt}
-use Rattle.sab_check.specs.declared.spot.Spot.{Spot}
+use Rattle.sab_syntax.specs.declared.spot.Spot.{Spot}
+use Rattle.sab_syntax.specs.Spot.{spot_text}
 
 -- Strings: a quote begins one, and the next quote that isn't behind a backslash ends it.
 
@@ -84,21 +85,6 @@ FindsFirst text None = HasNoneBefore text (length text)
 FindsFirst text (Some found) =
     (foreign_behind text found.at ≡ Some found.what) × HasNoneBefore text found.at
 
--- Lines and columns.
-
--- a line feed ends a line
-abbrev pub spot_behind : Spot → ℕ → Spot
-spot_behind spot b =
-    if b == 10 then record { line = suc spot.line; column = 1 } else record { line = spot.line; column = suc spot.column }
-
--- that of the byte behind these
-abbrev pub spot_after : List ℕ → Spot
-spot_after bytes = fold spot_behind (record { line = 1; column = 1 }) bytes
-
--- a spot is another one, or before it
-abbrev pub is_by : Spot → Spot → Bool
-is_by a b = nat_lt a.line b.line || (a.line == b.line && nat_le a.column b.column)
-
 -- The texts.
 
 abbrev pub foreign_text : Foreign → List ℕ
@@ -113,6 +99,4 @@ foreign_text CommaBeforeBrace = codes "a comma before }: JSON has no trailing co
 
 -- where, what, and why
 abbrev pub foreign_line : Spot → Foreign → List ℕ
-foreign_line spot what =
-    codes "line " ++ (decimal spot.line ++ (codes ", column "
-    ++ (decimal spot.column ++ (codes ": 16 NotJson: " ++ foreign_text what))))
+foreign_line spot what = spot_text spot ++ (codes ": 16 NotJson: " ++ foreign_text what)

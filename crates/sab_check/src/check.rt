@@ -7,9 +7,9 @@ ghost use Rattle.sab_check.specs.Text.{accepted_text};
 use crate::foreign_line::ForeignLine;
 use crate::ok_line::push_ok;
 use crate::scanning::first_foreign;
-use crate::spot::Spot;
 use crate::warnings::push_warnings;
 use sab_script::{Refusal, Setup, read_script};
+use sab_syntax::{Place, Spot};
 use std::alloc::{AllocError, Global};
 
 /// What a check says of a script, in lines.
@@ -41,31 +41,23 @@ fn refused(alloc: Global, script: &[u8], refusal: Refusal) -> Result<String, All
     ensures { IfOk result (λ text. Says script.now refusal (string_bytes text)) }
 {
     match refusal {
-        Refusal::NotJson {
-            line,
-            column,
-            is_cut,
-        } => no_json(alloc, script, Spot { line, column }, is_cut),
+        Refusal::NotJson(place) => no_json(alloc, script, place),
         Refusal::Tree(located) => format!(in alloc; "{located}\n"),
     }
 }
 
-/// What is said of a text that isn't JSON, where reading ended there.
+/// What is said of a text that stops being JSON there.
 #[tactic(auto, using(crate::proofs::Saying::says_foreign))]
-fn no_json(alloc: Global, script: &[u8], end: Spot, is_cut: bool) -> Result<String, AllocError>
+fn no_json(alloc: Global, script: &[u8], place: Place) -> Result<String, AllocError>
     ensures { IfOk result (λ text.
-        Says script.now (Refusal.NotJson end.line end.column is_cut) (string_bytes text)) }
+        Says script.now (Refusal.NotJson place) (string_bytes text)) }
 {
-    let refusal = Refusal::NotJson {
-        line: end.line,
-        column: end.column,
-        is_cut,
-    };
+    let refusal = Refusal::NotJson(place);
     let Some(found) = first_foreign(script) else {
         return format!(in alloc; "{refusal}\n");
     };
     let spot = Spot::after(&script[..found.at]);
-    if !spot.is_by(end) {
+    if !spot.is_by(place.spot) {
         return format!(in alloc; "{refusal}\n");
     }
     let line = ForeignLine {

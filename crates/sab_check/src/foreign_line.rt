@@ -1,7 +1,7 @@
 //! The line of a text that has what JSON hasn't.
 
 use crate::foreign::Foreign;
-use crate::spot::Spot;
+use sab_syntax::Spot;
 use std::fmt;
 
 /// What JSON hasn't, and where it stands.
@@ -20,7 +20,7 @@ impl fmt::Display for ForeignLine {
     ghost output = { λ line. Some (foreign_line line.spot line.what) };
 
     fn fmt<W: fmt::Write>(&self, f: &mut fmt::Formatter<W>) -> fmt::Result {
-        let (line, column, what) = (self.spot.line, self.spot.column, self.what);
-        write!(f, "line {line}, column {column}: 16 NotJson: {what}")
+        let (spot, what) = (self.spot, self.what);
+        write!(f, "{spot}: 16 NotJson: {what}")
     }
 }

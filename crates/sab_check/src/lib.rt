@@ -8,7 +8,6 @@ mod foreign;
 mod foreign_line;
 mod ok_line;
 mod scanning;
-mod spot;
 mod warning;
 mod warnings;
 

@@ -24,7 +24,7 @@ use Rattle.sab_kept.proofs.TellingLaw.{journal_tells}
 
 -- bytes without a tree
 pub unread_script : (script : List ℕ) (r : Refusal) → IsUnread script r → IsRefused script (script_as_tool_fault r)
-unread_script script (NotJson line column is_cut) h = h
+unread_script script (NotJson place) h = h
 unread_script script (Tree e) h = subst (λ why. IsRefused script (as_tool_fault (fault_of why))) (sym h) tt
 
 -- a tree that is refused

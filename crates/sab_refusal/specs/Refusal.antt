@@ -1,5 +1,8 @@
 -- What is wrong with bytes that are no script.
-use Rattle.std.specs.Prelude.{◌≡◌, ℕ, Bool, true, false, List, ◌++◌, codes, decimal}
+use Rattle.std.specs.Prelude.{◌≡◌, ℕ, List, ◌++◌, Option, Some, None, codes}
+use Rattle.sab_syntax.specs.declared.fault.Fault.{Fault}
+use Rattle.sab_syntax.specs.Fault.{fault_text}
+use Rattle.sab_syntax.specs.Spot.{spot_text}
 use Rattle.sab_refusal.specs.declared.read_fault.ReadFault.TheVariants.{OutOfMemory}
 use Rattle.sab_refusal.specs.declared.refusal.Refusal.{Refusal}
 use Rattle.sab_refusal.specs.declared.refusal.Refusal.TheVariants.{NotJson, Tree}
@@ -8,16 +11,15 @@ use Rattle.sab_refusal.specs.Located.{located_text}
 
 -- memory ran out
 abbrev pub IsMemory : Refusal → Type 0
-IsMemory (NotJson line column is_cut) = ⊥
+IsMemory (NotJson place) = ⊥
 IsMemory (Tree e) = fault_of e.why ≡ OutOfMemory
 
 -- what is wrong with a text
-abbrev pub amiss_text : Bool → List ℕ
-amiss_text true = codes ": 16 NotJson: the text ends too early"
-amiss_text false = codes ": 16 NotJson: no JSON text in UTF-8"
+abbrev pub amiss_text : Option Fault → List ℕ
+amiss_text None = codes ": 16 NotJson: the text ends too early"
+amiss_text (Some fault) = codes ": 16 NotJson: " ++ fault_text fault
 
 -- where, what, and why
 abbrev pub refusal_text : Refusal → List ℕ
-refusal_text (NotJson line column is_cut) =
-    codes "line " ++ (decimal line ++ (codes ", column " ++ (decimal column ++ amiss_text is_cut)))
+refusal_text (NotJson place) = spot_text place.spot ++ amiss_text place.fault
 refusal_text (Tree e) = located_text e

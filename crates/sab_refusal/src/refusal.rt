@@ -2,21 +2,15 @@
 
 use crate::located::Located;
 use crate::reason::Reason;
+use sab_syntax::Place;
 use std::error::Error;
 use std::fmt;
 
 /// Why bytes are refused as a script, and where.
 #[derive(Clone, Copy, Debug)]
 pub enum Refusal {
-    /// They are no JSON text in UTF-8.
-    NotJson {
-        /// The line, counted from 1, up to which they can be read.
-        line: usize,
-        /// The column there, counted from 1 in bytes; after the last one, where the text ends too early.
-        column: usize,
-        /// Whether the text ends too early.
-        is_cut: bool,
-    },
+    /// They are no JSON text that is read; where they stop being one, and why.
+    NotJson(Place),
     /// They are the JSON text of a value that is refused.
     Tree(Located),
 }
@@ -31,7 +25,7 @@ impl Refusal {
     {
         match self {
             Refusal::Tree(refusal) => matches!(refusal.why, Reason::Memory),
-            Refusal::NotJson { .. } => false,
+            Refusal::NotJson(_) => false,
         }
     }
 }
@@ -44,22 +38,13 @@ impl fmt::Display for Refusal {
 
     fn fmt<W: fmt::Write>(&self, f: &mut fmt::Formatter<W>) -> fmt::Result {
         match self {
-            Refusal::NotJson {
-                line,
-                column,
-                is_cut: true,
-            } => write!(
-                f,
-                "line {line}, column {column}: 16 NotJson: the text ends too early"
-            ),
-            Refusal::NotJson {
-                line,
-                column,
-                is_cut: false,
-            } => write!(
-                f,
-                "line {line}, column {column}: 16 NotJson: no JSON text in UTF-8"
-            ),
+            Refusal::NotJson(place) => {
+                let spot = place.spot;
+                match place.fault {
+                    Some(fault) => write!(f, "{spot}: 16 NotJson: {fault}"),
+                    None => write!(f, "{spot}: 16 NotJson: the text ends too early"),
+                }
+            }
             Refusal::Tree(refusal) => write!(f, "{refusal}"),
         }
     }

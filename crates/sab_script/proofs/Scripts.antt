@@ -11,7 +11,7 @@ use Rattle.sab_refusal.specs.declared.refusal.Refusal.TheVariants.{NotJson, Tree
 use Rattle.sab_refusal.specs.Reason.{fault_of}
 use Rattle.sab_script.specs.Reading.{Refuses}
 use Rattle.sab_script.specs.Setup.{Spells}
-use Rattle.sab_script.specs.Script.{ReadsAs, IsTreeFault, IsUnread, IsRefusedBy, IsTrueRefusal}
+use Rattle.sab_script.specs.Script.{ReadsAs, IsTreeFault, IsUnread, IsPlaced, IsRefusedBy, IsTrueRefusal}
 use Rattle.sab_script.specs.Truth.{IsTrueAt, IsTrueOf}
 
 -- bytes without a reading
@@ -21,12 +21,12 @@ no_reading script tree none r = let e = none r.0 in let s = r.1 in cc
 -- bytes without a tree
 
 pub unread : (script : List ℕ) (r : Refusal) → IsUnread script r → IsRefusedBy script r
-unread script (NotJson line column is_cut) h = h
+unread script (NotJson place) h = h
 unread script (Tree e) h = subst (λ why. IsTreeFault script (fault_of why)) (sym h) tt
 
-pub unread_true : (script : List ℕ) (r : Refusal) → IsUnread script r → IsTrueRefusal script r
-unread_true script (NotJson line column is_cut) h = tt
-unread_true script (Tree e) h = λ tree reads. subst (λ why. IsTrueAt tree e.at why) (sym h) tt
+pub unread_true : (script : List ℕ) (r : Refusal) → IsUnread script r → IsPlaced script r → IsTrueRefusal script r
+unread_true script (NotJson place) h p = p
+unread_true script (Tree e) h p = λ tree reads. subst (λ why. IsTrueAt tree e.at why) (sym h) tt
 
 -- a tree that is refused
 pub refused_tree : (script : List ℕ) (d : Data) (e : ReadFault) → ReadsAs script d → Refuses (Spells d) e

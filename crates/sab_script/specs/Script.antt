@@ -8,6 +8,7 @@ use Rattle.sab_refusal.specs.declared.reason.Reason.TheVariants.{Memory}
 use Rattle.sab_refusal.specs.declared.refusal.Refusal.{Refusal}
 use Rattle.sab_refusal.specs.declared.refusal.Refusal.TheVariants.{NotJson, Tree}
 use Rattle.sab_refusal.specs.Reason.{fault_of}
+use Rattle.sab_syntax.specs.Place.{IsPlace}
 use Rattle.sab_script.specs.Setup.{SetupParts, Spells, IsOnlySetup}
 use Rattle.sab_script.specs.Truth.{IsTrueOf}
 
@@ -35,15 +36,20 @@ IsTreeFault script _ = SpellsNone script
 
 -- the script has no reading, or memory ran out before its tree was made
 abbrev pub IsUnread : List ℕ → Refusal → Type 0
-IsUnread script (NotJson line column is_cut) = (tree : Data) → ReadsAs script tree → ⊥
+IsUnread script (NotJson place) = (tree : Data) → ReadsAs script tree → ⊥
 IsUnread script (Tree e) = e.why ≡ Memory
 
 -- the script has no reading, or the fault is one of its tree
 abbrev pub IsRefusedBy : List ℕ → Refusal → Type 0
-IsRefusedBy script (NotJson line column is_cut) = (tree : Data) → ReadsAs script tree → ⊥
+IsRefusedBy script (NotJson place) = (tree : Data) → ReadsAs script tree → ⊥
 IsRefusedBy script (Tree e) = IsTreeFault script (fault_of e.why)
 
--- what a refusal says is true of the tree that the script reads as; of a text that isn't JSON nothing is told of a tree
+-- the place that a refusal has is where the script stops being JSON
+abbrev pub IsPlaced : List ℕ → Refusal → Type 0
+IsPlaced script (NotJson place) = IsPlace script place
+IsPlaced script (Tree e) = Unit {0}
+
+-- what a refusal says is true of the tree that the script reads as; of a text that isn't JSON its place is the true one
 abbrev pub IsTrueRefusal : List ℕ → Refusal → Type 0
-IsTrueRefusal script (NotJson line column is_cut) = Unit {0}
+IsTrueRefusal script (NotJson place) = IsPlace script place
 IsTrueRefusal script (Tree e) = (tree : Data) → ReadsAs script tree → IsTrueOf tree e

@@ -4,11 +4,12 @@ ghost use Rattle.std.specs.Prelude.{◌≤◌, IfOk, IfErr};
 ghost use Rattle.serde_json.specs.Data.{depth};
 ghost use Rattle.serde_json.specs.Read.{max_depth};
 ghost use Rattle.serde_json.specs.View.{view};
-ghost use Rattle.sab_script.specs.Script.{ReadsAs, IsScriptOf, IsUnread, IsRefusedBy, IsTrueRefusal};
+ghost use Rattle.sab_script.specs.Script.{ReadsAs, IsScriptOf, IsUnread, IsPlaced, IsRefusedBy, IsTrueRefusal};
 
 use crate::plain::{Miss, plain_setup};
 use crate::setup::{Setup, locate_setup};
 use sab_refusal::Refusal;
+use sab_syntax::place_of;
 use serde_json::Value;
 use std::alloc::{AllocError, Global};
 
@@ -50,14 +51,11 @@ pub fn read_tree(alloc: Global, script: &[u8]) -> Result<Value, Refusal>
     ensures ok { IfOk result (λ tree. ReadsAs script.now (view tree)) }
     ensures nests { IfOk result (λ tree. depth (view tree) ≤ max_depth) }
     ensures err { IfErr result (IsUnread script.now) }
+    ensures place { IfErr result (IsPlaced script.now) }
 {
     match Value::from_slice(alloc, script) {
         Ok(tree) => Ok(tree),
         Err(error) if error.is_memory() => Err(Refusal::Tree(AllocError.into())),
-        Err(error) => Err(Refusal::NotJson {
-            line: error.line(),
-            column: error.column(),
-            is_cut: error.is_eof(),
-        }),
+        Err(_) => Err(Refusal::NotJson(place_of(script))),
     }
 }

@@ -46,7 +46,7 @@ refused_tree script NoBlock h t = refused_for script NoBlock h t
 -- a script that is refused
 pub refused_script : (script : List ℕ) (r : Refusal) → IsRefusedBy script r → IsTrueRefusal script r
     → IsRefused script (script_as_tool_fault r)
-refused_script script (NotJson line column is_cut) h t = h
+refused_script script (NotJson place) h t = h
 refused_script script (Tree e) h t = refused_tree script (fault_of e.why) h (λ tree reading. (e, refl, t tree reading))
 
 -- the moves that are spelled are the agents'

@@ -33,7 +33,7 @@ as_tool_fault R.OutOfMemory = OutOfMemory
 
 -- the fault of a script as a tool's
 abbrev pub script_as_tool_fault : Refusal → ToolFault
-script_as_tool_fault (S.NotJson line column is_cut) = NotJson
+script_as_tool_fault (S.NotJson place) = NotJson
 script_as_tool_fault (S.Tree e) = as_tool_fault (fault_of e.why)
 
 -- the script reads as a tree that spells no setup, and the fault is that of a refusal which is true of the tree

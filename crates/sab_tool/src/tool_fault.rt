@@ -150,7 +150,7 @@ impl From<Refusal> for ToolFault {
 
     fn from(refusal: Refusal) -> ToolFault {
         match refusal {
-            Refusal::NotJson { .. } => ToolFault::NotJson,
+            Refusal::NotJson(_) => ToolFault::NotJson,
             Refusal::Tree(refusal) => ToolFault::from(refusal.fault()),
         }
     }

@@ -195,7 +195,7 @@ const CHECKS: [(&str, Outcome, &str); 2] = [
     (
         "[1",
         Outcome::Refused,
-        "line 1, column 2: 16 NotJson: the text ends too early\n",
+        "line 1, column 3: 16 NotJson: the text ends too early\n",
     ),
 ];
 
@@ -354,7 +354,7 @@ const COMPLAINTS: [(&str, bool, &str); 3] = [
     (
         "[1",
         true,
-        "sabsim: 16 NotJson\nline 1, column 2: 16 NotJson: the text ends too early\n",
+        "sabsim: 16 NotJson\nline 1, column 3: 16 NotJson: the text ends too early\n",
     ),
     (
         "[]",

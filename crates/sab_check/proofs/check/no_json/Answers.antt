@@ -8,6 +8,6 @@ pub returns : goal.returns
 returns c =
     IfOk-weaker c.format-2.result _ _
     (λ text said.
-    says_foreign c.args.script.now c.args.end.line c.args.end.column c.args.is_cut c.in-Some.found
+    says_foreign c.args.script.now c.args.place c.in-Some.found
     c.after-spot.result (string_bytes text) c.in-Some.ensures.first c.after-spot.ensures (search rules) said)
     c.format-2.ensures.ok
