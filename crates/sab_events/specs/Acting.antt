@@ -32,7 +32,8 @@ pub record IsOfElement (v : PlanView) (call : Call) (block byte : ℕ) : Type 0 
   pub from : place.byte ≤ byte
   pub below : byte < place.byte + element_size (kind_of v.view)
 
--- the call, which does this, reads its element: each call that acts, except a store, a notify and a wait that leaves
+-- the call, which does this, reads its element: each call except a store, a notify, a wait that leaves, and a call that
+-- throws
 abbrev pub reads_element : What → Call → Bool
 reads_element (Acted (Threw t)) call = false
 reads_element (Left x) call = false
@@ -41,7 +42,7 @@ reads_element what (C.Notify n index count) = false
 reads_element what call = true
 
 -- the call, which does this from S, writes its element: a store, a read-modify-write, or a compareExchange that
--- exchanges, since the element is the one expected
+-- exchanges, since the element is the one expected; none of them throws
 abbrev pub WritesElement : What → Call → PlanView → State → Type 0
 WritesElement (Acted (Threw t)) call v S = ⊥
 WritesElement what (C.Access n (X.Store index x)) v S = ⊤

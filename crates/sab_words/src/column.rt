@@ -10,7 +10,7 @@ use sab_text::{Line, prepend_agent, prepend_entry};
 const GAP: usize = 2;
 
 /// The column at which the words of a report begin.
-#[derive(Clone, Copy, Debug, PartialEq, Eq)]
+#[derive(Clone, Copy, Debug)]
 pub struct Column {
     /// How many columns there are before it.
     pub at: u8,
