@@ -54,6 +54,7 @@ flushed_verdict format old mid new script judged j k = record {
   told = record {
     races = j.told.races;
     rest = j.told.rest;
+    data_races = j.told.data_races;
     verdict = j.told.verdict;
     racy = j.told.racy;
     written = appends_kept old mid new _ j.told.written k;
