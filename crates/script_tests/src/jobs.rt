@@ -131,28 +131,20 @@ fn a_replay_flushes_its_report(rt: HostRuntime) -> Result<(), Fail> {
     Ok(())
 }
 
-/// Races that are written in this form.
-fn races_in(form: RunForm) -> [RaceJob; 2] {
-    let by_lock = RaceJob {
-        share: Share::Lock,
-        spins: 0,
-        mix: None,
-        form,
-        finish: false,
-    };
-    let by_rings = RaceJob {
-        share: Share::Ring,
-        spins: 0,
-        mix: Some(7),
-        form,
-        finish: true,
-    };
-    [by_lock, by_rings]
-}
-
 #[test]
 fn a_race_flushes_its_report(rt: HostRuntime) -> Result<(), Fail> {
-    for race in races_in(RunForm::Report(PLAIN)) {
+    let race = |share, mix, finish| RaceJob {
+        share,
+        spins: 0,
+        mix,
+        form: RunForm::Report(PLAIN),
+        finish,
+    };
+    let races = [
+        race(Share::Lock, None, false),
+        race(Share::Ring, Some(7), true),
+    ];
+    for race in races {
         for wanted in DONE_OR_STUCK {
             let is_right = races_to(&rt, race, STORE_AND_LOAD, wanted, STORED_AND_LOADED);
             expect(is_right, "another report, or another end")?;
@@ -176,7 +168,18 @@ fn a_replay_flushes_the_script_that_it_keeps(rt: HostRuntime) -> Result<(), Fail
 
 #[test]
 fn a_race_flushes_the_script_that_it_keeps(rt: HostRuntime) -> Result<(), Fail> {
-    for race in races_in(RunForm::Script) {
+    let race = |share, mix, finish| RaceJob {
+        share,
+        spins: 0,
+        mix,
+        form: RunForm::Script,
+        finish,
+    };
+    let races = [
+        race(Share::Lock, None, false),
+        race(Share::Ring, Some(7), true),
+    ];
+    for race in races {
         for wanted in DONE_OR_STUCK {
             let is_right = races_to(&rt, race, STORE_AND_LOAD, wanted, KEPT);
             expect(is_right, "another script, or another end")?;
