@@ -3,6 +3,7 @@ pub mod Lasts
 pub mod LastSteps
 pub mod Knowledge
 pub mod Equality
+pub mod Stretching
 pub mod Written
 pub mod Noted
 pub mod DataRaces

@@ -1,5 +1,5 @@
 -- From which events one reads, byte by byte, and how many of them race with it.
-use Rattle.std.proofs.Common.{◌≡◌, ◌≢◌, ◌⊎◌, ◌↔◌, inl, inr, ℕ, ◌+◌, ◌<◌, ◌≤◌, ◌&&◌, Bool, true, false, List, length, slice_index, slice_set, Option, Some, None, refl, sym, subst, ap, ◌∙◌, arith, get_or-set_other, get_or-set_same, length-set}
+use Rattle.std.proofs.Common.{◌≡◌, ◌≢◌, ◌⊎◌, ◌↔◌, inl, inr, ℕ, ◌+◌, ◌-◌, ◌<◌, ◌≤◌, ◌&&◌, Bool, true, false, List, length, slice_index, slice_set, Option, Some, None, refl, sym, subst, ap, ◌∙◌, arith, get_or-set_other, get_or-set_same, length-set}
 use Rattle.std.proofs.lemmas.Bool.{false≢true, cases_lt, cases_eq, and_from}
 use Rattle.sab_judge.specs.declared.event.Event.{Event}
 use Rattle.sab_judge.specs.declared.readers.Readers.{Readers}
@@ -191,10 +191,18 @@ last_below trace sought j None h m e = absurd (cc)
 last_below trace sought j (Some w) h m e = subst (λ (x : ℕ). x < j) (let same : w ≡ m = cc in same) h.0
 
 -- a byte of an access that reads is read
-pub reads_its_byte : (trace : List Event) (j : ℕ) (a : Access) → (event_at trace j).access ≡ Some a → a.reads ≡ true
+reads_its_byte : (trace : List Event) (j : ℕ) (a : Access) → (event_at trace j).access ≡ Some a → a.reads ≡ true
     → (k : ℕ) → k < a.len → reads_byte (event_at trace j) a.place.block (a.place.byte + k) ≡ true
 reads_its_byte trace j a makes reads k lt =
     ap (λ (x : Option Access). some_is (λ (b : Access). b.reads && covers b a.place.block (a.place.byte + k)) x) makes
     ∙ and_from a.reads (covers a a.place.block (a.place.byte + k)) reads
     (byte_covered a a.place.block (a.place.byte + k)
     (record { offset = k; inside = lt; block_is = refl; byte_is = refl }))
+
+pub reads_between : (trace : List Event) (j : ℕ) (a : Access) → (event_at trace j).access ≡ Some a → a.reads ≡ true
+    → (byte : ℕ) → a.place.byte ≤ byte → byte < a.place.byte + a.len
+    → reads_byte (event_at trace j) a.place.block byte ≡ true
+reads_between trace j a makes reads byte low high =
+    let at : a.place.byte + (byte - a.place.byte) ≡ byte = omega (arith, low) in
+    subst (λ (b : ℕ). reads_byte (event_at trace j) a.place.block b ≡ true) at
+    (reads_its_byte trace j a makes reads (byte - a.place.byte) (omega (arith, low, high)))

@@ -1,5 +1,5 @@
 -- From which event a byte is read.
-use Rattle.std.proofs.Common.{◌≡◌, ◌&&◌, inl, inr, ℕ, ◌+◌, ◌<◌, true, List, length, Option, Some, None, sym, subst, ap, ◌∙◌}
+use Rattle.std.proofs.Common.{◌≡◌, ◌&&◌, inl, inr, ℕ, ◌+◌, ◌-◌, ◌<◌, ◌≤◌, arith, true, List, length, Option, Some, None, sym, subst, ap, ◌∙◌}
 use Rattle.std.specs.Option.{option_eq}
 use Rattle.std.specs.Prelude.{nat_eq}
 use Rattle.std.proofs.lemmas.Bool.{false≢true, cases_order, eqb-true, eq-eqb, and_parts, and_from}
@@ -9,6 +9,7 @@ use Rattle.sab_judge.specs.Access.{covers}
 use Rattle.sab_judge.specs.Event.{event_at, some_is, reads_byte}
 use Rattle.sab_judge.specs.HappensBefore.{ReadsByteFrom, ReadsFrom}
 use Rattle.sab_judge.specs.Sought.{Writes, IsLastBelow, IsReadFrom}
+use Rattle.sab_judge.specs.Readers.{HaveWriter}
 use Rattle.sab_judge.proofs.Cases.{IsByteOf, covered_byte, byte_covered}
 
 -- a byte that nobody wrote is read from nobody
@@ -81,3 +82,28 @@ no_byte_read {trace} {j} {i} a is none r = none its.offset its.inside moved
     moved : ReadsByteFrom trace j i a.place.block (a.place.byte + its.offset)
     moved = subst (λ (x : ℕ). ReadsByteFrom trace j i a.place.block x) its.byte_is
         (subst (λ (x : ℕ). ReadsByteFrom trace j i x r.byte) its.block_is r.reads)
+
+-- of bytes with one last writer, each is read from whom the first is read from
+pub read_as_first : {trace : List Event} {j m block at next byte : ℕ} (a : Access) (writer : Option ℕ)
+    → j < length trace → (event_at trace j).access ≡ Some a → a.place.byte ≤ at → HaveWriter trace j block at next writer
+    → at ≤ byte → byte < next → ReadsByteFrom trace j m block byte → ReadsByteFrom trace j m block at
+read_as_first {byte = byte} a None within makes low lasts from before reads =
+    absurd (false≢true (sym (lasts byte from before _ reads.earlier) ∙ reads.writes))
+read_as_first {trace} {j} {m} {block} {at} {next} {byte} a (Some w) within makes low lasts from before reads =
+    subst (λ (x : ℕ). ReadsByteFrom trace j x block at) (sym (writer_is m w (lasts byte from before) reads))
+    (reads_last within (lasts at (omega arith) (omega (arith, from, before))) read_too)
+  where
+    both : (a.reads && covers a block byte) ≡ true
+    both = subst (λ (x : Option Access). some_is (λ (b : Access). b.reads && covers b block byte) x ≡ true) makes
+        reads.reads
+
+    read_too : reads_byte (event_at trace j) block at ≡ true
+    read_too = ap (λ (x : Option Access). some_is (λ (b : Access). b.reads && covers b block at) x) makes
+        ∙ (let parts = and_parts a.reads (covers a block byte) both in
+        let its = covered_byte a block byte parts.1 in
+        and_from a.reads (covers a block at) parts.0 (byte_covered a block at (record {
+          offset = at - a.place.byte;
+          inside = omega (arith, its.inside, its.byte_is, from);
+          block_is = its.block_is;
+          byte_is = omega (arith, low);
+        })))

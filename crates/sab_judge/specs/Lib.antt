@@ -9,6 +9,7 @@ pub mod Verdict
 pub mod Clock
 pub mod Sought
 pub mod Lookups
+pub mod Stretch
 pub mod Past
 pub mod Readers
 pub mod Telling

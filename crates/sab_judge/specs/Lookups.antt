@@ -10,3 +10,7 @@ same_pair p q = (p.0 == q.0) && (p.1 == q.1)
 -- a map by the pairs of a block and a byte
 abbrev pub ByPlace : Type 0 → Type 0
 ByPlace X = HashMap (ℕ × ℕ) X (BuildHasherDefault FoldHasher)
+
+-- a map by blocks
+abbrev pub ByBlock : Type 0 → Type 0
+ByBlock X = HashMap ℕ X (BuildHasherDefault FoldHasher)

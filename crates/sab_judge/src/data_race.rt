@@ -50,11 +50,14 @@ fn reads_byte_from(trace: &[Event], past: &Past, i: usize, j: usize, access: Acc
     requires past { IsPast trace.now j past.now }
     ensures { IsTrue result ↔ ReadsFrom trace.now j i }
 {
-    let start = access.start();
-    for k in 0..u64::from(access.len) {
-        if past.last_writer(access.place.block, start + k) == Some(i) {
+    let end = access.end();
+    let mut byte = access.start();
+    while byte < end {
+        let held = past.last_writer(access.place.block, byte, end);
+        if held.writer == Some(i) {
             return true;
         }
+        byte = held.end;
     }
     false
 }
@@ -100,13 +103,15 @@ fn count_read_from(
     ensures counted { Counts (λ i. IsDataRace trace.now i j) j result }
     ensures readers { AreNoted (length trace.now) (j + 1) readers.new }
 {
-    let start = access.start();
+    let end = access.end();
+    let mut byte = access.start();
     let mut count = 0;
-    for k in 0..u64::from(access.len) {
-        let writer = past.last_writer(access.place.block, start + k);
-        if is_one_more(trace, clock, readers, j, writer) {
+    while byte < end {
+        let held = past.last_writer(access.place.block, byte, end);
+        if is_one_more(trace, clock, readers, j, held.writer) {
             count += 1;
         }
+        byte = held.end;
     }
     count
 }

@@ -64,7 +64,7 @@ fn judge_events(alloc: Global, trace: &[Event], most: usize) -> Result<Verdict, 
         data_races += data_races_of(trace, &clock, &past, &seen, &mut readers, j, count);
         tell_or_count(&mut verdict, trace, &past, &clock, j, most, count)?;
         clocks.push_reserved(clock);
-        past.note(trace, j)?;
+        past.note(alloc, trace, j)?;
         seen.keep(alloc, trace, j)?;
     }
     verdict.data_races = data_races;

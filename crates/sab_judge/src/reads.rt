@@ -4,7 +4,7 @@ ghost use Rattle.std.specs.Prelude.{◌<◌, ◌≡◌, length, Some};
 ghost use Rattle.std.specs.Option.{ForSome};
 ghost use Rattle.sab_judge.specs.Event.{event_at};
 ghost use Rattle.sab_judge.specs.Clock.{AreClocks, KnowsMore, KnowsOnlyBefore, KnowsWhatIsRead, KnowsWhoHandedOn, Learns};
-ghost use Rattle.sab_judge.specs.Sought.{IsReadFrom};
+ghost use Rattle.sab_judge.specs.Sought.{IsLastBelow, IsReadFrom, Writes};
 ghost use Rattle.sab_judge.specs.Past.{IsPast};
 
 use crate::access::Access;
@@ -46,13 +46,13 @@ pub(crate) fn learned_by_entering(
     }
 }
 
-/// The event with a SeqCst access of equal range from which the `j`-th event reads the byte.
-fn read_from(trace: &[Event], past: &Past, j: usize, block: u32, byte: u64) -> Option<usize>
+/// The event with a SeqCst access of equal range from which the `j`-th event reads the byte, whose last writer is given.
+fn read_from(trace: &[Event], j: usize, block: u32, byte: u64, last: Option<usize>) -> Option<usize>
     requires within { j < length trace.now }
-    requires past { IsPast trace.now j past.now }
+    requires last { IsLastBelow trace.now (Writes block byte) j last }
     ensures { IsReadFrom trace.now j block byte result }
 {
-    let writer = past.last_writer(block, byte)?;
+    let writer = last?;
     let now = trace[j];
     if now.reads(block, byte) && trace[writer].is_alike(now) {
         Some(writer)
@@ -104,11 +104,15 @@ fn learned_at_each(
     ensures only { KnowsOnlyBefore trace.now j result }
     ensures read { KnowsWhatIsRead trace.now j result }
 {
-    let start = access.start();
+    let block = access.place.block;
+    let end = access.end();
+    let mut byte = access.start();
     let mut known = clock;
-    for k in 0..u64::from(access.len) {
-        let from = read_from(trace, past, j, access.place.block, start + k);
+    while byte < end {
+        let held = past.last_writer(block, byte, end);
+        let from = read_from(trace, j, block, byte, held.writer);
         known = learned(&known, clocks, from);
+        byte = held.end;
     }
     known
 }

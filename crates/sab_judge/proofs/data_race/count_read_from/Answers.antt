@@ -1,50 +1,77 @@
--- Each byte is one more of which it is known from whom it is read.
-use Rattle.std.proofs.Common.{◌≡◌, ℕ, ◌+◌, ◌<◌, true, subst, arith}
+-- Of the bytes of one last writer more it is known from whom they are read.
+use Rattle.std.proofs.Common.{◌≡◌, ℕ, ◌+◌, ◌-◌, ◌<◌, ◌≤◌, true, subst, sym, arith}
 use Rattle.sab_judge.specs.Event.{event_at, reads_byte}
-use Rattle.sab_judge.specs.Readers.{HaveWriter}
+use Rattle.sab_judge.specs.Readers.{HaveWriter, HaveNoted}
 use Rattle.sab_judge.specs.Sought.{IsLastBelow, Writes}
 use Rattle.sab_judge.proofs.Counting.{few_below}
 use Rattle.sab_judge.proofs.DataRaces.{data_races_of_read}
-use Rattle.sab_judge.proofs.ReadersNoted.{none_noted, one_more_noted, no_more_noted, last_below, reads_its_byte}
+use Rattle.sab_judge.proofs.ReadersNoted.{none_noted, one_more_noted, no_more_noted, last_below, reads_between}
+use Rattle.sab_judge.proofs.Written.{past_ordered}
 use Rattle.sab_judge.proofs.data_race.count_read_from.Goals as goal
-use Rattle.sab_judge.proofs.data_race.count_read_from.Goals.{then-is_one_more, else-is_one_more}
 
-pub loop-k-init : goal.loop-k-init
-loop-k-init c = none_noted c.args.trace.now c.args.readers.now c.requires.readers (omega arith)
+pub loop-byte-init : goal.loop-byte-init
+loop-byte-init c = record {
+  low = omega (arith, c.start-byte.ensures);
+  high = omega (arith, c.start-byte.ensures);
+  noted = none_noted c.args.trace.now c.args.readers.now c.requires.readers (omega (arith, c.start-byte.ensures));
+}
+
+pub last_writer-held-requires-clause-order : goal.last_writer-held-requires-clause-order
+last_writer-held-requires-clause-order c =
+    past_ordered c.args.trace.now c.args.j c.args.past.now.writers c.requires.past.writers
 
 pub is_one_more-requires-clause-writer : goal.is_one_more-requires-clause-writer
 is_one_more-requires-clause-writer c = last_below c.args.trace.now
-    (Writes c.args.access.place.block (c.start-start.result + c.loop-k.k)) c.args.j c.last_writer-writer.result
-    (c.last_writer-writer.ensures c.args.trace.now c.args.j c.requires.past)
+    (Writes c.args.access.place.block c.loop-byte.byte) c.args.j c.last_writer-held.result.writer
+    (c.last_writer-held.ensures.writer c.args.trace.now c.args.j c.requires.past c.loop-byte.byte (omega arith)
+    c.last_writer-held.ensures.more)
 
 pub overflow_add-count : goal.overflow_add-count
 overflow_add-count c =
-    omega (arith, few_below c.loop-k.invariant.counted, c.requires.event_clock.within, c.requires.event_clock.short)
+    omega (arith, few_below c.loop-byte.invariant.noted.counted, c.requires.event_clock.within, c.requires.event_clock.short)
 
-pub loop-k-preserved : goal.loop-k-preserved
-loop-k-preserved c =
-    let start : c.start-start.result ≡ c.args.access.place.byte = c.start-start.ensures in
-    let inside : c.loop-k.k < c.args.access.len = omega arith in
-    let reads : reads_byte (event_at c.args.trace.now c.args.j) c.args.access.place.block
-    (c.args.access.place.byte + c.loop-k.k) ≡ true =
-    reads_its_byte c.args.trace.now c.args.j c.args.access c.requires.access c.requires.reads c.loop-k.k inside in
-    let lasts : HaveWriter c.args.trace.now c.args.j c.args.access.place.block (c.args.access.place.byte + c.loop-k.k)
-    (c.args.access.place.byte + (c.loop-k.k + 1)) c.last_writer-writer.result =
-    λ b low high. (let same : c.start-start.result + c.loop-k.k ≡ b = omega (arith, start, low, high) in
-    subst (λ (x : ℕ). IsLastBelow c.args.trace.now (Writes c.args.access.place.block x) c.args.j
-    c.last_writer-writer.result) same (c.last_writer-writer.ensures c.args.trace.now c.args.j c.requires.past)) in
-    elim c.if-is_one_more.branch [
-      | then-is_one_more w ↦ rw w.count-is
-          (one_more_noted c.last_writer-writer.result c.loop-k.readers c.is_one_more.new.readers c.is_one_more.result
-          c.requires.event_clock.within (omega arith) (omega arith) reads lasts c.loop-k.invariant
-          c.is_one_more.ensures w.if-is_one_more.true)
-      | else-is_one_more w ↦ rw w.count-is
-          (no_more_noted c.last_writer-writer.result c.loop-k.readers c.is_one_more.new.readers c.is_one_more.result
-          c.requires.event_clock.within (omega arith) (omega arith) reads lasts c.loop-k.invariant
-          c.is_one_more.ensures w.if-is_one_more.false)
-    ]
+pub loop-byte-preserved-then-is_one_more : goal.loop-byte-preserved-then-is_one_more
+loop-byte-preserved-then-is_one_more c =
+    let more = c.last_writer-held.ensures.more in
+    let reads : reads_byte (event_at c.args.trace.now c.args.j) c.args.access.place.block c.loop-byte.byte ≡ true =
+    reads_between c.args.trace.now c.args.j c.args.access c.requires.access c.requires.reads c.loop-byte.byte
+    c.loop-byte.invariant.low (omega (arith, c.loop-byte-test.true, c.end-end.ensures)) in
+    let lasts : HaveWriter c.args.trace.now c.args.j c.args.access.place.block c.loop-byte.byte
+    c.last_writer-held.result.end c.last_writer-held.result.writer =
+    c.last_writer-held.ensures.writer c.args.trace.now c.args.j c.requires.past in
+    record {
+      low = omega (arith, c.loop-byte.invariant.low, more);
+      high = omega (arith, c.last_writer-held.ensures.within, c.end-end.ensures);
+      noted = one_more_noted c.last_writer-held.result.writer c.loop-byte.readers c.is_one_more.new.readers
+          c.is_one_more.result c.requires.event_clock.within c.loop-byte.invariant.low more reads lasts
+          c.loop-byte.invariant.noted c.is_one_more.ensures c.if-is_one_more.true;
+    }
+
+pub loop-byte-preserved : goal.loop-byte-preserved
+loop-byte-preserved c =
+    let more = c.last_writer-held.ensures.more in
+    let reads : reads_byte (event_at c.args.trace.now c.args.j) c.args.access.place.block c.loop-byte.byte ≡ true =
+    reads_between c.args.trace.now c.args.j c.args.access c.requires.access c.requires.reads c.loop-byte.byte
+    c.loop-byte.invariant.low (omega (arith, c.loop-byte-test.true, c.end-end.ensures)) in
+    let lasts : HaveWriter c.args.trace.now c.args.j c.args.access.place.block c.loop-byte.byte
+    c.last_writer-held.result.end c.last_writer-held.result.writer =
+    c.last_writer-held.ensures.writer c.args.trace.now c.args.j c.requires.past in
+    record {
+      low = omega (arith, c.loop-byte.invariant.low, more);
+      high = omega (arith, c.last_writer-held.ensures.within, c.end-end.ensures);
+      noted = no_more_noted c.last_writer-held.result.writer c.loop-byte.readers c.is_one_more.new.readers
+          c.is_one_more.result c.requires.event_clock.within c.loop-byte.invariant.low more reads lasts
+          c.loop-byte.invariant.noted c.is_one_more.ensures c.if-is_one_more.false;
+    }
+
+pub returns-clause-readers : goal.returns-clause-readers
+returns-clause-readers c = record {
+  count = c.loop-byte.invariant.noted.all;
+  before = c.loop-byte.invariant.noted.before;
+}
 
 pub returns-clause-counted : goal.returns-clause-counted
 returns-clause-counted c =
-    let all : c.loop-k.k ≡ c.args.access.len = omega arith in
-    data_races_of_read c.args.access c.requires.access c.requires.writes (rw all at c.loop-k.invariant)
+    let all : c.loop-byte.byte ≡ c.args.access.place.byte + c.args.access.len =
+    omega (arith, c.loop-byte-test.false, c.end-end.ensures, c.loop-byte.invariant.high) in
+    data_races_of_read c.args.access c.requires.access c.requires.writes (rw all at c.loop-byte.invariant.noted)
