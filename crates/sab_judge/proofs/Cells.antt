@@ -41,7 +41,7 @@ all_skipped trace j cells kept none cell few = kept_skipped cell (get same_pair 
     (λ h. absurd (let e : ◌≡◌ {A = Option Access} None (Some h.access) = sym none ∙ h.makes in cc))
 
 -- an access begins in one cell of its class
-same_cell : {trace : List Event} {j : ℕ} (c d : Cell) → BeginsIn trace c j → BeginsIn trace d j → c ≡ d
+pub same_cell : {trace : List Event} {j : ℕ} (c d : Cell) → BeginsIn trace c j → BeginsIn trace d j → c ≡ d
 same_cell c d h k =
     let same : h.access ≡ k.access = some_is_some _ _ (sym h.makes ∙ k.makes) in
     let block : c.block ≡ d.block = sym h.is_in.block ∙ ap (λ (a : Access). a.place.block) same ∙ k.is_in.block in

@@ -17,4 +17,5 @@ pub mod NoRace
 pub mod KeptLatest
 pub mod Racing
 pub mod Cells
+pub mod Shelving
 pub mod ReadersNoted

@@ -15,6 +15,7 @@ pub mod Readers
 pub mod Telling
 pub mod Link
 pub mod Cell
+pub mod Shelf
 pub mod Seen
 pub mod Trace
 pub mod TraceFault

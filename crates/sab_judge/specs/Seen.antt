@@ -4,10 +4,12 @@ use Rattle.sab_judge.specs.declared.event.Event.{Event}
 use Rattle.sab_judge.specs.declared.seen.Seen.{Seen}
 use Rattle.sab_judge.specs.Cell.{AreKept, AreShort, AreUsed}
 use Rattle.sab_judge.specs.Link.{AreLinks}
+use Rattle.sab_judge.specs.Shelf.{AreShelved}
 
 -- what is kept is that of the first n events of the trace
 pub record IsSeen (trace : List Event) (n : ℕ) (seen : Seen) : Type 0 where
   pub cells : AreKept trace n seen.cells
+  pub shelves : AreShelved trace n seen.shelves
   pub classes : length seen.used ≡ 32
   pub used : AreUsed trace n seen.used
   pub short : AreShort trace n

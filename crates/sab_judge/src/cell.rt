@@ -4,6 +4,8 @@ ghost use Rattle.std.specs.Prelude.{◌≡◌, ◌*◌, ◌<◌, ◌^◌};
 ghost use Rattle.sab_judge.specs.Cell.{class_of, key_of, IsIn};
 
 use crate::access::Access;
+use crate::latest::Latest;
+use std::collections::HashMap;
 
 /// How many size classes there are.
 pub(crate) const CLASSES: u32 = 32;
@@ -18,6 +20,9 @@ pub(crate) struct Cell {
     pub(crate) class: u32,
     pub(crate) index: u64,
 }
+
+/// For each cell the last events, each of those that are alike.
+pub(crate) type Cells = HashMap<(u32, u64), Vec<Latest>>;
 
 /// The size class of accesses of so many bytes.
 #[tactic(auto, using(crate::proofs::Cells::less_than_two))]

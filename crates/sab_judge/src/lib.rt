@@ -19,6 +19,7 @@ mod race_kind;
 mod readers;
 mod reads;
 mod seen;
+mod shelf;
 mod stretch;
 mod trace;
 mod trace_fault;

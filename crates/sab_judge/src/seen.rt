@@ -7,27 +7,28 @@ ghost use Rattle.sab_judge.specs.Event.{event_at};
 ghost use Rattle.sab_judge.specs.Race.{Counts};
 ghost use Rattle.sab_judge.specs.RaceKind.{IsRaceOf};
 ghost use Rattle.sab_judge.specs.Link.{AreLinks, IsLink};
-ghost use Rattle.sab_judge.specs.Cell.{AreKept, BeginsIn, IsOfClass};
+ghost use Rattle.sab_judge.specs.Cell.{AreKept, BeginsBetween, BeginsIn, IsOfClass};
+ghost use Rattle.sab_judge.specs.Shelf.{IsShelf};
 ghost use Rattle.sab_judge.specs.Seen.{IsSeen};
 ghost use Rattle.sab_judge.specs.declared.trace.TheConstants.Trace.{MAX_EVENTS};
 
 use crate::access::Access;
-use crate::cell::{CLASSES, Cell};
+use crate::cell::{CLASSES, Cell, Cells};
 use crate::clock::Clock;
 use crate::event::Event;
 use crate::latest::{Latest, count_latest, note_latest};
 use crate::link::Link;
 use crate::race_kind::RaceKind;
+use crate::shelf::{Shelves, count_below, shelve};
 use std::alloc::{AllocError, Global};
 use std::collections::HashMap;
-
-/// For each cell the last events, each of those that are alike.
-type Cells = HashMap<(u32, u64), Vec<Latest>>;
 
 /// The accesses of all events so far.
 #[derive(Drop)]
 pub(crate) struct Seen {
     cells: Cells,
+    // In which cells accesses begin.
+    shelves: Shelves,
     // Whether some access is of the size class. Most traces have accesses of few sizes.
     used: [bool; 32],
     // Of each event its link.
@@ -41,6 +42,7 @@ impl Seen {
     {
         Ok(Seen {
             cells: HashMap::new(alloc),
+            shelves: HashMap::new(alloc),
             used: [false; 32],
             links: Vec::with_capacity(alloc, events)?,
         })
@@ -83,6 +85,7 @@ impl Seen {
     {
         let cell = Cell::of(access);
         self.used[cell.class as usize] = true;
+        shelve(alloc, &mut self.shelves, &self.cells, trace, j, cell)?;
         let link = note(alloc, &mut self.cells, &self.links, trace, j, cell)?;
         self.links.push(link)?;
         Ok(())
@@ -149,12 +152,45 @@ impl Seen {
         let block = access.place.block;
         let low = (access.start() >> class).saturating_sub(2);
         let last = access.end().saturating_sub(1) >> class;
+        let first = Cell {
+            block,
+            class,
+            index: low,
+        };
+        match self.shelves.get(&(block, class)) {
+            Some(shelf) => self.count_on(shelf, trace, clock, j, kind, first, last),
+            None => 0,
+        }
+    }
+
+    /// How many events with accesses that begin in the cells of a shelf, from one up to the last, are in a race of the
+    /// kind with the `j`-th.
+    fn count_on(
+        &self,
+        shelf: &[u64],
+        trace: &[Event],
+        clock: &Clock,
+        j: usize,
+        kind: RaceKind,
+        first: Cell,
+        last: u64,
+    ) -> u64
+        requires event_clock { HasClock trace.now j clock.now }
+        requires seen { IsSeen trace.now j self.now }
+        requires shelf { IsShelf trace.now j first.block first.class shelf.now }
+        requires few { first.class < CLASSES }
+        requires forward { first.index ≤ last }
+        requires small { last + 1 < 2 ^ 40 }
+        ensures { Counts (λ i. IsRaceOf kind trace.now i j
+            × BeginsBetween trace.now first.block first.class first.index (last + 1) i) j result }
+    {
+        let from = count_below(shelf, first.index);
+        let to = count_below(shelf, last + 1);
         let mut count = 0;
-        for index in low..last + 1 {
+        for k in from..to {
             let cell = Cell {
-                block,
-                class,
-                index,
+                index: shelf[k],
+                ..first
             };
             count += self.count_in(trace, clock, j, kind, cell);
         }

@@ -7,6 +7,7 @@ use Rattle.sab_judge.proofs.seen.Seen.keep_access.Goals as goal
 pub returns : goal.returns
 returns c = record {
   cells = c.in_ok-link.ensures.cells;
+  shelves = c.in_ok-shelve.ensures;
   classes = length-set c.args.self.now.used c.of-cell.result.class true ∙ c.requires.seen.classes;
   used = used_more c.args.trace.now c.args.self.now.used c.requires.seen.used c.requires.makes
       (sym c.of-cell.ensures.is_in.class) c.requires.seen.classes;
