@@ -1,5 +1,5 @@
 -- Shelves, with one event more, and the races with those that begin in their cells.
-use Rattle.std.proofs.Common.{◌≡◌, ◌≢◌, ◌⊎◌, inl, inr, ℕ, ◌+◌, ◌-◌, ◌/◌, ◌*◌, ◌^◌, ◌<◌, ◌≤◌, ◌==◌, ltb, Bool, true, false, unwrap_or, List, [], length, slice_index, slice_index_or, Option, Some, None, Result, Ok, Err, MatchResult, refl, sym, subst, ap, ◌∙◌, arith, ltb-true, lt-ltb}
+use Rattle.std.proofs.Common.{◌≡◌, inl, inr, ℕ, ◌+◌, ◌-◌, ◌/◌, ◌*◌, ◌^◌, ◌<◌, ◌≤◌, ◌==◌, ltb, Bool, true, false, unwrap_or, List, [], length, slice_index, slice_index_or, Option, Some, None, Result, Ok, Err, MatchResult, refl, sym, subst, ap, ◌∙◌, arith, ltb-true, lt-ltb}
 use Rattle.std.specs.HashMap.{get}
 use Rattle.std.specs.List.{insert}
 use Rattle.std.specs.List.Sorted.{IsPartitionedBy, IsPartitionPoint, IsNonDecreasingBy, IsBinarySearchResult}
@@ -9,7 +9,7 @@ use Rattle.std.specs.declared.alloc.Global.{Global}
 use Rattle.std.proofs.Math.Pow.{shr_mono}
 use Rattle.std.proofs.Math.Nat.{add-mul-div_right}
 use Rattle.std.proofs.lemmas.Nat.{pow_pos}
-use Rattle.std.proofs.lemmas.Bool.{false≢true, cases_lt, cases_eq, cases_order, and_parts, and_from, eqb-true, eq-eqb}
+use Rattle.std.proofs.lemmas.Bool.{false≢true, cases_lt, cases_order, and_parts, and_from, eqb-true, eq-eqb}
 use Rattle.std.proofs.lemmas.List.Edits.{length-insert, get_or-insert_below, get_or-insert_at, get_or-insert_above}
 use Rattle.std.proofs.lemmas.List.Sorted.{IsPartitionedBy-ltb, IsNonDecreasingBy-from_default, searched}
 use Rattle.sab_judge.specs.declared.access.Access.{Access}
@@ -73,15 +73,31 @@ listed_now : {list : List ℕ} (k number : ℕ) → AreRising list
 listed_now {list} k number rising (few, below, above) = record {
   rising = λ a b less lt. elim (cases_order b k) [
     | inl at ↦ omega (arith, here b at, under a (omega (arith, less, at)), below a (omega (arith, less, at)))
-    | inr (inl low) ↦ omega (arith, under a (omega (arith, less, low)), under b low,
-        rising a b less (omega (arith, low, few)))
+    | inr (inl low) ↦ omega (
+      arith,
+      under a (omega (arith, less, low)),
+      under b low,
+      rising a b less (omega (arith, low, few)),
+    )
     | inr (inr high) ↦ elim (cases_order a k) [
-      | inl at ↦ omega (arith, here a at, over b high,
-          above (b - 1) (omega (arith, high)) (omega (arith, lt, count, high)))
-      | inr (inl low) ↦ omega (arith, under a low, over b high,
-          rising a (b - 1) (omega (arith, low, high)) (omega (arith, lt, count, high)))
-      | inr (inr top) ↦ omega (arith, over a top, over b high,
-          rising (a - 1) (b - 1) (omega (arith, top, less)) (omega (arith, lt, count, high)))
+      | inl at ↦ omega (
+        arith,
+        here a at,
+        over b high,
+        above (b - 1) (omega (arith, high)) (omega (arith, lt, count, high)),
+      )
+      | inr (inl low) ↦ omega (
+        arith,
+        under a low,
+        over b high,
+        rising a (b - 1) (omega (arith, low, high)) (omega (arith, lt, count, high)),
+      )
+      | inr (inr top) ↦ omega (
+        arith,
+        over a top,
+        over b high,
+        rising (a - 1) (b - 1) (omega (arith, top, less)) (omega (arith, lt, count, high)),
+      )
     ]
   ];
   listed = record { place = k; within = omega (arith, few, count); is = here k refl };
@@ -268,22 +284,28 @@ pub one_more_on : {kind : RaceKind} {trace : List Event} {j block class low coun
     → AreCountedOn kind trace j block class low list (k + 1) (count + more)
 one_more_on {kind} {trace} {j} {block} {class} {low} {count} {more} {list} k shelf within above counted its high below behind =
     counts_same
-    (λ i lt p. (p.0, record {
-      access = p.1.access;
-      makes = p.1.makes;
-      block_is = p.1.block_is;
-      class_is = p.1.class_is;
-      from_low = p.1.from_low;
-      below_high = omega (arith, p.1.below_high, below k (omega arith));
-    }))
-    (λ i lt p. (p.0, record {
-      access = p.1.access;
-      makes = p.1.makes;
-      block_is = p.1.block_is;
-      class_is = p.1.class_is;
-      from_low = p.1.from_low;
-      below_high = no_further i lt p.1;
-    })) (cell_on k shelf within above counted its)
+    (λ i lt p. (
+      p.0,
+      record {
+        access = p.1.access;
+        makes = p.1.makes;
+        block_is = p.1.block_is;
+        class_is = p.1.class_is;
+        from_low = p.1.from_low;
+        below_high = omega (arith, p.1.below_high, below k (omega arith));
+      },
+    ))
+    (λ i lt p. (
+      p.0,
+      record {
+        access = p.1.access;
+        makes = p.1.makes;
+        block_is = p.1.block_is;
+        class_is = p.1.class_is;
+        from_low = p.1.from_low;
+        below_high = no_further i lt p.1;
+      },
+    )) (cell_on k shelf within above counted its)
   where
     no_further : (i : ℕ) → i < j → (h : BeginsBetween trace block class low high i)
         → h.access.place.byte / 2 ^ class < slice_index list k + 1

@@ -1,12 +1,12 @@
 -- Stretches, and how a write changes them.
-use Rattle.std.proofs.Common.{◌≡◌, ◌≢◌, ◌⊎◌, inl, inr, ℕ, ◌+◌, ◌-◌, ◌<◌, ◌≤◌, leb, true, false, List, length, slice_index_or, slice_set, Option, Some, None, refl, sym, subst, ap, ◌∙◌, arith, leb-true, get_or-set_other, get_or-set_same, length-set}
+use Rattle.std.proofs.Common.{◌≡◌, ◌≢◌, ◌⊎◌, inl, inr, ℕ, ◌+◌, ◌-◌, ◌<◌, ◌≤◌, leb, true, false, List, length, slice_set, Option, Some, refl, sym, ap, ◌∙◌, arith, leb-true, get_or-set_other, get_or-set_same, length-set}
 use Rattle.std.specs.List.{insert}
 use Rattle.std.specs.List.Sorted.{IsPartitionedBy, IsPartitionPoint, IsNonDecreasingBy}
 use Rattle.std.proofs.lemmas.Bool.{false≢true, cases_lt, cases_eq, cases_order, le-leb}
 use Rattle.std.proofs.lemmas.List.Edits.{length-insert, get_or-insert_below, get_or-insert_at, get_or-insert_above}
 use Rattle.std.proofs.lemmas.List.Sorted.{IsPartitionedBy-leb, IsNonDecreasingBy-from_default}
 use Rattle.sab_judge.specs.declared.stretch.Stretch.{Stretch}
-use Rattle.sab_judge.specs.Stretch.{no_stretch, stretch_at, AreInOrder, HasByte, Gives, GivesUpTo, IsSplit, IsOverwritten, IsRewritten}
+use Rattle.sab_judge.specs.Stretch.{no_stretch, stretch_at, AreInOrder, HasByte, Gives, IsSplit, IsOverwritten, IsRewritten}
 
 -- ---- which one has a byte
 

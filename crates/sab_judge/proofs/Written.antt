@@ -1,9 +1,9 @@
 -- The last writers of the bytes of a block, with one event more.
-use Rattle.std.proofs.Common.{◌≡◌, ◌≢◌, ◌⊎◌, inl, inr, ℕ, ◌+◌, ◌-◌, ◌<◌, ◌≤◌, ◌&&◌, ◌==◌, Bool, true, false, List, length, Option, Some, None, Result, Ok, Err, IfOk, refl, sym, subst, ap, ◌∙◌, arith}
+use Rattle.std.proofs.Common.{◌≡◌, ◌⊎◌, inl, inr, ℕ, ◌+◌, ◌-◌, ◌<◌, ◌≤◌, ◌&&◌, ◌==◌, Bool, true, false, List, length, Option, Some, None, Result, Ok, Err, IfOk, refl, sym, subst, ap, ◌∙◌, arith}
 use Rattle.std.specs.Prelude.{nat_eq, nat_le, nat_lt}
 use Rattle.std.specs.HashMap.{get}
 use Rattle.std.specs.Option.{ForSome}
-use Rattle.std.proofs.lemmas.Bool.{cases_Bool, cases_lt, false≢true, eqb-true, ne_eqb, and_left, and_from}
+use Rattle.std.proofs.lemmas.Bool.{cases_Bool, cases_lt, false≢true, eqb-true, and_left, and_from}
 use Rattle.sab_judge.specs.declared.access.Access.{Access}
 use Rattle.sab_judge.specs.declared.event.Event.{Event}
 use Rattle.sab_judge.specs.declared.stretch.Stretch.{Stretch}
@@ -14,7 +14,7 @@ use Rattle.sab_judge.specs.Sought.{IsLastBelow, Writes}
 use Rattle.sab_judge.specs.Lookups.{ByBlock}
 use Rattle.sab_judge.specs.Past.{AreOrdered, AreWritten, AreWriters}
 use Rattle.sab_judge.specs.Readers.{HaveWriter}
-use Rattle.sab_judge.specs.Stretch.{no_stretch, stretch_at, AreInOrder, Gives, GivesUpTo, IsRewritten, AreStretches}
+use Rattle.sab_judge.specs.Stretch.{no_stretch, stretch_at, AreInOrder, GivesUpTo, IsRewritten, AreStretches}
 use Rattle.sab_judge.proofs.Cases.{covered_byte, byte_covered}
 use Rattle.sab_judge.proofs.Lasts.{last_miss, last_hit}
 

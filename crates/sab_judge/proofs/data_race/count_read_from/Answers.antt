@@ -1,8 +1,8 @@
 -- Of the bytes of one last writer more it is known from whom they are read.
-use Rattle.std.proofs.Common.{◌≡◌, ℕ, ◌+◌, ◌-◌, ◌<◌, ◌≤◌, true, subst, sym, arith}
+use Rattle.std.proofs.Common.{◌≡◌, ◌+◌, true, arith}
 use Rattle.sab_judge.specs.Event.{event_at, reads_byte}
-use Rattle.sab_judge.specs.Readers.{HaveWriter, HaveNoted}
-use Rattle.sab_judge.specs.Sought.{IsLastBelow, Writes}
+use Rattle.sab_judge.specs.Readers.{HaveWriter}
+use Rattle.sab_judge.specs.Sought.{Writes}
 use Rattle.sab_judge.proofs.Counting.{few_below}
 use Rattle.sab_judge.proofs.DataRaces.{data_races_of_read}
 use Rattle.sab_judge.proofs.ReadersNoted.{none_noted, one_more_noted, no_more_noted, last_below, reads_between}

@@ -1,6 +1,5 @@
 -- What is kept says it all; one new stretch says that nobody has written.
-use Rattle.std.proofs.Common.{◌≡◌, ℕ, List, Option, None, subst}
-use Rattle.sab_judge.specs.declared.event.Event.{Event}
+use Rattle.std.proofs.Common.{Option, subst}
 use Rattle.sab_judge.specs.declared.stretch.Stretches.{Stretches}
 use Rattle.sab_judge.specs.Past.{AreWritten}
 use Rattle.sab_judge.proofs.Written.{new_stretched}

@@ -1,5 +1,5 @@
 -- The block's stretches are taken out, written, and put back.
-use Rattle.std.proofs.Common.{◌≡◌, ◌∙◌, ◌+◌, ℕ, Bool, cond, Option, Some, sym, subst, ap, arith}
+use Rattle.std.proofs.Common.{◌∙◌, ◌+◌, Bool, cond, Option, Some, sym, subst, ap, arith}
 use Rattle.std.specs.Prelude.{nat_eq}
 use Rattle.std.specs.HashMap.{get}
 use Rattle.sab_judge.specs.declared.stretch.Stretches.{Stretches}

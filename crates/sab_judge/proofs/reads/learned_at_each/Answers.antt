@@ -1,5 +1,5 @@
 -- The bytes of one last writer more are known.
-use Rattle.std.proofs.Common.{◌≡◌, ◌+◌, ◌≤◌, inl, inr, arith}
+use Rattle.std.proofs.Common.{◌+◌, inl, inr, arith}
 use Rattle.std.proofs.lemmas.Bool.{cases_lt}
 use Rattle.sab_judge.specs.Clock.{KnowsMore}
 use Rattle.sab_judge.specs.Readers.{HaveWriter}

@@ -1,9 +1,7 @@
 -- The last writer is who is read from.
-use Rattle.std.proofs.Common.{◌≡◌, ◌<◌, ℕ, length, Option, Some, None, sym, subst, ◌∙◌, arith, rules, true}
-use Rattle.std.proofs.lemmas.Bool.{false≢true}
-use Rattle.sab_judge.specs.Event.{event_at, are_alike}
+use Rattle.std.proofs.Common.{◌<◌, ℕ, length, Option, Some, sym, subst, ◌∙◌, arith, rules}
 use Rattle.sab_judge.specs.Sought.{Writes, IsLastBelow}
-use Rattle.sab_judge.proofs.Reading.{none_read_from, writer_is, reads_last}
+use Rattle.sab_judge.proofs.Reading.{none_read_from, reads_last}
 use Rattle.sab_judge.proofs.reads.read_from.Goals as goal
 
 pub returns-in_err-writer : goal.returns-in_err-writer

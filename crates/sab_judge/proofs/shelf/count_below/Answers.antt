@@ -1,5 +1,5 @@
 -- The list is parted where its numbers are no longer below the one.
-use Rattle.std.proofs.Common.{ltb, arith, rules}
+use Rattle.std.proofs.Common.{ltb, rules}
 use Rattle.std.proofs.lemmas.List.Sorted.{IsPartitionPoint-from_clause}
 use Rattle.sab_judge.proofs.Shelving.{numbers_parted, count_is}
 use Rattle.sab_judge.proofs.shelf.count_below.Goals as goal

@@ -1,5 +1,5 @@
 -- The shelf is taken out, gets the cell, and is put back.
-use Rattle.std.proofs.Common.{◌≡◌, ◌∙◌, ℕ, Bool, cond, Option, Some, sym, subst, ap}
+use Rattle.std.proofs.Common.{◌∙◌, ℕ, Bool, cond, Option, Some, sym, subst, ap}
 use Rattle.std.specs.HashMap.{get}
 use Rattle.std.specs.declared.vec.Vec.{Vec}
 use Rattle.std.specs.declared.alloc.Global.{Global}

@@ -1,8 +1,8 @@
 -- One stretch more has the event as its writer.
-use Rattle.std.proofs.Common.{◌≡◌, ◌<◌, length, Some, refl, sym, ap, subst, arith}
+use Rattle.std.proofs.Common.{◌≡◌, ◌<◌, length, Some, refl, ap, arith}
 use Rattle.std.proofs.lemmas.List.{get_or_read_under}
 use Rattle.sab_judge.specs.declared.stretch.Stretch.{Stretch}
-use Rattle.sab_judge.specs.Stretch.{no_stretch, stretch_at, IsOverwritten}
+use Rattle.sab_judge.specs.Stretch.{no_stretch, stretch_at}
 use Rattle.sab_judge.proofs.Stretching.{none_overwritten, one_more_overwritten}
 use Rattle.sab_judge.proofs.stretch.overwrite.Goals as goal
 

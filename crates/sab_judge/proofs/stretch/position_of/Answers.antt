@@ -1,5 +1,5 @@
 -- The last of those that begin at the byte or before it has it.
-use Rattle.std.proofs.Common.{◌≤◌, leb, arith, rules}
+use Rattle.std.proofs.Common.{leb, rules}
 use Rattle.std.proofs.lemmas.List.Sorted.{IsPartitionPoint-from_clause}
 use Rattle.sab_judge.proofs.Stretching.{parted, some_begin, last_has}
 use Rattle.sab_judge.proofs.stretch.position_of.Goals as goal

@@ -1,5 +1,5 @@
 -- What is kept of the block gives the writer.
-use Rattle.std.proofs.Common.{◌≡◌, ℕ, Option, Some, None, sym, subst}
+use Rattle.std.proofs.Common.{Option, Some, None, sym, subst}
 use Rattle.sab_judge.specs.declared.stretch.Stretches.{Stretches}
 use Rattle.sab_judge.specs.Past.{AreWritten}
 use Rattle.sab_judge.proofs.Written.{given_writer}

@@ -1,5 +1,5 @@
 -- The races with the accesses that begin on the shelf of the block and the class.
-use Rattle.std.proofs.Common.{◌≡◌, ◌+◌, ◌-◌, ◌/◌, ◌^◌, ◌≤◌, ◌∙◌, ℕ, List, Option, Some, None, sym, subst, ap, arith}
+use Rattle.std.proofs.Common.{◌≡◌, ◌+◌, ◌-◌, ◌/◌, ◌^◌, ◌∙◌, ℕ, List, Option, Some, None, sym, subst, ap, arith}
 use Rattle.std.specs.declared.vec.Vec.{Vec}
 use Rattle.std.specs.declared.alloc.Global.{Global}
 use Rattle.sab_judge.specs.Shelf.{IsShelf, IsShelvedAt}

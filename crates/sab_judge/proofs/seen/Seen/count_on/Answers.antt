@@ -1,5 +1,5 @@
 -- The races with the accesses that begin in one cell of the shelf more.
-use Rattle.std.proofs.Common.{◌≡◌, ◌+◌, ◌<◌, ◌≤◌, length, inl, inr, slice_index, arith}
+use Rattle.std.proofs.Common.{◌≡◌, ◌+◌, ◌<◌, ◌≤◌, length, inl, inr, arith}
 use Rattle.std.proofs.lemmas.Bool.{cases_lt}
 use Rattle.sab_judge.proofs.Counting.{few_below}
 use Rattle.sab_judge.proofs.Shelving.{none_on, cell_on, one_more_on}
@@ -31,8 +31,12 @@ returns c =
     let to = c.count_below-to.ensures in
     let forward : c.count_below-from.result ≤ c.count_below-to.result =
     elim (cases_lt c.count_below-to.result c.count_below-from.result) [
-      | inl less ↦ absurd (omega (arith, from.below c.count_below-to.result less,
-          to.behind c.count_below-to.result (omega arith) (omega (arith, less, from.few)), c.requires.forward))
+      | inl less ↦ absurd (omega (
+        arith,
+        from.below c.count_below-to.result less,
+        to.behind c.count_below-to.result (omega arith) (omega (arith, less, from.few)),
+        c.requires.forward,
+      ))
       | inr ge ↦ ge
     ] in
     let end : c.loop-k.k ≡ c.count_below-to.result = omega (arith, c.loop-k-test.false, c.loop-k.auto.k-end, forward) in
