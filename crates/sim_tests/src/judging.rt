@@ -46,6 +46,14 @@ fn exchange(agent: u32, byte: u32) -> Event {
     access(agent, byte, 4, Order::SeqCst, true, true)
 }
 
+fn write_of(agent: u32, byte: u32, len: u32) -> Event {
+    access(agent, byte, len, Order::Unordered, false, true)
+}
+
+fn read_byte(agent: u32, byte: u32) -> Event {
+    access(agent, byte, 1, Order::Unordered, true, false)
+}
+
 /// An event in the critical section of the waiters of a word, as a notify has.
 fn section(agent: u32, byte: u32) -> Event {
     Event {
@@ -106,6 +114,28 @@ fn a_race_tells_what_was_seen(rt: HostRuntime) -> Result<(), Fail> {
         seen: Some(1),
     };
     expect_races(rt.alloc(), &trace, &[late])
+}
+
+#[test]
+fn wide_accesses_race_up_to_their_edges(rt: HostRuntime) -> Result<(), Fail> {
+    let trace = [
+        write_of(0, 0, 65_536),
+        write_of(1, 4_096, 4_096),
+        read_byte(2, 4_095),
+        read_byte(2, 4_096),
+        read_byte(2, 8_191),
+        read_byte(2, 8_192),
+    ];
+    let races = [
+        race(0, 1, true),
+        race(0, 2, true),
+        race(0, 3, false),
+        race(1, 3, true),
+        race(0, 4, false),
+        race(1, 4, true),
+        race(0, 5, true),
+    ];
+    expect_races(rt.alloc(), &trace, &races)
 }
 
 #[test]
