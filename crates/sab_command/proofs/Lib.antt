@@ -1,2 +1,4 @@
+pub mod Added
+pub mod Rows
 pub mod Spelled
 mod Equality
