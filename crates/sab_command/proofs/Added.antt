@@ -11,11 +11,11 @@ pub rules_added : (arguments : List Arg) (rules : List Rule) (old new : Command)
 rules_added [] [] old new have added =
     (subst (λ c. app_of c ≡ app_of old) added refl, λ local. subst IsLocal added local)
 rules_added (x ∷ xs) (r ∷ rs) old new have added =
-    let step = added.1.0 in
-    let rest = rules_added xs rs added.0 new have.1.1 added.1.1 in
-    let shape : app_of added.0 ≡ with_rule (app_of old) r = step.shape have.1.0 ∙ ap (with_rule (app_of old)) have.0 in (
+    let step = added.1 in
+    let rest = rules_added xs rs added.0 new have.2 added.2 in
+    let shape : app_of added.0 ≡ with_rule (app_of old) r = step.shape have.1 ∙ ap (with_rule (app_of old)) have.0 in (
       rest.0 ∙ ap (λ (app : App). with_rules app rs) shape,
-      λ local. rest.1 (step.globals ∙ rw (local, have.1.0) refl),
+      λ local. rest.1 (step.globals ∙ rw (local, have.1) refl),
     )
 rules_added [] (r ∷ rs) old new have added = absurd have
 rules_added (x ∷ xs) [] old new have added = absurd have

@@ -144,12 +144,24 @@ fn described<'a>(alloc: Global, name: &'a str, about: &'a str, forms: &'a str) -
     Command::new(alloc, name).about(about).after_help(forms)
 }
 
+/// The command that takes these arguments besides its own.
+fn with_arguments<'a>(
+    command: Command<'a>,
+    arguments: Vec<Arg<'a>>,
+) -> Result<Command<'a>, AllocError>
+    ensures { IfOk result (λ it. (rules : _) → HaveRules arguments.entry.items rules
+        → (app_of it ≡ with_rules (app_of command.entry) rules) × (IsLocal command.entry → IsLocal it)) }
+{
+    command.args(arguments)
+}
+
 /// The command that replays a script.
 fn replay_command<'a>(alloc: Global, formats: &'a [&'a str]) -> Result<Command<'a>, AllocError>
     ensures { IfOk result (λ command. (app_of command ≡ replay_app formats.entry) × IsLocal command) }
 {
     let arguments = report_arguments(alloc, formats)?;
-    described(alloc, "replay", help::REPLAY, help::REPLAY_FORMS).args(arguments)
+    let replay = described(alloc, "replay", help::REPLAY, help::REPLAY_FORMS);
+    with_arguments(replay, arguments)
 }
 
 /// The command that runs a script's agents in threads.
@@ -165,7 +177,7 @@ fn race_command<'a>(
         described(alloc, "race", help::RACE, help::RACE_FORMS),
         shares,
     )?;
-    race.args(report_arguments(alloc, formats)?)
+    with_arguments(race, report_arguments(alloc, formats)?)
 }
 
 /// The command that takes besides what is said of threads.
@@ -177,7 +189,7 @@ fn with_threads<'a>(
     ensures app { IfOk result (λ it. app_of it ≡ with_rules (app_of command.entry) (thread_rules shares.entry)) }
     ensures local { IfOk result (λ it. IsLocal command.entry → IsLocal it) }
 {
-    command.args(thread_arguments(alloc, shares)?)
+    with_arguments(command, thread_arguments(alloc, shares)?)
 }
 
 /// The command that judges a run for unordered accesses.
@@ -185,7 +197,8 @@ fn judge_command<'a>(alloc: Global, formats: &'a [&'a str]) -> Result<Command<'a
     ensures { IfOk result (λ command. (app_of command ≡ judge_app formats.entry) × IsLocal command) }
 {
     let arguments = judge_arguments(alloc, formats)?;
-    described(alloc, "judge", help::JUDGE, help::JUDGE_FORMS).args(arguments)
+    let judge = described(alloc, "judge", help::JUDGE, help::JUDGE_FORMS);
+    with_arguments(judge, arguments)
 }
 
 /// The command that checks a script.

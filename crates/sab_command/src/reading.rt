@@ -101,10 +101,9 @@ fn replay_task(matches: &ArgMatches<'_>) -> Task
     ensures task { IsReplay (rows_of (found_of matches.now)) result }
     ensures limits { IsTaskWithinLimits result }
 {
-    Task::OfScript(Job::Replay {
-        form: form_of(matches),
-        finish: has_flag(matches, "finish"),
-    })
+    let form = form_of(matches);
+    let finish = has_flag(matches, "finish");
+    Task::OfScript(Job::Replay { form, finish })
 }
 
 /// The race that is asked for.

@@ -13,4 +13,4 @@ returns-clause-job c =
     f (c.share_of.ensures, c.form_of.ensures, finish) in
     let one = one_by_rows (λ v. IsSpins (v (codes "spins")) c.spins_of.result × IsMix (v (codes "mix")) c.mix_of.result)
     f (c.spins_of.ensures.number, c.mix_of.ensures) in
-    (first.0, one.0, one.1, first.1.0, first.1.1)
+    (first.0, one.0, one.1, first.1, first.2)
