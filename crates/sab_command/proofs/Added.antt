@@ -1,6 +1,6 @@
 -- What a command has when arguments or commands were added, and an argument when conflicts were.
-use Rattle.std.proofs.Common.{◌≡◌, ◌∙◌, ◌||◌, ◌&&◌, ◌++◌, ◌==◌, Bool, List, [], ◌∷◌, Option, Some, None, Result, Ok, Err, IfOk}
-use Rattle.std.proofs.Common.{true, false, refl, ap, sym, subst, codes, length, arith}
+use Rattle.std.proofs.Common.{◌≡◌, ◌∙◌, ◌&&◌, ◌++◌, Bool, List, [], ◌∷◌, Some, Result, Ok, Err, IfOk}
+use Rattle.std.proofs.Common.{true, false, refl, ap, sym, subst, codes, arith}
 use Rattle.std.proofs.lemmas.Bool.{ne_eqb}
 use Rattle.std.specs.Borrow.{Bor}
 use Rattle.clap.specs.Simple.{app_of_fields}

@@ -1,5 +1,5 @@
 -- Numbers as the command line spells them: the steps at a wait, and the seed.
-use Rattle.std.proofs.Common.{ℕ, List, Option, Result, Some, None, Ok, Err, ◌≡◌, ◌∙◌, ◌<◌, ◌^◌, ap, subst, sym}
+use Rattle.std.proofs.Common.{ℕ, Option, Result, Some, None, Ok, Err, ◌≡◌, ◌∙◌, ◌<◌, ◌^◌, ap, subst, sym}
 use Rattle.std.specs.Str.Parse.{ParsesUnsigned}
 use Rattle.clap.specs.Words.{ReadsOne, Text}
 use Rattle.sab_command.specs.Asked.{Spells}

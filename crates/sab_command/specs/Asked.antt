@@ -9,7 +9,6 @@ use Rattle.sab_race.specs.declared.share.Share.{Share}
 use Rattle.sab_race.specs.declared.share.Share.TheVariants.{Lock, Ring}
 use Rattle.sab_text.specs.declared.format.Format.{Format}
 use Rattle.sab_text.specs.declared.format.Format.TheVariants as format
-use Rattle.sab_text.specs.declared.format.Telling.{Telling}
 use Rattle.sab_text.specs.declared.format.VerdictFormat.{VerdictFormat}
 use Rattle.sab_text.specs.declared.format.VerdictFormat.TheVariants as verdict
 use Rattle.sab_text.specs.declared.lines.Lines.{Lines}
@@ -39,6 +38,7 @@ IsFormat value format.Svg = value ≡ Some (codes "svg")
 IsFormat value format.Plain = (value ≢ Some (codes "explained")) × (value ≢ Some (codes "json"))
     × (value ≢ Some (codes "svg"))
 
+-- likewise the two formats of a verdict
 abbrev pub IsVerdictFormat : Option Text → VerdictFormat → Type 0
 IsVerdictFormat value verdict.Json = value ≡ Some (codes "json")
 IsVerdictFormat value verdict.Plain = value ≢ Some (codes "json")
@@ -54,6 +54,7 @@ IsForm value acts Script = value ≡ Some (codes "script")
 IsForm value acts (Report telling) = (value ≢ Some (codes "script")) × IsFormat value telling.format
     × IsLines acts telling.lines
 
+-- rings are asked for by their name, and a lock by every other value
 abbrev pub IsShare : Option Text → Share → Type 0
 IsShare value Ring = value ≡ Some (codes "ring")
 IsShare value Lock = value ≢ Some (codes "ring")
@@ -63,22 +64,26 @@ abbrev pub Spells : Text → ℕ → Type 0
 Spells text n = IsNumeral 10 (without_leading_plus text)
     × (digits_value 10 (without_leading_plus text) ≡ n)
 
+-- as many steps as the value spells, up to the limit
 abbrev pub IsSpins : Option Text → ℕ → Type 0
 IsSpins value spins = (text : Text) (n : ℕ) → value ≡ Some text → Spells text n → n ≤ MAX_SPINS
     → spins ≡ n
 
+-- no seed where there is no value, and else the seed of 64 bits that it spells
 abbrev pub IsMix : Option Text → Option ℕ → Type 0
 IsMix value mix = (value ≡ None → mix ≡ None)
     × ((text : Text) (n : ℕ) → value ≡ Some text → Spells text n → n < 2 ^ 64 → mix ≡ Some n)
 
 -- ---- what the matches of a subcommand ask for
 
+-- a replay, by --format, --acts and --finish
 abbrev pub IsReplay : List Row → Task → Type 0
 IsReplay rows (OfScript (Replay form finish)) =
     IsForm (first_of (codes "format") rows) (first_of (codes "acts") rows) form
     × IsGiven (first_of (codes "finish") rows) finish
 IsReplay rows _ = ⊥
 
+-- a race, by each of its options
 abbrev pub IsRaceJob : List Row → RaceJob → Type 0
 IsRaceJob rows race = IsShare (first_of (codes "share") rows) race.share
     × IsSpins (one_of (codes "spins") rows) race.spins × IsMix (one_of (codes "mix") rows) race.mix
@@ -101,7 +106,7 @@ IsJudge rows _ = ⊥
 abbrev pub IsExplained : List Row → Bool → Type 0
 IsExplained rows explain = IsGiven (first_of (codes "explain") rows) explain
 
--- the subcommand of this name, with these matches, asks for the request
+-- the subcommand of this name, with these matches, asks for the request; a check has no --explain
 abbrev pub AsksFor : Text → List Row → Request → Type 0
 AsksFor name rows request = Names (first_of (codes "file") rows) request.source
     × (name ≡ codes "replay" → IsReplay rows request.task × IsExplained rows request.explain)
@@ -111,12 +116,13 @@ AsksFor name rows request = Names (first_of (codes "file") rows) request.source
 
 -- ---- what the words ask for
 
--- the words name a subcommand, which asks for the request
+-- the words name a subcommand, which asks for the request; its matches are those of clap's specification
 abbrev pub IsAsked : List Text → Request → Type 0
 IsAsked words request = (lists : Lists) × (name : Text) × (rows : List Row)
     × (subcommand_of (command_line lists) words ≡ Some (name, rows)) × AsksFor name rows request
 
--- memory ran out, or clap's specification has it that the command line doesn't take the words
+-- memory ran out, or by clap's specification the command line doesn't take the words; it takes none of a judge, which has
+-- an option that excludes others
 abbrev pub IsRefused : List Text → Error → Type 0
 IsRefused words error = (kind_of error ≡ OutOfMemory)
     ⊎ ((lists : Lists) × (takes (command_line lists) words ≡ false))

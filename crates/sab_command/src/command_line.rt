@@ -3,9 +3,10 @@
 ghost use Rattle.std.specs.Prelude.{◌≡◌, IfOk, Ok, false};
 ghost use Rattle.clap.specs.Words.{app_of, new_app, rule_of};
 ghost use Rattle.sab_command.specs.CommandLine.{HaveRules, IsLocal, Lists, command_line};
-ghost use Rattle.sab_command.specs.CommandLine.{file_rule, flag_rule, format_rule, mix_rule, share_rule, spins_rule, trace_rule};
-ghost use Rattle.sab_command.specs.CommandLine.{judge_rules, report_rules, thread_rules, with_rules};
-ghost use Rattle.sab_command.specs.CommandLine.{check_app, judge_app, program, race_app, replay_app, with_checks as checks_in, with_command, with_runs as runs_in};
+ghost use Rattle.sab_command.specs.CommandLine.{file_rule, flag_rule, format_rule, mix_rule, share_rule};
+ghost use Rattle.sab_command.specs.CommandLine.{judge_rules, report_rules, spins_rule, thread_rules, trace_rule};
+ghost use Rattle.sab_command.specs.CommandLine.{check_app, judge_app, race_app, replay_app, with_command, with_rules};
+ghost use Rattle.sab_command.specs.CommandLine.{with_checks as checks_in, with_runs as runs_in};
 
 use crate::help;
 use clap::{Arg, ArgAction, Command, value_parser};
@@ -144,7 +145,7 @@ fn described<'a>(alloc: Global, name: &'a str, about: &'a str, forms: &'a str) -
     Command::new(alloc, name).about(about).after_help(forms)
 }
 
-/// The command that takes these arguments besides its own.
+/// The command with these arguments added.
 fn with_arguments<'a>(
     command: Command<'a>,
     arguments: Vec<Arg<'a>>,
@@ -180,7 +181,7 @@ fn race_command<'a>(
     with_arguments(race, report_arguments(alloc, formats)?)
 }
 
-/// The command that takes besides what is said of threads.
+/// The command with the arguments added that are about threads.
 fn with_threads<'a>(
     alloc: Global,
     command: Command<'a>,

@@ -1,4 +1,4 @@
-use Rattle.std.proofs.Common.{rules, codes, ap, Result, ◌≡◌, ◌∙◌}
+use Rattle.std.proofs.Common.{rules, codes, ap, ◌≡◌, ◌∙◌}
 use Rattle.std.proofs.lemmas.Result.{IfOk-weaker}
 use Rattle.clap.specs.Words.{App, app_of, new_app}
 use Rattle.sab_command.specs.CommandLine.{AreNames, Lists, format_names, share_names, verdict_format_names}

@@ -1,4 +1,4 @@
-use Rattle.std.proofs.Common.{rules, codes, refl, sym, subst, ◌≡◌}
+use Rattle.std.proofs.Common.{rules, codes, refl, sym, subst}
 use Rattle.clap.specs.Words.{first_value, found_of, rows_of}
 use Rattle.sab_command.specs.Asked.{IsExplained, IsGiven, IsJudge, IsRace, IsReplay}
 use Rattle.sab_command.specs.Source.{Names}
