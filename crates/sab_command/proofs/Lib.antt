@@ -1,2 +1,5 @@
+pub mod Added
+pub mod Entered
+pub mod Rows
 pub mod Spelled
 mod Equality

@@ -4,8 +4,9 @@
 mod command_line;
 mod help;
 mod job;
+mod reading;
 mod request;
 
-pub use command_line::request_of;
 pub use job::{Job, RaceJob, RunForm};
+pub use reading::request_of;
 pub use request::{Request, Source, Task};
