@@ -1,3 +1,4 @@
+pub mod Amiss
 pub mod AnyOrder
 pub mod BigText
 pub mod CallParts
