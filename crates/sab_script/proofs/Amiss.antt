@@ -40,5 +40,5 @@ amiss_true root place n why.Memory amiss has = absurd amiss
 -- and where it stands one is called for
 pub amiss_told : (root : Data) (place : Location) (w : Wanted) (n : Num) (reason : Reason) → IsAmiss n reason
     → Stands root place (number n) → CallsFor root place w → IsNumberAs w (number n) → IsTrueAt root place reason
-amiss_told root place w n reason amiss stands called as =
-    amiss_true root place n reason amiss (n, stands, amiss, (w, called, as.1 (n, refl)))
+amiss_told root place w n reason amiss stands called same =
+    amiss_true root place n reason amiss (n, stands, amiss, (w, called, same.1 (n, refl)))

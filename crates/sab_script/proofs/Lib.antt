@@ -4,6 +4,8 @@ pub mod BigText
 pub mod CallParts
 pub mod Described
 pub mod Each
+pub mod Every
+pub mod Floats
 pub mod Forms
 pub mod Lengths
 pub mod ManyLens

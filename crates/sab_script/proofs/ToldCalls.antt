@@ -136,7 +136,7 @@ same_name root i j a b p q = let same : Some (string a) ≡ Some (string b) = sy
 
 -- a call's elements are its arguments and three before them
 count_of : (call : Call) → elements_of call ≡ 3 + length (types_of call)
-count_of call = let same = length-map argument_type (spelling_of call).arguments in omega (arith, same)
+count_of call = let same = length-map (spelling_of call).arguments argument_type in omega (arith, same)
 
 -- the calls of a name have so many elements at least
 needs_elements : (root : Data) (i j n : ℕ) (name : List ℕ) (types : List Wanted) → IsNamed root i j name

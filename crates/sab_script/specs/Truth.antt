@@ -3,7 +3,7 @@ use Rattle.std.specs.Prelude.{◌≡◌, ◌⊎◌, ◌↔◌, ℕ, ◌+◌, ◌
 use Rattle.std.specs.Float.{Float, binary64, float_is_finite, float_to_signed, is_sign_negative}
 use Rattle.std.specs.Float.Ieee.{eq, of_int}
 use Rattle.std.specs.Int.{w64}
-use Rattle.serde_json.specs.Data.{Num, unsigned, negative, float, Data, null, boolean, number, string, array, object, Items, no_items, Members}
+use Rattle.serde_json.specs.Data.{Num, float, Data, null, boolean, number, string, array, object, Items, no_items, Members}
 use Rattle.serde_json.specs.Find.{get_member}
 use Rattle.serde_json.specs.Events.{items_len}
 use Rattle.serde_json.specs.Read.{number_of}
@@ -37,7 +37,7 @@ use Rattle.sab_script.specs.declared.form.Form.{Form}
 use Rattle.sab_script.specs.declared.form.Form.TheVariants.{Bytes, Blocks}
 use Rattle.sab_script.specs.declared.schedule.TheConstants.{MAX_MOVES}
 use Rattle.sab_script.specs.Calls.{spelling_of}
-use Rattle.sab_script.specs.Numbers.{whole, SpellsBig}
+use Rattle.sab_script.specs.Numbers.{whole, SpellsWhole, SpellsBig}
 use Rattle.sab_script.specs.Places.{Stands, CallsFor, members_at, form_of, IsNamed}
 use Rattle.sab_script.specs.Views.{IsName, IsLike}
 
@@ -199,11 +199,10 @@ abbrev pub IsMarked : Num → ℤ → Type 0
 IsMarked (float x) z = EqualsWhole x z × (z ≡ pos 0 → is_sign_negative x ≡ false)
 IsMarked n z = ⊥
 
--- a number lies beyond ±(2^53 - 1)
+-- a number lies beyond ±(2^53 - 1); no other float than a finite one is read
 abbrev pub IsTooFar : Num → Type 0
-IsTooFar (unsigned n) = IsSafeInteger (pos n) → ⊥
-IsTooFar (negative z) = IsSafeInteger z → ⊥
 IsTooFar (float x) = IsTrue (float_is_finite x) → IsSafeInteger (whole_part x) → ⊥
+IsTooFar n = (z : ℤ) → SpellsWhole (number n) z → ⊥
 
 -- why a number is no whole number of a script
 abbrev pub IsAmiss : Num → Reason → Type 0

@@ -150,9 +150,11 @@ fn short_call(at: Location, count: usize, name: &str) -> Located
             Located { at, why }
         }
         None => {
-            let at = at.item(0);
             let why = Reason::NoCall(Excerpt::of(name));
-            Located { at, why }
+            Located {
+                at: at.item(0),
+                why,
+            }
         }
     }
 }
