@@ -246,10 +246,7 @@ impl fmt::Display for Reason {
             }
             Reason::MinusZero => f.write_str("-0 isn't read as a whole number: write 0"),
             Reason::PointOrExponent(n) => {
-                write!(
-                    f,
-                    "a whole number has no point and no exponent: write {n}"
-                )
+                write!(f, "a whole number has no point and no exponent: write {n}")
             }
             Reason::TooFar => f.write_str("write a whole number within 2^53 - 1 of 0"),
             Reason::BelowZero(n) => write!(f, "{n} is below 0"),

@@ -4,10 +4,9 @@ use Rattle.sab_refusal.specs.declared.location.Location.{Location}
 use Rattle.sab_refusal.specs.declared.reason.Reason.{Reason}
 use Rattle.sab_refusal.specs.declared.reason.Reason.TheVariants as why
 use Rattle.sab_refusal.specs.declared.reason.Wanted.{Wanted}
-use Rattle.sab_refusal.specs.declared.reason.Wanted.TheVariants as wanted
 use Rattle.sab_script.specs.Known.{IsNumberAs}
 use Rattle.sab_script.specs.Places.{Stands, CallsFor}
-use Rattle.sab_script.specs.Truth.{IsOf, IsAmiss, HasAmiss, IsTrueAt}
+use Rattle.sab_script.specs.Truth.{IsAmiss, HasAmiss, IsTrueAt}
 use Rattle.std.proofs.Common.{refl}
 
 -- what is amiss with a number is true of the script in which it stands

@@ -1,8 +1,8 @@
 -- Floats beside whole numbers.
 use Rattle.std.proofs.Common.{◌≡◌, ℤ, pos, Bool, true, false, Float, refl, sym, ap, ◌∙◌, true≢false}
-use Rattle.std.specs.Prelude.{not, is_nan}
+use Rattle.std.specs.Prelude.{not}
 use Rattle.std.specs.Float.{binary64, nan, inf, fin, float_is_finite, NotNan}
-use Rattle.std.specs.Float.Ieee.{eq, ne, of_int}
+use Rattle.std.specs.Float.Ieee.{eq, ne, is_nan, of_int}
 use Rattle.serde_json.specs.Data.{Num, unsigned, negative, float, number}
 use Rattle.serde_json.specs.Find.{is_float}
 use Rattle.sab_block.specs.Operand.{IsSafeInteger}

@@ -102,7 +102,7 @@ returns-in_default-clause-told c = λ root stands known.
     let trees = c.in_ok-trees.trees.now in
     let here = stands ∙ ap (λ (x : Data). Some x) c.in_ok-trees.ensures.reads in
     let some : 0 < length trees = search rules in
-    let there = item_read trees 0 _ some refl in
+    let there = item_read trees 0 c.index-trees-0.result some c.index-trees-0.is in
     c.cut_short.ensures.told root known.0.0 known.0.1 known.0.2
     (call_element root c.args.at known.0.0 known.0.1 0 (items_view trees) _ known.0.2 here there)
     (items_view trees, here, items_len-items_view trees)

@@ -35,7 +35,7 @@ returns-then-is_sign_negative-clause-amiss c =
     let nought : to_z w64 (of_z w64 n) ≡ pos 0 = ap (λ (k : ℕ). to_z w64 k) c.if-n-eq0.true in
     let near = c.nearest_i64_to_f64.ensures ∙ ap (λ (z : ℤ). of_int binary64 z) nought in (
       equals_whole x _ (pos 0) (sym nought ∙ part) (subst IsSafeInteger nought safe) near
-      c.if-x-nearest_i64_to_f64.false,
+          c.if-x-nearest_i64_to_f64.false,
       sym c.is_sign_negative.ensures ∙ c.if-is_sign_negative.true,
     )
 
@@ -47,7 +47,7 @@ returns-clause-amiss c =
     let safe : IsSafeInteger (to_z w64 (of_z w64 n)) = search rules in
     let part : to_z w64 (of_z w64 n) ≡ whole_part x = to_z-of_z w64 n fits ∙ c.saturating_f64_to_i64-n.ensures in (
       equals_whole x _ (to_z w64 (of_z w64 n)) part safe c.nearest_i64_to_f64.ensures
-      c.if-x-nearest_i64_to_f64.false,
+          c.if-x-nearest_i64_to_f64.false,
       λ nought. elim c.else-n-eq0.branch [
         | else-n-eq0-via-then-n-eq0+else-is_sign_negative w ↦
             sym w.is_sign_negative.ensures ∙ w.if-is_sign_negative.false
