@@ -20,7 +20,10 @@ is_plain b = (is_ascii_graphic b || b == 32) && (not (b == 34) && not (b == 92))
 abbrev pub shown : ℕ → List ℕ
 shown b = if is_plain b then b ∷ [] else codes "\\x" ++ (digits 16 false (b / 16) ++ digits 16 false (b % 16))
 
+-- without quotes
+abbrev pub bare_text : Excerpt → List ℕ
+bare_text e = flat_map shown (bytes_of e)
+
 -- in quotes, and with two dots behind them where there is more
 abbrev pub excerpt_text : Excerpt → List ℕ
-excerpt_text e =
-    codes "\"" ++ (flat_map shown (bytes_of e) ++ (if is_cut_of e then codes "\".." else codes "\""))
+excerpt_text e = codes "\"" ++ (bare_text e ++ (if is_cut_of e then codes "\".." else codes "\""))

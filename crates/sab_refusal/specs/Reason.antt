@@ -1,6 +1,7 @@
 -- What is wrong with a value of a script: the texts, and the faults.
-use Rattle.std.specs.Prelude.{ℕ, List, ◌++◌, codes, decimal}
+use Rattle.std.specs.Prelude.{ℕ, ◌==◌, List, ◌++◌, codes, decimal, if◌then◌else◌}
 use Rattle.std.specs.Fmt.{signed_decimal}
+use Rattle.sab_block.specs.Kind.{kind_name}
 use Rattle.sab_refusal.specs.declared.reason.Wanted.{Wanted}
 use Rattle.sab_refusal.specs.declared.reason.Wanted.TheVariants as wanted
 use Rattle.sab_refusal.specs.declared.reason.Unit.{Unit as Units}
@@ -13,7 +14,7 @@ use Rattle.sab_refusal.specs.declared.reason.Reason.{Reason}
 use Rattle.sab_refusal.specs.declared.reason.Reason.TheVariants as why
 use Rattle.sab_refusal.specs.declared.read_fault.ReadFault.{ReadFault}
 use Rattle.sab_refusal.specs.declared.read_fault.ReadFault.TheVariants.{TooMany, BadShape, BadName, BadNumber, BadCall, BadView, BadAgent, NoBlock, OutOfMemory}
-use Rattle.sab_refusal.specs.Excerpt.{excerpt_text}
+use Rattle.sab_refusal.specs.Excerpt.{bare_text, excerpt_text}
 use Rattle.sab_refusal.specs.Location.{member_name}
 
 -- the fault of a number that is no position
@@ -31,13 +32,17 @@ fault_of (why.TooMany of count most) = TooMany
 fault_of (why.NameForm name) = BadName
 fault_of (why.Twice name view) = BadName
 fault_of (why.NoView name) = BadName
-fault_of why.NotWhole = BadNumber
+fault_of (why.Fraction number) = BadNumber
+fault_of why.MinusZero = BadNumber
+fault_of (why.PointOrExponent n) = BadNumber
+fault_of why.TooFar = BadNumber
 fault_of (why.BelowZero n) = BadNumber
 fault_of (why.NoBigInt digits) = BadNumber
 fault_of (why.NoCall name) = BadCall
-fault_of (why.FewElements count least) = BadCall
+fault_of (why.FewElements count least most) = BadCall
 fault_of (why.ManyElements count most) = BadCall
 fault_of (why.NoKind name) = BadView
+fault_of (why.NearKind name kind) = BadView
 fault_of (why.Misfit m) = BadView
 fault_of (why.Beyond of n count) = fault_beyond of
 fault_of why.NoBlocks = NoBlock
@@ -77,6 +82,10 @@ misfit_text (misfit.TooLong n most) = signed_decimal n ++ (codes " elements, at 
 misfit_text (misfit.UnevenBlock len size) =
     codes "null, and the block's " ++ (decimal len ++ (codes " bytes are no multiple of " ++ decimal size))
 
+-- how many elements a call takes: so many, or one of two counts
+abbrev pub elements_text : ℕ → ℕ → List ℕ
+elements_text least most = if least == most then decimal least else decimal least ++ (codes " or " ++ decimal most)
+
 -- the table of texts
 abbrev pub why_text : Reason → List ℕ
 why_text (why.Type w) = wanted_text w ++ codes " is called for"
@@ -89,14 +98,19 @@ why_text (why.NameForm name) = excerpt_text name ++ codes " isn't 1 to 32 ASCII 
 why_text (why.Twice name view) =
     excerpt_text name ++ (codes " is the name of views[" ++ (decimal view ++ codes "] too"))
 why_text (why.NoView name) = codes "no view is called " ++ excerpt_text name
-why_text why.NotWhole = codes "no whole number within 2^53 - 1 of 0"
+why_text (why.Fraction number) = bare_text number ++ codes " has a fraction: write a whole number"
+why_text why.MinusZero = codes "-0 isn't read as a whole number: write 0"
+why_text (why.PointOrExponent n) = codes "a whole number has no point and no exponent: write " ++ signed_decimal n
+why_text why.TooFar = codes "write a whole number within 2^53 - 1 of 0"
 why_text (why.BelowZero n) = signed_decimal n ++ codes " is below 0"
 why_text (why.NoBigInt digits) = excerpt_text digits ++ codes " isn't how a BigInt of 128 bits is spelled"
 why_text (why.NoCall name) = codes "no call is called " ++ excerpt_text name
-why_text (why.FewElements count least) =
-    decimal count ++ (codes " of at least " ++ (decimal least ++ codes " elements"))
+why_text (why.FewElements count least most) =
+    decimal count ++ (codes " of " ++ (elements_text least most ++ codes " elements"))
 why_text (why.ManyElements count most) = decimal count ++ (codes " elements, at most " ++ decimal most)
 why_text (why.NoKind name) = codes "no kind is called " ++ excerpt_text name
+why_text (why.NearKind name kind) =
+    codes "no kind is called " ++ (excerpt_text name ++ (codes ": is " ++ (kind_name kind ++ codes " meant?")))
 why_text (why.Misfit m) = misfit_text m
 why_text (why.Beyond of n count) = codes "there is no " ++ (counted_text of ++ (codes " " ++ (signed_decimal n
     ++ (codes ": numbered from 0, their count is " ++ decimal count))))

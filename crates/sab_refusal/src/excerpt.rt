@@ -42,10 +42,27 @@ impl fmt::Display for Excerpt {
 
     fn fmt<W: fmt::Write>(&self, f: &mut fmt::Formatter<W>) -> fmt::Result {
         f.write_str("\"")?;
-        for byte in &self.bytes[..self.len] {
+        f.write(Bare(*self))?;
+        f.write_str(if self.is_cut { "\".." } else { "\"" })
+    }
+}
+
+/// The first bytes of a text, shown without quotes.
+#[derive(Clone, Copy, Debug)]
+pub(crate) struct Bare(pub(crate) Excerpt);
+
+impl fmt::Display for Bare {
+    ghost use Rattle.std.specs.Prelude.{Some};
+    ghost use Rattle.sab_refusal.specs.Excerpt.{bare_text};
+
+    ghost output = { λ bare. Some (bare_text bare.0) };
+
+    fn fmt<W: fmt::Write>(&self, f: &mut fmt::Formatter<W>) -> fmt::Result {
+        let excerpt = self.0;
+        for byte in &excerpt.bytes[..excerpt.len] {
             f.write(Shown(*byte))?;
         }
-        f.write_str(if self.is_cut { "\".." } else { "\"" })
+        Ok(())
     }
 }
 

@@ -1,8 +1,9 @@
 //! What is wrong with a value of a script.
 
-use crate::excerpt::Excerpt;
+use crate::excerpt::{Bare, Excerpt};
 use crate::member::Member;
 use crate::read_fault::ReadFault;
+use sab_block::Kind;
 use std::fmt;
 
 /// What a value has to be.
@@ -86,20 +87,28 @@ pub enum Reason {
     Twice(Excerpt, u32),
     /// It is this name, which no view has.
     NoView(Excerpt),
-    /// It is a number that isn't whole, or beyond ±(2^53 - 1).
-    NotWhole,
+    /// It is a number with a fraction, which this text spells.
+    Fraction(Excerpt),
+    /// It is -0, which isn't read as a whole number.
+    MinusZero,
+    /// It is this whole number, written with a point or an exponent.
+    PointOrExponent(i64),
+    /// It is a number beyond ±(2^53 - 1).
+    TooFar,
     /// It is the length of a block, and this negative number.
     BelowZero(i64),
     /// It is this string, which isn't the one spelling of a BigInt of 128 bits.
     NoBigInt(Excerpt),
     /// It is this name, which no call has.
     NoCall(Excerpt),
-    /// It is a call of so many elements, and it has so many at least.
-    FewElements(usize, usize),
+    /// It is a call of so many elements, which takes so many at least, and so many at most.
+    FewElements(usize, usize, usize),
     /// It is a call of so many elements, and it has so many at most.
     ManyElements(usize, usize),
-    /// It is this name, which no kind has.
+    /// It is this name, which no kind has, and which is like none.
     NoKind(Excerpt),
+    /// It is this name, which no kind has, and which is like that of this kind.
+    NearKind(Excerpt, Kind),
     /// It is a part of a view that doesn't fit its block.
     Misfit(Misfit),
     /// It is this number, and there are so many, counted from 0.
@@ -123,10 +132,12 @@ impl Reason {
                 ReadFault::BadShape,
             Reason::TooMany(_, _, _) => ReadFault::TooMany,
             Reason::NameForm(_) | Reason::Twice(_, _) | Reason::NoView(_) => ReadFault::BadName,
-            Reason::NotWhole | Reason::BelowZero(_) | Reason::NoBigInt(_) => ReadFault::BadNumber,
-            Reason::NoCall(_) | Reason::FewElements(_, _) | Reason::ManyElements(_, _) =>
+            Reason::Fraction(_) | Reason::MinusZero | Reason::PointOrExponent(_) | Reason::TooFar =>
+                ReadFault::BadNumber,
+            Reason::BelowZero(_) | Reason::NoBigInt(_) => ReadFault::BadNumber,
+            Reason::NoCall(_) | Reason::FewElements(_, _, _) | Reason::ManyElements(_, _) =>
                 ReadFault::BadCall,
-            Reason::NoKind(_) | Reason::Misfit(_) => ReadFault::BadView,
+            Reason::NoKind(_) | Reason::NearKind(_, _) | Reason::Misfit(_) => ReadFault::BadView,
             Reason::Beyond(Counted::Agent, _, _) => ReadFault::BadAgent,
             Reason::Beyond(Counted::Block, _, _) | Reason::NoBlocks => ReadFault::NoBlock,
             Reason::Memory => ReadFault::OutOfMemory,
@@ -229,16 +240,32 @@ impl fmt::Display for Reason {
             }
             Reason::Twice(name, view) => write!(f, "{name} is the name of views[{view}] too"),
             Reason::NoView(name) => write!(f, "no view is called {name}"),
-            Reason::NotWhole => f.write_str("no whole number within 2^53 - 1 of 0"),
+            Reason::Fraction(number) => {
+                let number = Bare(*number);
+                write!(f, "{number} has a fraction: write a whole number")
+            }
+            Reason::MinusZero => f.write_str("-0 isn't read as a whole number: write 0"),
+            Reason::PointOrExponent(n) => {
+                write!(f, "a whole number has no point and no exponent: write {n}")
+            }
+            Reason::TooFar => f.write_str("write a whole number within 2^53 - 1 of 0"),
             Reason::BelowZero(n) => write!(f, "{n} is below 0"),
             Reason::NoBigInt(digits) => write!(
                 f,
                 "{digits} isn't how a BigInt of 128 bits is spelled"
             ),
             Reason::NoCall(name) => write!(f, "no call is called {name}"),
-            Reason::FewElements(count, least) => write!(f, "{count} of at least {least} elements"),
+            Reason::FewElements(count, least, most) if least == most => {
+                write!(f, "{count} of {least} elements")
+            }
+            Reason::FewElements(count, least, most) => {
+                write!(f, "{count} of {least} or {most} elements")
+            }
             Reason::ManyElements(count, most) => write!(f, "{count} elements, at most {most}"),
             Reason::NoKind(name) => write!(f, "no kind is called {name}"),
+            Reason::NearKind(name, kind) => {
+                write!(f, "no kind is called {name}: is {kind} meant?")
+            }
             Reason::Misfit(misfit) => write!(f, "{misfit}"),
             Reason::Beyond(counted, n, count) => {
                 write!(

@@ -87,6 +87,23 @@ op_named word l s e w n (ToAccess u (CompareExchange j x y)) is = absurd (e is)
 op_named word l s e w n (Wait u j x t) is = absurd (w is)
 op_named word l s e w n (Notify u j k) is = absurd (n is)
 
+-- a word that differs from all their names is the name of no call
+pub no_name : (word : List ℕ) → (word ≡ codes "load" → ⊥) → (word ≡ codes "store" → ⊥) → (word ≡ codes "exchange" → ⊥)
+    → (word ≡ codes "add" → ⊥) → (word ≡ codes "sub" → ⊥) → (word ≡ codes "and" → ⊥) → (word ≡ codes "or" → ⊥)
+    → (word ≡ codes "xor" → ⊥) → (word ≡ codes "compareExchange" → ⊥) → (word ≡ codes "wait" → ⊥)
+    → (word ≡ codes "notify" → ⊥) → (call : Call) → word ≡ (spelling_of call).name → ⊥
+no_name word l s e a u n o x c w t (ToAccess v (Load i)) is = l is
+no_name word l s e a u n o x c w t (ToAccess v (Store i y)) is = s is
+no_name word l s e a u n o x c w t (ToAccess v (Rmw Exchange i y)) is = e is
+no_name word l s e a u n o x c w t (ToAccess v (Rmw Add i y)) is = a is
+no_name word l s e a u n o x c w t (ToAccess v (Rmw Sub i y)) is = u is
+no_name word l s e a u n o x c w t (ToAccess v (Rmw And i y)) is = n is
+no_name word l s e a u n o x c w t (ToAccess v (Rmw Or i y)) is = o is
+no_name word l s e a u n o x c w t (ToAccess v (Rmw Xor i y)) is = x is
+no_name word l s e a u n o x c w t (ToAccess v (CompareExchange i y z)) is = c is
+no_name word l s e a u n o x c w t (Wait v i y z) is = w is
+no_name word l s e a u n o x c w t (Notify v i y) is = t is
+
 -- the view of the spelling is the one that the call names
 pub spelled_view : (c : Call) → (spelling_of c).view ≡ view_of c
 spelled_view (ToAccess v (Load i)) = refl

@@ -1,8 +1,11 @@
+pub mod Amiss
 pub mod AnyOrder
 pub mod BigText
 pub mod CallParts
 pub mod Described
 pub mod Each
+pub mod Every
+pub mod Floats
 pub mod Forms
 pub mod Lengths
 pub mod ManyLens

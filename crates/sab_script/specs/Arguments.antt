@@ -1,5 +1,5 @@
 -- Which arguments the calls of a name take.
-use Rattle.std.specs.Prelude.{◌≡◌, ℕ, zero, suc, ◌≤◌, List, [], ◌∷◌, ◌++◌, length, map, take, replicate}
+use Rattle.std.specs.Prelude.{◌≡◌, ℕ, zero, suc, ◌+◌, ◌≤◌, List, [], ◌∷◌, ◌++◌, length, map, take, replicate}
 use Rattle.serde_json.specs.Data.{Items, no_items, item}
 use Rattle.sab_block.specs.declared.rmw_op.RmwOp.{RmwOp}
 use Rattle.sab_block.specs.RmwOp.{function_of_op}
@@ -28,6 +28,11 @@ pub record TakesFrom (name : List ℕ) (least : ℕ) (types : List Wanted) : Typ
 -- each call of this name has as many arguments as there are types here, and those of one are of just these types
 abbrev pub TakesJust : List ℕ → List Wanted → Type 0
 TakesJust name types = TakesFrom name (length types) types
+
+-- a call of this name has so many elements at least, and at most: three before its arguments
+abbrev pub TakesElements : List ℕ → ℕ → ℕ → Type 0
+TakesElements name least most =
+    (n : ℕ) × (types : List Wanted) × TakesFrom name n types × (least ≡ 3 + n) × (most ≡ 3 + length types)
 
 -- so many operands
 abbrev pub operands : ℕ → List Wanted

@@ -1,10 +1,15 @@
 -- When what a refusal says is true of the script.
-use Rattle.std.specs.Prelude.{◌≡◌, ◌⊎◌, ◌↔◌, ℕ, ◌+◌, ◌-◌, ◌*◌, ◌/◌, ◌<◌, ◌≤◌, ℤ, pos, ◌<ℤ◌, List, length, take, Bool, Some, None, IsTrue, Contains}
-use Rattle.serde_json.specs.Data.{Num, Data, null, boolean, number, string, array, object, Items, no_items, Members}
+use Rattle.std.specs.Prelude.{◌≡◌, ◌⊎◌, ◌↔◌, ℕ, ◌+◌, ◌-◌, ◌*◌, ◌/◌, ◌<◌, ◌≤◌, ℤ, pos, ◌<ℤ◌, List, length, take, Bool, true, false, Some, None, IsTrue, Contains}
+use Rattle.std.specs.Float.{Float, binary64, float_is_finite, float_to_signed, is_sign_negative}
+use Rattle.std.specs.Float.Ieee.{eq, of_int}
+use Rattle.std.specs.Int.{w64}
+use Rattle.serde_json.specs.Data.{Num, float, Data, null, boolean, number, string, array, object, Items, no_items, Members}
 use Rattle.serde_json.specs.Find.{get_member}
 use Rattle.serde_json.specs.Events.{items_len}
+use Rattle.serde_json.specs.Read.{number_of}
 use Rattle.sab_block.specs.declared.kind.Kind.{Kind}
 use Rattle.sab_block.specs.Kind.{kind_name, element_size}
+use Rattle.sab_block.specs.Operand.{IsSafeInteger}
 use Rattle.sab_plan.specs.declared.call.Call.{Call}
 use Rattle.sab_plan.specs.declared.plan.TheConstants.Plan.{MAX_BLOCKS, MAX_BLOCK_LEN, MAX_VIEWS, MAX_AGENTS, MAX_CALLS}
 use Rattle.sab_refusal.specs.declared.excerpt.Excerpt.{Excerpt}
@@ -34,7 +39,7 @@ use Rattle.sab_script.specs.declared.schedule.TheConstants.{MAX_MOVES}
 use Rattle.sab_script.specs.Calls.{spelling_of}
 use Rattle.sab_script.specs.Numbers.{whole, SpellsWhole, SpellsBig}
 use Rattle.sab_script.specs.Places.{Stands, CallsFor, members_at, form_of, IsNamed}
-use Rattle.sab_script.specs.Views.{IsName}
+use Rattle.sab_script.specs.Views.{IsName, IsLike}
 
 -- the start of a text, as it is told
 pub record IsStart (told : Excerpt) (text : List ℕ) : Type 0 where
@@ -111,13 +116,12 @@ HasMany root place of n = IsListOf of place × HasItems root place n
 abbrev pub elements_of : Call → ℕ
 elements_of call = 3 + length (spelling_of call).arguments
 
--- each call of the name there has so many elements at least, and one has just so many; where there are fewer than three,
--- that is each call
-pub record NeedsElements (root : Data) (i j count least : ℕ) : Type 0 where
+-- each call of the name there has so many elements at least, and one has just so many
+pub record NeedsElements (root : Data) (i j least : ℕ) : Type 0 where
   pub each : (call : Call) → IsNamed root i j (spelling_of call).name → least ≤ elements_of call
   pub call : Call
   pub just : elements_of call ≡ least
-  pub named : IsNamed root i j (spelling_of call).name ⊎ (count < 3)
+  pub named : IsNamed root i j (spelling_of call).name
 
 -- each call of the name there has so many elements at most, and one has just so many
 pub record AllowsElements (root : Data) (i j most : ℕ) : Type 0 where
@@ -126,12 +130,13 @@ pub record AllowsElements (root : Data) (i j most : ℕ) : Type 0 where
   pub just : elements_of call ≡ most
   pub named : IsNamed root i j (spelling_of call).name
 
--- a call has fewer elements, or more, than one of its name can have
-abbrev pub HasFew : Data → Location → ℕ → ℕ → Type 0
-HasFew root place count least =
+-- a call has fewer elements than one of its name can have, which is from `least` to `most`
+abbrev pub HasFew : Data → Location → ℕ → ℕ → ℕ → Type 0
+HasFew root place count least most =
     (i : ℕ) × (j : ℕ) × (place ≡ at.Call M.Agents i M.Calls j) × HasItems root place count × (count < least)
-    × NeedsElements root i j count least
+    × NeedsElements root i j least × AllowsElements root i j most
 
+-- a call has more elements than one of its name can have
 abbrev pub HasMore : Data → Location → ℕ → ℕ → Type 0
 HasMore root place count most =
     (i : ℕ) × (j : ℕ) × (place ≡ at.Call M.Agents i M.Calls j) × HasItems root place count × (most < count)
@@ -161,16 +166,56 @@ NamesNoCall root place told =
     (i : ℕ) × (j : ℕ) × (place ≡ at.Element M.Agents i M.Calls j 0)
     × ((name : List ℕ) × HasText root place told name × ((call : Call) → name ≡ (spelling_of call).name → ⊥))
 
--- the name of no kind, where a view has that of its kind
-abbrev pub NamesNoKind : Data → Location → Excerpt → Type 0
-NamesNoKind root place told =
+-- the name of no kind, where a view has that of its kind; and more is said of this name
+abbrev pub NamesNoKind : Data → Location → Excerpt → (List ℕ → Type 0) → Type 0
+NamesNoKind root place told More =
     (i : ℕ) × (place ≡ at.Part M.Views i M.Kind)
-    × ((name : List ℕ) × HasText root place told name × ((kind : Kind) → name ≡ kind_name kind → ⊥))
+    × ((name : List ℕ) × HasText root place told name × ((kind : Kind) → name ≡ kind_name kind → ⊥) × More name)
 
--- a number that is no whole number within its range, where a number is called for
-abbrev pub IsNotWhole : Data → Location → Type 0
-IsNotWhole root place =
-    (n : Num) × Stands root place (number n) × ((z : ℤ) → SpellsWhole (number n) z → ⊥)
+-- a float without its fraction; from 2^63 and from -2^63 on, the nearest number of 64 bits
+abbrev pub whole_part : Float → ℤ
+whole_part x = float_to_signed w64 x
+
+-- a float has a fraction, and lies within ±(2^53 - 1); a text that reads as this float is told
+abbrev pub IsFraction : Num → Excerpt → Type 0
+IsFraction (float x) told =
+    IsSafeInteger (whole_part x) × (eq x (of_int binary64 (whole_part x)) ≡ false)
+    × ((text : List ℕ) × (number_of text ≡ Some (float x)) × IsStart told text)
+IsFraction n told = ⊥
+
+-- a float equals a whole number within ±(2^53 - 1)
+pub record EqualsWhole (x : Float) (z : ℤ) : Type 0 where
+  pub part : whole_part x ≡ z
+  pub safe : IsSafeInteger z
+  pub equal : eq x (of_int binary64 z) ≡ true
+
+-- a float is 0, with a minus
+abbrev pub IsMinusZero : Num → Type 0
+IsMinusZero (float x) = EqualsWhole x (pos 0) × (is_sign_negative x ≡ true)
+IsMinusZero n = ⊥
+
+-- a float equals a whole number, and isn't -0; JSON reads only a text with a point or an exponent so
+abbrev pub IsMarked : Num → ℤ → Type 0
+IsMarked (float x) z = EqualsWhole x z × (z ≡ pos 0 → is_sign_negative x ≡ false)
+IsMarked n z = ⊥
+
+-- a number lies beyond ±(2^53 - 1); no other float than a finite one is read
+abbrev pub IsTooFar : Num → Type 0
+IsTooFar (float x) = IsTrue (float_is_finite x) → IsSafeInteger (whole_part x) → ⊥
+IsTooFar n = (z : ℤ) → SpellsWhole (number n) z → ⊥
+
+-- why a number is no whole number of a script
+abbrev pub IsAmiss : Num → Reason → Type 0
+IsAmiss n (why.Fraction told) = IsFraction n told
+IsAmiss n why.MinusZero = IsMinusZero n
+IsAmiss n (why.PointOrExponent z) = IsMarked n z
+IsAmiss n why.TooFar = IsTooFar n
+IsAmiss n reason = ⊥
+
+-- so is the number at a place where one is called for
+abbrev pub HasAmiss : Data → Location → Reason → Type 0
+HasAmiss root place reason =
+    (n : Num) × Stands root place (number n) × IsAmiss n reason
     × ((w : Wanted) × CallsFor root place w × IsOf w (number n))
 
 -- a string that is no BigInt, where an operand is called for
@@ -265,13 +310,17 @@ IsTrueAt root place (why.TooMany of count most) = HasMany root place of count ×
 IsTrueAt root place (why.NameForm told) = IsMisnamed root place told
 IsTrueAt root place (why.Twice told v) = IsNameOf root place told v
 IsTrueAt root place (why.NoView told) = NamesNoView root place told
-IsTrueAt root place why.NotWhole = IsNotWhole root place
+IsTrueAt root place (why.Fraction told) = HasAmiss root place (why.Fraction told)
+IsTrueAt root place why.MinusZero = HasAmiss root place why.MinusZero
+IsTrueAt root place (why.PointOrExponent z) = HasAmiss root place (why.PointOrExponent z)
+IsTrueAt root place why.TooFar = HasAmiss root place why.TooFar
 IsTrueAt root place (why.BelowZero n) = IsLenPlace place × Stands root place (whole n) × (n <ℤ pos 0)
 IsTrueAt root place (why.NoBigInt told) = IsNoBigInt root place told
 IsTrueAt root place (why.NoCall told) = NamesNoCall root place told
-IsTrueAt root place (why.FewElements count least) = HasFew root place count least
+IsTrueAt root place (why.FewElements count least most) = HasFew root place count least most
 IsTrueAt root place (why.ManyElements count most) = HasMore root place count most
-IsTrueAt root place (why.NoKind told) = NamesNoKind root place told
+IsTrueAt root place (why.NoKind told) = NamesNoKind root place told (λ name. (kind : Kind) → IsLike name kind → ⊥)
+IsTrueAt root place (why.NearKind told kind) = NamesNoKind root place told (λ name. IsLike name kind)
 IsTrueAt root place (why.Misfit m) = IsMisfit root place m
 IsTrueAt root place (why.Beyond of n count) = IsBeyond root place of n count
 IsTrueAt root place why.NoBlocks = (place ≡ at.Member M.Blocks) × Stands root place (array no_items)

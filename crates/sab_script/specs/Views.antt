@@ -1,11 +1,12 @@
 -- How views are spelled, and which views are made.
-use Rattle.std.specs.Prelude.{◌≡◌, ℕ, ◌<◌, ◌≤◌, ◌||◌, ◌==◌, List, [], ◌∷◌, length, map, Bool, Option, Some, codes, IsTrue, All, is_some, option_and_then, slice_get, String, string_bytes}
-use Rattle.std.specs.Char.{is_ascii_alphanumeric}
+use Rattle.std.specs.Prelude.{◌≡◌, ◌⊎◌, ℕ, ◌<◌, ◌≤◌, ◌||◌, ◌==◌, List, [], ◌∷◌, ◌++◌, length, map, Bool, Option, Some, codes, IsTrue, All, is_some, option_and_then, slice_get, String, string_bytes}
+use Rattle.std.specs.Char.{is_ascii_alphanumeric, to_ascii_lowercase}
 use Rattle.std.specs.List.{IsDistinct}
 use Rattle.std.specs.Str.{bytes_eq}
 use Rattle.std.specs.declared.alloc.Global.{Global}
 use Rattle.indexmap.specs.IndexMap.{IndexMap}
 use Rattle.serde_json.specs.Data.{Data, string, object, Items, Members, no_members, member}
+use Rattle.sab_block.specs.declared.kind.Kind.{Kind}
 use Rattle.sab_block.specs.Kind.{kind_name}
 use Rattle.sab_block.specs.Operand.{IsSafeInteger}
 use Rattle.sab_block.specs.View.{count, IsViewOf}
@@ -27,6 +28,14 @@ pub record IsName (name : List ℕ) : Type 0 where
   pub nonempty : 0 < length name
   pub short : length name ≤ MAX_NAME
   pub bytes : All (λ b. IsTrue (is_name_byte b)) name
+
+-- names that differ in the case of ASCII letters alone, if at all
+abbrev pub IsAlike : List ℕ → List ℕ → Type 0
+IsAlike a b = map to_ascii_lowercase a ≡ map to_ascii_lowercase b
+
+-- a name is like that of a kind, or like that of its constructor
+abbrev pub IsLike : List ℕ → Kind → Type 0
+IsLike name kind = IsAlike name (kind_name kind) ⊎ IsAlike name (kind_name kind ++ codes "Array")
 
 -- the members of a view but for its block
 abbrev pub description : Data → Data → Data → Data → Members

@@ -1,6 +1,6 @@
 //! Calls.
 
-ghost use Rattle.std.specs.Prelude.{◌≡◌, ℕ, IfErr};
+ghost use Rattle.std.specs.Prelude.{◌≡◌, ◌⊎◌, ◌<◌, ℕ, IfErr, MatchOption};
 ghost use Rattle.serde_json.specs.Data.{Data, array};
 ghost use Rattle.serde_json.specs.View.{view, items_view};
 ghost use Rattle.sab_block.specs.RmwOp.{function_of_op};
@@ -8,10 +8,13 @@ ghost use Rattle.sab_refusal.specs.declared.location.Location.TheVariants as L;
 ghost use Rattle.sab_refusal.specs.declared.member.Member.TheVariants as M;
 ghost use Rattle.sab_script.specs.Reading.{Finds};
 ghost use Rattle.sab_script.specs.Views.{view_names};
-ghost use Rattle.sab_script.specs.Places.{IsNamed};
-ghost use Rattle.sab_script.specs.Truth.{IsTrueWhere, IsTrueOf};
+ghost use Rattle.sab_plan.specs.declared.call.Call.{Call as Calls};
+ghost use Rattle.sab_refusal.specs.Location.{item_at};
+ghost use Rattle.sab_refusal.specs.Reason.{fault_of};
+ghost use Rattle.sab_script.specs.Places.{IsNamed, Stands};
+ghost use Rattle.sab_script.specs.Truth.{IsTrueWhere, IsTrueOf, HasItems};
 ghost use Rattle.sab_script.specs.Known.{HasNames, HasArguments};
-ghost use Rattle.sab_script.specs.Arguments.{IsNameOfRmw};
+ghost use Rattle.sab_script.specs.Arguments.{IsNameOfRmw, TakesElements};
 ghost use Rattle.sab_script.specs.Calls.{spelling_of, SpellsParts, SpellsCall, SpellsCalls};
 
 use crate::elements::{Reader, read_each};
@@ -20,7 +23,7 @@ use crate::tree::{items, text, whole};
 use crate::views::{Views, view_of};
 use sab_block::{Access, RmwOp};
 use sab_plan::{Call, Plan};
-use sab_refusal::{Excerpt, Located, Location, Reason, Unit, Wanted};
+use sab_refusal::{Excerpt, Located, Location, ReadFault, Reason, Unit, Wanted};
 use serde_json::Value;
 use std::alloc::Global;
 
@@ -113,6 +116,62 @@ fn call_of(
     }
 }
 
+/// How many elements a call of a name has at least, and at most; `None` where no call has the name.
+fn elements_of(name: &str) -> Option<(usize, usize)>
+    ensures { MatchOption result ((call : Calls) → name.now ≡ (spelling_of call).name → ⊥)
+        (λ p. TakesElements name.now p.0 p.1) }
+{
+    match name {
+        "load" => Some((3, 3)),
+        "store" => Some((4, 4)),
+        "exchange" => Some((4, 4)),
+        "add" => Some((4, 4)),
+        "sub" => Some((4, 4)),
+        "and" => Some((4, 4)),
+        "or" => Some((4, 4)),
+        "xor" => Some((4, 4)),
+        "compareExchange" => Some((5, 5)),
+        "wait" => Some((4, 5)),
+        "notify" => Some((3, 4)),
+        _ => None,
+    }
+}
+
+/// A refusal of a call with this name that ends before its index.
+fn short_call(at: Location, count: usize, name: &str) -> Located
+    requires { count < 3 }
+    ensures fault { fault_of result.why ≡ ReadFault.BadCall }
+    ensures told { (root : Data) (i j : ℕ) → at ≡ Location.Call M.Agents i M.Calls j → IsNamed root i j name.now
+        → HasItems root at count → IsTrueOf root result }
+{
+    match elements_of(name) {
+        Some((least, most)) => {
+            let why = Reason::FewElements(count, least, most);
+            Located { at, why }
+        }
+        None => {
+            let why = Reason::NoCall(Excerpt::of(name));
+            Located {
+                at: at.item(0),
+                why,
+            }
+        }
+    }
+}
+
+/// A refusal of a call that ends before its index, by what stands first in it.
+fn cut_short(at: Location, count: usize, name_tree: &Value) -> Located
+    requires { count < 3 }
+    ensures fault { (fault_of result.why ≡ ReadFault.BadShape) ⊎ (fault_of result.why ≡ ReadFault.BadCall) }
+    ensures told { (root : Data) (i j : ℕ) → at ≡ Location.Call M.Agents i M.Calls j
+        → Stands root (item_at at 0) (view name_tree.now) → HasItems root at count → IsTrueOf root result }
+{
+    match text(at.item(0), name_tree) {
+        Ok(name) => short_call(at, count, name),
+        Err(refusal) => refusal,
+    }
+}
+
 /// A call.
 fn read_call(at: Location, views: &Views, tree: &Value) -> Result<Call, Located>
     ensures found { Finds (λ c. c) (SpellsCall (view_names views.now) (view tree.now)) result }
@@ -126,8 +185,7 @@ fn read_call(at: Location, views: &Views, tree: &Value) -> Result<Call, Located>
         return Err(Located { at, why });
     }
     let [name_tree, view_tree, index_tree, operands @ ..] = trees else {
-        let why = Reason::FewElements(trees.len(), 3);
-        return Err(Located { at, why });
+        return Err(cut_short(at, trees.len(), &trees[0]));
     };
     let name = text(at.item(0), name_tree)?;
     let view = view_of(at.item(1), views, view_tree)?;

@@ -8,6 +8,8 @@ mod elements;
 mod form;
 mod misfit;
 mod names;
+mod near;
+mod numbers;
 mod operands;
 mod plain;
 mod schedule;

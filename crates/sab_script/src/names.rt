@@ -1,6 +1,7 @@
 //! The names of views and of kinds.
 
 ghost use Rattle.std.specs.Prelude.{◌≡◌, ℕ, IfErr, ◌↔◌, ◌<◌, ◌≤◌, IsTrue};
+ghost use Rattle.sab_block.specs.declared.kind.Kind.{Kind as Kinds};
 ghost use Rattle.sab_block.specs.Kind.{kind_name};
 ghost use Rattle.sab_refusal.specs.Reason.{fault_of};
 ghost use Rattle.sab_script.specs.Reading.{Finds};
@@ -9,8 +10,25 @@ ghost use Rattle.sab_refusal.specs.declared.member.Member.TheVariants as M;
 ghost use Rattle.serde_json.specs.Data.{string};
 ghost use Rattle.sab_script.specs.Truth.{IsTrueWhere};
 
+use crate::near::near_kind;
 use sab_block::Kind;
 use sab_refusal::{Excerpt, Located, Location, ReadFault, Reason};
+
+/// A refusal of a name that no kind has; it asks for the kind whose name is like this one, if there is one.
+fn no_kind(at: Location, name: &str) -> Located
+    requires { (k : Kinds) → name.now ≡ kind_name k → ⊥ }
+    ensures fault { fault_of result.why ≡ ReadFault.BadView }
+    ensures place { result.at ≡ at }
+    ensures told { IsTrueWhere at (string name.now)
+        (λ root. (i : ℕ) × (at ≡ Location.Part M.Views i M.Kind)) result }
+{
+    let told = Excerpt::of(name);
+    let why = match near_kind(name) {
+        Some(kind) => Reason::NearKind(told, kind),
+        None => Reason::NoKind(told),
+    };
+    Located { at, why }
+}
 
 /// The kind of a name.
 pub(crate) fn kind(at: Location, name: &str) -> Result<Kind, Located>
@@ -32,10 +50,7 @@ pub(crate) fn kind(at: Location, name: &str) -> Result<Kind, Located>
         "Float64" => Ok(Kind::Float64),
         "BigInt64" => Ok(Kind::BigInt64),
         "BigUint64" => Ok(Kind::BigUint64),
-        _ => {
-            let why = Reason::NoKind(Excerpt::of(name));
-            Err(Located { at, why })
-        }
+        _ => Err(no_kind(at, name)),
     }
 }
 

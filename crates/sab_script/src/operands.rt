@@ -43,7 +43,11 @@ fn wrong_count(at: Location, count: usize, least: usize, most: usize) -> Located
         → count + 3 < 2 ^ 64 → IsTrueOf root result }
 {
     let why = if count < least {
-        Reason::FewElements(count.saturating_add(FIRST), least.saturating_add(FIRST))
+        Reason::FewElements(
+            count.saturating_add(FIRST),
+            least.saturating_add(FIRST),
+            most.saturating_add(FIRST),
+        )
     } else {
         Reason::ManyElements(count.saturating_add(FIRST), most.saturating_add(FIRST))
     };
@@ -74,7 +78,7 @@ pub(crate) fn operand(at: Location, tree: &Value) -> Result<Operand, Located>
         return Ok(Operand::big(big(at, digits.as_str())?));
     }
     let number = whole(at, Wanted::Operand, tree)?;
-    let why = Reason::NotWhole;
+    let why = Reason::TooFar;
     Operand::number(number).ok_or(Located { at, why })
 }
 

@@ -11,6 +11,7 @@ ghost use Rattle.sab_script.specs.Places.{CallsFor};
 ghost use Rattle.sab_script.specs.Truth.{IsTrueWhere, IsCountedAt};
 ghost use Rattle.sab_script.specs.Known.{AreInOrder, IsFirst, LackMember, IsNumberAs};
 
+use crate::numbers::no_whole;
 use sab_block::Operand;
 use sab_refusal::{Counted, Excerpt, Located, Location, Member, ReadFault, Reason, Wanted};
 use serde_json::Value;
@@ -33,10 +34,7 @@ pub(crate) fn whole(at: Location, wanted: Wanted, tree: &Value) -> Result<i64, L
     };
     match number.as_i64() {
         Some(n) if -Operand::MAX_SAFE_INTEGER <= n && n <= Operand::MAX_SAFE_INTEGER => Ok(n),
-        _ => {
-            let why = Reason::NotWhole;
-            Err(Located { at, why })
-        }
+        _ => Err(no_whole(at, wanted, number)),
     }
 }
 

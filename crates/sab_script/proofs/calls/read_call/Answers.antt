@@ -1,10 +1,11 @@
-use Rattle.std.proofs.Common.{◌≡◌, ℕ, List, length, Some, refl, arith, sym, ap, ◌∙◌, drop, FitsSigned, rules}
+use Rattle.std.proofs.Common.{◌≡◌, ℕ, ◌<◌, List, length, Some, refl, arith, sym, ap, ◌∙◌, drop, FitsSigned, rules}
 use Rattle.std.specs.Int.{w64}
 use Rattle.std.proofs.lemmas.Int.{to_z-of_z}
 use Rattle.serde_json.specs.Data.{Data, Items, array, item, string}
 use Rattle.serde_json.specs.View.{view, items_view}
 use Rattle.serde_json.proofs.Views.{items_len-items_view}
 use Rattle.sab_refusal.specs.Location.{item_at}
+use Rattle.sab_refusal.specs.Reason.{fault_of}
 use Rattle.sab_refusal.specs.declared.location.Location.{Location}
 use Rattle.sab_refusal.specs.declared.location.Location.TheVariants as at
 use Rattle.sab_refusal.specs.declared.member.Member.TheVariants as M
@@ -15,10 +16,10 @@ use Rattle.sab_script.specs.Views.{SpellsName, view_names}
 use Rattle.sab_script.specs.Known.{HasNames, HasArguments}
 use Rattle.sab_script.specs.Truth.{IsTrueOf, IsTrueWhere}
 use Rattle.sab_script.proofs.Lengths.{three_items, three_long, end_whole}
-use Rattle.sab_script.proofs.Refusing.{exit_refuses}
+use Rattle.sab_script.proofs.Refusing.{exit_refuses, refuses_all}
 use Rattle.sab_script.proofs.Telling.{exit_told}
 use Rattle.sab_script.proofs.ToldArguments.{err_told, item_read}
-use Rattle.sab_script.proofs.ToldCalls.{call_element, has_arguments, few_elements}
+use Rattle.sab_script.proofs.ToldCalls.{call_element, has_arguments}
 use Rattle.sab_script.proofs.WholeCall.{word_part, name_part, index_part, reads_call}
 use Rattle.sab_script.proofs.calls.read_call.Goals as goal
 
@@ -63,14 +64,16 @@ returns-in_err-index-clause-found c =
     (index_part names d _ _ _ _ tree)
 
 pub returns-in_default-clause-found : goal.returns-in_default-clause-found
-returns-in_default-clause-found c = λ call h.
+returns-in_default-clause-found c =
+    refuses_all (SpellsCall (view_names c.args.views.now) (view c.args.tree.now)) (fault_of c.cut_short.result.why)
+    (λ call h.
     let s = spelling_of call in
     let same : array (items_view c.in_ok-trees.trees.now) ≡ call_tree s.name h.view_tree s.index h.argument_trees =
     sym c.in_ok-trees.ensures.reads ∙ h.tree in
     let parts : items_view c.in_ok-trees.trees.now
     ≡ item (string s.name) (item h.view_tree (item (whole s.index) h.argument_trees)) = cc in
     let long = three_long c.in_ok-trees.trees.now _ _ _ _ parts in
-    let short = c.in_default.len_below in absurd (omega (arith, long, short))
+    let short = c.in_default.len_below in absurd (omega (arith, long, short)))
 
 pub returns-clause-found : goal.returns-clause-found
 returns-clause-found c =
@@ -98,8 +101,11 @@ pub returns-in_default-clause-told : goal.returns-in_default-clause-told
 returns-in_default-clause-told c = λ root stands known.
     let trees = c.in_ok-trees.trees.now in
     let here = stands ∙ ap (λ (x : Data). Some x) c.in_ok-trees.ensures.reads in
-    few_elements root c.args.at known.0.0 known.0.1 (length trees) (items_view trees) known.0.2 here
-    (items_len-items_view trees) c.in_default.len_below
+    let some : 0 < length trees = search rules in
+    let there = item_read trees 0 c.index-trees-0.result some c.index-trees-0.is in
+    c.cut_short.ensures.told root known.0.0 known.0.1 known.0.2
+    (call_element root c.args.at known.0.0 known.0.1 0 (items_view trees) _ known.0.2 here there)
+    (items_view trees, here, items_len-items_view trees)
 
 pub returns-in_err-name-clause-told : goal.returns-in_err-name-clause-told
 returns-in_err-name-clause-told c =
