@@ -147,7 +147,7 @@ export interface Outcome {
   noScript?: string;
   /** What sabsim must answer. */
   report?: string;
-  /** Each event as an object of JSON, a line each. */
+  /** Each event as an object of JSON, a line each. The first line may say that accesses are missing (`unseen`). */
   trace?: string;
   /** The code of each file that the trace names; null where it can't be read, or is longer than 2^20 characters. */
   sources?: { file: string; text: string | null }[];

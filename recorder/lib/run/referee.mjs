@@ -23,7 +23,7 @@ import { Meetings } from "./meetings.mjs";
 import { PILOTS, PILOT_SECONDS, Pilots } from "./pilots.mjs";
 import { isRacy } from "./races.mjs";
 import { SourceNames } from "./source-names.mjs";
-import { placesIn, traceText } from "./trace.mjs";
+import { UNSEEN_LINE, placesIn, traceText } from "./trace.mjs";
 import { ownCalls, transcriptOf, waitingText } from "./transcript.mjs";
 
 /** @typedef {import("./group.mjs").Outcome} Outcome */
@@ -337,7 +337,9 @@ function tellSources(outcome, wantsTrace) {
   outcome.races = options.ordinary === "watch" ? tellRaces(true) : [];
   if (!wantsTrace) return;
   const names = sources.map(namesOf);
-  outcome.trace = traceText(log, names);
+  // If some are found, no verdict on the trace says that there are none.
+  const mayLookClean = !(seesAll && log.hasRoom()) && outcome.races.length === 0;
+  outcome.trace = (mayLookClean ? UNSEEN_LINE : "") + traceText(log, names);
   outcome.sources = sourceNames.textsOf(placesIn(log, names));
 }
 
