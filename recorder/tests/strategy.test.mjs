@@ -131,7 +131,7 @@ test("a call that is the agent's own affair is made without a draw, and a wait o
 
 test("by switch:P another agent moves next with that likelihood, and by uniform each agent is as likely", () => {
   const calls = [call(0, WRITES), call(0, WRITES), call(0, WRITES)];
-  /** How often each step is made from the first agent that moves to the second one: on to itself, the next, the last. */
+  /** How often the second agent that moves is the first one itself, the next one, and the one behind that. */
   const steps = (strategy) => [0, 1, 2].map((step) => share((seed) => {
     const [first, second] = row(asking(strategy, calls, { seed }), calls, 2);
     return (first + step) % 3 === second;
