@@ -22,6 +22,7 @@ import { initialStores } from "./initial.mjs";
 import { Meetings } from "./meetings.mjs";
 import { PILOTS, PILOT_SECONDS, Pilots } from "./pilots.mjs";
 import { isRacy } from "./races.mjs";
+import { areSame } from "./same.mjs";
 import { SourceNames } from "./source-names.mjs";
 import { UNSEEN_LINE, placesIn, traceText } from "./trace.mjs";
 import { ownCalls, transcriptOf, waitingText } from "./transcript.mjs";
@@ -274,17 +275,6 @@ function tellRaces(tellsSources) {
 }
 
 /**
- * Whether two runs of a seed did the same.
- * @param {Outcome} one
- * @param {Outcome} other
- */
-function areAlike(one, other) {
-  /** @param {Outcome} outcome */
-  const parts = ({ ending, moves, calls, state }) => [ending, moves, calls, state.hash].join(" ");
-  return parts(one) === parts(other);
-}
-
-/**
  * Has workers started anew, and waits until they are there.
  * @param {number[]} gone
  */
@@ -323,7 +313,7 @@ async function addSources(wanted, outcome, found, hasSources) {
   // Who didn't come back made no call for long, and would take as long again.
   if (found.gone.length > 0) return;
   const again = await made(wanted, true);
-  const same = areAlike(briefly(wanted, await judgedAgain(again, found)), outcome);
+  const same = areSame(briefly(wanted, await judgedAgain(again, found)), outcome);
   await replaced(options.fresh ? agents : again.gone);
   if (same) tellSources(outcome, wantsTrace);
 }
