@@ -2,13 +2,14 @@
 // Joins summaries that the recorder has made by `--format json`, as those of several machines. `--help` shows more.
 
 import { parseArgs } from "node:util";
-import { checkedFormat, formatted } from "./lib/command/formats.mjs";
+import { formatted } from "./lib/command/formats.mjs";
 import { merged, partsOf } from "./lib/command/merging.mjs";
 import { print } from "./lib/command/print.mjs";
 import { toldOf } from "./lib/command/problems.mjs";
 import { STATUS } from "./lib/command/status.mjs";
 import { missingText } from "./lib/command/summary-text.mjs";
 import { Refused } from "./lib/options/refused.mjs";
+import { OPTIONS } from "./lib/options/table.mjs";
 
 const USAGE = `usage: node recorder/merge.mjs FILE.. [options]
 
@@ -50,7 +51,8 @@ async function run(words) {
     return STATUS.NONE_FAILED;
   }
   if (files.length === 0) throw new Refused("the summaries' files are missing; --help shows more");
-  const format = checkedFormat(values.format);
+  const { kind, ifNone } = OPTIONS.format;
+  const format = kind.value(values.format ?? ifNone, "--format");
   const summary = merged(files.flatMap(partsOf));
   await print(formatted(summary, format));
   const problems = [...summary.missing.map(missingText), ...summary.problems];

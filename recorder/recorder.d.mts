@@ -58,8 +58,6 @@ export interface RecordOptions {
   args?: string[];
   /** Who moves next; else "mixed". */
   strategy?: "mixed" | "uniform" | "partial-order" | `switch:${number}`;
-  /** From 0 to 1: how likely it is that another agent moves next, which is a strategy too. */
-  switch?: number;
   /** Whether agents are switched before each call, also where pilots have shown that none can meet another. */
   everywhere?: boolean;
   /** From 0 to 1: in how many draws the end of a timed wait is offered while something else can move; else 0.05. */
@@ -147,7 +145,7 @@ export interface Outcome {
   noScript?: string;
   /** What sabsim must answer. */
   report?: string;
-  /** Each event as an object of JSON, a line each. */
+  /** Each event as an object of JSON, a line each. The first line may say that accesses are missing (`unseen`). */
   trace?: string;
   /** The code of each file that the trace names; null where it can't be read, or is longer than 2^20 characters. */
   sources?: { file: string; text: string | null }[];

@@ -4,10 +4,10 @@
 import assert from "node:assert/strict";
 import { readdirSync, readFileSync } from "node:fs";
 import { after, before, describe, test } from "node:test";
-import { Crew, EngineFault } from "../engine/crew.mjs";
-import { replay } from "../engine/replay.mjs";
-import { summary } from "../engine/report.mjs";
-import { readScript, ScriptFault } from "../engine/script.mjs";
+import { Crew, EngineFault } from "./engine/crew.mjs";
+import { replay } from "./engine/replay.mjs";
+import { summary } from "./engine/report.mjs";
+import { readScript, ScriptFault } from "./engine/script.mjs";
 import { withSabsim } from "./helpers/needs.mjs";
 import { Opinions } from "./helpers/opinions.mjs";
 import { pathOf, replayBySabsim, runNode, start } from "./helpers/programs.mjs";
@@ -16,7 +16,7 @@ import { generatedScript, timedScript } from "./helpers/scripts.mjs";
 
 const DATA = pathOf("crates/check_scripts/data");
 const EXAMPLES = `${DATA}/examples`;
-const ENGINE = "recorder/engine.mjs";
+const ENGINE = "recorder/tests/engine/main.mjs";
 const SCRIPTS = 200;
 const TIMED_SCRIPTS = 10;
 
@@ -105,7 +105,7 @@ describe("the program", () => {
 
   test("shows help", async () => {
     const { status, output, errors } = await runNode(ENGINE, ["--help"]);
-    assert.match(output, /Usage: node recorder\/engine\.mjs \[FILE\]/);
+    assert.match(output, /Usage: node recorder\/tests\/engine\/main\.mjs \[FILE\]/);
     assert.ok(output.split("\n").every((line) => line.length <= 120));
     assert.deepEqual([status, errors], [0, ""]);
   });

@@ -94,10 +94,11 @@ test(`sabsim, the recorder's detector and the slow judge agree on ${RANDOM} rand
   assert.ok(sum("racy") > RANDOM / 4 && sum("racy") < RANDOM * 3 / 4, `${sum("racy")} of them are racy`);
 });
 
-/** Runs of a known program, with their traces. @param {string} name */
+/** Runs of a known program, with their traces. With `everywhere` no pilot is made first. @param {string} name */
 async function runsOf(name) {
   const module = new URL(`${name}.mjs`, KNOWN);
-  const options = checkedOptions({ module, trace: true, seconds: 5, maxMoves: KNOWN_MOVES }, () => undefined);
+  const given = { module, trace: true, everywhere: true, seconds: 5, maxMoves: KNOWN_MOVES };
+  const options = checkedOptions(given, () => undefined);
   const group = await Group.open({ ...options, fresh: false });
   const outcomes = [];
   try {

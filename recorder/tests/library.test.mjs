@@ -20,7 +20,6 @@ test("each option that can't be is refused, with one line that names it", async 
     seed: [-1, 1.5, 2 ** 53, "1", 1n, NaN, null],
     args: ["abc", [1], ["a", , "b"], { 0: "a", length: 1 }, null],
     strategy: ["random", "switch:2", "switch:", "switch:-0", 0.5, null],
-    switch: ["0.5", -0.1, 1.1, NaN, true, null],
     everywhere: ["yes", 1, null],
     timeouts: ["0.5", -0.1, 1.1, NaN, null],
     maxMoves: [0, 100_001, 1.5, "7", null],
@@ -58,7 +57,7 @@ test("the module must be named, and options that there aren't are refused by the
     await assert.rejects(record(given), refused(/^`module` [^\n]+$/));
   }
   const near = {
-    "no-block": "noBlock", Seed: "seed", switching: "switch", agent: "agents", bufers: "buffers", timeout: "timeouts",
+    "no-block": "noBlock", Seed: "seed", agent: "agents", bufers: "buffers", timeout: "timeouts",
     max_moves: "maxMoves", race: "races", trcae: "trace",
   };
   for (const [name, meant] of Object.entries(near)) {
@@ -71,12 +70,11 @@ test("the module must be named, and options that there aren't are refused by the
   }
 });
 
-test("a strategy may be given by `strategy` or by `switch`, but not by both", async () => {
+test("the strategy is mixed if none is given, and `switch` alone is none", async () => {
   const given = (options) => recordCase("racy", { agents: 3, seed: 11, trace: false, ...options });
-  assert.deepEqual(await given({ strategy: "switch:0.9" }), await given({ switch: 0.9 }));
   assert.deepEqual(await given({ strategy: "mixed" }), await given({}));
-  await assert.rejects(given({ strategy: "uniform", switch: 0.5 }), (error) => {
-    return error instanceof Refused && error.message.startsWith("`strategy` and `switch` both say who moves next");
+  await assert.rejects(given({ switch: 0.5 }), (error) => {
+    return error instanceof Refused && error.message === 'there is no option `switch`: use `strategy: "switch:P"`';
   });
 });
 

@@ -8,6 +8,7 @@ import { join } from "node:path";
 import { fileURLToPath } from "node:url";
 import { test } from "node:test";
 import { pageData, pageOf } from "../lib/keeping/page.mjs";
+import { UNSEEN_LINE } from "../lib/run/trace.mjs";
 import { valueAt } from "../page/model.mjs";
 import { entryText, standingText } from "../page/words.mjs";
 import { KINDS, SIZES } from "../script/kinds.mjs";
@@ -183,6 +184,10 @@ test("without a trace, or with one of another run, there are the calls alone", (
     ]);
     assert.equal(Buffer.concat(run.stateAt(7).blocks).toString("hex"), "ffffffff0007");
   }
+});
+
+test("a trace that says that accesses may be missing gives the same steps as one that doesn't", () => {
+  assert.deepEqual(runOf({ trace: UNSEEN_LINE + lines(EVENTS) }).data, runOf().data);
 });
 
 test("what `init` left is there at the start, and is no step", () => {

@@ -107,13 +107,11 @@ test("each wrong option is refused, with one line that names it", () => {
     [["m.mjs", "--seeds", "1..2..3"], /--seeds/],
     [["m.mjs", "--seeds", "a..b"], /--seeds/],
     [["m.mjs", "--seeds", "9007199254740992"], /--seeds/],
-    [["m.mjs", "--switch", "1.5"], /--switch/],
-    [["m.mjs", "--switch", "often"], /--switch/],
+    [["m.mjs", "--switch", "0.5"], /^there is no option --switch: use --strategy switch:P$/],
     [["m.mjs", "--strategy", "random"], /^--strategy must be mixed, uniform, .* or switch:P, .*, but is "random"$/],
     [["m.mjs", "--strategy", "switch:1.1"], /^--strategy must be .*, but is "switch:1.1"$/],
     [["m.mjs", "--strategy", "switch:"], /^--strategy/],
     [["m.mjs", "--strategy", "Mixed"], /^--strategy/],
-    [["m.mjs", "--strategy=uniform", "--switch", "0.1"], /^--strategy and --switch both .*: give one of them$/],
     [["m.mjs", "--everywhere=no"], /--everywhere/],
     [["m.mjs", "--until-covered=5"], /--until-covered/],
     [["m.mjs", "--jobs", "0"], /--jobs/],
@@ -166,7 +164,6 @@ test("what the command line says is taken", () => {
   const strategyOf = (...more) => optionsOf(["m.mjs", ...more]).strategy;
   assert.equal(strategyOf("--strategy", "partial-order"), "partial-order");
   assert.equal(strategyOf("--strategy", "switch:0.25"), "switch:0.25");
-  assert.equal(strategyOf("--switch", "0.25"), "switch:0.25");
   const covered = optionsOf(["m.mjs", "--until-covered", "--everywhere"]);
   assert.deepEqual([covered.untilCovered, covered.everywhere, covered.last], [true, true, 1_000_000]);
   assert.equal(optionsOf(["m.mjs", "--until-covered", "--seeds", "5..9"]).last, 9);
@@ -177,7 +174,7 @@ test("help names each option that there is", () => {
   const refused = (word) => why(word).startsWith("there is no option");
   const named = [...USAGE.matchAll(/^ {2}(--[a-z-]+)/gm)].map(([, word]) => word);
   assert.deepEqual(named.filter(refused), []);
-  for (const option of ["strategy", "switch", "everywhere", "until-covered", "ordinary", "races", "bounds", "clock", "timeouts", "fail-fast", "out", "jobs", "buffers",
+  for (const option of ["strategy", "everywhere", "until-covered", "ordinary", "races", "bounds", "clock", "timeouts", "fail-fast", "out", "jobs", "buffers",
     "check", "help"]) {
     assert.ok(named.includes(`--${option}`), option);
   }

@@ -35,6 +35,9 @@ async function madeOfEach(list, make) {
   return made;
 }
 
+/** How agents are recorded. With `everywhere` no pilots are made first, which would take twice as many workers. */
+const HOW = { agents: 2, buffers: [16], sabsim: false, seconds: 5, everywhere: true };
+
 /**
  * Records agents whose module is written for it.
  * @param {import("node:test").TestContext} context
@@ -44,13 +47,13 @@ async function madeOfEach(list, make) {
 async function recordText(context, text, options = {}) {
   const agents = join(temporaryFolder(context), "agents.mjs");
   writeFileSync(agents, text);
-  return record({ module: agents, agents: 2, buffers: [16], sabsim: false, seconds: 5, ...options });
+  return record({ ...HOW, module: agents, ...options });
 }
 
 /** The same, where only the agent's body is given. */
 async function recordBody(context, body, options = {}) {
   const agents = agentsOf(temporaryFolder(context), body);
-  return record({ module: agents, agents: 2, buffers: [16], sabsim: false, seconds: 5, ...options });
+  return record({ ...HOW, module: agents, ...options });
 }
 
 describe("work that goes on later", () => {

@@ -1,4 +1,5 @@
-// Runs the tests of the recorder, several files at a time, and prints at the end how many were skipped and why.
+// Runs the tests of the recorder, as many files at a time as there are processors, and prints at the end how many were
+// skipped and why.
 //
 // usage: node recorder/tests/run.mjs [SABSIM]
 //
@@ -17,8 +18,11 @@ import { readReport, skippedLine, sumOf } from "./helpers/results.mjs";
 const FOLDER = fileURLToPath(new URL("./", import.meta.url));
 const BUILT = fileURLToPath(new URL("../../crates/sabsim/out/sabsim", import.meta.url));
 
-// The slowest files begin first, so that none of them is left alone at the end.
-const SLOWEST = ["known", "realm", "race-programs", "judge", "examples", "program"].map((name) => `${name}.test.mjs`);
+// The files that take the most processor time begin first, so that none of them is left alone at the end.
+const SLOWEST = [
+  "known", "realm", "race-programs", "runs", "judge", "examples", "seeds", "program", "explore", "pilots", "shards",
+  "jobs", "library", "bench", "rows", "checks", "shorter", "replay", "unseen", "testing",
+].map((name) => `${name}.test.mjs`);
 
 /** @typedef {import("./helpers/results.mjs").Result & { name: string, seconds: number }} FileResult */
 
@@ -76,7 +80,7 @@ async function resultsOf(names, atOnce, env) {
 
 /** Runs all files, and those in which tests failed once more. @param {Record<string, string | undefined>} env */
 async function finalResults(env) {
-  const results = await resultsOf(namesOfFiles(), Math.max(1, availableParallelism() - 1), env);
+  const results = await resultsOf(namesOfFiles(), availableParallelism(), env);
   const failing = results.filter(({ failed }) => failed > 0).map(({ name }) => name);
   if (failing.length === 0) return results;
   console.log("Tests failed. Their files run once more, one at a time:");

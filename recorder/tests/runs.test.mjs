@@ -205,8 +205,8 @@ test("sixteen agents, four buffers and the greatest buffer are served", async ()
 test("options that can't be are refused", async () => {
   const cases = [
     { agents: 0 }, { agents: 17 }, { agents: 1.5 }, { buffers: [] }, { buffers: [65_537] }, { buffers: [-1] },
-    { buffers: [1, 1, 1, 1, 1] }, { seed: -1 }, { seed: 0.5 }, { maxMoves: 100_001 }, { seconds: 0 }, { switch: 2 },
-    { noBlock: [16] },
+    { buffers: [1, 1, 1, 1, 1] }, { seed: -1 }, { seed: 0.5 }, { maxMoves: 100_001 }, { seconds: 0 },
+    { strategy: "switch:2" }, { noBlock: [16] },
   ];
   for (const options of cases) {
     await assert.rejects(recordCase("nothing", options), Refused, JSON.stringify(options));

@@ -97,7 +97,7 @@ test("by partial-order sampling the end of a time is as likely each time that it
   for (let seed = 0; seed < 500; seed += 1) {
     const board = asking("partial-order", calls, { seed, timeouts: 1 });
     board.line.join(1, 0, 4, true);
-    for (let agent = 0; agent === 0; draws += 1) {
+    for (let agent = 0; agent === 0 && draws < 2_000; draws += 1) {
       agent = board.strategy.next();
       ask(board, 0, calls[0].from, calls[0].to, calls[0].how);
     }
@@ -127,6 +127,30 @@ test("a call that is the agent's own affair is made without a draw, and a wait o
   assert.equal(goesOn(3, READS), false, "nothing is known of it");
   assert.equal(goesOn(0, WAITERS), false);
   assert.equal(goesOn(0, READS | WAITERS), false);
+});
+
+test("by switch:P another agent moves next with that likelihood, and by uniform each agent is as likely", () => {
+  const calls = [call(0, WRITES), call(0, WRITES), call(0, WRITES)];
+  /** How often the second agent that moves is the first one itself, the next one, and the one behind that. */
+  const steps = (strategy) => [0, 1, 2].map((step) => share((seed) => {
+    const [first, second] = row(asking(strategy, calls, { seed }), calls, 2);
+    return (first + step) % 3 === second;
+  }));
+  const expected = { "switch:0.2": [0.8, 0.1, 0.1], "switch:0.9": [0.1, 0.45, 0.45], uniform: [1 / 3, 1 / 3, 1 / 3] };
+  for (const [strategy, shares] of Object.entries(expected)) {
+    steps(strategy).forEach((found, step) => near(found, shares[step]));
+  }
+});
+
+test("the end of a time is offered in as many draws as `timeouts` says, while something else can move", () => {
+  const calls = [call(0, READS), call(1, READS | WAITERS)];
+  const offered = (timeouts) => share((seed) => {
+    const board = asking("uniform", calls, { seed, timeouts });
+    board.line.join(1, 0, 4, true);
+    return board.strategy.next() === 1;
+  });
+  // Where it is offered it is one of two.
+  for (const timeouts of [0, 0.2, 1]) near(offered(timeouts), timeouts / 2);
 });
 
 test("an agent that makes private calls without an end lets the others move in the end", () => {

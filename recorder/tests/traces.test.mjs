@@ -8,6 +8,7 @@ import { fileURLToPath } from "node:url";
 import { describe, it } from "node:test";
 import { checkedOptions } from "../lib/library/library-options.mjs";
 import { Group } from "../lib/run/group.mjs";
+import { UNSEEN_LINE } from "../lib/run/trace.mjs";
 import { RECORD, agentsPath, temporaryFolder } from "./helpers/common.mjs";
 import { CHECKING } from "./helpers/needs.mjs";
 import { recorded } from "./helpers/recorded.mjs";
@@ -26,6 +27,12 @@ function eventsOf(trace) {
     assert.deepEqual([Object.keys(event), event.event], [MEMBERS, at]);
     return event;
   });
+}
+
+/** The events of a trace that says that accesses may be missing. */
+function seenEventsOf(trace) {
+  assert.ok(trace.startsWith(UNSEEN_LINE));
+  return eventsOf(trace.slice(UNSEEN_LINE.length));
 }
 
 const shortOf = (source) => source.slice(source.lastIndexOf("/") + 1);
@@ -72,9 +79,9 @@ describe("traces", { concurrency: 2 }, () => {
     assert.equal(events.filter(({ does }) => does === "leave").length, 0);
   });
 
-  it("a trace has no ordinary accesses where these aren't watched", async () => {
+  it("a trace has no ordinary accesses where these aren't watched, and says so", async () => {
     const [outcome] = await recorded({ module: knownPath("ring"), ordinary: "store", trace: true });
-    assert.ok(eventsOf(outcome.trace).every(({ atomic, waiters }) => atomic || waiters));
+    assert.ok(seenEventsOf(outcome.trace).every(({ atomic, waiters }) => atomic || waiters));
   });
 
   it("races that are allowed are told, with their lines, and the run passes", async () => {
@@ -125,10 +132,10 @@ describe("traces", { concurrency: 2 }, () => {
     assert.match(detail, /agent 0 reads Uint8_b0\[0\], after its call 9$/);
   });
 
-  it("its trace has what there is room for, and all calls", async () => {
+  it("its trace has what there is room for, and all calls, and says that accesses may be missing", async () => {
     const { ending, trace, ordinary } = await recordedInLittleRoom("passes");
     assert.deepEqual([ending, ordinary], ["finished", 1 + 10 * 999]);
-    const does = eventsOf(trace).map((event) => event.does);
+    const does = seenEventsOf(trace).map((event) => event.does);
     assert.equal(does.filter((each) => each === "add").length, 10);
     assert.equal(does.filter((each) => each === "store").length, 1);
     const reads = does.filter((each) => each === "read").length;

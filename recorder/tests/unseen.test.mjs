@@ -1,5 +1,6 @@
 // Scripts of runs with ordinary accesses. Such a script doesn't show them all, so its run may be free of races where
-// the recorded run isn't. An empty view, `ordinary_unseen`, says so, and `sabsim judge` refuses the script.
+// the recorded run isn't. An empty view, `ordinary_unseen`, says so, and `sabsim judge` refuses the script. Likewise a
+// trace that may lack some, and that shows no race, says so in its first line, and `sabsim judge --trace` refuses it.
 
 import assert from "node:assert/strict";
 import { spawnSync } from "node:child_process";
@@ -7,12 +8,14 @@ import { readFileSync, writeFileSync } from "node:fs";
 import { join } from "node:path";
 import { describe, it } from "node:test";
 import { fileURLToPath } from "node:url";
+import { UNSEEN_LINE } from "../lib/run/trace.mjs";
 import { SCRIPT_LIMITS } from "../script/limits.mjs";
 import { RECORD, agentsPath, temporaryFolder } from "./helpers/common.mjs";
 import { CHECKING, SABSIM, withSabsim } from "./helpers/needs.mjs";
 import { recorded, summaryLines } from "./helpers/recorded.mjs";
 
 const RING = fileURLToPath(new URL("./known/ring-frees-first.mjs", import.meta.url));
+const FORMATS = new URL("../../docs/FORMATS.md", import.meta.url);
 const RACING_SEED = 3;
 const MOST = SCRIPT_LIMITS.views;
 const EMPTY = { name: "ordinary_unseen", kind: "Uint8", block: 0, offset: 0, length: 0 };
@@ -84,6 +87,50 @@ describe("a script of a run with ordinary accesses", () => {
   });
 });
 
+describe("a trace of a run", () => {
+  /** Whether the trace of a program says that it may lack accesses, and the rest of it. */
+  async function saysUnseen(program, options = {}) {
+    const { trace } = await outcomeOf(program, { trace: true, ...options });
+    assert.ok(trace.endsWith("}\n") && !trace.slice(1).includes(UNSEEN_LINE.trim()));
+    return trace.startsWith(UNSEEN_LINE);
+  }
+
+  it("says so where reads aren't watched, whatever the agents do", async () => {
+    for (const ordinary of ["store", "refuse"]) {
+      for (const program of ["atomics", "reads"]) assert.equal(await saysUnseen(program, { ordinary }), true, ordinary);
+    }
+  });
+
+  it("says so in the words that docs/FORMATS.md has", () => {
+    assert.ok(readFileSync(FORMATS, "utf8").includes(`\n    ${UNSEEN_LINE}`));
+  });
+
+  it("says nothing where all accesses were watched: it has them", async () => {
+    for (const program of ["atomics", "reads"]) assert.equal(await saysUnseen(program), false, program);
+  });
+
+  it("says so where code was there before the recorder, but not if it shows a race", (context) => {
+    const folder = temporaryFolder(context);
+    writeFileSync(join(folder, "before.cjs"), "");
+    writeFileSync(join(folder, "agents.mjs"), `
+      export const setup = { agents: 2, buffers: [8] };
+      export default ({ buffers: [buffer], agent, args: [way] }) => {
+        const words = new Int32Array(buffer);
+        if (way === "races") words[1] = agent + 1;
+        Atomics.wait(words, 0, 0);
+      };
+    `);
+    for (const [way, isMarked] of [["waits", true], ["races", false]]) {
+      const recording = [RECORD, "agents.mjs", "--seeds", "1", "--out", way, "--no-shorten", "--check", "0", "--", way];
+      const words = ["--require", "./before.cjs", ...recording];
+      const { status, stderr } = spawnSync(process.execPath, words, { cwd: folder, encoding: "utf8" });
+      assert.equal(status, 1, stderr);
+      const trace = readFileSync(join(folder, way, "seed-1.trace.jsonl"), "utf8");
+      assert.equal(trace.startsWith(UNSEEN_LINE), isMarked, way);
+    }
+  });
+});
+
 describe("a script that is full of views", () => {
   it("has room for as many as there can be where nothing is unseen", async () => {
     const full = await outcomeOf(`views ${MOST}`);
@@ -151,7 +198,9 @@ describe("sabsim takes such a script", () => {
         assert.deepEqual([status, output], [1, ""]);
         assert.match(errors, /^sabsim: 21 OrdinaryData/);
       }
-      assert.equal(saidOf(["judge", "--trace"], trace).status, races.length > 0 ? 5 : 0);
+      const judged = saidOf(["judge", "--trace"], trace);
+      if (races.length > 0) assert.deepEqual([judged.status, judged.errors], [5, ""]);
+      else assert.deepEqual(judged, { status: 1, output: "", errors: "sabsim: 10 BadShape: line 1\n" });
     }
   });
 });

@@ -16,6 +16,7 @@ import { fileURLToPath } from "node:url";
 const pathOf = (place) => fileURLToPath(new URL(place, import.meta.url));
 const TOP = pathOf("../../");
 const PROJECT = pathOf("project/");
+const ENGINE = pathOf("../../recorder/tests/engine/main.mjs");
 const FILES = readFileSync(pathOf("files.txt"), "utf8").trimEnd().split("\n");
 const { version } = JSON.parse(readFileSync(join(TOP, "package.json"), "utf8"));
 const MACHINE = `${process.platform}-${process.arch}`;
@@ -172,7 +173,7 @@ test("sabsim-record finds the failing seed, and its script is what the engine sa
   if (seed > 1) {
     assert.equal(npx(project, ["sabsim-record", "lock.mjs", "--seeds", `1..${seed - 1}`]).status, 0);
   }
-  const { status, output } = npx(project, ["sabsim-engine", `found/seed-${seed}.json`]);
+  const { status, output } = run(project, process.execPath, [ENGINE, `found/seed-${seed}.json`]);
   assert.equal(status, 0);
   assert.equal(output, kept("report"));
 });

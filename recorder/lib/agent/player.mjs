@@ -1,28 +1,26 @@
 // One agent's part in a run, in its own thread: it asks for each call, makes it with the engine's own Atomics when the
-// turn is its own, and writes down what came of it. Between its calls its ordinary reads and writes are noted, as they
-// are seen, and what they have changed is taken before its next call.
+// turn is its own, and writes down what came of it.
 
 import { CALL_NUMBERS, SIZES } from "../../script/kinds.mjs";
 import { SCRIPT_LIMITS } from "../../script/limits.mjs";
 import { JOIN, LEAVE, MAKE, TIME_UP } from "../board/journal.mjs";
 import { placeNumber } from "../memory/known-places.mjs";
 import { PHASE, WORD } from "../memory/layout.mjs";
-import { FLAG, NO_CALL, READ, WRITE } from "../memory/log.mjs";
+import { FLAG } from "../memory/log.mjs";
 import { byteOf } from "../memory/memory.mjs";
 import { callText, textRoom, viewKey, viewName } from "../memory/spelling.mjs";
 import { mapGet, mapSet, mapHas, uncurried } from "../primordials.mjs";
+import { Accesses } from "./accesses.mjs";
 import { foundBy, leftOpen } from "./answer.mjs";
-import { engineCall, isEqualElement } from "./engine.mjs";
-import { numberAbove, numberHere, sourceHere } from "./frames.mjs";
+import { effectOf, flagsAsked, isWithin } from "./effects.mjs";
+import { engineCall } from "./engine.mjs";
+import { numberAbove, sourceHere } from "./frames.mjs";
 import { RunIsOver } from "./over.mjs";
-import { Repeats } from "./repeats.mjs";
+import { changeText, laterText, undone } from "./undone.mjs";
 
-const { wait: WAIT, notify: NOTIFY, load: LOAD, store: STORE, compareExchange: COMPARE_EXCHANGE } = CALL_NUMBERS;
+const { wait: WAIT, notify: NOTIFY } = CALL_NUMBERS;
 const { RangeError: EngineRangeError, TypeError: EngineTypeError, Map: EngineMap } = globalThis;
 const clearMap = uncurried(Map.prototype.clear);
-
-// Where sources are told, each access is; but of one that is repeated no more than so many in a row.
-const MOST_TOLD_AGAIN = 100;
 
 /** @typedef {import("../memory/records.mjs").Call} Call */
 /** @typedef {import("./ordinary/context.mjs").Place} Place */
@@ -64,10 +62,7 @@ export class Player {
     this.last = undefined;
     /** @type {Map<number, number>} the views that the script has, by their keys: the length of each one's name */
     this.views = new EngineMap();
-    this.repeats = new Repeats(table.lengths);
-    this.accesses = 0;
-    /** The first event of the log that this agent has appended since its last call. */
-    this.since = 0;
+    this.accesses = new Accesses(agent, table);
   }
 
   /**
@@ -107,7 +102,7 @@ export class Player {
     later.begin();
     try {
       const answer = body();
-      problem = leftOpen(answer, "it") ?? foundBy(answer) ?? this.#undone("it");
+      problem = leftOpen(answer, "it") ?? foundBy(answer) ?? undone(later, "it");
     } catch (thrown) {
       problem = `threw ${described(thrown)}`;
     }
@@ -155,29 +150,10 @@ export class Player {
    * @param {boolean} writes
    */
   seen(place, from, to, writes) {
-    const { board, log } = this.table;
-    if (this.isOver || board.words[WORD.ENDED] !== 0) this.#interrupted();
-    this.accesses += 1;
-    const tellsSources = board.words[WORD.TELLS_SOURCES] === 1;
-    const repeats = this.repeats.note(place, from, to, writes);
-    const isNew = repeats === Repeats.NEW;
-    if (!isNew) {
-      if (repeats === Repeats.SPINS) this.#spins("it reads the same bytes again and again without a call of Atomics");
-      if (!tellsSources || this.repeats.again > MOST_TOLD_AGAIN) return;
-    }
-    const what = writes ? WRITE : READ;
-    if (!tellsSources && log.extend(what, this.agent, place.block, from, to, place, this.since)) {
-      this.repeats.keep(place, from, to, writes);
-      return;
-    }
-    if (!log.hasRoom()) {
-      if (tellsSources && !(writes && isNew)) return;
-      this.#bound(`more than ${log.most} reads and writes were made that differ`);
-    }
-    const source = tellsSources ? numberHere(this.table.sources) : 0;
-    const flags = (writes ? FLAG.WRITES : FLAG.READS) | (isNew ? 0 : FLAG.AGAIN);
-    log.append(what, this.agent, NO_CALL, flags, this.made, place.block, from, to, place, source);
-    this.repeats.keep(place, from, to, writes);
+    if (this.isOver || this.table.board.words[WORD.ENDED] !== 0) this.#interrupted();
+    const noted = this.accesses.note(place, from, to, writes, this.made);
+    if (noted === Accesses.SPINS) this.#spins("it reads the same bytes again and again without a call of Atomics");
+    if (noted === Accesses.FULL) this.#bound(`more than ${this.table.log.most} reads and writes were made that differ`);
   }
 
   /** @returns {boolean} whether what is done now is done to learn from alone */
@@ -198,13 +174,11 @@ export class Player {
   }
 
   #begin() {
-    const { board, stores, later, chance, log } = this.table;
+    const { board, stores, later, chance } = this.table;
     this.made = 0;
-    this.accesses = 0;
     this.isInside = false;
-    this.since = log.length;
     clearMap(this.views);
-    this.repeats.begin();
+    this.accesses.begin();
     stores.join();
     chance.begin(board.clock.seed());
     later.begin();
@@ -318,12 +292,12 @@ export class Player {
    * @returns {T}
    */
   #answer(answer, event) {
-    const { board, records, log } = this.table;
+    const { board, records } = this.table;
     records.answer(this.made, answer);
     this.made += 1;
     board.did(this.agent, event);
     board.line.become(this.agent, PHASE.RUNS);
-    this.since = log.length;
+    this.accesses.goOn();
     this.isInside = false;
     board.turn.leave(this.agent);
     return answer;
@@ -335,7 +309,7 @@ export class Player {
     if (this.isInside) this.#outOfStack();
     if (!board.turn.enter(this.agent)) this.#over();
     this.isInside = true;
-    this.repeats.renew();
+    this.accesses.renew();
     this.#take();
     const goesOn = later.told();
     if (goesOn !== undefined) this.#end("failed", `agent ${this.agent} ${laterText(goesOn, "an agent")}`);
@@ -360,7 +334,7 @@ export class Player {
   #finish(problem) {
     const { board, later } = this.table;
     later.end();
-    board.journal.countOrdinary(this.agent, this.accesses);
+    board.journal.countOrdinary(this.agent, this.accesses.count);
     let hasTurn = false;
     try {
       if (this.isInside) this.#outOfStack();
@@ -374,57 +348,15 @@ export class Player {
     board.line.become(this.agent, PHASE.FINISHED);
     board.turn.goHome(this.agent);
     if (!hasTurn) return;
-    const why = problem ?? this.#undone("an agent");
+    const why = problem ?? undone(later, "an agent");
     if (why === undefined) board.pass(this.agent);
     else board.end.end("failed", `agent ${this.agent} ${why}`);
   }
 
   /** Takes what ordinary writes have changed since the agent's last call. */
   #take() {
-    const { memory, ordinary } = this.table;
-    for (let block = 0; block < memory.real.length; block += 1) {
-      if (!memory.hasChanged(block)) continue;
-      if (ordinary === "watch") this.#takeSeen(block);
-      if (ordinary === "store") this.table.stores.takeChanged(this.agent, this.table.log.length, block);
-    }
-    const change = memory.changed();
-    if (change !== undefined) this.#end("failed", this.#changeText(change));
-  }
-
-  /**
-   * Takes what the writes that were seen have changed in a block. Those that go on from each other are taken together,
-   * whether the log has joined them or not: a script doesn't depend on that.
-   * @param {number} block
-   */
-  #takeSeen(block) {
-    const { log } = this.table;
-    const { length } = log;
-    let kind = -1;
-    let from = 0;
-    let to = 0;
-    for (let event = this.since; event < length; event += 1) {
-      if (log.whatAt(event) !== WRITE || log.blockAt(event) !== block) continue;
-      if ((log.flagsAt(event) & FLAG.AGAIN) !== 0) continue;
-      const goesOn = log.kindAt(event) === kind && log.fromAt(event) === to;
-      if (!goesOn) {
-        this.#takeStretch(block, from, to, kind);
-        kind = log.kindAt(event);
-        from = log.fromAt(event);
-      }
-      to = log.toAt(event);
-    }
-    this.#takeStretch(block, from, to, kind);
-  }
-
-  /**
-   * @param {number} block
-   * @param {number} from
-   * @param {number} to
-   * @param {number} kind
-   */
-  #takeStretch(block, from, to, kind) {
-    const { log, stores } = this.table;
-    if (from < to) stores.takeWritten(this.agent, log.length, block, from, to, kind);
+    const change = this.accesses.take();
+    if (change !== undefined) this.#end("failed", changeText(change, this));
   }
 
   /**
@@ -494,7 +426,7 @@ export class Player {
 
   /** @param {import("../board/end.mjs").Ended} ending @param {string} detail @returns {never} */
   #end(ending, detail) {
-    this.table.board.journal.countOrdinary(this.agent, this.accesses);
+    this.table.board.journal.countOrdinary(this.agent, this.accesses.count);
     this.table.board.end.end(ending, detail);
     return this.#over();
   }
@@ -510,62 +442,4 @@ export class Player {
   #source(called) {
     return this.table.board.words[WORD.TELLS_SOURCES] === 1 ? numberAbove(this.table.sources, called) : 0;
   }
-
-  /**
-   * What code that has ended has left undone, or untold.
-   * @param {string} who
-   * @returns {string | undefined}
-   */
-  #undone(who) {
-    const { later } = this.table;
-    const goesOn = later.left();
-    if (goesOn !== undefined) return laterText(goesOn, who);
-    const thrown = later.thrownByListener();
-    if (thrown !== undefined) return `has a listener that threw, which nobody catches: ${thrown}`;
-    const rejected = later.rejected();
-    return rejected === undefined ? undefined : `left a rejected promise, which nobody handles: ${rejected}`;
-  }
-
-  /** @param {import("../memory/memory.mjs").Change} change */
-  #changeText({ block, byte, was, is }) {
-    const { agent, made, last, table } = this;
-    const when = last === undefined || made === 0
-      ? "before its first call"
-      : `after its call ${made - 1}, ${callText(viewName(table.lengths, last), last)}`;
-    const what = `agent ${agent} changed byte ${byte} of block ${block} from ${was} to ${is}`;
-    if (table.ordinary === "watch") return `${what} where no access was seen, ${when}: try --ordinary store`;
-    return `${what} without a call of Atomics, ${when}`;
-  }
 }
-
-/**
- * Whether a call's index is one of its view's.
- * @param {Call} call
- */
-const isWithin = (call) => call.index >= 0 && call.index < call.length;
-
-/**
- * What a call may do, as flags, before it is done.
- * @param {Call} call
- */
-function flagsAsked(call) {
-  if (call.call === LOAD) return FLAG.READS;
-  if (call.call === STORE) return FLAG.WRITES;
-  if (call.call === NOTIFY) return FLAG.WAITERS;
-  return call.call === WAIT ? FLAG.READS | FLAG.WAITERS : FLAG.READS | FLAG.WRITES;
-}
-
-/**
- * What an access does to its element: whether it reads and writes it.
- * @param {Call} call
- * @param {number | bigint} value that it answers
- */
-function effectOf(call, value) {
-  if (call.call === LOAD) return FLAG.READS;
-  if (call.call === STORE) return FLAG.WRITES;
-  if (call.call !== COMPARE_EXCHANGE) return FLAG.READS | FLAG.WRITES;
-  return isEqualElement(call.kind, call.operands[0], value) ? FLAG.READS | FLAG.WRITES : FLAG.READS;
-}
-
-/** @param {string} what goes on later, in words @param {string} who */
-const laterText = (what, who) => `goes on later, by ${what}, but ${who} must be synchronous`;

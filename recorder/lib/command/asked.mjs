@@ -4,6 +4,7 @@ import { createHash } from "node:crypto";
 import { readFileSync } from "node:fs";
 import { fileURLToPath } from "node:url";
 import { Refused } from "../options/refused.mjs";
+import { optionsOf as rowsOf, wordOf } from "../options/table.mjs";
 
 /** @typedef {import("../seeds/ranges.mjs").Range} Range */
 
@@ -24,14 +25,11 @@ import { Refused } from "../options/refused.mjs";
  * @returns {Asked}
  */
 export function askedOf(options, url, preloads) {
-  const { module, asked, shard = null, args, agents, buffers, noBlock, strategy, everywhere, maxMoves } = options;
-  const { timeouts, ordinary, races, bounds, clock, seconds, fresh, failFast, untilCovered, checkEvery } = options;
-  const given = {
-    args, agents, buffers, noBlock, strategy, everywhere, timeouts, ordinary, races, bounds, clock, maxMoves, seconds,
-    fresh, failFast, untilCovered, check: checkEvery, preloads,
-  };
-  const written = Object.entries(given).map(([name, value]) => [name, value ?? null]);
-  return { module, digest: digestOf(module, url), seeds: [asked], shard, options: Object.fromEntries(written) };
+  const { module, asked, shard = null, args } = options;
+  const given = rowsOf("command").filter(([, { isShared }]) => isShared).map(([name, { word = name }]) =>
+    [word, /** @type {Record<string, unknown>} */ (options)[name] ?? null]);
+  const written = { args, ...Object.fromEntries(given), preloads };
+  return { module, digest: digestOf(module, url), seeds: [asked], shard, options: written };
 }
 
 /**
@@ -51,9 +49,6 @@ const NAMES = new Map([
   ["args", "what stands behind --"], ["preloads", "whether node's own words load code before the recorder"],
 ]);
 
-/** @param {string} name of an option in a summary @returns {string} as it is written on the command line */
-const wordOf = (name) => NAMES.get(name) ?? `--${name.replaceAll(/[A-Z]/g, (letter) => `-${letter.toLowerCase()}`)}`;
-
 /** @param {unknown} value of an option */
 const valueText = (value) => (value === null ? "not given" : JSON.stringify(value));
 
@@ -71,7 +66,8 @@ export function differenceOf(one, other) {
   }
   for (const name of new Set([...Object.keys(one.options), ...Object.keys(other.options)])) {
     const [value, theirs] = [one, other].map(({ options }) => valueText(options[name] ?? null));
-    if (value !== theirs) return `${wordOf(name)} is ${value} in the one and ${theirs} in the other`;
+    const word = NAMES.get(name) ?? `--${wordOf(name)}`;
+    if (value !== theirs) return `${word} is ${value} in the one and ${theirs} in the other`;
   }
   return undefined;
 }

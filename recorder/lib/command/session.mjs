@@ -7,7 +7,6 @@ import { keepPictures } from "../keeping/pictures.mjs";
 import { collectGarbage, onceMore } from "../processes/garbage.mjs";
 import { preloads } from "../processes/preloads.mjs";
 import { Coverage } from "../seeds/coverage.mjs";
-import { shortenInJob } from "../seeds/in-job.mjs";
 import { recordSeeds } from "../seeds/seeds.mjs";
 import { askedOf } from "./asked.mjs";
 import { formatted } from "./formats.mjs";
@@ -64,7 +63,6 @@ export class Session {
       }
     };
     await attempt(() => this.#record());
-    if (problems.length === 0) await attempt(() => this.#shorten());
     const [stopped] = problems;
     this.progress.clear();
     await attempt(() => this.#keepMore(stopped));
@@ -73,6 +71,7 @@ export class Session {
     return { failed: this.summary.failed > 0, problems };
   }
 
+  /** Makes the runs, and looks for the shortest one that fails as the one that is kept, which it then replaces. */
   async #record() {
     collectGarbage();
     /** @param {Outcome} outcome */
@@ -83,8 +82,15 @@ export class Session {
       onceMore();
     };
     const onCheck = () => this.summary.addCheck();
-    const { coverage, interruption: { signal } } = this;
-    await recordSeeds(this.options, onOutcome, { onCheck, signal, coverage });
+    const { coverage, summary, interruption: { signal } } = this;
+    const failing = () => this.#toShorten();
+    /** @param {import("../shorter/shorten.mjs").Tried} tried */
+    const onTry = (tried) => this.progress.showShortening(this.#failing()?.seed ?? 0, tried);
+    const listening = { onCheck, signal, coverage, failing, onTry };
+    const { shortened } = await recordSeeds(this.options, onOutcome, listening);
+    summary.shortened = shortened;
+    const [found, shortest] = [this.#failing(), shortened?.shortest];
+    if (found !== undefined && shortest !== undefined) this.keeper?.keepShortest(found, shortest);
   }
 
   /** The failing run of the least seed. */
@@ -93,17 +99,12 @@ export class Session {
     return /** @type {Outcome | undefined} */ (this.summary.failing);
   }
 
-  /** Looks for the shortest run that fails as the one that is kept, and keeps it in its place. */
-  async #shorten() {
-    const { keeper, options, progress, summary, interruption: { signal } } = this;
+  /** The failing run that is kept, where it is to be shortened. */
+  #toShorten() {
     const failing = this.#failing();
-    if (!options.shorten || failing === undefined || failing.seed !== keeper?.seed) return;
-    progress.clear();
-    /** @param {import("../shorter/shorten.mjs").Tried} tried */
-    const onTry = (tried) => progress.showShortening(failing.seed, tried);
-    summary.shortened = await shortenInJob(options, failing, { onTry, signal });
-    const { shortest } = summary.shortened;
-    if (shortest !== undefined) keeper.keepShortest(failing, shortest);
+    if (!this.options.shorten || failing === undefined || failing.seed !== this.keeper?.seed) return undefined;
+    this.progress.clear();
+    return failing;
   }
 
   /**

@@ -2,7 +2,7 @@
 
 import { counted, digits } from "../keeping/words.mjs";
 
-/** @typedef {import("../seeds/in-job.mjs").ShortenedByJob} ShortenedByJob */
+/** @typedef {import("../seeds/job.mjs").ShortenedByJob} ShortenedByJob */
 /** @typedef {import("../shorter/shorten.mjs").Change} Change */
 
 /**

@@ -128,7 +128,7 @@ export class Summary {
     this.scriptless = new Tally();
     /** @type {Failing | undefined} the failing run of the least seed */
     this.failing = undefined;
-    /** @type {import("../seeds/in-job.mjs").ShortenedByJob | undefined} what its shortening came to */
+    /** @type {import("../seeds/job.mjs").ShortenedByJob | undefined} what its shortening came to */
     this.shortened = undefined;
   }
 

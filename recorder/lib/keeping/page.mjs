@@ -87,7 +87,8 @@ export function pageData(outcome, facts, module) {
   const { seed, ending, detail, races, script = "{}", trace = "", sources = [], scriptHolds: holds = "all" } = outcome;
   const { blocks, views } = JSON.parse(script);
   const told = objectsOf(facts);
-  const all = objectsOf(trace);
+  // The first line may say that accesses are missing.
+  const all = objectsOf(trace).filter(({ event }) => event !== undefined);
   const racing = racingEvents(races, all);
   const events = shownEvents(all, racing);
   const numbers = new Map(events.map((event, at) => [event, at]));

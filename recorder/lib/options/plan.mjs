@@ -1,50 +1,16 @@
 // What a run is made of: how many agents, which buffers, who can block. It comes from the options, and where they
-// leave something open from the export `setup` of the agents' module. And what can be chosen for it by a word.
+// leave something open from the export `setup` of the agents' module.
 
 import { SCRIPT_LIMITS } from "../../script/limits.mjs";
-import { PLAIN, SWITCH } from "../board/strategy/ways.mjs";
 import { checkedNames } from "./names.mjs";
 import { meant, slipOf } from "./nearest.mjs";
 import { Refused } from "./refused.mjs";
-
-/**
- * @typedef {object} Choices what can be chosen by a word
- * @property {"watch" | "store" | "refuse"} ordinary what is done with ordinary reads and writes
- * @property {"fail" | "allow"} races whether a run with unordered accesses fails
- * @property {"fail" | "allow"} bounds whether a run that meets a bound fails
- * @property {"run" | "real"} clock which time agents are told
- */
-
-/** @typedef {{ readonly [Option in keyof Choices]: readonly Choices[Option][] }} Words */
-
-/** The words of each option that is chosen by a word; the first one serves where none is given. */
-export const CHOICES = Object.freeze(/** @type {Words} */ ({
-  ordinary: Object.freeze(["watch", "store", "refuse"]),
-  races: Object.freeze(["fail", "allow"]),
-  bounds: Object.freeze(["fail", "allow"]),
-  clock: Object.freeze(["run", "real"]),
-}));
-
-/** In how many of the draws the end of a timed wait is offered, where nothing else is asked for. */
-export const DEFAULT_TIMEOUTS = 0.05;
 
 // What a module's `setup` can say.
 const SETUP = ["agents", "buffers", "noBlock", "names"];
 
 // What a module of agents can export besides its agent.
 const EXPORTS = ["setup", "init", "check"];
-
-/** What holds in a run where nothing else is asked for. */
-export const DEFAULTS = Object.freeze({
-  ordinary: CHOICES.ordinary[0],
-  races: CHOICES.races[0],
-  bounds: CHOICES.bounds[0],
-  clock: CHOICES.clock[0],
-  timeouts: DEFAULT_TIMEOUTS,
-  strategy: "mixed",
-  everywhere: false,
-  trace: false,
-});
 
 /**
  * @typedef {object} Plan
@@ -58,41 +24,6 @@ export const DEFAULTS = Object.freeze({
 const isWithin = (value, least, most) => {
   return typeof value === "number" && Number.isInteger(value) && value >= least && value <= most;
 };
-
-/**
- * @template {keyof Choices} Option
- * @param {Option} option
- * @param {unknown} value undefined: it wasn't given
- * @param {string} name of the option, as who gives it writes it
- * @returns {Choices[Option]}
- */
-export function checkedChoice(option, value, name) {
-  const words = /** @type {readonly Choices[Option][]} */ (CHOICES[option]);
-  if (value === undefined) return words[0];
-  const found = words.find((word) => word === value);
-  if (found !== undefined) return found;
-  const others = words.slice(0, -1).join(", ");
-  const given = typeof value === "string" ? `, but is "${value}"` : "";
-  throw new Refused(`${name} must be ${others} or ${words.at(-1)}${given}`);
-}
-
-/**
- * @param {unknown} strategy a word; undefined: it wasn't given
- * @param {unknown} switching how likely it is that another agent moves next, which is a strategy too; or undefined
- * @param {{ strategy: string, switching: string }} names of the two, as who gives them writes them
- * @returns {string}
- */
-export function checkedStrategy(strategy, switching, names) {
-  if (strategy === undefined) return switching === undefined ? DEFAULTS.strategy : `${SWITCH}${switching}`;
-  if (switching !== undefined) {
-    throw new Refused(`${names.strategy} and ${names.switching} both say who moves next: give one of them`);
-  }
-  const text = typeof strategy === "string" ? strategy : "";
-  const likelihood = Number(/^switch:([0-9]+(?:\.[0-9]+)?)$/.exec(text)?.[1] ?? NaN);
-  if (PLAIN.includes(text) || (likelihood >= 0 && likelihood <= 1)) return text;
-  const given = typeof strategy === "string" ? `, but is "${text}"` : "";
-  throw new Refused(`${names.strategy} must be ${PLAIN.join(", ")} or switch:P, with P from 0 to 1${given}`);
-}
 
 /**
  * @param {unknown} agents

@@ -5,8 +5,9 @@ import { foundBy, leftOpen } from "../agent/answer.mjs";
 import { Board } from "../board/board.mjs";
 import { memoryOf } from "../board/group-memory.mjs";
 import { waysOf } from "../board/strategy/ways.mjs";
-import { DEFAULTS, needsRightNames, planOf } from "../options/plan.mjs";
+import { needsRightNames, planOf } from "../options/plan.mjs";
 import { Refused } from "../options/refused.mjs";
+import { defaultsOf } from "../options/table.mjs";
 import { Thread } from "../processes/thread.mjs";
 
 /** @typedef {"finished" | "deadlock" | "failed" | "check" | "race" | "bound"} Ending */
@@ -81,7 +82,7 @@ import { Thread } from "../processes/thread.mjs";
  * @property {number} [agents] how many
  * @property {number[]} [buffers] their bytes
  * @property {number[]} [noBlock] agents that can't block
- * @property {string} [strategy] how it is drawn who moves next: a word that `checkedStrategy` answers
+ * @property {string} [strategy] how it is drawn who moves next, as `waysOf` takes it
  * @property {boolean} [everywhere] whether agents are switched before each call, also where none can meet another
  * @property {number} [timeouts] in how many draws the end of a timed wait is offered while something else can move
  * @property {number} maxMoves
@@ -153,7 +154,7 @@ export class Group {
 
   /** @param {GroupOptions} options */
   constructor(options) {
-    this.options = { ...DEFAULTS, loadSeconds: DEFAULT_LOAD_SECONDS, ...options };
+    this.options = { ...defaultsOf("record"), loadSeconds: DEFAULT_LOAD_SECONDS, ...options };
     /** @type {Thread[]} */
     this.agents = [];
     /** @type {Thread | undefined} */

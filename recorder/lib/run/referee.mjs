@@ -22,8 +22,9 @@ import { initialStores } from "./initial.mjs";
 import { Meetings } from "./meetings.mjs";
 import { PILOTS, PILOT_SECONDS, Pilots } from "./pilots.mjs";
 import { isRacy } from "./races.mjs";
+import { areSame } from "./same.mjs";
 import { SourceNames } from "./source-names.mjs";
-import { placesIn, traceText } from "./trace.mjs";
+import { UNSEEN_LINE, placesIn, traceText } from "./trace.mjs";
 import { ownCalls, transcriptOf, waitingText } from "./transcript.mjs";
 
 /** @typedef {import("./group.mjs").Outcome} Outcome */
@@ -274,17 +275,6 @@ function tellRaces(tellsSources) {
 }
 
 /**
- * Whether two runs of a seed did the same.
- * @param {Outcome} one
- * @param {Outcome} other
- */
-function areAlike(one, other) {
-  /** @param {Outcome} outcome */
-  const parts = ({ ending, moves, calls, state }) => [ending, moves, calls, state.hash].join(" ");
-  return parts(one) === parts(other);
-}
-
-/**
  * Has workers started anew, and waits until they are there.
  * @param {number[]} gone
  */
@@ -323,7 +313,7 @@ async function addSources(wanted, outcome, found, hasSources) {
   // Who didn't come back made no call for long, and would take as long again.
   if (found.gone.length > 0) return;
   const again = await made(wanted, true);
-  const same = areAlike(briefly(wanted, await judgedAgain(again, found)), outcome);
+  const same = areSame(briefly(wanted, await judgedAgain(again, found)), outcome);
   await replaced(options.fresh ? agents : again.gone);
   if (same) tellSources(outcome, wantsTrace);
 }
@@ -337,7 +327,9 @@ function tellSources(outcome, wantsTrace) {
   outcome.races = options.ordinary === "watch" ? tellRaces(true) : [];
   if (!wantsTrace) return;
   const names = sources.map(namesOf);
-  outcome.trace = traceText(log, names);
+  // If some are found, no verdict on the trace says that there are none.
+  const mayLookClean = !(seesAll && log.hasRoom()) && outcome.races.length === 0;
+  outcome.trace = (mayLookClean ? UNSEEN_LINE : "") + traceText(log, names);
   outcome.sources = sourceNames.textsOf(placesIn(log, names));
 }
 

@@ -33,10 +33,19 @@ function lineOf(position, event, source) {
     `"block":${block},"byte":${from},"size":${to - from},${EFFECTS[flags & 15]},"source":${source}}\n`;
 }
 
+/**
+ * The first line of a trace that may lack accesses of its run. It is no event. So `sabsim judge --trace` refuses such a
+ * trace: that it finds no data race in it would say nothing of the run.
+ */
+export const UNSEEN_LINE = `${JSON.stringify({
+  unseen: "ordinary accesses may be missing here, so these events don't show whether the run has races",
+})}\n`;
+
 // So many lines are joined at once: a million strings of many parts each take long to join, and much memory.
 const JOINED = 1_024;
 
 /**
+ * The events of a run, a line each.
  * @param {import("../memory/log.mjs").Log} log
  * @param {string[][]} [sources] the positions of each agent's code, by their numbers; without, none is told
  * @returns {string}

@@ -7,14 +7,13 @@ import { packed } from "./remote-job.mjs";
 
 collectGarbage();
 
-/** @type {Job | undefined} */
-let job;
-
 /** @param {import("./remote-job.mjs").Message} message */
 function send(message) {
   // It is forked, and so can send.
   process.send?.(message);
 }
+
+const job = new Job((seed) => send({ checked: seed }));
 
 /** @param {import("../run/group.mjs").Outcome} outcome */
 function tell(outcome) {
@@ -24,10 +23,10 @@ function tell(outcome) {
 
 /** @param {import("./remote-job.mjs").Request} request @returns {Promise<unknown>} */
 async function answerTo(request) {
-  if (request.open !== undefined) job = await Job.open(request.open, (seed) => send({ checked: seed }));
-  if (request.run !== undefined) await job?.run(request.run, tell);
-  if (request.shorten !== undefined) return job?.shorten(request.shorten, (tried) => send({ tried }));
-  return request.finish === undefined ? undefined : job?.finish();
+  if (request.open !== undefined) await job.open(request.open);
+  if (request.run !== undefined) await job.run(request.run, tell);
+  if (request.shorten !== undefined) return job.shorten(request.shorten, (tried) => send({ tried }));
+  return request.finish === undefined ? undefined : job.finish();
 }
 
 process.on("disconnect", () => endGroup(process.pid));

@@ -12,9 +12,9 @@ import { jobWords } from "./node-words.mjs";
 
 /**
  * @typedef {object} Request what a job's process is asked for: one of these
- * @property {Parameters<typeof import("./job.mjs").Job.open>[0]} [open]
+ * @property {Parameters<import("./job.mjs").Job["open"]>[0]} [open]
  * @property {import("../run/group.mjs").Wanted[]} [run]
- * @property {import("../shorter/alike.mjs").RunSummary} [shorten]
+ * @property {import("../run/same.mjs").RunSummary} [shorten]
  * @property {true} [finish]
  */
 
@@ -85,7 +85,7 @@ export class RemoteJob {
 
   /**
    * Starts its workers.
-   * @param {Parameters<typeof import("./job.mjs").Job.open>[0]} options
+   * @param {Parameters<import("./job.mjs").Job["open"]>[0]} options
    * @returns {Promise<void>}
    */
   open(options) {
@@ -102,9 +102,9 @@ export class RemoteJob {
   }
 
   /**
-   * @param {import("../shorter/alike.mjs").RunSummary} told of a run that was found
+   * @param {import("../run/same.mjs").RunSummary} told of a run that was found
    * @param {(tried: import("../shorter/shorten.mjs").Tried) => void} onTry
-   * @returns {Promise<import("./in-job.mjs").ShortenedByJob>}
+   * @returns {Promise<import("./job.mjs").ShortenedByJob>}
    */
   shorten(told, onTry) {
     this.onTry = onTry;

@@ -2,10 +2,11 @@
 
 import { foundSabsim } from "../check/sabsim.mjs";
 import { InOrder } from "./in-order.mjs";
-import { LocalJob } from "./local-job.mjs";
+import { Job } from "./job.mjs";
 import { LostJob, RemoteJob } from "./remote-job.mjs";
 
 /** @typedef {import("../run/group.mjs").Outcome} Outcome */
+/** @typedef {import("./job.mjs").ShortenedByJob} ShortenedByJob */
 
 /**
  * @typedef {object} SeedsOptions
@@ -34,6 +35,8 @@ import { LostJob, RemoteJob } from "./remote-job.mjs";
  * @property {AbortSignal} [signal] that it is to stop
  * @property {Pace} [pace] as fast as they can, if it isn't given
  * @property {import("./coverage.mjs").Coverage} [coverage] is told of the outcomes; the runs end where it is enough
+ * @property {() => Outcome | undefined} [failing] which run is to be shortened when all are made; undefined: none
+ * @property {(tried: import("../shorter/shorten.mjs").Tried) => void} [onTry] is told of each run that this takes
  */
 
 /**
@@ -97,11 +100,12 @@ class Row {
  * @param {import("../run/group.mjs").GroupOptions & SeedsOptions} options
  * @param {(outcome: Outcome) => void} onOutcome
  * @param {Listening} listening
- * @returns {Promise<{ checked: number }>} how many runs were checked; fails at the first difference, where a job's
- * process was lost, and where it is to stop, with the reason for that
+ * @returns {Promise<{ checked: number, shortened?: ShortenedByJob }>} how many runs were checked, and what the
+ * shortening of one came to; fails at the first difference, where a job's process was lost, and where it is to stop,
+ * with the reason for that
  */
 export async function recordSeeds(options, onOutcome, listening = {}) {
-  const { onCheck = () => {}, signal, pace = UNHINDERED, coverage } = listening;
+  const { onCheck = () => {}, signal, pace = UNHINDERED, coverage, failing, onTry = () => {} } = listening;
   const { first, last, checkEvery, sabsim, origin = first, failFast = false, trials = false } = options;
   const checks = checkEvery > 0 && sabsim !== false;
   const program = checks ? foundSabsim(sabsim) : undefined;
@@ -114,17 +118,22 @@ export async function recordSeeds(options, onOutcome, listening = {}) {
     onCheck(seed);
   });
   const needed = Math.min(options.jobs, Math.ceil(count / batch));
-  const OneJob = options.here ? LocalJob : RemoteJob;
-  const jobs = Array.from({ length: needed }, () => new OneJob(told.addCheck));
+  const newJob = () => (options.here ? new Job(told.addCheck, true) : new RemoteJob(told.addCheck));
+  const jobs = Array.from({ length: needed }, newJob);
   try {
     const opening = { ...options, sabsim: program, checks, tellsMeetings: coverage !== undefined };
     await unlessStopped(signal, recordAll(jobs, opening, row, told, pace));
+    const found = failing?.();
+    const shortened = found && await unlessStopped(signal, jobs[0].shorten(briefly(found), onTry));
+    return { checked, shortened };
   } finally {
     await Promise.all(jobs.map((job) => job.close()));
     told.finish();
   }
-  return { checked };
 }
+
+/** @param {Outcome} outcome @returns {import("../run/same.mjs").RunSummary} */
+const briefly = ({ seed, ending, detail, moves, calls, state }) => ({ seed, ending, detail, moves, calls, state });
 
 /**
  * What is done with outcomes and checks as they come.
@@ -160,7 +169,7 @@ function listener({ first, failFast, coverage }, row, onOutcome, onCheck) {
  * @param {Promise<T>} promise
  * @returns {Promise<T>}
  */
-export function unlessStopped(signal, promise) {
+function unlessStopped(signal, promise) {
   if (signal === undefined) return promise;
   return new Promise((done, fail) => {
     const stop = () => fail(signal.reason);
@@ -170,7 +179,7 @@ export function unlessStopped(signal, promise) {
   });
 }
 
-/** @typedef {RemoteJob | LocalJob} AnyJob */
+/** @typedef {RemoteJob | Job} AnyJob */
 
 /**
  * Has the jobs make all runs.

@@ -40,16 +40,3 @@ export function failsAlike(run, other) {
   if (ending !== "race") return findingOf(run.outcome.detail) === findingOf(detail);
   return races.length > 0 && run.outcome.races.some(({ lines }) => pairOf(lines) === pairOf(races[0].lines));
 }
-
-/**
- * Whether two runs did the same, as far as is told of every run.
- * @param {RunSummary} one
- * @param {RunSummary} other
- */
-export function areSame(one, other) {
-  /** @param {RunSummary} told */
-  const parts = ({ ending, moves, calls, state }) => [ending, moves, calls, state.hash].join(" ");
-  return parts(one) === parts(other);
-}
-
-/** @typedef {Pick<Outcome, "seed" | "ending" | "detail" | "moves" | "calls" | "state">} RunSummary */

@@ -3,7 +3,8 @@
 // another order, without some of its stretches, with two stretches of an agent joined, or with one made shorter, as
 // long as that helps.
 
-import { areSame, failsAlike } from "./alike.mjs";
+import { areSame } from "../run/same.mjs";
+import { failsAlike } from "./alike.mjs";
 import { inOneGo } from "./in-one-go.mjs";
 import { keptScript } from "./kept-script.mjs";
 import { changesOf, joinedFrom, rowOf, shortenedAt, stretchesOf, without } from "./stretches.mjs";
@@ -11,7 +12,7 @@ import { changesOf, joinedFrom, rowOf, shortenedAt, stretchesOf, without } from 
 /** @typedef {import("../run/group.mjs").Outcome} Outcome */
 /** @typedef {import("../run/group.mjs").One} One */
 /** @typedef {import("./stretches.mjs").Stretch} Stretch */
-/** @typedef {import("./alike.mjs").RunSummary} RunSummary */
+/** @typedef {import("../run/same.mjs").RunSummary} RunSummary */
 
 /** @typedef {{ before: number, after: number }} Change */
 
@@ -35,6 +36,7 @@ import { changesOf, joinedFrom, rowOf, shortenedAt, stretchesOf, without } from 
  * @property {number} [most] how many runs are made at most
  * @property {number} [milliseconds] how long it may take
  * @property {(tried: Tried) => void} [onTry] is told of each run that was made
+ * @property {boolean} [isFresh] whether the agents' workers are started anew before
  */
 
 /** @typedef {{ runs: number, changes: number }} Tried how many runs were made, and the changes of the shortest then */
@@ -221,10 +223,10 @@ export async function shorten(group, told, limits = {}) {
   const why = whyNot(told);
   if (why !== undefined) return asFound(told, { row: [] }, 0, why);
   const { seed } = told;
-  const first = await group.one({ seed, whole: true, tellsRow: true });
+  const all = { most: MOST_RUNS, milliseconds: MOST_MILLISECONDS, onTry: () => {}, isFresh: false, ...limits };
+  const first = await group.one({ seed, whole: true, tellsRow: true, isFresh: all.isFresh });
   const isAgain = areSame(first.outcome, told) && failsAlike(first, first);
   if (!isAgain) return asFound(told, first.outcome, 1, NOT_AGAIN);
-  const all = { most: MOST_RUNS, milliseconds: MOST_MILLISECONDS, onTry: () => {}, ...limits };
   const search = new Search(group, first, all, begun);
   await search.run();
   const { best, runs, stopped } = search;

@@ -1,10 +1,10 @@
 // A process that asks the engine for its opinion on scripts, one after the other: a text comes in as a message, and its
 // report and the lines of its moves go out.
 
-import { Crew } from "../../engine/crew.mjs";
-import { replay } from "../../engine/replay.mjs";
-import { reportText } from "../../engine/report.mjs";
-import { readScript } from "../../engine/script.mjs";
+import { Crew } from "../engine/crew.mjs";
+import { replay } from "../engine/replay.mjs";
+import { reportText } from "../engine/report.mjs";
+import { readScript } from "../engine/script.mjs";
 
 const crew = new Crew();
 

@@ -1,9 +1,9 @@
 // Reads a script (docs/FORMATS.md) into the parts that the engine needs. What is read is checked as far as the engine
 // needs it: which fault a bad script has is for `sabsim replay` to say.
 
-import { CALLS, KINDS } from "../script/kinds.mjs";
-import { SCRIPT_LIMITS } from "../script/limits.mjs";
-import { isWhole, isWithin128Bits } from "../script/operands.mjs";
+import { CALLS, KINDS } from "../../script/kinds.mjs";
+import { SCRIPT_LIMITS } from "../../script/limits.mjs";
+import { isWhole, isWithin128Bits } from "../../script/operands.mjs";
 
 /** @typedef {number | bigint} Operand a whole number, which is a Number, or a BigInt */
 /** @typedef {{ name: string, kind: number, block: number, offset: number, length: number | null }} View see `KINDS` */

@@ -1,6 +1,6 @@
 // Writes what a script came to as `sabsim replay` does (docs/FORMATS.md), and tells whose answers its lines are.
 
-import { reportOf } from "../script/report.mjs";
+import { reportOf } from "../../script/report.mjs";
 
 /** @typedef {import("./replay.mjs").Outcome} Outcome */
 

@@ -1,24 +1,24 @@
 #!/usr/bin/env node
-// A second opinion by a real engine: `node recorder/engine.mjs script.json` makes a script's moves one after the
-// other in real threads, with the engine's own `Atomics` on real SharedArrayBuffers, and writes the report that
+// A second opinion by a real engine: `node recorder/tests/engine/main.mjs script.json` makes a script's moves one after
+// the other in real threads, with the engine's own `Atomics` on real SharedArrayBuffers, and writes the report that
 // `sabsim replay` would write. So this shows nothing where the engine agrees:
 //
-//     diff <(sabsim replay < script.json) <(node recorder/engine.mjs script.json)
+//     diff <(sabsim replay < script.json) <(node recorder/tests/engine/main.mjs script.json)
 //
-// Not all lines are the engine's answers: engine/replay.mjs says which are the script's own, and how many there are of
+// Not all lines are the engine's answers: replay.mjs says which are the script's own, and how many there are of
 // each is told on standard error. This program isn't proved.
 
 import { createReadStream } from "node:fs";
-import { Crew, EngineFault } from "./engine/crew.mjs";
-import { replay } from "./engine/replay.mjs";
-import { reportText, summary } from "./engine/report.mjs";
-import { readScript, ScriptFault } from "./engine/script.mjs";
-import { SCRIPT_LIMITS } from "./script/limits.mjs";
+import { Crew, EngineFault } from "./crew.mjs";
+import { replay } from "./replay.mjs";
+import { reportText, summary } from "./report.mjs";
+import { readScript, ScriptFault } from "./script.mjs";
+import { SCRIPT_LIMITS } from "../../script/limits.mjs";
 
 const HELP = `\
 Makes a script's moves in real threads with this engine's own Atomics, and writes the report as sabsim replay does.
 
-Usage: node recorder/engine.mjs [FILE] > report
+Usage: node recorder/tests/engine/main.mjs [FILE] > report
 
 A script is read from FILE, or from standard input where that is - or isn't given (docs/FORMATS.md has its form), and
 its report is written to standard output. Each act, wait and leave is the engine's own, on real SharedArrayBuffers, and

@@ -20,8 +20,8 @@
 // for that lock of others looks as if it stood in a line.
 
 import { setTimeout as sleep } from "node:timers/promises";
-import { CONSTRUCTORS } from "../script/kinds.mjs";
-import { answerText } from "../script/report.mjs";
+import { CONSTRUCTORS } from "../../script/kinds.mjs";
+import { answerText } from "../../script/report.mjs";
 import { EngineFault, PATIENCE, until } from "./crew.mjs";
 import { ScriptFault } from "./script.mjs";
 import { Timeline } from "./timeline.mjs";
@@ -32,7 +32,7 @@ import { Timeline } from "./timeline.mjs";
 /** @typedef {import("./script.mjs").Script} Script */
 /** @typedef {import("./script.mjs").Call} Call */
 
-/** @typedef {import("../script/report.mjs").Entry & { isOfEngine: boolean }} Entry what a move did, and who says so */
+/** @typedef {import("../../script/report.mjs").Entry & { isOfEngine: boolean }} Entry what a move did, and who says so */
 
 /** @typedef {{ entries: Entry[], blocks: Uint8Array[], returned: number[] }} Outcome */
 

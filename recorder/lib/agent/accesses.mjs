@@ -1,0 +1,134 @@
+// An agent's ordinary reads and writes between its calls: they are noted in the log as they are made, and what the
+// writes have changed is taken as stores before the agent's next call.
+
+import { WORD } from "../memory/layout.mjs";
+import { FLAG, NO_CALL, READ, WRITE } from "../memory/log.mjs";
+import { numberHere } from "./frames.mjs";
+import { Repeats } from "./repeats.mjs";
+
+// Where sources are told, each access is; but of one that is repeated no more than so many in a row.
+const MOST_TOLD_AGAIN = 100;
+
+/** @typedef {import("./ordinary/context.mjs").Place} Place */
+
+export class Accesses {
+  /** What `note` answers: it is noted, it is repeated without an end, the log has no room for it. */
+  static NOTED = 0;
+
+  static SPINS = 1;
+
+  static FULL = 2;
+
+  /**
+   * @param {number} agent its number
+   * @param {import("./player.mjs").Table} table
+   */
+  constructor(agent, table) {
+    this.agent = agent;
+    this.table = table;
+    this.repeats = new Repeats(table.lengths);
+    /** How many there were in this run. */
+    this.count = 0;
+    /** The first event of the log that this agent has appended since its last call. */
+    this.since = 0;
+  }
+
+  /** A run begins. */
+  begin() {
+    this.count = 0;
+    this.since = this.table.log.length;
+    this.repeats.begin();
+  }
+
+  /** The agent asks for a call: others may move before it goes on. */
+  renew() {
+    this.repeats.renew();
+  }
+
+  /** The agent's call was made. */
+  goOn() {
+    this.since = this.table.log.length;
+  }
+
+  /**
+   * Notes an access that is about to be made.
+   * @param {Place} place
+   * @param {number} from its first byte in the block
+   * @param {number} to the byte behind its last one
+   * @param {boolean} writes
+   * @param {number} made how many calls the agent has made
+   * @returns {number} `NOTED`, or why the run ends
+   */
+  note(place, from, to, writes, made) {
+    const { board, log } = this.table;
+    this.count += 1;
+    const tellsSources = board.words[WORD.TELLS_SOURCES] === 1;
+    const repeats = this.repeats.note(place, from, to, writes);
+    const isNew = repeats === Repeats.NEW;
+    if (!isNew) {
+      if (repeats === Repeats.SPINS) return Accesses.SPINS;
+      if (!tellsSources || this.repeats.again > MOST_TOLD_AGAIN) return Accesses.NOTED;
+    }
+    const what = writes ? WRITE : READ;
+    if (!tellsSources && log.extend(what, this.agent, place.block, from, to, place, this.since)) {
+      this.repeats.keep(place, from, to, writes);
+      return Accesses.NOTED;
+    }
+    if (!log.hasRoom()) return tellsSources && !(writes && isNew) ? Accesses.NOTED : Accesses.FULL;
+    const source = tellsSources ? numberHere(this.table.sources) : 0;
+    const flags = (writes ? FLAG.WRITES : FLAG.READS) | (isNew ? 0 : FLAG.AGAIN);
+    log.append(what, this.agent, NO_CALL, flags, made, place.block, from, to, place, source);
+    this.repeats.keep(place, from, to, writes);
+    return Accesses.NOTED;
+  }
+
+  /**
+   * Takes what ordinary writes have changed since the agent's last call.
+   * @returns {import("../memory/memory.mjs").Change | undefined} a change that nothing stands for
+   */
+  take() {
+    const { memory, ordinary, stores, log } = this.table;
+    for (let block = 0; block < memory.real.length; block += 1) {
+      if (!memory.hasChanged(block)) continue;
+      if (ordinary === "watch") this.#takeSeen(block);
+      if (ordinary === "store") stores.takeChanged(this.agent, log.length, block);
+    }
+    return memory.changed();
+  }
+
+  /**
+   * Takes what the writes that were seen have changed in a block. Those that go on from each other are taken together,
+   * whether the log has joined them or not: a script doesn't depend on that.
+   * @param {number} block
+   */
+  #takeSeen(block) {
+    const { log } = this.table;
+    const { length } = log;
+    let kind = -1;
+    let from = 0;
+    let to = 0;
+    for (let event = this.since; event < length; event += 1) {
+      if (log.whatAt(event) !== WRITE || log.blockAt(event) !== block) continue;
+      if ((log.flagsAt(event) & FLAG.AGAIN) !== 0) continue;
+      const goesOn = log.kindAt(event) === kind && log.fromAt(event) === to;
+      if (!goesOn) {
+        this.#takeStretch(block, from, to, kind);
+        kind = log.kindAt(event);
+        from = log.fromAt(event);
+      }
+      to = log.toAt(event);
+    }
+    this.#takeStretch(block, from, to, kind);
+  }
+
+  /**
+   * @param {number} block
+   * @param {number} from
+   * @param {number} to
+   * @param {number} kind
+   */
+  #takeStretch(block, from, to, kind) {
+    const { log, stores } = this.table;
+    if (from < to) stores.takeWritten(this.agent, log.length, block, from, to, kind);
+  }
+}

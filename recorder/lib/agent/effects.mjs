@@ -1,0 +1,38 @@
+// What a call of Atomics does to its element, as flags of the log: what it may do, before it is made, and what it did.
+
+import { CALL_NUMBERS } from "../../script/kinds.mjs";
+import { FLAG } from "../memory/log.mjs";
+import { isEqualElement } from "./engine.mjs";
+
+const { wait: WAIT, notify: NOTIFY, load: LOAD, store: STORE, compareExchange: COMPARE_EXCHANGE } = CALL_NUMBERS;
+
+/** @typedef {import("../memory/records.mjs").Call} Call */
+
+/**
+ * Whether a call's index is one of its view's.
+ * @param {Call} call
+ */
+export const isWithin = (call) => call.index >= 0 && call.index < call.length;
+
+/**
+ * What a call may do, as flags, before it is done.
+ * @param {Call} call
+ */
+export function flagsAsked(call) {
+  if (call.call === LOAD) return FLAG.READS;
+  if (call.call === STORE) return FLAG.WRITES;
+  if (call.call === NOTIFY) return FLAG.WAITERS;
+  return call.call === WAIT ? FLAG.READS | FLAG.WAITERS : FLAG.READS | FLAG.WRITES;
+}
+
+/**
+ * What an access does to its element: whether it reads and writes it.
+ * @param {Call} call
+ * @param {number | bigint} value that it answers
+ */
+export function effectOf(call, value) {
+  if (call.call === LOAD) return FLAG.READS;
+  if (call.call === STORE) return FLAG.WRITES;
+  if (call.call !== COMPARE_EXCHANGE) return FLAG.READS | FLAG.WRITES;
+  return isEqualElement(call.kind, call.operands[0], value) ? FLAG.READS | FLAG.WRITES : FLAG.READS;
+}

@@ -1,0 +1,35 @@
+// Why a run fails for what an agent has left behind, in words.
+
+import { callText, viewName } from "../memory/spelling.mjs";
+
+/** @param {string} what goes on later, in words @param {string} who */
+export const laterText = (what, who) => `goes on later, by ${what}, but ${who} must be synchronous`;
+
+/**
+ * What code that has ended has left undone, or untold.
+ * @param {import("./later.mjs").Later} later
+ * @param {string} who
+ * @returns {string | undefined}
+ */
+export function undone(later, who) {
+  const goesOn = later.left();
+  if (goesOn !== undefined) return laterText(goesOn, who);
+  const thrown = later.thrownByListener();
+  if (thrown !== undefined) return `has a listener that threw, which nobody catches: ${thrown}`;
+  const rejected = later.rejected();
+  return rejected === undefined ? undefined : `left a rejected promise, which nobody handles: ${rejected}`;
+}
+
+/**
+ * A change of a byte that nothing stands for.
+ * @param {import("../memory/memory.mjs").Change} change
+ * @param {import("./player.mjs").Player} player of the agent that made it
+ */
+export function changeText({ block, byte, was, is }, { agent, made, last, table }) {
+  const when = last === undefined || made === 0
+    ? "before its first call"
+    : `after its call ${made - 1}, ${callText(viewName(table.lengths, last), last)}`;
+  const what = `agent ${agent} changed byte ${byte} of block ${block} from ${was} to ${is}`;
+  if (table.ordinary === "watch") return `${what} where no access was seen, ${when}: try --ordinary store`;
+  return `${what} without a call of Atomics, ${when}`;
+}

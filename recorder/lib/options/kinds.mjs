@@ -1,0 +1,148 @@
+// What an option may be. Each kind looks at a value, as the library is given it, and at a text of the command line.
+
+import { SCRIPT_LIMITS } from "../../script/limits.mjs";
+import { PLAIN } from "../board/strategy/ways.mjs";
+import { checkedAgents, checkedBuffers, checkedNoBlock } from "./plan.mjs";
+import { Refused } from "./refused.mjs";
+
+/**
+ * @typedef {object} Kind
+ * @property {(value: any, name: string) => any} value what is taken of a value; fails with Refused if it can't be
+ * @property {(text: any, name: string) => any} [text] likewise of a text, or of several if `multiple` is true; without
+ * it the command line has the option's name alone
+ * @property {boolean} [multiple] whether the command line may give it more than once
+ */
+
+/**
+ * A kind by what holds of its values.
+ * @param {(value: any) => boolean} holds
+ * @param {string} must what a value must be
+ * @param {(text: string) => unknown} [valueOf] what a text stands for; itself, if it isn't given
+ * @returns {Kind & { text: NonNullable<Kind["text"]> }}
+ */
+function that(holds, must, valueOf = (text) => text) {
+  /** @type {(value: unknown, name: string, given: unknown) => any} */
+  const checked = (value, name, given) => {
+    if (holds(value)) return value;
+    throw new Refused(`${name} must be ${must}${typeof given === "string" ? `, but is "${given}"` : ""}`);
+  };
+  return {
+    value: (value, name) => checked(value, name, value),
+    text: (text, name) => checked(valueOf(text), name, text),
+  };
+}
+
+/**
+ * A kind of numbers: a text is one if it is spelled so.
+ * @param {RegExp} spelling
+ * @param {(value: number) => boolean} holds
+ * @param {string} must
+ */
+const number = (spelling, holds, must) => that(
+  (value) => typeof value === "number" && holds(value), must, (text) => (spelling.test(text) ? Number(text) : NaN),
+);
+
+const DECIMAL = /^[0-9]+(\.[0-9]+)?$/;
+
+/** @param {number} least @param {number} most */
+export const whole = (least, most) => number(
+  /^[0-9]+$/, (value) => Number.isInteger(value) && value >= least && value <= most,
+  `a whole number from ${least} to ${most === Number.MAX_SAFE_INTEGER ? "2^53 - 1" : most}`,
+);
+
+export const SEED = whole(0, Number.MAX_SAFE_INTEGER);
+export const PART = number(DECIMAL, (value) => value >= 0 && value <= 1, "a number from 0 to 1");
+
+/** @param {number} most */
+export const above0 = (most) =>
+  number(DECIMAL, (value) => value > 0 && value <= most, `a number above 0, and ${most} at most`);
+
+/** @param {unknown} value */
+export const isName = (value) => typeof value === "string" && value !== "";
+
+/** @param {string} what it names */
+export const named = (what) => that(isName, what);
+
+/** @type {Kind} */
+export const FLAG = { value: that((value) => typeof value === "boolean", "true or false").value };
+
+export const PATH_OR_URL = that((value) => isName(value) || value instanceof URL, "a path or a URL");
+/** @type {Kind} */
+export const PROGRAM = {
+  value: that((value) => typeof value === "boolean" || isName(value), "a path, true or false").value,
+  text: (text) => text,
+};
+export const FUNCTION = that((value) => typeof value === "function", "a function");
+export const SIGNAL = that((value) => value instanceof AbortSignal, "an AbortSignal");
+
+/** @param {readonly string[]} words */
+export const choice = (words) =>
+  that((value) => words.includes(value), `${words.slice(0, -1).join(", ")} or ${words.at(-1)}`);
+
+/** @param {unknown} value */
+function isStrategy(value) {
+  if (typeof value !== "string") return false;
+  return PLAIN.includes(value) || Number(/^switch:([0-9]+(?:\.[0-9]+)?)$/.exec(value)?.[1] ?? NaN) <= 1;
+}
+
+export const STRATEGY = that(isStrategy, `${PLAIN.join(", ")} or switch:P, with P from 0 to 1`);
+
+/** @param {unknown} value */
+const areStrings = (value) => Array.isArray(value) && Array.from(value).every((each) => typeof each === "string");
+const STRINGS = that(areStrings, "an array of strings");
+
+/** @type {Kind} */
+export const WORDS = { value: (value, name) => [...STRINGS.value(value, name)] };
+
+/** @type {Kind} */
+export const AGENTS = { value: checkedAgents, text: whole(1, SCRIPT_LIMITS.agents).text };
+
+const BYTES = whole(0, SCRIPT_LIMITS.bytes);
+const AGENT = whole(0, SCRIPT_LIMITS.agents - 1);
+
+/** @type {Kind} */
+export const BUFFERS = {
+  value: checkedBuffers,
+  text: (text, name) => checkedBuffers(text.split(",").map((/** @type {string} */ each) => BYTES.text(each, name))),
+};
+
+/** @type {Kind} */
+export const AGENTS_THAT_CANT = {
+  value: checkedNoBlock,
+  text: (texts, name) => texts.map((/** @type {string} */ each) => AGENT.text(each, name)),
+  multiple: true,
+};
+
+/** @param {unknown} value */
+function givenRange(value) {
+  if (typeof value === "number") return { first: 1, last: value };
+  if (typeof value !== "string") return value;
+  const found = /^([0-9]+)(?:\.\.([0-9]+))?$/.exec(value);
+  return found === null ? undefined : { first: Number(found[1]), last: Number(found[2] ?? found[1]) };
+}
+
+/** @type {Kind} */
+export const SEEDS = {
+  value(value, name) {
+    const { first, last } = /** @type {any} */ (givenRange(value) ?? {});
+    if ([first, last].every((seed) => Number.isSafeInteger(seed) && seed >= 0) && first <= last) return { first, last };
+    throw new Refused(`${name} must be as "1..1000", a number (so many, from 1 on), or an object { first, last }`);
+  },
+  text(text, name) {
+    const [from, to = from, more] = text.split("..");
+    if (more !== undefined) throw new Refused(`${name} must be A..B or one seed, but is "${text}"`);
+    const [first, last] = [SEED.text(from, name), SEED.text(to, name)];
+    if (last < first) throw new Refused(`${name} ${text}: the last seed is before the first`);
+    return { first, last };
+  },
+};
+
+/** @type {Kind} */
+export const SHARD = {
+  value: (value) => value,
+  text(text, name) {
+    const [, shard, of] = (/^([0-9]+)\/([0-9]+)$/.exec(text) ?? []).map(Number);
+    if (shard >= 1 && shard <= of && Number.isSafeInteger(of)) return { number: shard, of };
+    throw new Refused(`${name} must be K/N, as 2/4, with K from 1 to N, but is "${text}"`);
+  },
+};

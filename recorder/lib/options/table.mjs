@@ -1,0 +1,116 @@
+// All options, a row for each: what it may be, what serves where it isn't given, who takes it, whether summaries can be
+// joined only where it is the same, and the line of help. The command line, the library and the summary go by it.
+
+import { DEFAULT_CHECK_EVERY, DEFAULT_SECONDS, MOST_JOBS, SCRIPT_LIMITS } from "../../script/limits.mjs";
+import {
+  AGENTS, AGENTS_THAT_CANT, BUFFERS, FLAG, FUNCTION, PART, PATH_OR_URL, PROGRAM, SEED, SEEDS, SHARD, SIGNAL, STRATEGY,
+  WORDS, above0, choice, named, whole,
+} from "./kinds.mjs";
+
+/** @typedef {"record" | "explore" | "command"} Taker the library's two functions, and the command line */
+
+/**
+ * @typedef {object} Option
+ * @property {import("./kinds.mjs").Kind} kind
+ * @property {Taker[]} of who takes it
+ * @property {unknown} [ifNone] what serves where it isn't given
+ * @property {boolean} [isShared] whether summaries can be joined only where it is the same
+ * @property {string} [word] its name on the command line, where that is another one
+ * @property {string[]} [help] what stands behind its name on the command line, and what it says
+ */
+
+const MOST_SECONDS = 3_600;
+
+/** @type {Taker[]} */
+const LIBRARY = ["record", "explore"];
+/** @type {Taker[]} */
+const ALL = [...LIBRARY, "command"];
+/** @type {Taker[]} */
+const OF_MANY = ["explore", "command"];
+/** @type {Taker[]} */
+const COMMAND = ["command"];
+
+/** @type {(kind: import("./kinds.mjs").Kind, ifNone: unknown, help: string[]) => Option} of each run */
+const rule = (kind, ifNone, help) => ({ kind, of: ALL, ifNone, isShared: true, help });
+
+/** @type {(words: string[], help: string[]) => Option} it is one of some words, the first where none is given */
+const word = (words, help) => rule(choice(words), words[0], help);
+
+/** @type {Readonly<Record<string, Option>>} by their names */
+export const OPTIONS = Object.freeze({
+  module: { kind: PATH_OR_URL, of: LIBRARY },
+  agents: rule(AGENTS, undefined, ["N", "how many agents; else the module's `setup` says it"]),
+  buffers: rule(BUFFERS, undefined,
+    ["N,..", "the bytes of each buffer, one to four; else the module's `setup` says it"]),
+  noBlock: rule(AGENTS_THAT_CANT, undefined,
+    ["A", "agent A can't block: its Atomics.wait throws TypeError; may be given more than once; else the module's "
+    + "`setup` says it"]),
+  seed: { kind: SEED, of: ["record"], ifNone: 1 },
+  args: { kind: WORDS, of: LIBRARY, ifNone: Object.freeze([]) },
+  seeds: { kind: SEEDS, of: OF_MANY, ifNone: Object.freeze({ first: 1, last: 100 }),
+    help: ["A..B", "the seeds, or one seed (1..100)"] },
+  shard: { kind: SHARD, of: COMMAND, help: ["K/N", "of these seeds the K-th of N parts alone, as for one of N machines:"
+    + " merge.mjs joins their summaries"] },
+  strategy: rule(STRATEGY, "mixed",
+    ["HOW", "who moves next: uniform (all that can are alike), switch:P (how likely it is, from 0 to 1, that another "
+    + "agent moves next), partial-order (by random priorities) or mixed (by the seed one of such) (mixed)"]),
+  everywhere: rule(FLAG, false,
+    ["", "agents are switched before each call, also where pilot runs have shown that no other agent goes"]),
+  timeouts: rule(PART, 0.05, ["P", "in how many of the draws, from 0 to 1, the end of a timed wait is offered while "
+    + "something else can move (0.05)"]),
+  ordinary: word(["watch", "store", "refuse"], ["HOW", "reads and writes without Atomics: watch (each is seen, and "
+    + "unordered accesses are looked for), store (only what changed is found) or refuse (a byte that changed fails the "
+    + "run) (watch)"]),
+  races: word(["fail", "allow"],
+    ["HOW", "unordered accesses: two agents access a byte, one of them writes it, and nothing orders the two. fail: a "
+    + "run that has some fails, with the ending race; allow: they are reported only (fail)"]),
+  bounds: word(["fail", "allow"],
+    ["HOW", "fail: a run that meets a bound, as a spin does, fails; allow: it is told only (fail)"]),
+  clock: word(["run", "real"],
+    ["WHICH", "the time that clocks tell agents: run (the run's own, which comes from the seed) or real (run)"]),
+  maxMoves: rule(whole(1, SCRIPT_LIMITS.moves), SCRIPT_LIMITS.moves,
+    ["M", `how many moves a run may have (${SCRIPT_LIMITS.moves})`]),
+  seconds: rule(above0(MOST_SECONDS), DEFAULT_SECONDS,
+    ["S", `for how long an agent may make no call (${DEFAULT_SECONDS})`]),
+  fresh: { kind: FLAG, of: OF_MANY, ifNone: false, isShared: true,
+    help: ["", "starts the agents' workers anew for each seed"] },
+  failFast: { kind: FLAG, of: OF_MANY, ifNone: false, isShared: true, help: ["", "ends at the first failing run"] },
+  untilCovered: { kind: FLAG, of: COMMAND, ifNone: false, isShared: true, help: ["", "ends when 500 seeds in a row "
+    + "have shown no new pair of lines that came one after the other at a place"] },
+  checkEvery: { kind: whole(0, Number.MAX_SAFE_INTEGER), of: OF_MANY, ifNone: DEFAULT_CHECK_EVERY, isShared: true,
+    word: "check", help: ["N", "sabsim checks every run that fails, and one in N of the others; 0: none at all "
+      + `(${DEFAULT_CHECK_EVERY}; none where sabsim isn't built, which the summary says)`] },
+  init: { kind: FUNCTION, of: LIBRARY },
+  check: { kind: FUNCTION, of: LIBRARY },
+  sabsim: { kind: PROGRAM, of: ALL, help: ["PATH", "the built program (what SABSIM of the environment names, or "
+    + "crates/sabsim/out/sabsim in the repository)"] },
+  jobs: { kind: whole(1, MOST_JOBS), of: OF_MANY, ifNone: 1,
+    help: ["N", "how many groups of workers run side by side (1)"] },
+  format: { kind: choice(["plain", "json"]), of: COMMAND, ifNone: "plain",
+    help: ["FORM", "how the summary is told: plain, or json, which is one line (plain)"] },
+  out: { kind: named("the name of a folder"), of: COMMAND,
+    help: ["DIR", "where the first failing run's script and report are kept; nothing is written without it"] },
+  noShorten: { kind: FLAG, of: COMMAND, ifNone: false, help: ["", "keeps that run as its seed makes it; else the "
+    + "shortest run that fails in the same way is kept, and the run of the seed beside it"] },
+  shorten: { kind: FLAG, of: ["record"] },
+  replay: { kind: named("the name of a script that was kept"), of: COMMAND,
+    help: ["FILE", "runs the agents once more, by the row of a script that was kept, in this process, so that a "
+    + "debugger can stop in them (node --inspect-brk recorder/record.mjs ..); status 3 where the code no longer does "
+    + "what stands in the script"] },
+  signal: { kind: SIGNAL, of: ["explore"] },
+  trace: { kind: FLAG, of: LIBRARY, ifNone: false },
+  help: { kind: FLAG, of: COMMAND, help: ["", "this text"] },
+});
+
+/** @param {Taker} taker @returns {[string, Option][]} its options, by their names */
+export const optionsOf = (taker) => Object.entries(OPTIONS).filter(([, { of }]) => of.includes(taker));
+
+/** @param {Taker} taker @returns {Record<string, any>} what serves where it isn't given, by the options' names */
+export function defaultsOf(taker) {
+  const given = optionsOf(taker).filter(([, { ifNone }]) => ifNone !== undefined);
+  return Object.fromEntries(given.map(([name, { ifNone }]) => [name, ifNone]));
+}
+
+/** @param {string} name of an option, as `maxMoves` @returns {string} as the command line has it, `max-moves` */
+export const wordOf = (name) =>
+  (OPTIONS[name]?.word ?? name).replaceAll(/[A-Z]/g, (letter) => `-${letter.toLowerCase()}`);

@@ -1,0 +1,15 @@
+// Whether two runs did the same.
+
+/** @typedef {import("./group.mjs").Outcome} Outcome */
+/** @typedef {Pick<Outcome, "seed" | "ending" | "detail" | "moves" | "calls" | "state">} RunSummary */
+
+/**
+ * Whether two runs of a seed did the same, as far as is told of every run.
+ * @param {RunSummary} one
+ * @param {RunSummary} other
+ */
+export function areSame(one, other) {
+  /** @param {RunSummary} told */
+  const parts = ({ ending, moves, calls, state }) => [ending, moves, calls, state.hash].join(" ");
+  return parts(one) === parts(other);
+}

@@ -1,0 +1,50 @@
+// The table of options: the command line, the library's types and README have just the options that it has.
+
+import assert from "node:assert/strict";
+import { readFileSync } from "node:fs";
+import { test } from "node:test";
+import { optionsOf, wordOf } from "../lib/options/table.mjs";
+
+const textOf = (name) => readFileSync(new URL(`../${name}`, import.meta.url), "utf8");
+const README = textOf("README.md");
+const TYPES = textOf("recorder.d.mts");
+
+/** The names of the options that somebody takes. */
+const namesOf = (taker) => optionsOf(taker).map(([name]) => name);
+
+/** The names in the first cells of README's table below a line of text. */
+function namesBelow(line) {
+  const [, table] = README.split(line)[1].split("|---|---|\n");
+  const rows = table.slice(0, table.search(/^(?!\|)/m)).trimEnd().split("\n");
+  return rows.flatMap((row) => [...row.split(" | ")[0].matchAll(/`(?:--)?([\w-]+)/g)].map(([, name]) => name));
+}
+
+/** The members of a type of the library. */
+function membersOf(type) {
+  const [, body] = new RegExp(`interface ${type}\\b[^{]*\\{\\n([^]*?)\\n\\}`).exec(TYPES);
+  return [...body.matchAll(/^ {2}(\w+)\??:/gm)].map(([, name]) => name);
+}
+
+test("README's tables have each option of the command line, of record and of explore", () => {
+  assert.deepEqual(namesBelow("## Options").sort(), namesOf("command").map(wordOf).sort());
+  assert.deepEqual(namesBelow("whatever the working directory is.").sort(), namesOf("record").sort());
+  const [record, explore] = ["record", "explore"].map(namesOf);
+  const more = explore.filter((name) => !record.includes(name));
+  assert.deepEqual(namesBelow("`explore` takes the same options").sort(), more.sort());
+});
+
+test("the library's types have each option of record and of explore", () => {
+  const [record, explore] = ["RecordOptions", "ExploreOptions"].map(membersOf);
+  assert.deepEqual(record.sort(), namesOf("record").sort());
+  const without = ["seed", "shorten"];
+  assert.deepEqual([...record, ...explore].filter((name) => !without.includes(name)).sort(), namesOf("explore").sort());
+});
+
+test("each option of the command line has its line of help, and what serves where it isn't given can be given", () => {
+  for (const [name, { help = [] }] of optionsOf("command")) assert.equal(help.length, 2, name);
+  for (const taker of ["record", "explore"]) {
+    for (const [name, { kind, ifNone }] of optionsOf(taker)) {
+      if (ifNone !== undefined) assert.deepEqual(kind.value(ifNone, name), ifNone, name);
+    }
+  }
+});
