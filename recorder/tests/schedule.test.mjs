@@ -20,7 +20,7 @@ import { Dice, generatedScript, timedScript } from "./helpers/scripts.mjs";
 import { simulate } from "./helpers/simulate.mjs";
 
 const EDITS = { earlier, later, dropped, timeEnded };
-const SEEDS = Array.from({ length: 40 }, (_, seed) => seed + 1);
+const SEEDS = Array.from({ length: 12 }, (_, seed) => seed + 1);
 
 /** What the program says about a text. */
 function replayed(text) {
@@ -61,7 +61,7 @@ describe("on random scripts", withSabsim, () => {
         assert.equal(editing.text, text);
         assert.deepEqual(editing.now.turns.flatMap(({ moves }) => moves), JSON.parse(text).schedule);
         if (editing.isWhole) counts.whole += 1;
-        for (let time = 0; time < 12; time += 1) {
+        for (let time = 0; time < 10; time += 1) {
           const [name, at] = [dice.of(Object.keys(EDITS)), dice.below(editing.now.turns.length)];
           const [before, was] = [editing.text, editing.now];
           const asked = EDITS[name](was, at);
@@ -81,7 +81,7 @@ describe("on random scripts", withSabsim, () => {
         editing.reset();
         assert.deepEqual([editing.text, editing.isChanged], [text, false]);
       }
-      assert.ok(counts.changed > 150 && counts.refused > 30, JSON.stringify(counts));
+      assert.ok(counts.changed > 40 && counts.refused > 20, JSON.stringify(counts));
       assert.equal(counts.whole === SEEDS.length, kind === "whole", JSON.stringify(counts));
     });
 
@@ -101,7 +101,7 @@ describe("on random scripts", withSabsim, () => {
           assert.equal(editing.text, text, `seed ${seed}: turn ${at}`);
         }
       }
-      assert.ok(moved > 60, `${moved} moves`);
+      assert.ok(moved > 20, `${moved} moves`);
     });
   }
 
@@ -132,7 +132,9 @@ describe("on random scripts", withSabsim, () => {
       const begun = editing.now.report.agents.map(({ returned, standing }) => {
         return returned + (standing === undefined || standing.at === "ready" ? 0 : 1);
       });
-      const agents = editing.script.agents.map(({ calls, ...agent }, at) => ({ ...agent, calls: calls.slice(0, begun[at]) }));
+      const agents = editing.script.agents.map(({ calls, ...agent }, at) => {
+        return { ...agent, calls: calls.slice(0, begun[at]) };
+      });
       const cut = new Editing(JSON.stringify({ ...JSON.parse(editing.text), agents }), simulate);
       for (let at = cut.now.turns.length - 1; at >= 0; at -= 1) {
         if (wordsOf(cut.now)[at] === "stuck") cut.change(dropped, at);
@@ -146,7 +148,7 @@ describe("on random scripts", withSabsim, () => {
         assert.throws(() => keptScript(cut.text, "it"), `seed ${seed}: ${whyNotOnCode(cut)}`);
       }
     }
-    assert.ok(counts.can > 20, JSON.stringify(counts));
+    assert.ok(counts.can > 6, JSON.stringify(counts));
   });
 });
 
