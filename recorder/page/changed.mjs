@@ -56,6 +56,22 @@ export function scriptData(script, report) {
 }
 
 /**
+ * Events by agent and call: a call and its end; or the ordinary accesses before a call.
+ * @param {Event[]} events
+ */
+function byCall(events) {
+  /** @type {Map<string, Event[]>} */
+  const map = new Map();
+  for (const event of events) {
+    const key = `${event.agent} ${event.call}`;
+    const known = map.get(key);
+    if (known === undefined) map.set(key, [event]);
+    else known.push(event);
+  }
+  return map;
+}
+
+/**
  * The events of a trace in the order of another schedule. An agent's ordinary accesses stay between its calls.
  * @param {RunData} data of the recorded run
  * @param {Script} script
@@ -63,12 +79,8 @@ export function scriptData(script, report) {
  * @returns {Event[]} none where the trace doesn't have the calls of the report
  */
 function retraced({ events, agents }, script, { entries }) {
-  /** @type {Map<string, Event[]>} by agent and call: the call and its end, and the ordinary accesses before it */
-  const [calls, ordinary] = [new Map(), new Map()];
-  for (const event of events) {
-    const [key, map] = [`${event.agent} ${event.call}`, isOrdinary(event) ? ordinary : calls];
-    map.set(key, [...map.get(key) ?? [], event]);
-  }
+  const calls = byCall(events.filter((event) => !isOrdinary(event)));
+  const ordinary = byCall(events.filter(isOrdinary));
   const own = script.agents.map((agent) => {
     let number = 0;
     return agent.calls.map((call) => (isStandIn(call) ? -1 : number++));
@@ -78,8 +90,9 @@ function retraced({ events, agents }, script, { entries }) {
     const isShown = agent < agents && !isStandIn(does) && (what === "act" || what === "wait" || what === "leave");
     if (!isShown) continue;
     const number = own[agent][call];
-    const [begun, end = begun] = calls.get(`${agent} ${number}`) ?? [];
-    if (begun === undefined) return [];
+    const known = calls.get(`${agent} ${number}`);
+    if (known === undefined) return [];
+    const [begun, end = begun] = known;
     made.push([what === "leave" ? { ...end, does: answer === "ok" ? "leave" : "time-up" } : begun]);
     if (what !== "wait") made.push(ordinary.get(`${agent} ${number + 1}`) ?? []);
   }

@@ -59,8 +59,10 @@ export async function openPage(Simulator) {
   const run = new Run(data);
   showHead(data);
   const fileName = `seed-${data.seed}.changed.json`;
-  const words = { was: "recorded", fileName, notes: () => notesOn(data, shown.editing, fileName) };
-  const shown = new Changeable(run, words, (isChanged) => (isChanged ? showChangedHead(data) : showHead(data)));
+  /** @type {Changeable} */
+  const shown = new Changeable(run, {
+    was: "recorded", fileName, notes: () => notesOn(data, shown.editing, fileName),
+  }, (isChanged) => (isChanged ? showChangedHead(data) : showHead(data)));
   shown.open(run, run.failing[run.failing.length - 1]);
   shown.viewer.timeline.pane.focus({ preventScroll: true });
   if (Simulator === undefined || data.script === undefined) return;

@@ -29,7 +29,11 @@ function spanOfValue(text, path) {
   let next = 0;
   /** @type {Span | undefined} */
   let found;
-  /** Reads a value. @param {number} depth @param {boolean} isOnPath whether the path has led here */
+  /**
+   * Reads a value.
+   * @param {number} depth
+   * @param {boolean} isOnPath whether the path has led here
+   */
   const read = (depth, isOnPath) => {
     const { token: first, from } = tokens[next++];
     if (first === "{" || first === "[") {

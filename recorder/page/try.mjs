@@ -26,6 +26,8 @@ class TryPage {
   constructor({ examples }, simulate) {
     this.simulate = simulate;
     this.text = /** @type {HTMLTextAreaElement} */ (by("text"));
+    /** @type {Changeable | undefined} */
+    this.shown = undefined;
     const select = /** @type {HTMLSelectElement} */ (by("examples"));
     select.append(...examples.map(({ name }) => made("option", "", name)));
     select.addEventListener("change", () => this.write(examples[select.selectedIndex].text));

@@ -29,15 +29,23 @@ function swapped(turns, first, chosen) {
   return { turns: spliced(turns, first, 2, other, one), at: chosen === first ? first + 1 : first };
 }
 
-/** Moves a turn before the one that comes before it. @type {Edit} */
+/**
+ * Moves a turn before the one that comes before it.
+ * @type {Edit}
+ */
 export const earlier = ({ turns }, at) => swapped(turns, at - 1, at);
 
-/** Moves a turn behind the one that comes behind it. @type {Edit} */
+/**
+ * Moves a turn behind the one that comes behind it.
+ * @type {Edit}
+ */
 export const later = ({ turns }, at) => swapped(turns, at, at);
 
 /**
  * Takes a turn away. Its agent makes the same calls, and has a turn less for them.
- * @type {Edit}
+ * @param {Replayed} replayed
+ * @param {number} at
+ * @returns {Edited | NotEdited}
  */
 export function dropped({ turns }, at) {
   if (turns[at].isFixed) return { why: FIXED };
@@ -47,7 +55,9 @@ export function dropped({ turns }, at) {
 /**
  * Ends the time of the wait that a turn begins, right behind it. The turn in which the agent went on from the wait
  * becomes that turn; where there is none, a turn is added.
- * @type {Edit}
+ * @param {Replayed} replayed
+ * @param {number} at
+ * @returns {Edited | NotEdited}
  */
 export function timeEnded({ turns, starts, report: { entries } }, at) {
   const { agent } = turns[at];
