@@ -19,6 +19,7 @@ import { temporaryFolder } from "./helpers/common.mjs";
 import { FIREFOX, Firefox } from "./helpers/firefox.mjs";
 import { HANDED } from "./helpers/handed.mjs";
 import { hasSabsim, needing } from "./helpers/needs.mjs";
+import { PALE_TEXTS } from "./helpers/pale-texts.mjs";
 import { pathOf } from "./helpers/programs.mjs";
 import { simulate } from "./helpers/simulate.mjs";
 
@@ -122,8 +123,8 @@ for (const [name, { isThere, begin }] of Object.entries(BROWSERS)) {
       const note = "[...document.querySelectorAll('#schedule .note, #schedule .command')].at(-1).textContent";
       await choose(page, "step-1");
       await page.click("#later");
-      assert.equal(await page.value(note), "No command makes this schedule on the code: agent 0 can't move at 21; drop " +
-        "that step first.");
+      const none = "No command makes this schedule on the code";
+      assert.equal(await page.value(note), `${none}: agent 0 can't move at 21; drop that step first.`);
       await page.press("End", "ArrowUp", "d");
       assert.equal(await page.value(note), "npx sabsim-record hand.mjs --replay seed-3.changed.json -- one");
     });
@@ -145,6 +146,22 @@ for (const [name, { isThere, begin }] of Object.entries(BROWSERS)) {
       assert.equal(await page.value("document.getElementById('schedule').hidden"), true);
       assert.deepEqual(await page.complaints(), []);
     });
+
+    for (const [width, background] of [[1280, "light"], [1280, "dark"], [400, "light"], [400, "dark"]]) {
+      it(`both pages can be read ${width} pixels wide, on a ${background} background`, withBrowser, async (context) => {
+        for (const text of [pageOf(handedData(), SIMULATOR), tryPageOf(EXAMPLES, SIMULATOR)]) {
+          const page = await opened(context, text, { width, background });
+          await choose(page, "step-1");
+          await page.press("l", "l", "l");
+          const { scrollWidth, clientWidth } = await page.value(`(() => {
+            const { scrollWidth, clientWidth } = document.scrollingElement;
+            return { scrollWidth, clientWidth };
+          })()`);
+          assert.equal(scrollWidth, clientWidth);
+          assert.deepEqual(await page.value(PALE_TEXTS), []);
+        }
+      });
+    }
 
     it("the page to try it tells of each example what the program writes", withBrowser, async (context) => {
       const page = await opened(context, tryPageOf(EXAMPLES, SIMULATOR));
