@@ -1,9 +1,10 @@
 // A run as its page shows it: its steps, and for each of them the memory, who waits where, and where the agents are. It
-// runs in the page of a run, and in tests; it knows nothing of how things are shown.
+// runs in pages, and in tests; it knows nothing of how things are shown.
 
+import { isStandIn } from "../schedule/report.mjs";
 import { callText, elementText, entryText, standingText, valueText } from "./words.mjs";
 
-/** @typedef {import("./words.mjs").Entry} Entry */
+/** @typedef {import("../schedule/report.mjs").Entry} Entry */
 /** @typedef {import("./words.mjs").View} View */
 
 /**
@@ -28,7 +29,7 @@ import { callText, elementText, entryText, standingText, valueText } from "./wor
  * @property {number} agents how many, without that of `init`
  * @property {number[]} blocks their lengths
  * @property {View[]} views
- * @property {Entry[]} entries those that act, wait and leave
+ * @property {Entry[]} entries those that act, wait, leave and are stuck
  * @property {Record<string, any>[]} standings of agents that haven't come to the end of their calls
  * @property {Event[]} events of the trace; none where it isn't known
  * @property {boolean} isWhole whether all are there; else those that are ordinary and don't race aren't
@@ -36,6 +37,14 @@ import { callText, elementText, entryText, standingText, valueText } from "./wor
  * @property {{ file: string, text: string | null }[]} files
  * @property {[number, number][]} races the two events of each, the most telling first
  * @property {"all" | "touched"} holds which ordinary writes the script has
+ * @property {string} [script] its text, in a page that can change the schedule
+ * @property {Command} [command] that has made the run; undefined: it was made without one
+ */
+
+/**
+ * @typedef {object} Command words of a shell
+ * @property {string} options the program, the module and the options that the run depends on
+ * @property {string} args what stands behind the options, for the agents
  */
 
 /**
@@ -52,7 +61,7 @@ import { callText, elementText, entryText, standingText, valueText } from "./wor
 
 /**
  * @typedef {object} Step
- * @property {"start" | "call" | "wait" | "leave" | "ordinary" | "store" | "end"} what
+ * @property {"start" | "call" | "wait" | "leave" | "stuck" | "ordinary" | "store" | "end"} what
  * @property {number} [agent]
  * @property {number} [entry] its position in the report
  * @property {number} [event] its position in the trace
@@ -113,9 +122,9 @@ export const placeKey = (block, byte) => `${block} ${byte}`;
 
 /**
  * How many bytes a view's elements have.
- * @param {View} view
+ * @param {{ kind: string }} view
  */
-const sizeOf = ({ kind }) => SIZES[kind];
+export const sizeOf = ({ kind }) => SIZES[kind];
 
 /** @param {View} view @param {number} byte */
 const labelOf = (view, byte) => {
@@ -244,7 +253,7 @@ class Stepper {
 
   /** Whether the calls of the trace are those of the report. */
   #isTraced() {
-    const own = this.entries.filter((entry) => !isStore(entry));
+    const own = this.entries.filter((entry) => !isNoCall(entry));
     const calls = this.data.events.filter((event) => !isOrdinary(event));
     return own.length === calls.length && own.every(({ agent, what, does }, at) => {
       const isLeave = calls[at].does === "leave" || calls[at].does === "time-up";
@@ -277,7 +286,7 @@ class Stepper {
       this.#ordinary(event, position);
       return;
     }
-    while (isStore(this.entries[this.next])) this.#entry(-1, undefined);
+    while (this.next < this.entries.length && isNoCall(this.entries[this.next])) this.#entry(-1, undefined);
     this.#entry(event.place, position);
   }
 
@@ -306,7 +315,8 @@ class Stepper {
     const entry = this.entries[this.next];
     this.next += 1;
     const sentence = entryText(entry, this.known);
-    if (isStore(entry)) this.#store(entry, sentence);
+    if (entry.what === "stuck") this.#stuck(entry, sentence);
+    else if (isStandIn(entry.does)) this.#store(entry, sentence);
     else this.#call(entry, sentence, place, event);
   }
 
@@ -350,6 +360,13 @@ class Stepper {
     });
   }
 
+  /** @param {Entry} entry @param {string} sentence */
+  #stuck(entry, sentence) {
+    const { agent, entry: number, does } = entry;
+    const text = does.length === 0 ? "no call" : callText(does);
+    this.#add({ what: "stuck", agent, entry: number, sentence, text, answer: "can't move", fact: entry });
+  }
+
   /** @param {Entry} entry @returns {View} */
   #viewOf({ does: [, name] }) {
     return /** @type {View} */ (this.views.byName.get(`${name}`));
@@ -357,7 +374,7 @@ class Stepper {
 
   /** @param {Entry} entry that has a place @param {boolean} writes @returns {Access} */
   #accessOf(entry, writes) {
-    const { block, byte } = /** @type {import("./words.mjs").Place} */ (entry.place);
+    const { block, byte } = /** @type {import("../schedule/report.mjs").Place} */ (entry.place);
     return { block, byte, size: sizeOf(this.#viewOf(entry)), writes };
   }
 
@@ -372,13 +389,13 @@ class Stepper {
 }
 
 /**
- * Whether an entry stands for an ordinary write.
- * @param {Entry | undefined} entry
+ * Whether an entry is none of a call that its agent made: it stands for an ordinary write, or is stuck.
+ * @param {Entry} entry
  */
-const isStore = (entry) => entry !== undefined && OF_STORES.test(`${entry.does[1]}`);
+const isNoCall = ({ what, does }) => what === "stuck" || isStandIn(does);
 
 /** @param {Event} event */
-const isOrdinary = ({ does }) => does === "read" || does === "write";
+export const isOrdinary = ({ does }) => does === "read" || does === "write";
 
 /**
  * What came of a call, in short.
@@ -428,7 +445,7 @@ export class Run {
       const step = this.steps[at];
       for (const change of step.changes) write(blocks[change.block], change);
       if (step.changes.length > 0) changedBy = at;
-      if (step.agent !== undefined) latest[step.agent] = at;
+      if (step.agent !== undefined && step.what !== "stuck") latest[step.agent] = at;
       moveLine(lines, step);
     }
     const agents = this.last.map((_, agent) => this.#agentAt(agent, latest[agent], index, lines));
@@ -478,7 +495,7 @@ export class Run {
 
   /** @param {number} agent */
   #lastOf(agent) {
-    return this.steps.map((step) => step.agent).lastIndexOf(agent);
+    return this.steps.map((step) => (step.what === "stuck" ? undefined : step.agent)).lastIndexOf(agent);
   }
 
   /** @param {number} event @returns {number} the step of an event, or -1 */

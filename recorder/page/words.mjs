@@ -1,20 +1,7 @@
 // The facts of a run in the words of `sabsim replay --format explained`, from what `--format json` tells of it. It runs
-// in the page of a run, and in tests.
+// in pages, and in tests.
 
-/**
- * @typedef {object} Entry what `sabsim replay --format json` tells of an entry
- * @property {number} agent
- * @property {number} entry its position in the report
- * @property {number} call the position of the agent's call
- * @property {"begin" | "act" | "wait" | "leave" | "return" | "stuck"} what
- * @property {number | string} [answer]
- * @property {(string | number)[]} does the call: its name, its view's, its index, and what else it takes
- * @property {Place} [place]
- * @property {number} [since]
- * @property {Record<string, any>} [found]
- */
-
-/** @typedef {{ block: number, byte: number }} Place */
+/** @typedef {import("../schedule/report.mjs").Entry} Entry */
 /** @typedef {{ name: string, kind: string, block: number, offset: number, length: number }} View */
 
 /**
@@ -106,6 +93,22 @@ function actText(entry, known) {
 }
 
 /**
+ * Why an agent couldn't move.
+ * @param {Entry} entry
+ * @param {Known} known
+ */
+function stuckText({ agent, call, why, does, since, found = {} }, { waits }) {
+  if (does.length === 0) return call === 0 ? "it has no calls" : "all its calls have returned";
+  const [element, wait] = [elementText(does), waits[agent] ?? since];
+  switch (why) {
+    case "waiting": return `waits at ${element} since ${wait}, in ${callText(does)}`;
+    case "endless": return `waits at ${element} since ${wait}, and ${callText(does)} has no timeout`;
+    default:
+      return found.woken_by === undefined ? "doesn't wait" : `doesn't wait any more: it was woken by ${found.woken_by}`;
+  }
+}
+
+/**
  * The words of an entry: of an act, a wait or the end of one. Of a begin and a return there is no more than that.
  * @param {Entry} entry
  * @param {Known} known
@@ -121,6 +124,7 @@ export function entryText(entry, known) {
     case "leave":
       if (answer === "ok") return `${call} was woken by ${found.woken_by}`;
       return `${call} times out after waiting at ${elementText(does)} since ${since}`;
+    case "stuck": return stuckText(entry, known);
     default: return `${call} ${actText(entry, known)}`;
   }
 }

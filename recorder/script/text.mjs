@@ -45,8 +45,11 @@ function agentText(calls, canBlock) {
   return `{"block": ${canBlock}, "calls": [\n      ${calls.map((call) => call.text).join(",\n      ")}\n    ]}`;
 }
 
-/** @param {Move[]} moves */
-function scheduleText(moves) {
+/**
+ * The moves of a schedule, laid out over lines.
+ * @param {Move[]} moves
+ */
+export function scheduleText(moves) {
   const texts = moves.map((move) => (move.timeUp ? `{"timeout": ${move.agent}}` : String(move.agent)));
   const lines = [];
   for (let at = 0; at < texts.length; at += MOVES_ON_A_LINE) {

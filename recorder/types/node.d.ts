@@ -96,11 +96,12 @@ interface URL {
 declare var URL: { readonly prototype: URL; new (url: string, base?: string | URL): URL };
 
 declare class TextEncoder {
+  encode(text: string): Uint8Array;
   encodeInto(text: string, into: Uint8Array): { read: number; written: number };
 }
 
 declare class TextDecoder {
-  constructor(encoding: string, options: { fatal: boolean; ignoreBOM: boolean });
+  constructor(encoding?: string, options?: { fatal: boolean; ignoreBOM: boolean });
   decode(bytes?: ArrayBufferView): string;
 }
 
@@ -219,11 +220,11 @@ declare module "node:fs" {
   export function createReadStream(path: string): NodeJS.Input;
   export function accessSync(path: string, mode: number): void;
   export function closeSync(file: number): void;
-  export function existsSync(path: string): boolean;
+  export function existsSync(path: string | URL): boolean;
   export function mkdtempSync(prefix: string): string;
   export function mkdirSync(path: string, options: { recursive: true }): void;
   export function openSync(path: string, flags: string): number;
-  export function readFileSync(file: string | URL | number, encoding: "latin1" | "utf8"): string;
+  export function readFileSync(file: string | URL | number, encoding: "base64" | "latin1" | "utf8"): string;
   export function readFileSync(path: string | URL): Buffer;
   export function readlinkSync(path: string): string;
   export function realpathSync(path: string): string;
@@ -260,6 +261,7 @@ declare module "node:path" {
   export function dirname(path: string): string;
   export function isAbsolute(path: string): boolean;
   export function join(...parts: string[]): string;
+  export function relative(from: string, to: string): string;
   export function resolve(...parts: string[]): string;
 }
 

@@ -14,6 +14,7 @@ import { Interrupted, Interruption } from "./interruption.mjs";
 import { print } from "./print.mjs";
 import { toldOf } from "./problems.mjs";
 import { Progress } from "./progress.mjs";
+import { replayCommand } from "./replay-command.mjs";
 import { FORM } from "./summary-form.mjs";
 import { Summary } from "./summary.mjs";
 
@@ -121,7 +122,9 @@ export class Session {
       keeper.keepAll(seed, { json: script, report, "trace.jsonl": trace, ...theirs });
     } else if (failing !== undefined && keeper.seed === failing.seed) {
       const outcome = shortened?.shortest ?? failing;
-      this.leftOut.push(...keepPictures(keeper, outcome, this.sabsim, this.options.module));
+      const command = replayCommand({ ...this.options, module: this.asked.module });
+      const how = { path: this.sabsim, module: this.options.module, command };
+      this.leftOut.push(...keepPictures(keeper, outcome, how));
     }
   }
 

@@ -1,28 +1,15 @@
 // The page of a run, `seed-N.html`: one file for a browser, which needs no other and no network. Its code and its looks
-// stand in the folder `page`; here they are joined with what sabsim tells of the run, its trace and the agents' code.
+// stand in the folder `page`; here they are joined with what sabsim tells of the run, its trace and the agents' code,
+// and with the simulator, where its module is there.
 
-import { createHash } from "node:crypto";
-import { readFileSync } from "node:fs";
+import { builtSimulator, documentOf } from "./document.mjs";
 
 /** @typedef {import("../run/group.mjs").Outcome} Outcome */
+/** @typedef {import("../../page/model.mjs").Command} Command */
 /** @typedef {import("../../page/model.mjs").RunData} RunData */
-
-const FOLDER = new URL("../../page/", import.meta.url);
-const CODE = ["words.mjs", "model.mjs", "page.mjs"];
 
 // Of a trace of more events the ordinary accesses are left out, but for those that race.
 const MOST_EVENTS = 20_000;
-
-/** @param {string} name */
-const partOf = (name) => readFileSync(new URL(name, FOLDER), "utf8");
-
-/** Modules as one script: what each takes of another stands before it. */
-const joinedCode = () => CODE.map((name) => {
-  return partOf(name).replace(/^import [^;]*;\n/gm, "").replace(/^export /gm, "");
-}).join("\n");
-
-/** @param {string} text */
-const escaped = (text) => text.replace(/[&<>"']/g, (sign) => `&#${sign.charCodeAt(0)};`);
 
 /**
  * @param {string} text lines of JSON
@@ -95,7 +82,7 @@ export function pageData(outcome, facts, module) {
   const places = [...new Set(events.map(({ source }) => source))].filter((source) => source !== null);
   const placeNumbers = new Map(places.map((place, at) => [place, at]));
   return {
-    seed, ending, detail, holds, blocks, views, places, files: sources,
+    seed, ending, detail, holds, blocks, views, places, files: sources, script,
     module: decodeURIComponent(module.replace(/[?#].*$/, "").replace(/^.*\//, "")),
     agents: outcome.progress.length,
     isWhole: events.length === all.length,
@@ -109,28 +96,14 @@ export function pageData(outcome, facts, module) {
 }
 
 /**
- * The digest by which a browser is told which code and which looks are the page's own.
- * @param {string} text
- */
-const digestOf = (text) => `'sha256-${createHash("sha256").update(text).digest("base64")}'`;
-
-/**
  * @param {RunData} data
+ * @param {import("./document.mjs").SimulatorParts} [simulator] undefined: the page can't change the schedule
  * @returns {string} the page
  */
-export function pageOf(data) {
-  const [style, code] = [partOf("page.css"), joinedCode()];
-  /** @type {Record<string, string>} */
-  const parts = {
-    policy: `default-src 'none'; base-uri 'none'; form-action 'none'; script-src ${digestOf(code)}; ` +
-      `style-src ${digestOf(style)}`,
-    title: escaped(`seed ${data.seed} of ${data.module}: ${data.ending}`),
-    style,
-    // So no text of the run ends the element that it stands in.
-    data: JSON.stringify(data).replaceAll("<", "\\u003c"),
-    code,
-  };
-  return partOf("page.html").replace(/\{\{(\w+)\}\}/g, (_, name) => parts[name]);
+export function pageOf(data, simulator) {
+  const { script, ...rest } = data;
+  const shown = simulator === undefined ? rest : data;
+  return documentOf("page", `seed ${data.seed} of ${data.module}: ${data.ending}`, shown, simulator);
 }
 
 /**
@@ -138,6 +111,9 @@ export function pageOf(data) {
  * @param {Outcome} outcome that has a script
  * @param {string} facts what `sabsim replay --format json` tells of it
  * @param {string} module the URL of the agents' module
+ * @param {Command} [command] that has made the run
  * @throws {SyntaxError} where the facts are no JSON
  */
-export const pageText = (outcome, facts, module) => pageOf(pageData(outcome, facts, module));
+export function pageText(outcome, facts, module, command) {
+  return pageOf({ ...pageData(outcome, facts, module), command }, builtSimulator());
+}

@@ -9,7 +9,13 @@ import { pageText } from "./page.mjs";
  * @typedef {object} Picture
  * @property {string} ending of its file's name
  * @property {string} format of `sabsim replay`, which it is made from
- * @property {(output: string, outcome: Outcome, module: string) => string} made
+ * @property {(output: string, outcome: Outcome, how: How) => string} made
+ */
+
+/**
+ * @typedef {object} How a run was made
+ * @property {string} module the URL of the agents' module
+ * @property {import("../../page/model.mjs").Command} [command] undefined: not by the command
  */
 
 /** Why something isn't made of a script, in its message. */
@@ -25,11 +31,11 @@ export const PICTURES = Object.freeze([
 /**
  * @param {string} facts
  * @param {Outcome} outcome
- * @param {string} module
+ * @param {How} how
  */
-function pageMade(facts, outcome, module) {
+function pageMade(facts, outcome, { module, command }) {
   try {
-    return pageText(outcome, facts, module);
+    return pageText(outcome, facts, module, command);
   } catch (problem) {
     if (problem instanceof SyntaxError) throw new NotMade("what sabsim says of the run is no JSON");
     throw problem;
@@ -41,25 +47,24 @@ function pageMade(facts, outcome, module) {
  * @param {string} path of sabsim
  * @param {Picture} picture what
  * @param {Outcome} outcome that has a script
- * @param {string} module the URL of the agents' module
+ * @param {How} how it was made
  * @returns {string}
  * @throws {NotMade}
  */
-export function pictureOf(path, { format, made }, outcome, module) {
+export function pictureOf(path, { format, made }, outcome, how) {
   const { status, output, errors } = sabsim(path, ["replay", "--format", format], outcome.script ?? "");
   if (status !== 0) throw new NotMade(`sabsim ended with status ${status}: ${errors.trim()}`);
-  return made(output, outcome, module);
+  return made(output, outcome, how);
 }
 
 /**
  * Keeps all of them beside the script.
  * @param {import("./keep.mjs").Keeper} keeper
  * @param {Outcome} outcome of the run that is kept
- * @param {string | undefined} path of sabsim; undefined: it isn't there, or isn't asked
- * @param {string} module the URL of the agents' module
+ * @param {How & { path?: string }} how the run was made, and where sabsim is; undefined: it isn't there, or isn't asked
  * @returns {string[]} what isn't kept though there is a script to make it from, and why
  */
-export function keepPictures(keeper, outcome, path, module) {
+export function keepPictures(keeper, outcome, { path, ...how }) {
   const { seed, script } = outcome;
   if (script === undefined) return [];
   if (path === undefined) {
@@ -69,7 +74,7 @@ export function keepPictures(keeper, outcome, path, module) {
   return PICTURES.flatMap((picture) => {
     const { ending } = picture;
     try {
-      keeper.keepAll(seed, { [ending]: pictureOf(path, picture, outcome, module) });
+      keeper.keepAll(seed, { [ending]: pictureOf(path, picture, outcome, how) });
       return [];
     } catch (problem) {
       if (problem instanceof NotMade) return [`not kept: seed-${seed}.${ending}: ${problem.message}`];

@@ -83,7 +83,7 @@ function keptLines({ failing, outcome }, module, out, sabsim) {
     const keeper = new Keeper(resolve(out ?? mkdtempSync(join(tmpdir(), "sabsim-"))), "`out`");
     keeper.keepLowest(failing);
     if (outcome !== failing) keeper.keepShortest(failing, outcome);
-    const notKept = keepPictures(keeper, outcome, sabsim, module);
+    const notKept = keepPictures(keeper, outcome, { path: sabsim, module });
     const kept = keeper.names.length === 0 ? [] : [`kept in ${keeper.folder}: ${keeper.names.join(", ")}`];
     return [...kept, ...notKept];
   } catch (problem) {

@@ -1,0 +1,71 @@
+// What is in memory, and who waits there, in a browser.
+
+import { badge, by, made, spoken } from "./dom.mjs";
+import { placeKey, valueAt } from "./model.mjs";
+import { valueText } from "./words.mjs";
+
+/** @typedef {import("./model.mjs").Run} Run */
+/** @typedef {import("./model.mjs").State} State */
+
+/** What is in memory, and who waits there. */
+export class Memory {
+  /** @param {Run} run */
+  constructor(run) {
+    this.run = run;
+    this.body = /** @type {HTMLElement} */ (by("memory").querySelector("tbody"));
+  }
+
+  /** @param {Run} run */
+  open(run) {
+    this.run = run;
+    const isPart = run.data.holds === "touched";
+    by("memory-note").textContent = isPart ? "Ordinary writes are known only of bytes that some call touches." : "";
+  }
+
+  /** @param {State} state @param {number} index of the step */
+  show(state, index) {
+    const { steps, rows } = this.run;
+    this.state = state;
+    this.accesses = steps[index].accesses;
+    this.changes = steps[state.changedBy].changes;
+    this.isNow = state.changedBy === index;
+    this.body.replaceChildren(...rows.map((row) => this.#row(row)));
+  }
+
+  /** @param {import("./model.mjs").Row} row */
+  #row({ name, isWord, cells, more }) {
+    const values = made("td", "values", ...cells.map((cell) => this.#cell(cell, isWord)));
+    if (more > 0) values.append(made("span", "more", `and ${more} more`));
+    const head = made("th", "", name);
+    head.setAttribute("scope", "row");
+    return made("tr", "", head, values, made("td", "waiters", ...cells.flatMap((cell) => this.#waiters(cell, isWord))));
+  }
+
+  /** @param {import("./model.mjs").Cell} cell @param {boolean} isWord */
+  #cell(cell, isWord) {
+    const state = /** @type {State} */ (this.state);
+    const size = Number(/\d+$/.exec(cell.view.kind)?.[0] ?? 8) / 8;
+    /** @param {{ block: number, byte: number }} other @param {number} length */
+    const meets = (other, length) =>
+      other.block === cell.block && other.byte < cell.byte + size && cell.byte < other.byte + length;
+    const access = this.accesses?.find((each) => meets(each, each.size));
+    const change = this.changes?.find((each) => each.block === cell.block && each.byte === cell.byte);
+    const span = made("span", "cell");
+    if (!isWord) span.append(made("span", "index", cell.label.slice(cell.label.indexOf("["))));
+    if (change !== undefined && this.isNow) span.append(made("s", "", valueText(change.before)), spoken(" became "));
+    span.append(made("span", "value", valueAt(state.blocks[cell.block], cell)));
+    if (access !== undefined) span.classList.add(access.writes ? "written" : "read");
+    if (change !== undefined) span.classList.add(this.isNow ? "now" : "before");
+    if (change !== undefined) span.append(spoken(this.isNow ? " (changed now)" : " (changed last)"));
+    return span;
+  }
+
+  /** @param {import("./model.mjs").Cell} cell @param {boolean} isWord */
+  #waiters({ block, byte, label }, isWord) {
+    const line = this.state?.lines.get(placeKey(block, byte)) ?? [];
+    if (line.length === 0) return [];
+    const where = isWord ? [] : [made("span", "index", label.slice(label.indexOf("[")))];
+    const agents = line.map((agent) => badge(agent));
+    return [made("span", "line-of-waiters", ...where, spoken("agents "), ...agents)];
+  }
+}

@@ -1,0 +1,124 @@
+// A script whose schedule is being changed: each change is replayed at once, and can be taken back.
+
+import { SCRIPT_LIMITS } from "../script/limits.mjs";
+import { differencesOf } from "./differences.mjs";
+import { isWhole, replayedAsWritten, replayedWhole } from "./fitting.mjs";
+import { readReport } from "./report.mjs";
+import { textWith } from "./text.mjs";
+import { turnsOf } from "./turns.mjs";
+
+/** @typedef {import("./edits.mjs").Edit} Edit */
+/** @typedef {import("./fitting.mjs").Replayed} Replayed */
+/** @typedef {import("./report.mjs").Report} Report */
+/** @typedef {import("./turns.mjs").Move} Move */
+/** @typedef {import("./turns.mjs").Turn} Turn */
+
+/** @typedef {{ status: number, output: Uint8Array, complaint: Uint8Array }} Simulated */
+/** @typedef {(words: string[], input: Uint8Array) => Simulated} Simulate what the program does with its words */
+
+const REPLAY = ["replay", "--format", "json"];
+
+/** A script isn't replayed. The message says why. */
+export class NotReplayed extends Error {}
+
+/**
+ * What the simulator writes about a text.
+ * @param {Simulate} simulate
+ * @param {string[]} words
+ * @param {string} text
+ * @returns {string}
+ * @throws {NotReplayed} if the simulator refuses the text
+ */
+export function outputOf(simulate, words, text) {
+  const { status, output, complaint } = simulate(words, new TextEncoder().encode(text));
+  if (status !== 0) throw new NotReplayed(new TextDecoder().decode(complaint).trim());
+  return new TextDecoder().decode(output);
+}
+
+export class Editing {
+  /**
+   * @param {string} text of the script
+   * @param {Simulate} simulate
+   * @throws {NotReplayed}
+   */
+  constructor(text, simulate) {
+    this.simulate = simulate;
+    const report = readReport(outputOf(simulate, REPLAY, text));
+    this.script = JSON.parse(text);
+    this.textWith = textWith(text);
+    this.recorded = replayedAsWritten(turnsOf(this.script, report.entries), () => report);
+    /** Whether each turn has all moves of its draw, and is made anew so; else turns keep the moves that they have. */
+    this.isWhole = isWhole(this.script, this.recorded);
+    this.now = this.recorded;
+    /** @type {{ replayed: Replayed, at: number }[]} what was before each change, and which turn was chosen */
+    this.before = [];
+  }
+
+  /** @param {Move[]} moves @returns {Report} @throws {NotReplayed} */
+  #replay(moves) {
+    const { moves: most, text: longest } = SCRIPT_LIMITS;
+    const text = this.textWith(moves);
+    if (moves.length > most) throw new NotReplayed(`a schedule has at most ${most} moves`);
+    if (new TextEncoder().encode(text).length > longest) throw new NotReplayed(`a script has at most ${longest} bytes`);
+    return readReport(outputOf(this.simulate, REPLAY, text));
+  }
+
+  /** @param {Turn[]} turns @returns {Replayed} @throws {NotReplayed} */
+  #replayed(turns) {
+    /** @param {Move[]} moves */
+    const replay = (moves) => this.#replay(moves);
+    if (!this.isWhole) return replayedAsWritten(turns, replay);
+    return replayedWhole(this.script, turns, replay, this.now.report);
+  }
+
+  /** The text of the script with the schedule as it is now. */
+  get text() {
+    return this.textWith(this.now.moves);
+  }
+
+  /** Whether the schedule is another than the recorded one. */
+  get isChanged() {
+    return JSON.stringify(this.now.moves) !== JSON.stringify(this.recorded.moves);
+  }
+
+  /** What is different from the recorded run. */
+  get differences() {
+    return differencesOf(this.recorded.report, this.now.report);
+  }
+
+  /**
+   * Changes the schedule, and replays it.
+   * @param {Edit} edit
+   * @param {number} at the position of a turn
+   * @returns {{ at: number } | { why: string }} where that turn is now, or why nothing was changed
+   */
+  change(edit, at) {
+    const edited = edit(this.now, at);
+    if ("why" in edited) return edited;
+    try {
+      const replayed = this.#replayed(edited.turns);
+      this.before.push({ replayed: this.now, at });
+      this.now = replayed;
+      return { at: edited.at };
+    } catch (problem) {
+      if (problem instanceof NotReplayed) return { why: problem.message };
+      throw problem;
+    }
+  }
+
+  /**
+   * Takes the last change back.
+   * @returns {number | undefined} the turn that was chosen before it; undefined: there is no change
+   */
+  undo() {
+    const last = this.before.pop();
+    if (last !== undefined) this.now = last.replayed;
+    return last?.at;
+  }
+
+  /** Takes all changes back. */
+  reset() {
+    this.now = this.recorded;
+    this.before = [];
+  }
+}

@@ -1,0 +1,142 @@
+// The moves of turns in an order of their own. How many moves a turn has depends on the run: a wait that joins the line
+// has two, and one that doesn't has three. So the turns are laid out by what is known, and replayed; where the replay
+// shows that a wait does something else, they are laid out anew.
+
+import { isStandIn } from "./report.mjs";
+
+/** @typedef {import("./report.mjs").Entry} Entry */
+/** @typedef {import("./report.mjs").Report} Report */
+/** @typedef {import("./turns.mjs").Move} Move */
+/** @typedef {import("./turns.mjs").Script} Script */
+/** @typedef {import("./turns.mjs").Turn} Turn */
+
+/**
+ * @typedef {"passes" | "joins" | "leaves" | "stuck"} Outcome of a turn: the agent makes a call; it joins the line of
+ * waiters; it ends a wait; it can't move
+ */
+
+/**
+ * @typedef {object} Layout
+ * @property {Move[]} moves
+ * @property {number[]} starts for each turn the position of its first move
+ * @property {Outcome[]} outcomes that the turns are laid out for
+ */
+
+/** @typedef {{ turns: Turn[], moves: Move[], starts: number[], report: Report }} Replayed */
+
+const MOVES = { passes: 3, joins: 2, leaves: 2, stuck: 1 };
+
+/** @param {number} agent @param {number} call */
+const callKey = (agent, call) => `${agent} ${call}`;
+
+/**
+ * What comes of a turn; only of waits it isn't known before.
+ * @param {{ call: number, waits: boolean }} at how far the agent is
+ * @param {(string | number)[][]} calls of the agent
+ * @param {boolean} timeUp
+ * @param {Outcome | undefined} guess
+ * @returns {Outcome}
+ */
+function outcomeAt({ call, waits }, calls, timeUp, guess) {
+  if (waits) return guess === "stuck" ? "stuck" : "leaves";
+  if (timeUp || call === calls.length) return "stuck";
+  return calls[call][0] === "wait" && guess === "joins" ? "joins" : "passes";
+}
+
+/**
+ * @param {Entry} first of a turn
+ * @param {Entry | undefined} second
+ * @returns {Outcome}
+ */
+function outcomeOf({ what }, second) {
+  if (what === "leave") return "leaves";
+  if (what === "stuck") return "stuck";
+  return second?.what === "wait" ? "joins" : "passes";
+}
+
+/**
+ * @param {Script} script
+ * @param {Turn[]} turns
+ * @param {(turn: number, agent: number, call: number) => Outcome | undefined} guess what comes of a turn
+ * @returns {Layout}
+ */
+function laidOut({ agents }, turns, guess) {
+  const states = agents.map(() => ({ call: 0, waits: false }));
+  /** @type {Layout} */
+  const layout = { moves: [], starts: [], outcomes: [] };
+  turns.forEach(({ agent, timeUp }, turn) => {
+    const [at, { calls }] = [states[agent], agents[agent]];
+    const outcome = outcomeAt(at, calls, timeUp, guess(turn, agent, at.call));
+    layout.starts.push(layout.moves.length);
+    layout.outcomes.push(outcome);
+    let count = MOVES[outcome];
+    at.waits = outcome === "joins" || (at.waits && outcome === "stuck");
+    if (outcome === "passes" || outcome === "leaves") {
+      for (at.call += 1; at.call < calls.length && isStandIn(calls[at.call]); at.call += 1) count += MOVES.passes;
+    }
+    for (let move = 0; move < count; move += 1) layout.moves.push(timeUp && move === 0 ? { timeout: agent } : agent);
+  });
+  return layout;
+}
+
+/**
+ * What comes of each turn, by the entries of its first two moves.
+ * @param {number[]} starts
+ * @param {Report} report
+ */
+const outcomesOf = (starts, { entries }) => starts.map((start) => outcomeOf(entries[start], entries[start + 1]));
+
+/**
+ * Whether the turns of a script are whole, as `replayedWhole` makes them.
+ * @param {Script} script
+ * @param {Replayed} replayed with the moves that it has
+ */
+export function isWhole(script, { turns, moves, starts, report }) {
+  const outcomes = outcomesOf(starts, report);
+  return JSON.stringify(laidOut(script, turns, (turn) => outcomes[turn]).moves) === JSON.stringify(moves);
+}
+
+/**
+ * The calls that join the line of waiters.
+ * @param {Report} report
+ */
+const joinsOf = ({ entries }) =>
+  new Set(entries.filter(({ what }) => what === "wait").map(({ agent, call }) => callKey(agent, call)));
+
+/**
+ * Makes turns of which each is whole: the agent makes its next call to the end, joins the line of waiters, or goes on
+ * from there; where it can't move the turn is one move without an effect.
+ * @param {Script} script
+ * @param {Turn[]} turns
+ * @param {(moves: Move[]) => Report} replay
+ * @param {Report} before of a schedule that is much the same
+ * @returns {Replayed}
+ */
+export function replayedWhole(script, turns, replay, before) {
+  const joins = joinsOf(before);
+  /** @type {Outcome[]} what comes of the first turns */
+  let known = [];
+  for (;;) {
+    const layout = laidOut(script, turns, (turn, agent, call) => {
+      return known[turn] ?? (joins.has(callKey(agent, call)) ? "joins" : undefined);
+    });
+    const report = replay(layout.moves);
+    const found = outcomesOf(layout.starts, report);
+    const wrong = found.findIndex((outcome, turn) => outcome !== layout.outcomes[turn]);
+    if (wrong < 0) return { turns, moves: layout.moves, starts: layout.starts, report };
+    known = found.slice(0, wrong + 1);
+  }
+}
+
+/**
+ * Makes turns with the moves that they have.
+ * @param {Turn[]} turns
+ * @param {(moves: Move[]) => Report} replay
+ * @returns {Replayed}
+ */
+export function replayedAsWritten(turns, replay) {
+  const moves = turns.flatMap((turn) => turn.moves);
+  let next = 0;
+  const starts = turns.map((turn) => (next += turn.moves.length) - turn.moves.length);
+  return { turns, moves, starts, report: replay(moves) };
+}
