@@ -1,12 +1,22 @@
 -- Stretches, and how a write changes them.
-use Rattle.std.proofs.Common.{◌≡◌, ◌≢◌, ◌⊎◌, inl, inr, ℕ, ◌+◌, ◌-◌, ◌<◌, ◌≤◌, leb, true, false, List, length, slice_set, Option, Some, refl, sym, ap, ◌∙◌, arith, leb-true, get_or-set_other, get_or-set_same, length-set}
+use Rattle.std.proofs.Common.{◌≡◌, ◌≢◌, ◌⊎◌, inl, inr, ℕ, zero, suc, ◌+◌, ◌-◌, ◌<◌, ◌≤◌, leb, true, false, List, length, slice_set, Option, Some, refl, sym, subst, ap, ◌∙◌, arith, leb-true, get_or-set_other, get_or-set_same, length-set}
 use Rattle.std.specs.List.{insert}
 use Rattle.std.specs.List.Sorted.{IsPartitionedBy, IsPartitionPoint, IsNonDecreasingBy}
 use Rattle.std.proofs.lemmas.Bool.{false≢true, cases_lt, cases_eq, cases_order, le-leb}
 use Rattle.std.proofs.lemmas.List.Edits.{length-insert, get_or-insert_below, get_or-insert_at, get_or-insert_above}
 use Rattle.std.proofs.lemmas.List.Sorted.{IsPartitionedBy-leb, IsNonDecreasingBy-from_default}
 use Rattle.sab_judge.specs.declared.stretch.Stretch.{Stretch}
-use Rattle.sab_judge.specs.Stretch.{no_stretch, stretch_at, AreInOrder, HasByte, Gives, IsSplit, IsOverwritten, IsRewritten}
+use Rattle.sab_judge.specs.Stretch.{no_stretch, one_less, stretch_at, writer_of, AreInOrder, HasByte, Gives, IsSplit, IsOverwritten, IsRewritten}
+
+-- ---- their writers
+
+before_next : (k : ℕ) → one_less (k + 1) ≡ Some k
+before_next k = subst (λ (n : ℕ). one_less n ≡ Some k) (let next : suc k ≡ k + 1 = omega arith in next) refl
+
+-- a number that isn't 0 has one before it
+pub one_before : (n : ℕ) → n ≢ 0 → Some (n - 1) ≡ one_less n
+one_before zero some = absurd (some refl)
+one_before (suc k) some = ap Some (let same : suc k - 1 ≡ k = omega arith in same)
 
 -- ---- which one has a byte
 
@@ -66,7 +76,7 @@ none_overwritten list from event = record {
 }
 
 pub one_more_overwritten : {old list : List Stretch} {from k event : ℕ} (new : Stretch) → IsOverwritten old list from k event
-    → from ≤ k → k < length list → new.start ≡ (stretch_at list k).start → new.writer ≡ Some event
+    → from ≤ k → k < length list → new.start ≡ (stretch_at list k).start → new.writer ≡ event + 1
     → IsOverwritten old (slice_set list k new) from (k + 1) event
 one_more_overwritten {old} {list} {from} {k} {event} new h low inside start writer = record {
   count = length-set list k new ∙ h.count;
@@ -207,8 +217,8 @@ split_before {list} {k} {byte} new order has other start writer = record {
               ap (λ (x : ℕ). (stretch_at list x).start) (omega arith) in
               omega (arith, e, back, g.has.behind (m + 1) (omega (arith, here, from)) (omega (arith, inside, count))));
         };
-        writer_is = sym writer ∙ sym (ap (λ (s : Stretch). s.writer) middle)
-            ∙ ap (λ (x : ℕ). (stretch_at (insert list (k + 1) new) x).writer) (sym here) ∙ g.writer_is;
+        writer_is = ap one_less (sym writer) ∙ sym (ap writer_of middle)
+            ∙ ap (λ (x : ℕ). writer_of (stretch_at (insert list (k + 1) new) x)) (sym here) ∙ g.writer_is;
       }
       | inr (inl under) ↦ record {
         place = g.place;
@@ -223,7 +233,7 @@ split_before {list} {k} {byte} new order has other start writer = record {
                 omega (arith, e, back, g.has.behind (m + 1) (omega (arith, from)) (omega (arith, inside, count))))
           ];
         };
-        writer_is = sym (ap (λ (s : Stretch). s.writer) (inserted list (k + 1) g.place new small under)) ∙ g.writer_is;
+        writer_is = sym (ap writer_of (inserted list (k + 1) g.place new small under)) ∙ g.writer_is;
       }
       | inr (inr over) ↦ record {
         place = g.place - 1;
@@ -236,7 +246,7 @@ split_before {list} {k} {byte} new order has other start writer = record {
               ap (λ (x : ℕ). (stretch_at list x).start) (omega arith) in
               omega (arith, e, back, g.has.behind (m + 1) (omega (arith, from, over)) (omega (arith, inside, count))));
         };
-        writer_is = sym (ap (λ (s : Stretch). s.writer) (behind_insert list (k + 1) g.place new small over)) ∙ g.writer_is;
+        writer_is = sym (ap writer_of (behind_insert list (k + 1) g.place new small over)) ∙ g.writer_is;
       }
     ]
 
@@ -288,11 +298,11 @@ rewritten {old} {one} {two} {new} {start} {end} {from} {to} {event} some first s
         | inr (inl less) ↦ less
         | inr (inr more) ↦ absurd (omega (arith, second.order.rising to g.place more has.within, second.begins, has.from_start, high))
       ] in
-      sym g.writer_is ∙ over.inside g.place behind before);
+      sym g.writer_is ∙ ap one_less (over.inside g.place behind before) ∙ before_next event);
   outside = λ byte w out g. first.same byte w (second.same byte w (let has = had g.has in record {
     place = g.place;
     has = has;
-    writer_is = sym (over.outside g.place (away byte g.place out has)) ∙ g.writer_is;
+    writer_is = ap one_less (sym (over.outside g.place (away byte g.place out has))) ∙ g.writer_is;
   }));
 }
   where

@@ -14,7 +14,7 @@ use Rattle.sab_judge.specs.Sought.{IsLastBelow, Writes}
 use Rattle.sab_judge.specs.Lookups.{ByBlock}
 use Rattle.sab_judge.specs.Past.{AreOrdered, AreWritten, AreWriters}
 use Rattle.sab_judge.specs.Readers.{HaveWriter}
-use Rattle.sab_judge.specs.Stretch.{no_stretch, stretch_at, AreInOrder, GivesUpTo, IsRewritten, AreStretches}
+use Rattle.sab_judge.specs.Stretch.{no_stretch, stretch_at, writer_of, AreInOrder, GivesUpTo, IsRewritten, AreStretches}
 use Rattle.sab_judge.proofs.Cases.{covered_byte, byte_covered}
 use Rattle.sab_judge.proofs.Lasts.{last_miss, last_hit}
 
@@ -66,8 +66,8 @@ none_stretched {trace} {n} {block} list order one is none = record {
   order = order;
   writers = λ byte w g. (
       let first : g.place ≡ 0 = omega (arith, g.has.within, one) in
-      let nobody : None ≡ w = sym (ap (λ (s : Stretch). s.writer) is)
-      ∙ ap (λ (x : ℕ). (stretch_at list x).writer) (sym first) ∙ g.writer_is in
+      let nobody : None ≡ w = sym (ap writer_of is)
+      ∙ ap (λ (x : ℕ). writer_of (stretch_at list x)) (sym first) ∙ g.writer_is in
       subst (λ (x : Option ℕ). IsLastBelow trace (Writes block byte) n x) nobody (none byte));
 }
 

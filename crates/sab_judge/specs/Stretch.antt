@@ -1,12 +1,21 @@
 -- Stretches of the bytes of a block: of each byte they give the last writer.
-use Rattle.std.specs.Prelude.{◌≡◌, ◌⊎◌, ℕ, ◌<◌, ◌≤◌, List, length, slice_index_or, Option, Some, None}
+use Rattle.std.specs.Prelude.{◌≡◌, ◌⊎◌, ℕ, zero, suc, ◌+◌, ◌<◌, ◌≤◌, List, length, slice_index_or, Option, Some, None}
 use Rattle.sab_judge.specs.declared.event.Event.{Event}
 use Rattle.sab_judge.specs.declared.stretch.Stretch.{Stretch}
 use Rattle.sab_judge.specs.Sought.{IsLastBelow, Writes}
 
 -- one that begins at byte 0, and that nobody has written
 abbrev pub no_stretch : Stretch
-no_stretch = record { start = 0; writer = None }
+no_stretch = record { start = 0; writer = 0 }
+
+-- the number before another one; before 0 there is none
+abbrev pub one_less : ℕ → Option ℕ
+one_less zero = None
+one_less (suc k) = Some k
+
+-- the last event that writes its bytes, if there is one
+abbrev pub writer_of : Stretch → Option ℕ
+writer_of stretch = one_less stretch.writer
 
 abbrev pub stretch_at : List Stretch → ℕ → Stretch
 stretch_at list k = slice_index_or list k no_stretch
@@ -27,7 +36,7 @@ pub record HasByte (list : List Stretch) (k byte : ℕ) : Type 0 where
 pub record Gives (list : List Stretch) (byte : ℕ) (writer : Option ℕ) : Type 0 where
   pub place : ℕ
   pub has : HasByte list place byte
-  pub writer_is : (stretch_at list place).writer ≡ writer
+  pub writer_is : writer_of (stretch_at list place) ≡ writer
 
 -- so have those behind it, up to another
 abbrev pub GivesUpTo : List Stretch → ℕ → ℕ → Option ℕ → Type 0
@@ -46,7 +55,7 @@ pub record IsSplit (old new : List Stretch) (byte k : ℕ) : Type 0 where
 pub record IsOverwritten (old new : List Stretch) (from to event : ℕ) : Type 0 where
   pub count : length new ≡ length old
   pub starts : (k : ℕ) → (stretch_at new k).start ≡ (stretch_at old k).start
-  pub inside : (k : ℕ) → from ≤ k → k < to → (stretch_at new k).writer ≡ Some event
+  pub inside : (k : ℕ) → from ≤ k → k < to → (stretch_at new k).writer ≡ event + 1
   pub outside : (k : ℕ) → (k < from) ⊎ (to ≤ k) → (stretch_at new k).writer ≡ (stretch_at old k).writer
 
 -- the event is the last writer of the bytes from one up to another, and each other byte has the one that it had

@@ -7,6 +7,7 @@ ghost use Rattle.sab_judge.specs.Sought.{IsLastBelow, OfAgent, AtWaiters};
 ghost use Rattle.sab_judge.specs.Past.{AreOrdered, AreWaiters, AreWriters, AreWritten, IsPast};
 ghost use Rattle.sab_judge.specs.Readers.{HaveWriter};
 ghost use Rattle.sab_judge.specs.Stretch.{AreStretches};
+ghost use Rattle.sab_judge.specs.declared.trace.TheConstants.Trace.{MAX_EVENTS};
 
 use crate::access::Access;
 use crate::event::Event;
@@ -82,6 +83,7 @@ impl Past {
         j: usize,
     ) -> Result<(), AllocError>
         requires within { j < length trace.now }
+        requires short { length trace.now ≤ MAX_EVENTS }
         requires agents { All (λ (e : Event). e.agent < 16) trace.now }
         requires past { IsPast trace.now j self.old }
         ensures { IfOk result (λ _. IsPast trace.now (j + 1) self.new) }
@@ -112,6 +114,7 @@ fn note_writers(
     j: usize,
 ) -> Result<(), AllocError>
     requires within { j < length trace.now }
+    requires short { length trace.now ≤ MAX_EVENTS }
     requires writers { AreWriters trace.now j writers.old }
     ensures { IfOk result (λ _. AreWriters trace.now (j + 1) writers.new) }
 {
@@ -134,6 +137,7 @@ fn note_bytes(
     requires access { (event_at trace.now j).access ≡ Some access }
     requires writes { access.writes ≡ true }
     requires some { 0 < access.len }
+    requires small { j < MAX_EVENTS }
     requires writers { AreWriters trace.now j writers.old }
     ensures { IfOk result (λ _. AreWriters trace.now (j + 1) writers.new) }
 {

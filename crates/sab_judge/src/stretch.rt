@@ -1,7 +1,8 @@
 //! Stretches of bytes that have one last writer.
 
 ghost use Rattle.std.specs.Prelude.{◌≡◌, ◌<◌, ◌≤◌, IfOk, length};
-ghost use Rattle.sab_judge.specs.Stretch.{AreInOrder, Gives, GivesUpTo, HasByte, IsOverwritten, IsRewritten, IsSplit, no_stretch, stretch_at};
+ghost use Rattle.sab_judge.specs.Stretch.{AreInOrder, Gives, GivesUpTo, HasByte, IsOverwritten, IsRewritten, IsSplit, no_stretch, stretch_at, writer_of};
+ghost use Rattle.sab_judge.specs.declared.trace.TheConstants.Trace.{MAX_EVENTS};
 
 use std::alloc::{AllocError, Global};
 
@@ -9,7 +10,21 @@ use std::alloc::{AllocError, Global};
 #[derive(Clone, Copy)]
 pub(crate) struct Stretch {
     pub(crate) start: u64,
-    pub(crate) writer: Option<usize>,
+    /// One more than the last writer's position, or 0: so a stretch is moved as two words.
+    pub(crate) writer: usize,
+}
+
+impl Stretch {
+    /// The last event that writes its bytes, if there is one.
+    fn last_writer(self) -> Option<usize>
+        ensures { result ≡ writer_of self }
+    {
+        if self.writer == 0 {
+            None
+        } else {
+            Some(self.writer - 1)
+        }
+    }
 }
 
 /// The last writer of a byte and of those behind it, up to `end`.
@@ -35,7 +50,7 @@ impl Stretches {
         let mut list = Vec::new(alloc);
         list.push(Stretch {
             start: 0,
-            writer: None,
+            writer: 0,
         })?;
         Ok(Stretches { list })
     }
@@ -54,7 +69,7 @@ impl Stretches {
             None => limit,
         };
         Held {
-            writer: self.list[k].writer,
+            writer: self.list[k].last_writer(),
             end,
         }
     }
@@ -63,6 +78,7 @@ impl Stretches {
     pub(crate) fn write(&mut self, start: u64, end: u64, writer: usize) -> Result<(), AllocError>
         requires order { AreInOrder self.old.list.items }
         requires some { start < end }
+        requires small { writer < MAX_EVENTS }
         ensures { IfOk result (λ _. IsRewritten self.old.list.items self.new.list.items start end writer) }
     {
         let from = split(&mut self.list, start)?;
@@ -104,12 +120,13 @@ fn split(list: &mut Vec<Stretch>, byte: u64) -> Result<usize, AllocError>
 fn overwrite(list: &mut Vec<Stretch>, from: usize, to: usize, writer: usize)
     requires forward { from ≤ to }
     requires within { to ≤ length list.old.items }
+    requires small { writer < MAX_EVENTS }
     ensures { IsOverwritten list.old.items list.new.items from to writer }
 {
     for k in from..to {
         list[k] = Stretch {
             start: list[k].start,
-            writer: Some(writer),
+            writer: writer + 1,
         };
     }
 }

@@ -1,5 +1,5 @@
 -- One stretch more has the event as its writer.
-use Rattle.std.proofs.Common.{◌≡◌, ◌<◌, length, Some, refl, ap, arith}
+use Rattle.std.proofs.Common.{◌≡◌, ◌+◌, ◌<◌, length, refl, ap, arith}
 use Rattle.std.proofs.lemmas.List.{get_or_read_under}
 use Rattle.sab_judge.specs.declared.stretch.Stretch.{Stretch}
 use Rattle.sab_judge.specs.Stretch.{no_stretch, stretch_at}
@@ -16,7 +16,7 @@ loop-k-preserved c =
     let read : c.index.result.now ≡ stretch_at c.loop-k.list.items c.loop-k.k =
     get_or_read_under c.loop-k.list.items c.loop-k.k (length c.loop-k.list.items) c.index.result.now no_stretch
     c.index.ensures inside refl in
-    one_more_overwritten (record { start = c.index.result.now.start; writer = Some c.args.writer }) c.loop-k.invariant
+    one_more_overwritten (record { start = c.index.result.now.start; writer = c.args.writer + 1 }) c.loop-k.invariant
     c.loop-k.auto.k inside (ap (λ (s : Stretch). s.start) read) refl
 
 pub returns : goal.returns
