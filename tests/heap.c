@@ -21,6 +21,7 @@ static uint64_t grow_memory(int which, uint64_t pages) {
     if (which != 0 || pages > most_pages || grown > most_pages - pages) {
         return refusal;
     }
+    mprotect(memory + grown * PAGE, pages * PAGE, PROT_READ | PROT_WRITE);
     grown += pages;
     return first_page + grown - pages;
 }
@@ -42,6 +43,7 @@ static _Bool is_inside(word at, word size) {
 
 // Begins anew with a memory that can't grow beyond so many pages, and says so by one of the refusals.
 static void begin(uint64_t pages, uint64_t how) {
+    mprotect(memory, MOST_PAGES * PAGE, PROT_NONE);
     memset(freed, 0, sizeof freed);
     end = limit = grown = 0;
     most_pages = pages;
@@ -72,6 +74,8 @@ static void try_each_class(void) {
 }
 
 static void try_too_large(void) {
+    begin(MOST_PAGES, UINT64_MAX);
+    expect(rattle_alloc(1ul << 30, 16).ok == 1, "a block of 1 GiB", 1);
     const word sizes[] = {(1ul << 30) + 1, 1ul << 32, 1ul << 62, (1ul << 63) - 1};
     for (int i = 0; i < 4; i++) {
         uint64_t before = grown;
@@ -121,6 +125,19 @@ static void try_sizes_of_one_block(void) {
     }
     it = rattle_realloc((void *)it.at, 1ul << 18, 2, 1);
     expect(it.ok == 1 && !memcmp((void *)it.at, "ab", 2), "a smaller size", 2);
+}
+
+// A block at the end of the memory moves to an earlier one: no byte behind the memory is read.
+static void try_last_block(void) {
+    begin(2, UINT64_MAX);
+    word large = rattle_alloc(PAGE / 2, 16).at, last = large;
+    rattle_dealloc((void *)large);
+    for (struct tried it = rattle_alloc(16, 16); it.ok; it = rattle_alloc(16, 16)) {
+        last = it.at;
+    }
+    memcpy((void *)last, "the last block..", 16);
+    struct tried moved = rattle_realloc((void *)last, 16, PAGE / 2, 16);
+    expect(moved.ok == 1 && moved.at == large && !memcmp((void *)large, "the last block..", 16), "the last block", last);
 }
 
 static void try_with_growing_host(void) {
@@ -174,7 +191,7 @@ static void try_many_blocks(void) {
 }
 
 int main(void) {
-    memory = mmap(0, (MOST_PAGES + 1) * PAGE, PROT_READ | PROT_WRITE, MAP_PRIVATE | MAP_ANONYMOUS | MAP_NORESERVE, -1, 0);
+    memory = mmap(0, (MOST_PAGES + 1) * PAGE, PROT_NONE, MAP_PRIVATE | MAP_ANONYMOUS | MAP_NORESERVE, -1, 0);
     if (memory == MAP_FAILED) {
         printf("heap: FAILED: no address space of 4 GiB\n0 passed, 1 failed\n");
         return 1;
@@ -187,6 +204,7 @@ int main(void) {
         try_refused_growth(refusals[i]);
     }
     try_sizes_of_one_block();
+    try_last_block();
     try_with_growing_host();
     try_many_blocks();
     printf("%d passed, %d failed\n", passed, failed);
