@@ -1,5 +1,6 @@
-// Tries the heap of the module for WebAssembly (tools/webassembly/heap.c) as a program of this machine, with a memory that
-// grows by pages as that of a module does. tests/wasm compiles and runs it. The last line is `N passed, M failed`.
+// Tries the heap of the module for WebAssembly (tools/webassembly/heap.c) as a program of this machine, with a memory
+// that grows by pages as that of a module does. tests/wasm compiles and runs it. The last line is
+// `N passed, M failed`.
 #include <stdint.h>
 #include <stdio.h>
 #include <string.h>
@@ -62,7 +63,8 @@ static void try_each_class(void) {
         *(unsigned char *)one.at = 1;
         ((unsigned char *)one.at)[most - 1] = 2;
         memset((void *)other.at, 3, least < 64 ? least : 64);
-        expect(*(unsigned char *)one.at == 1 && ((unsigned char *)one.at)[most - 1] == 2, "a block's bytes stay", class);
+        _Bool stays = *(unsigned char *)one.at == 1 && ((unsigned char *)one.at)[most - 1] == 2;
+        expect(stays, "a block's bytes stay", class);
         rattle_dealloc((void *)one.at);
         expect(rattle_alloc(most, 16).at == one.at, "a freed block is used again", class);
         rattle_dealloc((void *)one.at);
@@ -90,7 +92,8 @@ static void try_refused_growth(uint64_t how) {
     expect(none.ok == 0 && none.at != 0 && grown == 0, "no memory", how);
     most_pages = 1;
     struct tried one = rattle_alloc(1000, 16);
-    expect(one.ok == 1 && is_inside(one.at, 1024) && grown == 1, "as many pages as are needed, if no more can be had", how);
+    _Bool is_there = one.ok == 1 && is_inside(one.at, 1024) && grown == 1;
+    expect(is_there, "as many pages as are needed, if no more can be had", how);
     memset((void *)one.at, 7, 1000);
     expect(rattle_alloc(PAGE, 16).ok == 0, "more than the page", how);
     struct tried larger = rattle_realloc((void *)one.at, 1000, PAGE, 16);
@@ -107,7 +110,8 @@ static void try_refused_growth(uint64_t how) {
     expect(count == (PAGE - HEADER - 1024) / 32, "the rest of the page is used", count);
     most_pages = 100;
     larger = rattle_realloc((void *)one.at, 1000, PAGE, 16);
-    expect(larger.ok == 1 && is_inside(larger.at, PAGE) && ((unsigned char *)larger.at)[999] == 7, "later there is memory", how);
+    is_there = larger.ok == 1 && is_inside(larger.at, PAGE) && ((unsigned char *)larger.at)[999] == 7;
+    expect(is_there, "later there is memory", how);
     expect(rattle_alloc(1024, 16).at == one.at, "the block that moved is used again", how);
 }
 
@@ -120,7 +124,8 @@ static void try_sizes_of_one_block(void) {
     for (word size = 17; size <= 1ul << 20; size *= 3) {
         word was = it.at;
         it = rattle_realloc((void *)it.at, 3, size, 1);
-        expect(it.ok == 1 && it.at != was && is_inside(it.at, size) && !memcmp((void *)it.at, "abc", 3), "a larger size", size);
+        _Bool has_moved = it.ok == 1 && it.at != was && is_inside(it.at, size);
+        expect(has_moved && !memcmp((void *)it.at, "abc", 3), "a larger size", size);
         memset((unsigned char *)it.at + 3, 9, size - 3);
     }
     it = rattle_realloc((void *)it.at, 1ul << 18, 2, 1);
@@ -137,7 +142,8 @@ static void try_last_block(void) {
     }
     memcpy((void *)last, "the last block..", 16);
     struct tried moved = rattle_realloc((void *)last, 16, PAGE / 2, 16);
-    expect(moved.ok == 1 && moved.at == large && !memcmp((void *)large, "the last block..", 16), "the last block", last);
+    _Bool is_same = !memcmp((void *)large, "the last block..", 16);
+    expect(moved.ok == 1 && moved.at == large && is_same, "the last block", last);
 }
 
 static void try_with_growing_host(void) {

@@ -1,5 +1,5 @@
-// The simulator in this process, sabsim.wasm: what it writes, what it says of bad input, and how its loader meets a trap
-// and want of memory.
+// The simulator in this process, sabsim.wasm: what it writes, what it says of bad input, and how its loader meets a
+// trap and want of memory.
 
 import assert from "node:assert/strict";
 import { readFileSync, readdirSync } from "node:fs";
@@ -73,14 +73,16 @@ test("a call that hasn't returned ends with status 5 where all were to return", 
 test("a trace is judged", () => {
   const rows = new URL("judge-rows/", import.meta.url);
   const traces = readdirSync(rows).filter((name) => name.endsWith(".jsonl"));
-  const statuses = traces.map((name) => simulator.run({ job: "judge-trace" }, readFileSync(new URL(name, rows))).status);
+  const judged = (name) => simulator.run({ job: "judge-trace" }, readFileSync(new URL(name, rows)));
+  const statuses = traces.map((name) => judged(name).status);
   assert.deepEqual([...new Set(statuses)].sort(), [0, 5]);
 });
 
 describe("refusals", () => {
   test("of a script, with and without their place", () => {
     const { status, output, complaint } = simulator.run({ job: "replay" }, script({ views: 1 }));
-    assert.deepEqual({ status, size: output.length, complaint }, { status: 1, size: 0, complaint: "sabsim: 10 BadShape\n" });
+    const wanted = { status: 1, size: 0, complaint: "sabsim: 10 BadShape\n" };
+    assert.deepEqual({ status, size: output.length, complaint }, wanted);
     const explained = simulator.run({ job: "replay", explain: true }, script({ views: 1 })).complaint;
     assert.match(explained, /^sabsim: 10 BadShape\n.+views.+\n$/);
     assert.equal(command(["replay"], () => script({ views: 1 }), true).complaint, explained);
@@ -115,13 +117,15 @@ describe("command lines", () => {
   test("the file that they name is read, and else standard input", () => {
     const asked = [];
     const reading = (name) => asked.push(name) && script({});
-    for (const words of [["check", "a file"], ["check", "\u00e9\u{1f600}"], ["check"], ["check", "-"]]) command(words, reading);
+    const lines = [["check", "a file"], ["check", "\u00e9\u{1f600}"], ["check"], ["check", "-"]];
+    for (const words of lines) command(words, reading);
     assert.deepEqual(asked, ["a file", "\u00e9\u{1f600}", undefined, undefined]);
   });
 
   test("a file that can't be read is named", () => {
     const failing = () => assert.fail("it can't be read");
-    assert.deepEqual(command(["check", "a file"], failing), { status: 3, output: "", complaint: "sabsim: 19 ReadFailed: a file\n" });
+    const wanted = { status: 3, output: "", complaint: "sabsim: 19 ReadFailed: a file\n" };
+    assert.deepEqual(command(["check", "a file"], failing), wanted);
     assert.equal(command(["check"], failing).complaint, "sabsim: 19 ReadFailed\n");
   });
 
@@ -148,32 +152,35 @@ describe("failures", () => {
     const trapping = new Simulator(new WebAssembly.Module(TRAPPING));
     const call = () => trapping.run({ job: "replay" }, new Uint8Array());
     assert.equal(call().status, 0);
-    assert.throws(call, (error) => error instanceof Trapped && /^the simulator stopped: unreachable/.test(error.message));
+    assert.throws(call, { name: "Trapped", message: /^the simulator stopped: unreachable/ });
     assert.equal(call().status, 0);
     assert.throws(call, Trapped);
   });
 
   test("a memory that can't grow is want of memory, and the next call goes on", () => {
-    const counts = { whole: 0, without: 0 };
-    const wanted = simulator.run({ job: "replay", format: "json" }, read(NAMES[0]));
+    const replayed = (host) => {
+      const { status, complaint, ...ended } = host.run({ job: "replay", format: "json" }, read(NAMES[0]));
+      return { status, output: textOf(ended), complaint };
+    };
+    const [whole, none] = [replayed(simulator), { status: 4, output: "", complaint: OUT_OF_MEMORY }];
+    const statuses = new Set();
     for (let pages = 16; pages < 64; pages++) {
       const small = new Simulator(new WebAssembly.Module(limited(BYTES, pages)));
-      for (let time = 0; time < 2; time++) {
-        const ended = small.run({ job: "replay", format: "json" }, read(NAMES[0]));
-        const isWhole = ended.status === 0;
-        counts[isWhole ? "whole" : "without"] += 1;
-        const none = { status: 4, output: new Uint8Array(), complaint: OUT_OF_MEMORY };
-        assert.deepEqual({ ...ended, output: Uint8Array.from(ended.output) }, isWhole ? { ...wanted, output: Uint8Array.from(wanted.output) } : none);
+      for (const came of [replayed(small), replayed(small)]) {
+        statuses.add(came.status);
+        assert.deepEqual(came, came.status === 0 ? whole : none);
       }
     }
-    assert.ok(counts.whole > 0 && counts.without > 0);
+    assert.deepEqual([...statuses], [4, 0]);
   });
 
   test("an engine that has no memory for the module is want of memory", () => {
-    const least = WebAssembly.Module.imports(new WebAssembly.Module(BYTES));
-    assert.deepEqual(least, []);
     const whole = WebAssembly.Instance;
-    WebAssembly.Instance = function () { throw new RangeError("could not allocate memory"); };
+    WebAssembly.Instance = class {
+      constructor() {
+        throw new RangeError("no memory");
+      }
+    };
     try {
       const { status, complaint } = new Simulator(new WebAssembly.Module(BYTES)).run({ job: "check" }, script({}));
       assert.deepEqual({ status, complaint }, { status: 4, complaint: OUT_OF_MEMORY });
@@ -188,6 +195,7 @@ test("what is beside the module says what it was made of", () => {
   assert.deepEqual(Object.keys(origin).sort(), ["beforeBinaryen", "binaryen", "kit", "module", "sources"]);
 });
 
-test("the loader imports nothing, so a page can have it", () => {
+test("the module and its loader import nothing, so a page can have them", () => {
+  assert.deepEqual(WebAssembly.Module.imports(new WebAssembly.Module(BYTES)), []);
   assert.doesNotMatch(readFileSync(new URL("simulator.mjs", WASM), "utf8"), /^import|\bimport\(|\bprocess\b|\bBuffer\b/m);
 });

@@ -23,8 +23,8 @@ const GIVEN = { nothing: 0, bytes: 1, unreadable: 2 };
 /**
  * @typedef {object} Job what is to be done with an input
  * @property {"replay" | "check" | "judge" | "judge-trace"} job
- * @property {"plain" | "explained" | "json" | "svg" | "script"} [format] of the report; of a verdict plain or json; plain
- * if it isn't given
+ * @property {"plain" | "explained" | "json" | "svg" | "script"} [format] of the report; of a verdict plain or json;
+ * plain if it isn't given
  * @property {boolean} [acts] as the program's option of this name; so are the next two
  * @property {boolean} [finish]
  * @property {boolean} [explain]

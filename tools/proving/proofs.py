@@ -156,8 +156,7 @@ class Proofs:
         kept = self.store.results(path)
         results = {name: Result(*kept[sums[name]]) for name in sums if sums[name] in kept}
         known, left = len(results), [file for file in files if os.path.basename(file) not in results]
-        trial = lambda: StaticTrial(crate, left, self.tally.say) if crate.is_static else Trial(crate, left, self.tally.say, alone)
-        for name, result in trial().results() if left else ():
+        for name, result in self.trial_of(crate, left, alone).results() if left else ():
             results[name] = result
             if result.kind == REFUSED:
                 kept[sums[name]] = result
@@ -167,6 +166,11 @@ class Proofs:
         self.tally.add_edits(len(files), known)
         self.tally.say(f"tried: {len(files)} edits of {crate.name} ({known} known, {time.monotonic() - begun:.0f} s)")
         return True
+
+    def trial_of(self, crate, files, alone):
+        """Returns the trial of some edits of a crate."""
+        say = self.tally.say
+        return StaticTrial(crate, files, say) if crate.is_static else Trial(crate, files, say, alone)
 
     def report(self, label, result):
         """Reports and counts what an edit came to."""
@@ -187,7 +191,7 @@ def made_of(crate, sums):
 
 
 def is_made_of(crate, sums):
-    """Returns whether a crate's program, or its code, is there, and was proved and made of the files as they are."""
+    """Returns whether a crate's program, or code, is there, and was proved and made of the files as they are."""
     return rtlib.text_of(f"{crate.folder}/out/{proving_of(crate).made}.made-of") == made_of(crate, sums)
 
 

@@ -24,8 +24,9 @@ class StaticProving(Proving):
         words = ["build", *self.crate.words(["--jobs", str(jobs)], keeps=False)]
         with tempfile.TemporaryDirectory(prefix="sabsim-bitcode-") as room:
             # Later processors of this kind have instructions of their own, which the code could name.
-            how = ["--cpu=x86-64", "--toolchain", toolchain_that_keeps(f"{folder}/{self.made}", room), "--backend", "llvm"]
-            return self.crate.prove([*words, *how, "-o", f"{room}/unused.a"])
+            toolchain = toolchain_that_keeps(f"{folder}/{self.made}", room)
+            how = ["--cpu=x86-64", "--toolchain", toolchain, "--backend", "llvm", "-o", f"{room}/unused.a"]
+            return self.crate.prove([*words, *how])
 
 
 class StaticTrial(Trial):
@@ -45,8 +46,8 @@ class StaticTrial(Trial):
 
 
 def toolchain_that_keeps(bitcode, room):
-    """Makes a toolchain of links to the kit's, whose clang keeps what it is given, and makes an empty object file. Returns
-    the toolchain's path."""
+    """Makes a toolchain of links to the kit's, whose clang keeps what it is given, and makes an empty object file.
+    Returns the toolchain's path."""
     made = f"{room}/toolchain"
     os.makedirs(f"{made}/bin")
     for part in (it for it in os.listdir(TOOLCHAIN) if it != "bin"):

@@ -2,15 +2,16 @@
 //
 // usage: node compare.mjs MODULE REFUSING PROGRAM
 //
-// REFUSING is the module with the heap of refusing.c. Each difference is printed. The last line says how many calls were
-// compared, and how many differ. The status is 1 if one does.
+// REFUSING is the module with the heap of refusing.c. Each difference is printed. The last line says how many calls
+// were compared, and how many differ. The status is 1 if one does.
 
 import { spawn } from "node:child_process";
 import { readFileSync } from "node:fs";
 import { availableParallelism } from "node:os";
 import { limited } from "../../recorder/tests/helpers/limited-module.mjs";
 import { Instance, Simulator } from "../../recorder/wasm/simulator.mjs";
-import { COMMAND_LINES, SCRIPT_WAYS, TRACE_WAYS, besideExample, cases, examples, largeInputs, randomScripts, randomTraces } from "./inputs.mjs";
+import { COMMAND_LINES, SCRIPT_WAYS, TRACE_WAYS, besideExample, cases, examples } from "./inputs.mjs";
+import { largeInputs, randomScripts, randomTraces } from "./inputs.mjs";
 
 /** @typedef {import("../../recorder/wasm/simulator.mjs").Ended} Ended */
 /** @typedef {import("./inputs.mjs").Input} Input */
@@ -39,7 +40,8 @@ const isSame = (one, other) =>
   one.status === other.status && Buffer.compare(one.output, other.output) === 0 && one.complaint === other.complaint;
 
 /** @param {Ended} ended */
-const shown = ({ status, output, complaint }) => `${status}, ${output.length} bytes, ${JSON.stringify(complaint.slice(0, 100))}`;
+const shown = ({ status, output, complaint }) =>
+  `${status}, ${output.length} bytes, ${JSON.stringify(complaint.slice(0, 100))}`;
 
 /**
  * Runs the program.
@@ -97,9 +99,11 @@ const simulator = new Simulator(new WebAssembly.Module(readFileSync(modulePath))
 /** Compares both exports with the program on an input. @param {Input} input @param {string[]} words */
 async function compareOn({ name, bytes }, words) {
   const wanted = await native(words, bytes);
-  for (const came of [attempted(() => simulator.run(jobOf(words), bytes)), attempted(() => simulator.command(words, () => bytes))]) {
+  const calls = [() => simulator.run(jobOf(words), bytes), () => simulator.command(words, () => bytes)];
+  for (const came of calls.map(attempted)) {
     counts.calls += 1;
-    if (!isSame(came, wanted)) differs(`${words.join(" ")} of ${name}:`, `${shown(came)}; the program: ${shown(wanted)}`);
+    const how = `${shown(came)}; the program: ${shown(wanted)}`;
+    if (!isSame(came, wanted)) differs(`${words.join(" ")} of ${name}:`, how);
   }
 }
 
@@ -137,29 +141,35 @@ async function compareCommandLines() {
   for (const share of ["lock", "ring"]) {
     counts.calls += 1;
     const came = attempted(() => simulator.command(["race", "--share", share], read));
-    if (!isSame(came, { status: 4, output: NO_INPUT, complaint: NO_RACE })) differs(`race --share ${share}`, shown(came));
+    const wanted = { status: 4, output: NO_INPUT, complaint: NO_RACE };
+    if (!isSame(came, wanted)) differs(`race --share ${share}`, shown(came));
   }
 }
 
-/** Whether a call without enough memory ended as it may: as with memory, or with no output and status 4; or the
- * explanation is missing. @param {Ended} came @param {Ended} wanted */
+/**
+ * Whether a call without enough memory ended as it may: as with memory, or with no output and status 4; or only the
+ * explanation is missing.
+ * @param {Ended} came @param {Ended} wanted
+ */
 function isAllowed(came, wanted) {
   if (isSame(came, wanted)) return true;
   if (came.output.length > 0) return false;
   if (came.status === 4) return came.complaint === OUT_OF_MEMORY;
-  return came.status === 1 && wanted.status === 1 && came.complaint !== "" && wanted.complaint.startsWith(came.complaint);
+  const isPart = came.complaint.endsWith("\n") && wanted.complaint.startsWith(came.complaint);
+  return came.status === 1 && wanted.status === 1 && isPart;
 }
 
 /** Each call with memories of several sizes. @param {Input[]} inputs */
 function compareWithSmallMemories(inputs) {
   const bytes = readFileSync(modulePath);
-  const small = MEMORIES.map((pages) => ({ pages, limited: new Simulator(new WebAssembly.Module(limited(bytes, pages))) }));
+  const modules = MEMORIES.map((pages) => new WebAssembly.Module(limited(bytes, pages)));
+  const small = modules.map((module, at) => ({ pages: MEMORIES[at], host: new Simulator(module) }));
   for (const input of inputs) {
     for (const words of SCRIPT_WAYS) {
       const wanted = simulator.run(jobOf(words), input.bytes);
-      for (const { pages, limited } of small) {
+      for (const { pages, host } of small) {
         counts.calls += 1;
-        const came = attempted(() => limited.run(jobOf(words), input.bytes));
+        const came = attempted(() => host.run(jobOf(words), input.bytes));
         counts.withoutMemory += Number(came.complaint === OUT_OF_MEMORY);
         if (!isAllowed(came, wanted)) differs(`${words.join(" ")} of ${input.name} in ${pages} pages:`, shown(came));
       }

@@ -1,9 +1,9 @@
 // The heap of the module for WebAssembly: what the allocator `Global` of Rattle calls. Nothing proves this file, and
 // tests/wasm tries it.
 //
-// A block has a header of 16 bytes with its class, and behind that 16 << class bytes. Each class has a list of its freed
-// blocks, and a new block is taken from there. If the list is empty, a block is cut from pages by which the heap has made
-// the memory grow. The host may make it grow too: the heap uses only the pages that it got itself.
+// A block has a header of 16 bytes with its class, and behind that 16 << class bytes. Each class has a list of its
+// freed blocks, and a new block is taken from there. If the list is empty, a block is cut from pages by which the heap
+// has made the memory grow. The host may make it grow too: the heap uses only the pages that it got itself.
 //
 // As Rattle's contracts say, no alignment is more than 16, no size is 2^63 or more, and a size of 0 is never freed.
 

@@ -36,7 +36,11 @@ export const cases = () => [...filesIn(CASES), ...filesIn(VERDICTS)];
 export const examples = () => filesIn(new URL("examples/", CASES));
 
 /** @param {string} name of an example @param {string} ending @returns {Uint8Array} what is kept beside it */
-export const besideExample = (name, ending) => readFileSync(new URL(`examples/${name.replace(/json$/, ending)}`, CASES));
+export const besideExample = (name, ending) =>
+  readFileSync(new URL(`examples/${name.replace(/json$/, ending)}`, CASES));
+
+/** What can be put in place of a part. */
+const PUT = ["-1", "null", "9e9", '"', "}", "\\", "0", "\xff"];
 
 /**
  * A text with one part of it changed: bytes taken out, doubled or replaced.
@@ -46,8 +50,9 @@ export const besideExample = (name, ending) => readFileSync(new URL(`examples/${
 function changed(dice, bytes) {
   const at = dice.below(bytes.length);
   const end = Math.min(bytes.length, at + 1 + dice.below(4));
-  const part = [[], [...bytes.slice(at, end), ...bytes.slice(at, end)], [...Buffer.from(dice.of(["-1", "null", "9e9", '"', "}", "\\", "0", "\xff"]))]];
-  return Uint8Array.from([...bytes.slice(0, at), ...dice.of(part), ...bytes.slice(end)]);
+  const part = bytes.slice(at, end);
+  const put = dice.of([[], [...part, ...part], Buffer.from(dice.of(PUT))]);
+  return Uint8Array.from([...bytes.slice(0, at), ...put, ...bytes.slice(end)]);
 }
 
 /** @param {number} count @returns {Input[]} random scripts, of which four in ten are changed at one place */
@@ -73,12 +78,13 @@ export function randomTraces(count) {
 export function largeInputs() {
   const view = { name: "a", kind: "Int32", block: 0, offset: 0, length: null };
   const agent = (calls) => ({ block: true, calls });
-  const script = (agents, schedule) => Buffer.from(JSON.stringify({ blocks: [65536], views: [view], agents, schedule }));
+  const script = (agents, schedule) =>
+    Buffer.from(JSON.stringify({ blocks: [65536], views: [view], agents, schedule }));
   const loads = Array.from({ length: 1000 }, (_, index) => ["add", "a", index % 64, 1]);
   const waits = Array(1000).fill(["wait", "a", 0, 0, 5]);
   const turns = (agents) => Array.from({ length: MOVES }, (_, move) => move % agents);
   return [
-    { name: "16 agents, 48,000 moves of accesses", bytes: script(Array(16).fill(agent(loads)).slice(0, 16), turns(16).slice(0, 48_000)) },
+    { name: "16 agents that add", bytes: script(Array(16).fill(agent(loads)), turns(16).slice(0, 48_000)) },
     { name: "one agent with no call, 100,000 moves", bytes: script([agent([])], turns(1)) },
     { name: "16 agents that wait", bytes: script(Array(16).fill(agent(waits)), turns(16)) },
     { name: "too long", bytes: Buffer.alloc(TOO_LONG, " ") },
@@ -93,12 +99,15 @@ const NOWHERE = "/nowhere/script.json";
 
 /** Command lines whose words decide what is written. `race` is done by the program alone. */
 export const COMMAND_LINES = [
-  [], ["--help"], ["-h"], ["help"], ["--version"], ["-V"], ["replay", "--help"], ["race", "--help"], ["judge", "--help"],
-  ["check", "--help"], ["help", "replay"], ["nothing"], ["--nothing"], ["replay", "--nothing"], ["replay", "--format"],
-  ["replay", "--format", "nothing"], ["replay", "--format=json", FILE], ["replay", FILE, FILE], ["replay", FILE], ["replay", "-"],
-  ["replay", "--", FILE], ["replay", NOWHERE], ["check", NOWHERE], ["judge", "--trace", NOWHERE], ["replay", ""],
-  ["replay", "/nowhere/with\nline"], ["replay", "--finish", "--finish"], ["replay", "--acts=1"], ["check", "--explain"], ["check", FILE],
-  ["judge", FILE], ["judge", "--format", "svg"], ["judge", "--trace", "--finish"], ["judge", "--trace", "--explain"], ["judge", "--trace", FILE],
+  [], ["--help"], ["-h"], ["help"], ["--version"], ["-V"], ["help", "replay"], ["nothing"], ["--nothing"],
+  ["replay", "--help"], ["race", "--help"], ["judge", "--help"], ["check", "--help"],
+  ["replay", FILE], ["replay", "-"], ["replay", "--", FILE], ["replay", FILE, FILE], ["replay", "--format=json", FILE],
+  ["replay", ""], ["replay", NOWHERE], ["replay", "/nowhere/with\nline"], ["replay", "\u00e9t\u00e9.json"],
+  ["replay", "--nothing"], ["replay", "--format"], ["replay", "--format", "nothing"], ["replay", "--format", "\u{1f600}"],
+  ["replay", "--finish", "--finish"], ["replay", "--acts=1"],
+  ["check", FILE], ["check", NOWHERE], ["check", "--explain"],
+  ["judge", FILE], ["judge", "--format", "svg"], ["judge", "--trace", FILE], ["judge", "--trace", NOWHERE],
+  ["judge", "--trace", "--finish"], ["judge", "--trace", "--explain"],
   ["race"], ["race", FILE], ["race", "--share", "nothing"], ["race", "--share", "lock", "--spins", "1001"],
-  ["race", "--share", "ring", "--mix", "-1"], ["replay", "\u00e9t\u00e9.json"], ["replay", "--format", "\u{1f600}"],
+  ["race", "--share", "ring", "--mix", "-1"],
 ];

@@ -38,7 +38,9 @@ def run(*words):
 def binaryen():
     """Returns what binaryen's wasm-opt says of its version, or nothing where there is none."""
     path = shutil.which("wasm-opt")
-    return subprocess.run([path, "--version"], capture_output=True, text=True, check=True).stdout.strip() if path else ""
+    if not path:
+        return ""
+    return subprocess.run([path, "--version"], capture_output=True, text=True, check=True).stdout.strip()
 
 
 def retargeted(text):
@@ -90,7 +92,8 @@ class Linker:
         archive, module = f"{self.room}/{name}.a", f"{self.room}/{name}-64.wasm"
         run(ARCHIVER, "rcs", archive, *objects)
         # It adds the functions that LLVM calls by name, as for products of 128 bits.
-        run(LINKER, "--target", TARGET, "--toolchain", f"{rtlib.KIT}/toolchain", "--stack", str(STACK), "-o", module, archive)
+        how = ["--target", TARGET, "--toolchain", f"{rtlib.KIT}/toolchain", "--stack", str(STACK)]
+        run(LINKER, *how, "-o", module, archive)
         return module
 
 

@@ -42,8 +42,8 @@ done outcome output = written_of (status_at (after_job (Ok outcome))) output []
 abbrev pub no_memory : WrittenParts
 no_memory = written_of (status_after OutOfMemory) [] (text_of OutOfMemory ++ codes "\n")
 
--- the failure's status, no output, and the failure's text: the line of the fault, with the file that failed and the line
--- of a trace, then what can be done instead, then what a check says
+-- the failure's status, no output, and the failure's text: the line of the fault, with the file that failed and the
+-- line of a trace, then what can be done instead, then what a check says
 abbrev pub Fails : Failure → Source → WrittenParts → Type 0
 Fails failure source written =
     (file : Option (Bor (List ℕ))) × TellsFile source failure.fault file

@@ -1,5 +1,5 @@
-//! The simulator for a host that gives and takes bytes, as JavaScript does with a module of WebAssembly: what the program
-//! `sabsim` does, except races.
+//! The simulator for a host that gives and takes bytes, as JavaScript does with a module of WebAssembly: what the
+//! program `sabsim` does, except races.
 #![tactic(auto)]
 
 ghost use Rattle.sabsim_wasm.specs.Exports.{RepliesToNumbers, RepliesToWords};
@@ -54,9 +54,9 @@ pub extern "C" fn sabsim_run(
 /// [`sabsim_run`] does.
 ///
 /// Each word has a byte 0 behind it, and the first is the program's name. `given` says what the host has read of the
-/// input that the words name: 0 for nothing yet, 1 for the bytes in `input`, and any other number if it can't be read. At
-/// 0 the reply says what the host has to read, if anything: `wants` is 1 for standard input, and 2 for the file whose name
-/// is in the room. `is_terminal` says whether standard error is a terminal, on which each refusal is explained.
+/// input that the words name: 0 for nothing yet, 1 for the bytes in `input`, and any other number if it can't be read.
+/// At 0 the reply says what the host has to read, if anything: `wants` is 1 for standard input, and 2 for the file
+/// whose name is in the room. `is_terminal` says whether standard error is a terminal, where each refusal is explained.
 ///
 /// A race ends with 9 NoThread: it needs threads, which only the native program has.
 #[unsafe(no_mangle)]

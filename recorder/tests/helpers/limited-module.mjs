@@ -31,7 +31,8 @@ export function limited(bytes, pages) {
       const [least] = lebAt(bytes, begin + 2);
       if (count !== 1 || flags !== 0) throw new Error("the module has no memory without a limit");
       const section = [1, 1, ...leb(least), ...leb(Math.max(least, pages))];
-      return Uint8Array.from([...bytes.slice(0, at), MEMORY_SECTION, ...leb(section.length), ...section, ...bytes.slice(begin + size)]);
+      const memory = [MEMORY_SECTION, ...leb(section.length), ...section];
+      return Uint8Array.from([...bytes.slice(0, at), ...memory, ...bytes.slice(begin + size)]);
     }
     at = begin + size;
   }
