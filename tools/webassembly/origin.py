@@ -48,6 +48,13 @@ def origin_of(crate, before, module):
     }
 
 
+def is_current(crate):
+    """Returns whether the module in the repository was made of the sources as they are, by this kit."""
+    origin = kept_origin()
+    is_there = os.path.isfile(f"{ROOT}/{MODULE}") and origin.get("module") == digest_of(f"{ROOT}/{MODULE}")
+    return is_there and origin["sources"] == sources_digest(crate) and origin["kit"] == kit()
+
+
 def kept_origin():
     """Returns what is said of the module in the repository; nothing if there is none."""
     text = rtlib.text_of(f"{ROOT}/{ORIGIN}")

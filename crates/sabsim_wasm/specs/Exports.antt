@@ -50,5 +50,5 @@ RepliesToRefusal kind old new reply =
 abbrev pub RepliesToWords : ℕ → Bool → List ℕ → List ℕ → List ℕ → Reply → Type 0
 RepliesToWords given is_terminal input old new reply =
     ((request : Request) × IsTaskWithinLimits request.task
-        × RepliesToRequest request.task request.source (request.explain || is_terminal) given input old new reply)
+    × RepliesToRequest request.task request.source (request.explain || is_terminal) given input old new reply)
     ⊎ ((kind : ErrorKind) × RepliesToRefusal kind old new reply)

@@ -48,25 +48,25 @@ abbrev pub Fails : Failure → Source → WrittenParts → Type 0
 Fails failure source written =
     (file : Option (Bor (List ℕ))) × TellsFile source failure.fault file
     × (written ≡ written_of (status_after failure.fault) [] (text_of failure.fault ++ (file_text file
-        ++ (line_text (line_of failure.explanation) ++ (codes "\n" ++ (advice_text failure.fault
-        ++ explanation_text failure.explanation))))))
+    ++ (line_text (line_of failure.explanation) ++ (codes "\n" ++ (advice_text failure.fault
+    ++ explanation_text failure.explanation))))))
 
 -- what `run` writes to an empty writer and returns of a job, or what it is refused for; no write fails
 abbrev pub EndsOfScript : Job → Source → Bool → List ℕ → WrittenParts → Type 0
 EndsOfScript job source explain script written =
     ((outcome : Outcome) × RunsGiven job outcome (Some []) (Some written.output) script
-        × (written ≡ done outcome written.output))
+    × (written ≡ done outcome written.output))
     ⊎ ((failure : Failure) × IsRunFault (Some script) job (Some []) (Some []) failure.fault
-        × (failure.fault ≢ WriteFailed) × IsExplanation explain failure.fault script failure.explanation
-        × Fails failure source written)
+    × (failure.fault ≢ WriteFailed) × IsExplanation explain failure.fault script failure.explanation
+    × Fails failure source written)
 
 -- what `judge_trace` writes and returns of a trace, or what it is refused for; no write fails
 abbrev pub EndsOfTrace : VerdictFormat → Source → List ℕ → WrittenParts → Type 0
 EndsOfTrace format source trace written =
     ((outcome : Outcome) × JudgesTrace format outcome (Some []) (Some written.output) trace
-        × (written ≡ done outcome written.output))
+    × (written ≡ done outcome written.output))
     ⊎ ((failure : Failure) × IsTraceFailure (Some trace) (Some []) (Some []) failure
-        × (failure.fault ≢ WriteFailed) × Fails failure source written)
+    × (failure.fault ≢ WriteFailed) × Fails failure source written)
 
 -- what a race can be made with, as a line
 abbrev pub race_advice : List ℕ

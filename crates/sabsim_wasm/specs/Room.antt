@@ -10,7 +10,7 @@ use Rattle.sabsim_wasm.specs.Program.{WrittenParts, written_of}
 abbrev pub PutsBoth : List ℕ → List ℕ → List ℕ → List ℕ → Type 0
 PutsBoth first second old new =
     (length first + length second ≤ length old
-        → new ≡ first ++ (second ++ drop (length first + length second) old))
+    → new ≡ first ++ (second ++ drop (length first + length second) old))
     × (length old < length first + length second → new ≡ old)
 
 -- the streams lie in the room, and the reply has the status, the lengths, and what the host has to read
@@ -18,11 +18,11 @@ abbrev pub Puts : ℕ → WrittenParts → List ℕ → List ℕ → Reply → T
 Puts wants written old new reply =
     PutsBoth written.output written.complaint old new
     × (reply ≡ record {
-        status = written.status;
-        output_len = length written.output;
-        complaint_len = length written.complaint;
-        wants = wants;
-      })
+      status = written.status;
+      output_len = length written.output;
+      complaint_len = length written.complaint;
+      wants = wants;
+    })
 
 -- the host is asked for what the source has
 abbrev pub AsksFor : Source → List ℕ → List ℕ → Reply → Type 0

@@ -11,9 +11,9 @@ mod written;
 
 use crate::asked::task_of;
 use crate::command::obey;
-pub use reply::Reply;
 use crate::reply::{put, put_written};
 use crate::written::perform;
+pub use reply::Reply;
 use sab_command::Source;
 use sab_ending::Ending;
 use std::alloc::Global;

@@ -82,7 +82,13 @@ pub(crate) fn ask_for(source: Source<'_>, room: &mut [u8]) -> Reply
     ensures { AsksFor source room.old room.new result }
 {
     match source {
-        Source::Standard => Reply { wants: 1, ..put(0, &[], "", room) },
-        Source::File(name) => Reply { wants: 2, ..put(0, name.as_bytes(), "", room) },
+        Source::Standard => Reply {
+            wants: 1,
+            ..put(0, &[], "", room)
+        },
+        Source::File(name) => Reply {
+            wants: 2,
+            ..put(0, name.as_bytes(), "", room)
+        },
     }
 }

@@ -23,7 +23,8 @@ pub(crate) struct Written {
 }
 
 /// What can be done instead of a race, as a line.
-static NO_RACE: &str = "races in threads need the native program sabsim: this one is made for WebAssembly\n";
+static NO_RACE: &str =
+    "races in threads need the native program sabsim: this one is made for WebAssembly\n";
 
 /// Does what is asked for with the input's bytes, whose source is named where it failed.
 pub(crate) fn perform(
