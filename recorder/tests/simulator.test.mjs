@@ -130,7 +130,7 @@ describe("command lines", () => {
   });
 
   test("a race needs the program", () => {
-    const { status, output, complaint } = command(["race", "--share", "lock"]);
+    const { status, output, complaint } = command(["race", "--share", "lock"], () => script({}));
     assert.deepEqual({ status, output }, { status: 4, output: "" });
     assert.match(complaint, /^sabsim: 9 NoThread\nraces in threads need the native program/);
   });

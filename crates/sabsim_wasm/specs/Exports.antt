@@ -1,17 +1,17 @@
 -- What the host gets of each export.
-use Rattle.std.specs.Prelude.{◌≡◌, ◌⊎◌, ◌==◌, if◌then◌else◌, ℕ, Bool, List, [], Option, Some, None, ◌||◌}
+use Rattle.std.specs.Prelude.{◌≡◌, ◌⊎◌, ◌≢◌, ◌↔◌, ◌||◌, ℕ, Bool, IsTrue, List, [], Option, Some, None, IsUtf8}
 use Rattle.clap.specs.declared.error.kind.ErrorKind.{ErrorKind}
+use Rattle.clap.specs.declared.error.kind.ErrorKind.TheVariants.{OutOfMemory, DisplayHelp, DisplayVersion}
 use Rattle.sab_tool.specs.declared.tool_fault.ToolFault.TheVariants.{ReadFailed}
 use Rattle.sab_command.specs.declared.request.Request.{Request}
 use Rattle.sab_command.specs.declared.request.Source.{Source}
-use Rattle.sab_command.specs.declared.request.Source.TheVariants.{Standard, File}
+use Rattle.sab_command.specs.declared.request.Source.TheVariants.{Standard}
 use Rattle.sab_command.specs.declared.request.Task.{Task}
-use Rattle.sab_command.specs.declared.request.Task.TheVariants.{OfScript, OfRace, OfTrace}
 use Rattle.sab_command.specs.Job.{IsTaskWithinLimits}
 use Rattle.sab_run.specs.Failure.{untold}
 use Rattle.sabsim_wasm.specs.declared.reply.Reply.{Reply}
 use Rattle.sabsim_wasm.specs.Asked.{task_at}
-use Rattle.sabsim_wasm.specs.Program.{WrittenParts, written_of, no_memory, Ends, EndsOfRace, EndsWithoutTask, Fails}
+use Rattle.sabsim_wasm.specs.Program.{WrittenParts, written_of, no_memory, no_text, parsed, Ends, Fails}
 use Rattle.sabsim_wasm.specs.Room.{Puts, AsksFor}
 
 -- the room has what the program writes, of which this is said; or there was no memory for that
@@ -31,24 +31,26 @@ RepliesToNumbers job format acts finish explain input old new reply =
 -- the input isn't read yet, or these are its bytes, or it can't be read
 abbrev pub RepliesToInput : ℕ → Task → Source → Bool → List ℕ → List ℕ → List ℕ → Reply → Type 0
 RepliesToInput given task source explain input old new reply =
-    if given == 0 then AsksFor source old new reply
-    else if given == 1 then PutsSuch (Ends task source explain input) old new reply
-    else PutsSuch (Fails (untold ReadFailed) source) old new reply
+    ((given ≡ 0) × AsksFor source old new reply)
+    ⊎ (((given ≡ 1) × PutsSuch (Ends task source explain input) old new reply)
+    ⊎ ((given ≢ 0) × (given ≢ 1) × PutsSuch (Fails (untold ReadFailed) source) old new reply))
 
--- a race ends without input
-abbrev pub RepliesToRequest : Task → Source → Bool → ℕ → List ℕ → List ℕ → List ℕ → Reply → Type 0
-RepliesToRequest (OfRace race) source explain given input old new reply = PutsSuch EndsOfRace old new reply
-RepliesToRequest task source explain given input old new reply =
-    RepliesToInput given task source explain input old new reply
+-- the parser's text is for standard error, except help and the version
+abbrev pub IsForErrors : ErrorKind → Bool → Type 0
+IsForErrors kind is_for_errors =
+    IsTrue is_for_errors ↔ ((kind ≢ DisplayHelp) × (kind ≢ DisplayVersion))
 
--- the words ask for nothing that is done with an input: the parser says so
+-- the words ask for nothing that is done with an input, as the parser's text says; or there is no memory
 abbrev pub RepliesToRefusal : ErrorKind → List ℕ → List ℕ → Reply → Type 0
 RepliesToRefusal kind old new reply =
-    (text : List ℕ) × PutsSuch (EndsWithoutTask kind text) old new reply
+    ((kind ≢ OutOfMemory) × ((text : List ℕ) × (is_for_errors : Bool) × IsForErrors kind is_for_errors
+    × Puts 0 (parsed is_for_errors text) old new reply))
+    ⊎ Puts 0 no_memory old new reply
 
--- what the words ask for is done, or they ask for nothing
-abbrev pub RepliesToWords : ℕ → Bool → List ℕ → List ℕ → List ℕ → Reply → Type 0
-RepliesToWords given is_terminal input old new reply =
+-- what the words ask for is done, or they ask for nothing, or they are no text, or there is no memory for them
+abbrev pub RepliesToWords : List ℕ → ℕ → Bool → List ℕ → List ℕ → List ℕ → Reply → Type 0
+RepliesToWords words given is_terminal input old new reply =
     ((request : Request) × IsTaskWithinLimits request.task
-    × RepliesToRequest request.task request.source (request.explain || is_terminal) given input old new reply)
-    ⊎ ((kind : ErrorKind) × RepliesToRefusal kind old new reply)
+    × RepliesToInput given request.task request.source (request.explain || is_terminal) input old new reply)
+    ⊎ (((kind : ErrorKind) × RepliesToRefusal kind old new reply)
+    ⊎ (((¬ IsUtf8 words) × Puts 0 no_text old new reply) ⊎ Puts 0 no_memory old new reply))

@@ -1,18 +1,16 @@
 -- How the program ends with an input: its exit status, and what it writes to the standard streams.
-use Rattle.std.specs.Prelude.{◌≡◌, ◌⊎◌, ◌≢◌, ℕ, Bool, List, [], ◌++◌, Option, Some, None, Ok, codes, string_bytes}
+use Rattle.std.specs.Prelude.{◌≡◌, ◌⊎◌, ◌≢◌, ℕ, Bool, true, false, List, [], ◌++◌, Option, Some, Ok, codes}
+use Rattle.std.specs.Prelude.{string_bytes}
 use Rattle.std.specs.Borrow.{Bor}
-use Rattle.clap.specs.declared.error.kind.ErrorKind.{ErrorKind}
-use Rattle.clap.specs.declared.error.kind.ErrorKind.TheVariants as kind
 use Rattle.sab_text.specs.declared.format.VerdictFormat.{VerdictFormat}
-use Rattle.sab_tool.specs.declared.tool_fault.ToolFault.{ToolFault}
-use Rattle.sab_tool.specs.declared.tool_fault.ToolFault.TheVariants.{NoThread, OutOfMemory, ReadFailed, WriteFailed}
+use Rattle.sab_tool.specs.declared.tool_fault.ToolFault.TheVariants.{NoThread, OutOfMemory, WriteFailed}
 use Rattle.sab_command.specs.declared.job.Job.{Job}
 use Rattle.sab_command.specs.declared.request.Source.{Source}
 use Rattle.sab_command.specs.declared.request.Task.{Task}
 use Rattle.sab_command.specs.declared.request.Task.TheVariants.{OfScript, OfRace, OfTrace}
 use Rattle.sab_ending.specs.declared.outcome.Outcome.{Outcome}
 use Rattle.sab_ending.specs.Status.{status_after}
-use Rattle.sab_ending.specs.Ending.{status_at, after_job, after_no_job}
+use Rattle.sab_ending.specs.Ending.{status_at, after_job}
 use Rattle.sab_ending.specs.FaultLine.{text_of}
 use Rattle.sab_ending.specs.Complaint.{advice_text, file_text, line_text}
 use Rattle.sab_run.specs.declared.failure.Failure.{Failure}
@@ -40,7 +38,11 @@ done outcome output = written_of (status_at (after_job (Ok outcome))) output []
 
 -- what the program says of want of memory, with the status for it
 abbrev pub no_memory : WrittenParts
-no_memory = written_of (status_after OutOfMemory) [] (text_of OutOfMemory ++ codes "\n")
+no_memory = written_of (status_after OutOfMemory) [] (codes "sabsim: 5 OutOfMemory\n")
+
+-- what the program says of words that are no text
+abbrev pub no_text : WrittenParts
+no_text = written_of 2 [] (codes "sabsim: the command line is no text\n")
 
 -- the failure's status, no output, and the failure's text: the line of the fault, with the file that failed and the
 -- line of a trace, then what can be done instead, then what a check says
@@ -83,9 +85,7 @@ Ends (OfScript job) source explain input written = EndsOfScript job source expla
 Ends (OfTrace format) source explain input written = EndsOfTrace format source input written
 Ends (OfRace race) source explain input written = EndsOfRace written
 
--- the parser's text is help, which goes to standard output, or says why the words are refused
-abbrev pub EndsWithoutTask : ErrorKind → List ℕ → WrittenParts → Type 0
-EndsWithoutTask kind.OutOfMemory text written = written ≡ no_memory
-EndsWithoutTask kind.DisplayHelp text written = written ≡ written_of 0 text []
-EndsWithoutTask kind.DisplayVersion text written = written ≡ written_of 0 text []
-EndsWithoutTask _ text written = written ≡ written_of 2 [] text
+-- the text of the command line's parser says why the words are refused, or it is help or the version
+abbrev pub parsed : Bool → List ℕ → WrittenParts
+parsed true text = written_of 2 [] text
+parsed false text = written_of 0 text []

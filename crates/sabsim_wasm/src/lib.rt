@@ -11,11 +11,8 @@ mod written;
 
 use crate::asked::task_of;
 use crate::command::obey;
-use crate::reply::{put, put_written};
-use crate::written::perform;
+use crate::written::reply_to_task;
 pub use reply::Reply;
-use sab_command::Source;
-use sab_ending::Ending;
 use std::alloc::Global;
 
 /// Does with the input's bytes what these numbers ask for, and puts what the program writes then into the host's room.
@@ -28,6 +25,7 @@ use std::alloc::Global;
 /// reply has the exit status and both lengths. A room that is too small for both stays as it was, and the host calls
 /// again with a larger one. Where there is no memory, the program ends with 5 OutOfMemory.
 #[unsafe(no_mangle)]
+#[tactic(auto, using(crate::proofs::Replies::numbers))]
 pub extern "C" fn sabsim_run(
     alloc: Global,
     job: u32,
@@ -41,13 +39,8 @@ pub extern "C" fn sabsim_run(
 )
     ensures { RepliesToNumbers job format acts finish explain input.now room.old room.new reply.new }
 {
-    *reply = match task_of(job, format, acts, finish) {
-        Some(task) => {
-            let written = perform(alloc, task, Source::Standard, explain, input);
-            put_written(written, room)
-        }
-        None => put(Ending::Refused.status(), &[], "", room),
-    };
+    let task = task_of(job, format, acts, finish);
+    *reply = reply_to_task(alloc, task, explain, input, room);
 }
 
 /// Does what the words of a command line ask for, and puts what the program writes then into the host's room, as
@@ -58,7 +51,7 @@ pub extern "C" fn sabsim_run(
 /// At 0 the reply says what the host has to read, if anything: `wants` is 1 for standard input, and 2 for the file
 /// whose name is in the room. `is_terminal` says whether standard error is a terminal, where each refusal is explained.
 ///
-/// A race ends with 9 NoThread: it needs threads, which only the native program has.
+/// A race ends with 9 NoThread once its script is read: it needs threads, which only the native program has.
 #[unsafe(no_mangle)]
 pub extern "C" fn sabsim_command(
     alloc: Global,
@@ -69,7 +62,7 @@ pub extern "C" fn sabsim_command(
     room: &mut [u8],
     reply: &mut Reply,
 )
-    ensures { RepliesToWords given is_terminal input.now room.old room.new reply.new }
+    ensures { RepliesToWords words.now given is_terminal input.now room.old room.new reply.new }
 {
     *reply = obey(alloc, words, given, is_terminal, input, room);
 }

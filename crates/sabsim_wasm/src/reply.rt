@@ -1,14 +1,11 @@
 //! What the host gets.
 
-ghost use Rattle.std.specs.Prelude.{IfOk, IfErr};
-ghost use Rattle.sabsim_wasm.specs.Program.{no_memory, written_by, written_of};
+ghost use Rattle.sabsim_wasm.specs.Program.{no_memory, written_of};
 ghost use Rattle.sabsim_wasm.specs.Room.{AsksFor, Puts, PutsBoth};
 
-use crate::written::Written;
 use sab_command::Source;
 use sab_ending::Ending;
 use sab_tool::ToolFault;
-use std::alloc::AllocError;
 
 /// How a call ended, and how much of the room it needs.
 #[repr(C)]
@@ -53,22 +50,6 @@ fn put_both(first: &[u8], second: &[u8], room: &mut [u8])
     }
 }
 
-/// Puts what the program writes, or that there is no memory for it.
-pub(crate) fn put_written(written: Result<Written, AllocError>, room: &mut [u8]) -> Reply
-    ensures ok { IfOk written (λ it. Puts 0 (written_by it) room.old room.new result) }
-    ensures err { IfErr written (λ error. Puts 0 no_memory room.old room.new result) }
-{
-    match written {
-        Ok(written) => put(
-            written.status,
-            written.output.as_slice(),
-            written.complaint.as_str(),
-            room,
-        ),
-        Err(_) => put_no_memory(room),
-    }
-}
-
 /// Puts what the program says where there is no memory.
 pub(crate) fn put_no_memory(room: &mut [u8]) -> Reply
     ensures { Puts 0 no_memory room.old room.new result }
@@ -79,7 +60,7 @@ pub(crate) fn put_no_memory(room: &mut [u8]) -> Reply
 
 /// Asks the host for the input.
 pub(crate) fn ask_for(source: Source<'_>, room: &mut [u8]) -> Reply
-    ensures { AsksFor source room.old room.new result }
+    ensures { AsksFor source.entry room.old room.new result }
 {
     match source {
         Source::Standard => Reply {

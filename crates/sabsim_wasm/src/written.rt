@@ -1,9 +1,13 @@
 //! What the program writes.
 
-ghost use Rattle.std.specs.Prelude.{◌≡◌, ◌≢◌, IfOk};
-ghost use Rattle.sab_tool.specs.declared.tool_fault.ToolFault.TheVariants.{WriteFailed};
+ghost use Rattle.std.specs.Prelude.{◌≡◌, ◌≢◌, IfOk, OnOk};
+ghost use Rattle.sab_tool.specs.declared.tool_fault.ToolFault.TheVariants.{ReadFailed, WriteFailed};
+ghost use Rattle.sab_run.specs.Failure.{untold};
+ghost use Rattle.sabsim_wasm.specs.Exports.{PutsSuch, RepliesToTask};
 ghost use Rattle.sabsim_wasm.specs.Program.{Ends, EndsOfRace, EndsOfScript, EndsOfTrace, Fails, done, written_by};
+ghost use Rattle.sabsim_wasm.specs.Room.{Puts};
 
+use crate::reply::{Reply, put, put_no_memory};
 use sab_command::{Job, Source, Task};
 use sab_ending::{Complaint, Ending, Outcome};
 use sab_run::{Failure, judge_trace, run};
@@ -26,15 +30,73 @@ pub(crate) struct Written {
 static NO_RACE: &str =
     "races in threads need the native program sabsim: this one is made for WebAssembly\n";
 
-/// Does what is asked for with the input's bytes, whose source is named where it failed.
-pub(crate) fn perform(
+/// Does what is asked for with the input's bytes, if something is, and puts what the program writes into the room.
+pub(crate) fn reply_to_task(
+    alloc: Global,
+    task: Option<Task>,
+    explain: bool,
+    input: &[u8],
+    room: &mut [u8],
+) -> Reply
+    ensures { RepliesToTask task explain input.now room.old room.new result }
+{
+    match task {
+        Some(task) => put_task(alloc, task, Source::Standard, explain, input, room),
+        None => put(Ending::Refused.status(), &[], "", room),
+    }
+}
+
+/// Does what is asked for, and puts what the program writes into the room. The source is named where it failed.
+#[tactic(auto, using(crate::proofs::Replies::puts_such))]
+pub(crate) fn put_task(
+    alloc: Global,
+    task: Task,
+    source: Source<'_>,
+    explain: bool,
+    input: &[u8],
+    room: &mut [u8],
+) -> Reply
+    ensures { PutsSuch (Ends task source.entry explain input.now) room.old room.new result }
+{
+    match perform(alloc, task, source, explain, input) {
+        Ok(written) => put_written(&written, room),
+        Err(_) => put_no_memory(room),
+    }
+}
+
+/// Says that the source can't be read.
+#[tactic(auto, using(crate::proofs::Replies::puts_such))]
+pub(crate) fn put_unreadable(alloc: Global, source: Source<'_>, room: &mut [u8]) -> Reply
+    ensures { PutsSuch (Fails (untold ReadFailed) source.entry) room.old room.new result }
+{
+    let failure = Failure::from(ToolFault::ReadFailed);
+    match failed(alloc, &failure, source) {
+        Ok(written) => put_written(&written, room),
+        Err(_) => put_no_memory(room),
+    }
+}
+
+/// Puts what the program writes into the room.
+fn put_written(written: &Written, room: &mut [u8]) -> Reply
+    ensures { Puts 0 (written_by written.now) room.old room.new result }
+{
+    put(
+        written.status,
+        written.output.as_slice(),
+        written.complaint.as_str(),
+        room,
+    )
+}
+
+/// Does what is asked for with the input's bytes.
+fn perform(
     alloc: Global,
     task: Task,
     source: Source<'_>,
     explain: bool,
     input: &[u8],
 ) -> Result<Written, AllocError>
-    ensures { IfOk result (λ written. Ends task source explain input.now (written_by written)) }
+    ensures { IfOk result (λ written. Ends task source.entry explain input.now (written_by written)) }
 {
     match task {
         Task::OfScript(job) => perform_job(alloc, job, source, explain, input),
@@ -44,6 +106,7 @@ pub(crate) fn perform(
 }
 
 /// Does a job of a script.
+#[tactic(auto, using(crate::proofs::Ends::script_done, crate::proofs::Ends::script_refused))]
 fn perform_job(
     alloc: Global,
     job: Job,
@@ -51,7 +114,7 @@ fn perform_job(
     explain: bool,
     script: &[u8],
 ) -> Result<Written, AllocError>
-    ensures { IfOk result (λ written. EndsOfScript job source explain script.now (written_by written)) }
+    ensures { IfOk result (λ written. EndsOfScript job source.entry explain script.now (written_by written)) }
 {
     let mut output = Vec::new(alloc);
     let mut reader = script;
@@ -62,13 +125,14 @@ fn perform_job(
 }
 
 /// Judges a trace.
+#[tactic(auto, using(crate::proofs::Ends::trace_done, crate::proofs::Ends::trace_refused))]
 fn judge(
     alloc: Global,
     format: VerdictFormat,
     source: Source<'_>,
     trace: &[u8],
 ) -> Result<Written, AllocError>
-    ensures { IfOk result (λ written. EndsOfTrace format source trace.now (written_by written)) }
+    ensures { IfOk result (λ written. EndsOfTrace format source.entry trace.now (written_by written)) }
 {
     let mut output = Vec::new(alloc);
     let mut reader = trace;
@@ -79,7 +143,7 @@ fn judge(
 }
 
 /// Says that there can be no race.
-pub(crate) fn refuse_race(alloc: Global) -> Result<Written, AllocError>
+fn refuse_race(alloc: Global) -> Result<Written, AllocError>
     ensures { IfOk result (λ written. EndsOfRace (written_by written)) }
 {
     let complaint = Complaint {
@@ -106,21 +170,18 @@ fn done(alloc: Global, outcome: Outcome, output: Vec<u8>) -> Written
     }
 }
 
-/// What is written of a failure. A write that failed is want of memory: the output is a list of bytes.
-pub(crate) fn failed(
-    alloc: Global,
-    failure: &Failure,
-    source: Source<'_>,
-) -> Result<Written, AllocError>
-    ensures ok { IfOk result (λ written. Fails failure.now source (written_by written)) }
-    ensures fault { IfOk result (λ it. failure.now.fault ≢ WriteFailed) }
+/// What is written of a failure. A write that failed is want of memory, since the output is a list of bytes.
+#[tactic(auto, using(crate::proofs::Ends::fails_by))]
+fn failed(alloc: Global, failure: &Failure, source: Source<'_>) -> Result<Written, AllocError>
+    ensures ok { IfOk result (λ written. Fails failure.now source.entry (written_by written)) }
+    ensures fault { OnOk result (failure.now.fault ≢ WriteFailed) }
 {
     if failure.fault == ToolFault::WriteFailed {
         return Err(AllocError);
     }
     let complaint = failure.complaint(source);
     Ok(Written {
-        status: Ending::of_job(Err(failure.fault)).status(),
+        status: Ending::Failed(failure.fault).status(),
         output: Vec::new(alloc),
         complaint: format!(in alloc; "{complaint}")?,
     })
