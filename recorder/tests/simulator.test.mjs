@@ -139,8 +139,8 @@ describe("command lines", () => {
 /** A module whose first call in an instance returns, and whose second one traps. */
 const TRAPPING = Uint8Array.from([
   ...[0, 0x61, 0x73, 0x6d, 1, 0, 0, 0],
-  // A type with five numbers of 32 bits and seven of 64, a function of it, a memory of a page.
-  ...[1, 16, 1, 0x60, 12, ...Array(5).fill(0x7f), ...Array(7).fill(0x7e), 0],
+  // A type with five numbers of 32 bits and five of 64, a function of it, a memory of a page.
+  ...[1, 14, 1, 0x60, 10, ...Array(5).fill(0x7f), ...Array(5).fill(0x7e), 0],
   ...[3, 2, 1, 0, 5, 3, 1, 0, 1],
   ...[7, 23, 2, 6, ...bytesOf("memory"), 2, 0, 10, ...bytesOf("sabsim_run"), 0, 0],
   // If the byte at 0 is 1 it traps; then that byte becomes 1.
