@@ -84,7 +84,7 @@ describe("refusals", () => {
     const wanted = { status: 1, size: 0, complaint: "sabsim: 10 BadShape\n" };
     assert.deepEqual({ status, size: output.length, complaint }, wanted);
     const explained = simulator.run({ job: "replay", explain: true }, script({ views: 1 })).complaint;
-    assert.match(explained, /^sabsim: 10 BadShape\n.+views.+\n$/);
+    assert.match(explained, /^sabsim: 10 BadShape\nviews: .+\n$/);
     assert.equal(command(["replay"], () => script({ views: 1 }), true).complaint, explained);
   });
 
@@ -197,5 +197,5 @@ test("what is beside the module says what it was made of", () => {
 
 test("the module and its loader import nothing, so a page can have them", () => {
   assert.deepEqual(WebAssembly.Module.imports(new WebAssembly.Module(BYTES)), []);
-  assert.doesNotMatch(readFileSync(new URL("simulator.mjs", WASM), "utf8"), /^import|\bimport\(|\bprocess\b|\bBuffer\b/m);
+  assert.doesNotMatch(readFileSync(new URL("simulator.mjs", WASM), "utf8"), /^import\b|\bimport\(|\bprocess\.|\bBuffer\b/m);
 });
