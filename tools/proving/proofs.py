@@ -169,8 +169,7 @@ class Proofs:
 
     def trial_of(self, crate, files, alone):
         """Returns the trial of some edits of a crate."""
-        say = self.tally.say
-        return StaticTrial(crate, files, say) if crate.is_static else Trial(crate, files, say, alone)
+        return (StaticTrial if crate.is_static else Trial)(crate, files, self.tally.say, alone)
 
     def report(self, label, result):
         """Reports and counts what an edit came to."""

@@ -1,13 +1,12 @@
 """Proves a static library, keeps the code that its proof is about, and tries its edits."""
+import copy
 import os
 import shlex
 import tempfile
 
 from .crates import Proving
-from .edits import Edit
-from .functions import functions_of
-from .kit import rtlib
-from .trial import Trial, run_check
+from .kit import rtlib, stop
+from .trial import Trial
 
 TOOLCHAIN = f"{rtlib.KIT}/toolchain"
 
@@ -30,19 +29,22 @@ class StaticProving(Proving):
 
 
 class StaticTrial(Trial):
-    """The edits of a static library. It keeps nothing of its proof, so they are tried alone, over a further check."""
+    """The edits of a static library, tried on it as on a plain library. A static library keeps nothing of its proof, so
+    it is proved once more, as a plain one."""
 
-    def __init__(self, crate, files, report):
-        self.crate, self.report, self.flags = crate, report, ["--jobs", "1"]
-        self.functions, self.proved = functions_of(crate.name, crate.folder), set()
-        self.edits = [Edit(file, crate, self.functions, {}) for file in files]
+    def __init__(self, crate, files, report, alone=False):
+        self.folder, plain = tempfile.TemporaryDirectory(prefix="sabsim-plain-"), copy.copy(crate)
+        plain.is_static = False
+        proving = Proving(plain)
+        if not proving.make(self.folder.name, 1):
+            stop(f"{proving.said}{crate.name} isn't proved as a plain library")
+        plain.rlib = f"{self.folder.name}/{proving.made}"
+        super().__init__(plain, files, report, alone)
 
     def results(self):
         """Tries all edits, and yields each one's name with its result."""
-        with tempfile.TemporaryDirectory(prefix="sabsim-edits-") as kept:
-            run_check(self.crate, self.crate.folder, self.flags, kept)
-            for edit in self.edits:
-                yield edit.name, self.try_alone(edit, kept)
+        with self.folder:
+            yield from super().results()
 
 
 def toolchain_that_keeps(bitcode, room):

@@ -65,7 +65,7 @@ pub(crate) fn put_task(
 }
 
 /// Says that the source can't be read.
-#[tactic(auto, using(crate::proofs::Replies::puts_such))]
+#[tactic(auto, using(crate::proofs::Replies::puts_failure))]
 pub(crate) fn put_unreadable(alloc: Global, source: Source<'_>, room: &mut [u8]) -> Reply
     ensures { PutsSuch (Fails (untold ReadFailed) source.entry) room.old room.new result }
 {
