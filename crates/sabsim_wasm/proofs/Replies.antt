@@ -3,26 +3,17 @@ use Rattle.std.proofs.Common.{◌≡◌, ◌≢◌, ◌↔◌, ◌||◌, ℕ, Bo
 use Rattle.clap.specs.declared.error.kind.ErrorKind.{ErrorKind}
 use Rattle.clap.specs.declared.error.kind.ErrorKind.TheVariants.{OutOfMemory}
 use Rattle.sab_command.specs.declared.request.Request.{Request}
-use Rattle.sab_command.specs.declared.request.Source.{Source}
 use Rattle.sab_command.specs.declared.request.Task.{Task}
 use Rattle.sab_command.specs.Job.{IsTaskWithinLimits}
-use Rattle.sab_run.specs.declared.failure.Failure.{Failure}
 use Rattle.sabsim_wasm.specs.declared.reply.Reply.{Reply}
 use Rattle.sabsim_wasm.specs.Exports.{PutsSuch, RepliesToTask, RepliesToInput, RepliesToRefusal, RepliesToWords}
 use Rattle.sabsim_wasm.specs.Exports.{IsForErrors}
-use Rattle.sabsim_wasm.specs.Program.{WrittenParts, written_of, parsed, Fails}
+use Rattle.sabsim_wasm.specs.Program.{WrittenParts, written_of, parsed}
 use Rattle.sabsim_wasm.specs.Room.{Puts}
 
 pub puts_such : (IsSuch : WrittenParts → Type 0) (written : WrittenParts) (old new : List ℕ) (reply : Reply)
     → IsSuch written → Puts 0 written old new reply → PutsSuch IsSuch old new reply
 puts_such IsSuch written old new reply such puts = inl (written, such, puts)
-
--- the failure is this one
-pub puts_failure : (failure named : Failure) (source : Source) (written : WrittenParts) (old new : List ℕ)
-    (reply : Reply) → failure ≡ named → Fails failure source written → Puts 0 written old new reply
-    → PutsSuch (Fails named source) old new reply
-puts_failure failure named source written old new reply same fails puts =
-    inl (written, subst (λ (it : Failure). Fails it source written) same fails, puts)
 
 -- the numbers name this task
 pub numbers : (task named : Option Task) (explain : Bool) (input old new : List ℕ) (reply : Reply)

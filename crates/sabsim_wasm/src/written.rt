@@ -10,7 +10,7 @@ ghost use Rattle.sabsim_wasm.specs.Room.{Puts};
 use crate::reply::{Reply, put, put_no_memory};
 use sab_command::{Job, Source, Task};
 use sab_ending::{Complaint, Ending, Outcome};
-use sab_run::{Failure, judge_trace, run};
+use sab_run::{Explanation, Failure, judge_trace, run};
 use sab_text::VerdictFormat;
 use sab_tool::ToolFault;
 use std::alloc::{AllocError, Global};
@@ -65,11 +65,13 @@ pub(crate) fn put_task(
 }
 
 /// Says that the source can't be read.
-#[tactic(auto, using(crate::proofs::Replies::puts_failure))]
 pub(crate) fn put_unreadable(alloc: Global, source: Source<'_>, room: &mut [u8]) -> Reply
     ensures { PutsSuch (Fails (untold ReadFailed) source.entry) room.old room.new result }
 {
-    let failure = Failure::from(ToolFault::ReadFailed);
+    let failure = Failure {
+        fault: ToolFault::ReadFailed,
+        explanation: Explanation::Untold,
+    };
     match failed(alloc, &failure, source) {
         Ok(written) => put_written(&written, room),
         Err(_) => put_no_memory(room),
