@@ -20,7 +20,7 @@ OF_C = "-O2 -fwrapv -ffreestanding -fno-builtin -nostdinc -Wall".split()
 NO_CALLS = '"no-builtin-bcmp" "no-builtin-memcmp" "no-builtin-strlen"'
 # What the linked module may have.
 FEATURES = "memory64 bulk-memory sign-ext mutable-globals nontrapping-float-to-int multivalue".split()
-# The stack lies below all else, so a call beyond it is a trap. The deepest script takes less than a quarter of it.
+# The stack lies below all else, so a call beyond it is a trap. compare.mjs has the deepest scripts.
 STACK = 1 << 20
 # What is for x86-64 alone, and so has no place in the code.
 FOREIGN = re.compile(r'llvm\.x86[\w.]*|\basm (?:sideeffect )?"|inteldialect')
