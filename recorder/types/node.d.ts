@@ -122,7 +122,15 @@ declare class AbortController {
 declare const process: NodeJS.Process;
 declare const performance: { now(): number; readonly timeOrigin: number };
 declare const console: Record<"log" | "error", (...given: unknown[]) => void> & { Console: Function };
-declare const WebAssembly: { Module: Function };
+declare namespace WebAssembly {
+  class Module {
+    constructor(bytes: Uint8Array);
+  }
+  class Instance {
+    constructor(module: Module, imports: object);
+    readonly exports: any;
+  }
+}
 declare function setTimeout(call: (...given: any[]) => void, milliseconds: number, ...given: unknown[]): NodeJS.Timer;
 declare function clearTimeout(timer: NodeJS.Timer | undefined): void;
 declare function setInterval(call: () => void, milliseconds: number): NodeJS.Timer;

@@ -9,11 +9,14 @@ import traceback
 from .crates import Proving, why_refused
 from .kit import rt, rtlib
 from .lanes import Task
+from .static_library import StaticProving, StaticTrial
 from .store import Sums, sum_of, sum_of_scripts
 from .trial import BAD, REFUSED, Result, Trial
 
 # The scripts that decide whether an edit is refused. If one of them has changed, all edits are tried anew.
 DECIDING = "edits functions kit modules trial twins verdicts"
+# The scripts that make the code of a static library, and try its edits.
+OF_STATIC = "static_library"
 # A proof takes at most this part of the memory that rt foresees; one of a program, or of tests, can take all of it.
 NEEDED = 0.6
 
@@ -63,7 +66,7 @@ class Proofs:
 
     def add_proof(self, crate, is_of_tests=False):
         """Adds the task of proving a crate, or its tests, after those below it."""
-        proving, is_compiled = Proving(crate, is_of_tests), is_of_tests or crate.is_program
+        proving, is_compiled = proving_of(crate, is_of_tests), is_of_tests or not crate.makes_rlib()
         # Code of all crates below is compiled for a program.
         seconds, memory = seconds_of(crate) * (2 if is_compiled else 1), rt.need(crate) * (1 if is_compiled else NEEDED)
         waits_for = [self.tasks[below.name] for below in crate.below()]
@@ -111,7 +114,7 @@ class Proofs:
         if why:
             self.tally.say(f"{crate.name}: {why}")
             return False
-        key = sum_of(self.sums.of(crate), proving.made)
+        key = sum_of(self.sums.of(crate), proving.made, *self.sums_of_static(crate))
         path = known = self.store.find(crate.name, key)
         path = path or self.store.keep(crate.name, key, lambda folder: proving.make(folder, jobs))
         if not path:
@@ -121,6 +124,10 @@ class Proofs:
         took = "known" if known else f"{time.monotonic() - begun:.0f} s"
         self.tally.add_proof(f"{{:2}} of {self.proofs}: {proving.name}, {took}", bool(known))
         return True
+
+    def sums_of_static(self, crate):
+        """Returns a sum of the scripts that only a static library rests on, if the crate is one."""
+        return [sum_of_scripts(OF_STATIC)] if crate.is_static else []
 
     def put(self, proving, path):
         """Puts what was made of a crate where others look for it."""
@@ -145,12 +152,12 @@ class Proofs:
 
     def try_edits(self, crate, files, alone):
         """Tries a crate's edits, except those that are known to be refused, and counts them."""
-        path, begun = self.paths[f"{crate.name}.rlib"], time.monotonic()
-        sums = {os.path.basename(file): sum_of(self.scripts, alone, rtlib.sum_of(file)) for file in files}
+        path, begun, extra = self.paths[proving_of(crate).made], time.monotonic(), self.sums_of_static(crate)
+        sums = {os.path.basename(file): sum_of(self.scripts, alone, rtlib.sum_of(file), *extra) for file in files}
         kept = self.store.results(path)
         results = {name: Result(*kept[sums[name]]) for name in sums if sums[name] in kept}
         known, left = len(results), [file for file in files if os.path.basename(file) not in results]
-        for name, result in Trial(crate, left, self.tally.say, alone).results() if left else ():
+        for name, result in self.trial_of(crate, left, alone).results() if left else ():
             results[name] = result
             if result.kind == REFUSED:
                 kept[sums[name]] = result
@@ -160,6 +167,10 @@ class Proofs:
         self.tally.add_edits(len(files), known)
         self.tally.say(f"tried: {len(files)} edits of {crate.name} ({known} known, {time.monotonic() - begun:.0f} s)")
         return True
+
+    def trial_of(self, crate, files, alone):
+        """Returns the trial of some edits of a crate."""
+        return (StaticTrial if crate.is_static else Trial)(crate, files, self.tally.say, alone)
 
     def report(self, label, result):
         """Reports and counts what an edit came to."""
@@ -177,14 +188,19 @@ def has_only_tests(crate):
     return bool(re.fullmatch(r"(\s*#\[cfg\(test\)\]\s*mod \w+;)+\s*", text))
 
 
+def proving_of(crate, is_of_tests=False):
+    """Returns the proof of a crate, or of its tests."""
+    return StaticProving(crate) if crate.is_static and not is_of_tests else Proving(crate, is_of_tests)
+
+
 def made_of(crate, sums):
-    """Returns a sum of all that a program was made of, and of the program itself."""
-    return sum_of(sums.of(crate), rtlib.sum_of(f"{crate.folder}/out/{crate.name}"))
+    """Returns a sum of all that a program, or a static library's code, was made of, and of what was made."""
+    return sum_of(sums.of(crate), rtlib.sum_of(f"{crate.folder}/out/{proving_of(crate).made}"))
 
 
 def is_made_of(crate, sums):
-    """Returns whether a crate's program is there, and was proved and made of the files as they are."""
-    return rtlib.text_of(f"{crate.folder}/out/{crate.name}.made-of") == made_of(crate, sums)
+    """Returns whether a crate's program, or code, is there, and was proved and made of the files as they are."""
+    return rtlib.text_of(f"{crate.folder}/out/{proving_of(crate).made}.made-of") == made_of(crate, sums)
 
 
 def seconds_of(crate):

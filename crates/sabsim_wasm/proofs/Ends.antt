@@ -1,0 +1,116 @@
+-- How the program ends, of what was shown of its parts.
+use Rattle.std.proofs.Common.{◌≡◌, ◌≢◌, ◌⊎◌, ℕ, Bool, List, [], ◌++◌, Option, Some, None, Result, Ok, Err, IfOk, OnOk}
+use Rattle.std.proofs.Common.{codes, inl, inr, refl, sym, subst, ap}
+use Rattle.std.specs.Borrow.{Bor}
+use Rattle.std.specs.Io.KnownBytes.{Keeps}
+use Rattle.sab_text.specs.declared.format.VerdictFormat.{VerdictFormat}
+use Rattle.sab_tool.specs.declared.tool_fault.ToolFault.{ToolFault}
+use Rattle.sab_tool.specs.declared.tool_fault.ToolFault.TheVariants.{WriteFailed}
+use Rattle.sab_command.specs.declared.job.Job.{Job}
+use Rattle.sab_command.specs.declared.request.Source.{Source}
+use Rattle.sab_ending.specs.declared.complaint.Complaint.{Complaint}
+use Rattle.sab_ending.specs.declared.outcome.Outcome.{Outcome}
+use Rattle.sab_ending.specs.Status.{status_after}
+use Rattle.sab_ending.specs.FaultLine.{text_of}
+use Rattle.sab_ending.specs.Complaint.{advice_text, complaint_text, file_text, line_text}
+use Rattle.sab_run.specs.declared.failure.Failure.{Failure}
+use Rattle.sab_run.specs.Failure.{TellsFile, explanation_text, line_of}
+use Rattle.sab_run.specs.Explaining.{IsExplanation}
+use Rattle.sab_run.specs.Running.{RunsGiven, IsRunFault, IsUnwritten}
+use Rattle.sab_run.specs.Tracing.{JudgesTrace, IsTraceFailure}
+use Rattle.sabsim_wasm.specs.declared.written.Written.{Written}
+use Rattle.sabsim_wasm.specs.Program.{WrittenParts, written_of, written_by, done, Fails, EndsOfScript, EndsOfTrace}
+
+-- what was done of a script, from an empty output
+pub script_done : (job : Job) (source : Source) (explain : Bool) (script : List ℕ) (outcome : Outcome)
+    (old new : List ℕ) (written : WrittenParts) → old ≡ [] → RunsGiven job outcome (Some old) (Some new) script
+    → written ≡ done outcome new → EndsOfScript job source explain script written
+script_done job source explain script outcome old new written empty runs is =
+    let same : new ≡ written.output = sym (ap (λ (it : WrittenParts). it.output) is) in
+    inl (
+      outcome,
+      subst (λ (it : List ℕ). RunsGiven job outcome (Some []) (Some it) script) same
+          (subst (λ (it : List ℕ). RunsGiven job outcome (Some it) (Some new) script) empty runs),
+      subst (λ (it : List ℕ). written ≡ done outcome it) same is,
+    )
+
+-- what was judged of a trace, from an empty output
+pub trace_done : (format : VerdictFormat) (source : Source) (trace : List ℕ) (outcome : Outcome)
+    (old new : List ℕ) (written : WrittenParts) → old ≡ [] → JudgesTrace format outcome (Some old) (Some new) trace
+    → written ≡ done outcome new → EndsOfTrace format source trace written
+trace_done format source trace outcome old new written empty judges is =
+    let same : new ≡ written.output = sym (ap (λ (it : WrittenParts). it.output) is) in
+    inl (
+      outcome,
+      subst (λ (it : List ℕ). JudgesTrace format outcome (Some []) (Some it) trace) same
+          (subst (λ (it : List ℕ). JudgesTrace format outcome (Some it) (Some new) trace) empty judges),
+      subst (λ (it : List ℕ). written ≡ done outcome it) same is,
+    )
+
+-- where no write failed, nothing was written
+kept_of : (old new : List ℕ) (fault : ToolFault) → IsUnwritten (Some old) (Some new) fault → fault ≢ WriteFailed
+    → new ≡ old
+kept_of old new fault (inl failed) other = absurd (other failed)
+kept_of old new fault (inr kept) other = kept
+
+kept_of_trace : (known : Option (List ℕ)) (old new : List ℕ) (failure : Failure)
+    → IsTraceFailure known (Some old) (Some new) failure → failure.fault ≢ WriteFailed → new ≡ old
+kept_of_trace known old new failure (inl refused) other = refused.2
+kept_of_trace known old new failure (inr (inl without)) other = without.1
+kept_of_trace known old new failure (inr (inr failed)) other =
+    absurd (other (ap (λ (it : Failure). it.fault) failed))
+
+-- what a script is refused for, with an empty output
+pub script_refused : (job : Job) (source : Source) (explain : Bool) (script : List ℕ) (failure : Failure)
+    (old new : List ℕ) {E : Type 0} (result : Result Written E)
+    → IsRunFault (Some script) job (Some old) (Some new) failure.fault
+    → IsUnwritten (Some old) (Some new) failure.fault
+    → IsExplanation explain failure.fault script failure.explanation → old ≡ []
+    → IfOk result (λ it. Fails failure source (written_by it)) → OnOk result (failure.fault ≢ WriteFailed)
+    → IfOk result (λ it. EndsOfScript job source explain script (written_by it))
+script_refused job source explain script failure old new (Err error) fault unwritten why empty fails other = tt
+script_refused job source explain script failure old new (Ok it) fault unwritten why empty fails other =
+    let kept : new ≡ old = kept_of old new failure.fault unwritten other in
+    inr (
+      failure,
+      subst (λ (it : List ℕ). IsRunFault (Some script) job (Some it) (Some it) failure.fault) empty
+          (subst (λ (it : List ℕ). IsRunFault (Some script) job (Some old) (Some it) failure.fault) kept fault),
+      other,
+      why,
+      fails,
+    )
+
+-- what a trace is refused for, with an empty output
+pub trace_refused : (format : VerdictFormat) (source : Source) (trace : List ℕ) (failure : Failure)
+    (old new : List ℕ) {E : Type 0} (result : Result Written E)
+    → IsTraceFailure (Some trace) (Some old) (Some new) failure → old ≡ []
+    → IfOk result (λ it. Fails failure source (written_by it)) → OnOk result (failure.fault ≢ WriteFailed)
+    → IfOk result (λ it. EndsOfTrace format source trace (written_by it))
+trace_refused format source trace failure old new (Err error) refused empty fails other = tt
+trace_refused format source trace failure old new (Ok it) refused empty fails other =
+    let kept : new ≡ old = kept_of_trace (Some trace) old new failure refused other in
+    inr (
+      failure,
+      subst (λ (it : List ℕ). IsTraceFailure (Some trace) (Some it) (Some it) failure) empty
+          (subst (λ (it : List ℕ). IsTraceFailure (Some trace) (Some old) (Some it) failure) kept refused),
+      other,
+      fails,
+    )
+
+-- a failure's complaint is its text
+pub fails_by : (failure : Failure) (source : Source) (c : Complaint) (written : WrittenParts)
+    → c.fault ≡ failure.fault → TellsFile source failure.fault c.file → c.line ≡ line_of failure.explanation
+    → c.why.now ≡ explanation_text failure.explanation
+    → written ≡ written_of (status_after failure.fault) [] (complaint_text c) → Fails failure source written
+fails_by failure source c written fault tells line why is =
+    let status = status_after failure.fault in
+    let of_fault = subst (λ (it : ToolFault). written ≡ written_of status [] (text_of it ++ (file_text c.file
+    ++ (line_text c.line ++ (codes "\n" ++ (advice_text it ++ c.why.now)))))) fault is in
+    let of_line = subst (λ (it : Option ℕ). written ≡ written_of status [] (text_of failure.fault ++ (file_text c.file
+    ++ (line_text it ++ (codes "\n" ++ (advice_text failure.fault ++ c.why.now)))))) line of_fault in (
+      c.file,
+      tells,
+      subst (λ (it : List ℕ). written ≡ written_of status [] (text_of failure.fault
+          ++ (file_text c.file ++ (line_text (line_of failure.explanation) ++ (codes "\n"
+          ++ (advice_text failure.fault ++ it)))))) why of_line,
+    )

@@ -1,0 +1,64 @@
+-- Replies, of what was shown of their parts.
+use Rattle.std.proofs.Common.{◌≡◌, ◌≢◌, ◌↔◌, ◌||◌, ℕ, Bool, true, false, IsTrue, List, [], Option, inl, inr, sym, subst}
+use Rattle.clap.specs.declared.error.kind.ErrorKind.{ErrorKind}
+use Rattle.clap.specs.declared.error.kind.ErrorKind.TheVariants.{OutOfMemory}
+use Rattle.sab_command.specs.declared.request.Request.{Request}
+use Rattle.sab_command.specs.declared.request.Task.{Task}
+use Rattle.sab_command.specs.Job.{IsTaskWithinLimits}
+use Rattle.sabsim_wasm.specs.declared.reply.Reply.{Reply}
+use Rattle.sabsim_wasm.specs.Exports.{PutsSuch, RepliesToTask, RepliesToInput, RepliesToRefusal, RepliesToWords}
+use Rattle.sabsim_wasm.specs.Exports.{IsForErrors}
+use Rattle.sabsim_wasm.specs.Program.{WrittenParts, written_of, parsed}
+use Rattle.sabsim_wasm.specs.Room.{Puts}
+
+pub puts_such : (IsSuch : WrittenParts → Type 0) (written : WrittenParts) (old new : List ℕ) (reply : Reply)
+    → IsSuch written → Puts 0 written old new reply → PutsSuch IsSuch old new reply
+puts_such IsSuch written old new reply such puts = inl (written, such, puts)
+
+-- the numbers name this task
+pub numbers : (task named : Option Task) (explain : Bool) (input old new : List ℕ) (reply : Reply)
+    → task ≡ named → RepliesToTask task explain input old new reply → RepliesToTask named explain input old new reply
+numbers task named explain input old new reply same replies =
+    subst (λ (it : Option Task). RepliesToTask it explain input old new reply) same replies
+
+-- the words ask for this
+pub requested : (words : List ℕ) (given : ℕ) (is_terminal : Bool) (request : Request) (input old new : List ℕ)
+    (reply : Reply) → IsTaskWithinLimits request.task
+    → RepliesToInput given request.task request.source (request.explain || is_terminal) input old new reply
+    → RepliesToWords words given is_terminal input old new reply
+requested words given is_terminal request input old new reply limits replies = inl (request, limits, replies)
+
+-- the words ask for nothing
+pub parsed_words : (words : List ℕ) (given : ℕ) (is_terminal : Bool) (kind : ErrorKind) (input old new : List ℕ)
+    (reply : Reply) → RepliesToRefusal kind old new reply → RepliesToWords words given is_terminal input old new reply
+parsed_words words given is_terminal kind input old new reply refused = inr (inl (kind, refused))
+
+-- the parser's text is for standard error
+pub refused_words : (kind : ErrorKind) (text : List ℕ) (is_for_errors : Bool) (old new : List ℕ) (reply : Reply)
+    → kind ≢ OutOfMemory → IsForErrors kind is_for_errors → is_for_errors ≡ true
+    → Puts 0 (written_of 2 [] text) old new reply → RepliesToRefusal kind old new reply
+refused_words kind text is_for_errors old new reply other is same puts =
+    inl (
+      other,
+      (
+        text,
+        is_for_errors,
+        is,
+        subst (λ (it : Bool). Puts 0 (parsed it text) old new reply) (sym same) puts,
+      ),
+    )
+
+-- it is help or the version
+pub helped : (kind : ErrorKind) (text : List ℕ) (is_for_errors : Bool) (old new : List ℕ) (reply : Reply)
+    → kind ≢ OutOfMemory → IsForErrors kind is_for_errors → is_for_errors ≡ false
+    → Puts 0 (written_of 0 text []) old new reply → RepliesToRefusal kind old new reply
+helped kind text is_for_errors old new reply other is same puts =
+    inl (
+      other,
+      (
+        text,
+        is_for_errors,
+        is,
+        subst (λ (it : Bool). Puts 0 (parsed it text) old new reply) (sym same) puts,
+      ),
+    )

@@ -1,0 +1,40 @@
+-- What a host asks for by numbers.
+use Rattle.std.specs.Prelude.{◌==◌, ℕ, Bool, true, false, Option, Some, None, option_map, if◌then◌else◌}
+use Rattle.sab_text.specs.declared.format.Format.{Format}
+use Rattle.sab_text.specs.declared.format.Format.TheVariants.{Plain, Explained, Json, Svg}
+use Rattle.sab_text.specs.declared.format.VerdictFormat.{VerdictFormat}
+use Rattle.sab_text.specs.declared.format.VerdictFormat.TheVariants as V
+use Rattle.sab_text.specs.declared.lines.Lines.{Lines}
+use Rattle.sab_text.specs.declared.lines.Lines.TheVariants.{All, Acts}
+use Rattle.sab_command.specs.declared.job.RunForm.{RunForm}
+use Rattle.sab_command.specs.declared.job.RunForm.TheVariants.{Report, Script}
+use Rattle.sab_command.specs.declared.job.Job.TheVariants.{Replay, Check, Judge}
+use Rattle.sab_command.specs.declared.request.Task.{Task}
+use Rattle.sab_command.specs.declared.request.Task.TheVariants.{OfScript, OfTrace}
+
+abbrev pub format_at : ℕ → Option Format
+format_at number =
+    if number == 0 then Some Plain else if number == 1 then Some Explained
+    else if number == 2 then Some Json else if number == 3 then Some Svg else None
+
+abbrev pub verdict_format_at : ℕ → Option VerdictFormat
+verdict_format_at number = if number == 0 then Some V.Plain else if number == 2 then Some V.Json else None
+
+-- lines for the acts alone, or for all entries
+abbrev pub lines_at : Bool → Lines
+lines_at true = Acts
+lines_at false = All
+
+abbrev pub form_at : ℕ → Bool → Option RunForm
+form_at number acts =
+    if number == 4 then Some Script
+    else option_map (λ format. Report (record { format = format; lines = lines_at acts })) (format_at number)
+
+-- what is to be done with the input, if all numbers have a meaning
+abbrev pub task_at : ℕ → ℕ → Bool → Bool → Option Task
+task_at job format acts finish =
+    if job == 0 then option_map (λ form. OfScript (Replay form finish)) (form_at format acts)
+    else if job == 1 then Some (OfScript Check)
+    else if job == 2 then option_map (λ format. OfScript (Judge format finish)) (verdict_format_at format)
+    else if job == 3 then option_map (λ format. OfTrace format) (verdict_format_at format)
+    else None

@@ -1,0 +1,56 @@
+-- What the host gets of each export.
+use Rattle.std.specs.Prelude.{◌≡◌, ◌⊎◌, ◌≢◌, ◌↔◌, ◌||◌, ℕ, Bool, IsTrue, List, [], Option, Some, None, IsUtf8}
+use Rattle.clap.specs.declared.error.kind.ErrorKind.{ErrorKind}
+use Rattle.clap.specs.declared.error.kind.ErrorKind.TheVariants.{OutOfMemory, DisplayHelp, DisplayVersion}
+use Rattle.sab_tool.specs.declared.tool_fault.ToolFault.TheVariants.{ReadFailed}
+use Rattle.sab_command.specs.declared.request.Request.{Request}
+use Rattle.sab_command.specs.declared.request.Source.{Source}
+use Rattle.sab_command.specs.declared.request.Source.TheVariants.{Standard}
+use Rattle.sab_command.specs.declared.request.Task.{Task}
+use Rattle.sab_command.specs.Job.{IsTaskWithinLimits}
+use Rattle.sab_run.specs.Failure.{untold}
+use Rattle.sabsim_wasm.specs.declared.reply.Reply.{Reply}
+use Rattle.sabsim_wasm.specs.Asked.{task_at}
+use Rattle.sabsim_wasm.specs.Program.{WrittenParts, written_of, no_memory, no_text, parsed, Ends, Fails}
+use Rattle.sabsim_wasm.specs.Room.{Puts, AsksFor}
+
+-- the room has what the program writes, of which this is said; or there was no memory for that
+abbrev pub PutsSuch : (WrittenParts → Type 0) → List ℕ → List ℕ → Reply → Type 0
+PutsSuch IsSuch old new reply =
+    ((written : WrittenParts) × IsSuch written × Puts 0 written old new reply) ⊎ Puts 0 no_memory old new reply
+
+-- the room has what the program writes of the task, if there is one, and else nothing at status 2
+abbrev pub RepliesToTask : Option Task → Bool → List ℕ → List ℕ → List ℕ → Reply → Type 0
+RepliesToTask None explain input old new reply = Puts 0 (written_of 2 [] []) old new reply
+RepliesToTask (Some task) explain input old new reply = PutsSuch (Ends task Standard explain input) old new reply
+
+abbrev pub RepliesToNumbers : ℕ → ℕ → Bool → Bool → Bool → List ℕ → List ℕ → List ℕ → Reply → Type 0
+RepliesToNumbers job format acts finish explain input old new reply =
+    RepliesToTask (task_at job format acts finish) explain input old new reply
+
+-- the input isn't read yet, or these are its bytes, or it can't be read
+abbrev pub RepliesToInput : ℕ → Task → Source → Bool → List ℕ → List ℕ → List ℕ → Reply → Type 0
+RepliesToInput given task source explain input old new reply =
+    ((given ≡ 0) × AsksFor source old new reply)
+    ⊎ (((given ≡ 1) × PutsSuch (Ends task source explain input) old new reply)
+    ⊎ ((given ≢ 0) × (given ≢ 1) × PutsSuch (Fails (untold ReadFailed) source) old new reply))
+
+-- the parser's text is for standard error, except help and the version
+abbrev pub IsForErrors : ErrorKind → Bool → Type 0
+IsForErrors kind is_for_errors =
+    IsTrue is_for_errors ↔ ((kind ≢ DisplayHelp) × (kind ≢ DisplayVersion))
+
+-- the words ask for nothing that is done with an input, as the parser's text says; or there is no memory
+abbrev pub RepliesToRefusal : ErrorKind → List ℕ → List ℕ → Reply → Type 0
+RepliesToRefusal kind old new reply =
+    ((kind ≢ OutOfMemory) × ((text : List ℕ) × (is_for_errors : Bool) × IsForErrors kind is_for_errors
+    × Puts 0 (parsed is_for_errors text) old new reply))
+    ⊎ Puts 0 no_memory old new reply
+
+-- what the words ask for is done, or they ask for nothing, or they are no text, or there is no memory for them
+abbrev pub RepliesToWords : List ℕ → ℕ → Bool → List ℕ → List ℕ → List ℕ → Reply → Type 0
+RepliesToWords words given is_terminal input old new reply =
+    ((request : Request) × IsTaskWithinLimits request.task
+    × RepliesToInput given request.task request.source (request.explain || is_terminal) input old new reply)
+    ⊎ (((kind : ErrorKind) × RepliesToRefusal kind old new reply)
+    ⊎ (((¬ IsUtf8 words) × Puts 0 no_text old new reply) ⊎ Puts 0 no_memory old new reply))

@@ -1,0 +1,4 @@
+pub mod Asked
+pub mod Program
+pub mod Room
+pub mod Exports

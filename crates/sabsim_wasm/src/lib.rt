@@ -1,0 +1,68 @@
+//! The simulator for a host that gives and takes bytes, as JavaScript does with a module of WebAssembly: what the
+//! program `sabsim` does, except races.
+#![tactic(auto)]
+
+ghost use Rattle.sabsim_wasm.specs.Exports.{RepliesToNumbers, RepliesToWords};
+
+mod asked;
+mod command;
+mod reply;
+mod written;
+
+use crate::asked::task_of;
+use crate::command::obey;
+use crate::written::reply_to_task;
+pub use reply::Reply;
+use std::alloc::Global;
+
+/// Does with the input's bytes what these numbers ask for, and puts what the program writes then into the host's room.
+///
+/// `job` is 0 to replay a script, 1 to check it, 2 to judge its run, and 3 to judge a trace. `format` is that of the
+/// report: 0 for plain, 1 for explained, 2 for json, 3 for svg, 4 for script; of a verdict it is 0 for plain or 2 for
+/// json. A job ignores what it has no use for. For any other number the status is 2, and nothing is written.
+///
+/// The room has what the program writes to standard output, and right behind it what it writes to standard error. The
+/// reply has the exit status and both lengths. A room that is too small for both stays as it was, and the host calls
+/// again with a larger one. Where there is no memory, the program ends with 5 OutOfMemory.
+#[unsafe(no_mangle)]
+#[tactic(auto, using(crate::proofs::Replies::numbers))]
+pub extern "C" fn sabsim_run(
+    alloc: Global,
+    job: u32,
+    format: u32,
+    acts: bool,
+    finish: bool,
+    explain: bool,
+    input: &[u8],
+    room: &mut [u8],
+    reply: &mut Reply,
+)
+    ensures { RepliesToNumbers job format acts finish explain input.now room.old room.new reply.new }
+{
+    let task = task_of(job, format, acts, finish);
+    *reply = reply_to_task(alloc, task, explain, input, room);
+}
+
+/// Does what the words of a command line ask for, and puts what the program writes then into the host's room, as
+/// [`sabsim_run`] does.
+///
+/// Each word has a byte 0 behind it, and the first is the program's name. `given` says what the host has read of the
+/// input that the words name: 0 for nothing yet, 1 for the bytes in `input`, and any other number if it can't be read.
+/// At 0 the reply says what the host has to read, if anything: `wants` is 1 for standard input, and 2 for the file
+/// whose name is in the room. `is_terminal` says whether standard error is a terminal, where each refusal is explained.
+///
+/// A race ends with 9 NoThread once its script is read: it needs threads, which only the native program has.
+#[unsafe(no_mangle)]
+pub extern "C" fn sabsim_command(
+    alloc: Global,
+    words: &[u8],
+    given: u32,
+    is_terminal: bool,
+    input: &[u8],
+    room: &mut [u8],
+    reply: &mut Reply,
+)
+    ensures { RepliesToWords words.now given is_terminal input.now room.old room.new reply.new }
+{
+    *reply = obey(alloc, words, given, is_terminal, input, room);
+}

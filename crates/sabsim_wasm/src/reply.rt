@@ -1,0 +1,75 @@
+//! What the host gets.
+
+ghost use Rattle.sabsim_wasm.specs.Program.{no_memory, written_of};
+ghost use Rattle.sabsim_wasm.specs.Room.{AsksFor, Puts, PutsBoth};
+
+use sab_command::Source;
+use sab_ending::Ending;
+use sab_tool::ToolFault;
+
+/// How a call ended, and how much of the room it needs.
+#[repr(C)]
+#[derive(Clone, Copy, Debug, PartialEq, Eq)]
+pub struct Reply {
+    /// The exit status of the program.
+    pub status: u64,
+    /// How many bytes are for standard output; or the length of the name of the file that is to be read.
+    pub output_len: u64,
+    /// How many bytes are for standard error.
+    pub complaint_len: u64,
+    /// What the host has to read before it calls again: 0 for nothing, 1 for standard input, 2 for the file whose name
+    /// is in the room.
+    pub wants: u64,
+}
+
+/// What the program says on standard error where there is no memory, also none for a text.
+static NO_MEMORY: &str = "sabsim: 5 OutOfMemory\n";
+
+/// Puts what the program writes into the room, and returns its exit status and the lengths.
+pub(crate) fn put(status: u8, output: &[u8], complaint: &str, room: &mut [u8]) -> Reply
+    ensures { Puts 0 (written_of status output.now complaint.now) room.old room.new result }
+{
+    put_both(output, complaint.as_bytes(), room);
+    Reply {
+        status: status as u64,
+        output_len: output.len() as u64,
+        complaint_len: complaint.len() as u64,
+        wants: 0,
+    }
+}
+
+/// Puts bytes into the room, and others right behind them, if it has place for both.
+fn put_both(first: &[u8], second: &[u8], room: &mut [u8])
+    ensures { PutsBoth first.now second.now room.old room.new }
+{
+    let middle = first.len();
+    let end = second.len();
+    if middle <= room.len() && end <= room.len() - middle {
+        room[..middle].copy_from_slice(first);
+        room[middle..middle + end].copy_from_slice(second);
+    }
+}
+
+/// Puts what the program says where there is no memory.
+pub(crate) fn put_no_memory(room: &mut [u8]) -> Reply
+    ensures { Puts 0 no_memory room.old room.new result }
+{
+    let status = Ending::Failed(ToolFault::OutOfMemory).status();
+    put(status, &[], NO_MEMORY, room)
+}
+
+/// Asks the host for the input.
+pub(crate) fn ask_for(source: Source<'_>, room: &mut [u8]) -> Reply
+    ensures { AsksFor source.entry room.old room.new result }
+{
+    match source {
+        Source::Standard => Reply {
+            wants: 1,
+            ..put(0, &[], "", room)
+        },
+        Source::File(name) => Reply {
+            wants: 2,
+            ..put(0, name.as_bytes(), "", room)
+        },
+    }
+}

@@ -1,0 +1,5 @@
+"""Makes the module for WebAssembly of the proved static library sabsim_wasm, and compares it with the program.
+
+`tools/wasm` and `tests/wasm` stand on this. Not proved are: these scripts, heap.c, the kit's clang and linker, and
+binaryen. So compare.mjs compares what the module writes with what the program writes, before the module is kept.
+"""
