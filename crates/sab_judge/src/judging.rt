@@ -11,6 +11,7 @@ ghost use Rattle.sab_judge.specs.RaceKind.{IsRaceOf};
 ghost use Rattle.sab_judge.specs.declared.race_kind.RaceKind.TheVariants.{Any};
 ghost use Rattle.sab_judge.specs.Readers.{AreNoted};
 ghost use Rattle.sab_judge.specs.Seen.{IsSeen};
+ghost use Rattle.sab_judge.specs.Trace.{IsInBlocks};
 ghost use Rattle.sab_judge.specs.Verdict.{IsLastSeen, IsVerdict};
 ghost use Rattle.sab_judge.specs.Telling.{HasTold};
 ghost use Rattle.sab_judge.specs.declared.trace.TheConstants.Trace.{MAX_EVENTS};
@@ -47,6 +48,7 @@ pub fn judge(alloc: Global, trace: &Trace, most: usize) -> Result<Verdict, Alloc
 fn judge_events(alloc: Global, trace: &[Event], most: usize) -> Result<Verdict, AllocError>
     requires short { length trace.now ≤ MAX_EVENTS }
     requires agents { All (λ (e : Event). e.agent < 16) trace.now }
+    requires blocks { All IsInBlocks trace.now }
     ensures { IfOk result (λ verdict. IsVerdict trace.now most verdict.races.items verdict.rest verdict.data_races) }
 {
     let mut clocks = Vec::with_capacity(alloc, trace.len())?;

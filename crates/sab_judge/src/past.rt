@@ -7,6 +7,7 @@ ghost use Rattle.sab_judge.specs.Sought.{IsLastBelow, OfAgent, AtWaiters};
 ghost use Rattle.sab_judge.specs.Past.{AreOrdered, AreWaiters, AreWriters, AreWritten, IsPast};
 ghost use Rattle.sab_judge.specs.Readers.{HaveWriter};
 ghost use Rattle.sab_judge.specs.Stretch.{AreStretches};
+ghost use Rattle.sab_judge.specs.Trace.{IsInBlocks};
 ghost use Rattle.sab_judge.specs.declared.trace.TheConstants.Trace.{MAX_EVENTS};
 
 use crate::access::Access;
@@ -85,6 +86,7 @@ impl Past {
         requires within { j < length trace.now }
         requires short { length trace.now ≤ MAX_EVENTS }
         requires agents { All (λ (e : Event). e.agent < 16) trace.now }
+        requires blocks { All IsInBlocks trace.now }
         requires past { IsPast trace.now j self.old }
         ensures { IfOk result (λ _. IsPast trace.now (j + 1) self.new) }
     {
@@ -115,6 +117,7 @@ fn note_writers(
 ) -> Result<(), AllocError>
     requires within { j < length trace.now }
     requires short { length trace.now ≤ MAX_EVENTS }
+    requires blocks { All IsInBlocks trace.now }
     requires writers { AreWriters trace.now j writers.old }
     ensures { IfOk result (λ _. AreWriters trace.now (j + 1) writers.new) }
 {
@@ -137,13 +140,14 @@ fn note_bytes(
     requires access { (event_at trace.now j).access ≡ Some access }
     requires writes { access.writes ≡ true }
     requires some { 0 < access.len }
+    requires reach { access.place.byte + access.len ≤ 65536 }
     requires small { j < MAX_EVENTS }
     requires writers { AreWriters trace.now j writers.old }
     ensures { IfOk result (λ _. AreWriters trace.now (j + 1) writers.new) }
 {
-    let block = access.place.block;
+    let Place { block, byte } = access.place;
     let mut stretches = kept_or_new(alloc, writers.remove(&block))?;
-    stretches.write(access.start(), access.end(), j)?;
+    stretches.write(byte, byte + access.len, j)?;
     writers.insert(block, stretches)?;
     Ok(())
 }

@@ -9,9 +9,9 @@ use std::alloc::{AllocError, Global};
 /// The bytes of a block from one on, up to where the next stretch begins. All of them have the same last writer, or none.
 #[derive(Clone, Copy)]
 pub(crate) struct Stretch {
-    pub(crate) start: u64,
-    /// One more than the last writer's position, or 0: so a stretch is moved as two words.
-    pub(crate) writer: usize,
+    pub(crate) start: u32,
+    /// One more than the last writer's position, or 0: so a stretch takes eight bytes.
+    pub(crate) writer: u32,
 }
 
 impl Stretch {
@@ -22,7 +22,7 @@ impl Stretch {
         if self.writer == 0 {
             None
         } else {
-            Some(self.writer - 1)
+            Some(self.writer as usize - 1)
         }
     }
 }
@@ -65,7 +65,7 @@ impl Stretches {
     {
         let k = position_of(&self.list, byte);
         let end = match self.list.get(k + 1) {
-            Some(next) => next.start.min(limit),
+            Some(next) => u64::from(next.start).min(limit),
             None => limit,
         };
         Held {
@@ -75,7 +75,7 @@ impl Stretches {
     }
 
     /// Makes an event the last writer of the bytes from `start` up to `end`.
-    pub(crate) fn write(&mut self, start: u64, end: u64, writer: usize) -> Result<(), AllocError>
+    pub(crate) fn write(&mut self, start: u32, end: u32, writer: usize) -> Result<(), AllocError>
         requires order { AreInOrder self.old.list.items }
         requires some { start < end }
         requires small { writer < MAX_EVENTS }
@@ -83,7 +83,7 @@ impl Stretches {
     {
         let from = split(&mut self.list, start)?;
         let to = split(&mut self.list, end)?;
-        overwrite(&mut self.list, from, to, writer);
+        overwrite(&mut self.list, from, to, writer as u32);
         Ok(())
     }
 }
@@ -93,15 +93,15 @@ fn position_of(list: &[Stretch], byte: u64) -> usize
     requires { AreInOrder list.now }
     ensures { HasByte list.now result byte }
 {
-    list.partition_point(|stretch| stretch.start <= byte) - 1
+    list.partition_point(|stretch| u64::from(stretch.start) <= byte) - 1
 }
 
 /// Has a stretch begin at a byte, and returns which. The bytes keep their writers.
-fn split(list: &mut Vec<Stretch>, byte: u64) -> Result<usize, AllocError>
+fn split(list: &mut Vec<Stretch>, byte: u32) -> Result<usize, AllocError>
     requires { AreInOrder list.old.items }
     ensures { IfOk result (IsSplit list.old.items list.new.items byte) }
 {
-    let k = position_of(list, byte);
+    let k = position_of(list, u64::from(byte));
     let Stretch { start, writer } = list[k];
     if start == byte {
         return Ok(k);
@@ -117,7 +117,7 @@ fn split(list: &mut Vec<Stretch>, byte: u64) -> Result<usize, AllocError>
 }
 
 /// Makes an event the last writer of the stretches from one up to another.
-fn overwrite(list: &mut Vec<Stretch>, from: usize, to: usize, writer: usize)
+fn overwrite(list: &mut Vec<Stretch>, from: usize, to: usize, writer: u32)
     requires forward { from ≤ to }
     requires within { to ≤ length list.old.items }
     requires small { writer < MAX_EVENTS }

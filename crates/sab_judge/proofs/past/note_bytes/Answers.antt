@@ -18,7 +18,7 @@ write-requires-clause-order c =
     kept.order
 
 pub write-requires-clause-some : goal.write-requires-clause-some
-write-requires-clause-some c = omega (arith, c.start.ensures, c.end.ensures, c.requires.some)
+write-requires-clause-some c = omega (arith, c.requires.some)
 
 pub returns : goal.returns
 returns c =
@@ -29,7 +29,7 @@ returns c =
     c.in_ok-stretches.ensures c.args.trace.now c.args.j c.args.access.place.block found in
     let changed : IsRewritten c.in_ok-stretches.stretches.list.items c.write.new.self.list.items
     c.args.access.place.byte (c.args.access.place.byte + c.args.access.len) c.args.j =
-    rw c.start.ensures at (rw c.end.ensures at c.in_ok-write.ensures) in
+    c.in_ok-write.ensures in
     block_renewed c.args.trace.now c.args.j c.args.writers.now c.insert.new.self c.requires.access c.requires.writers
     (stretches_written c.requires.access c.requires.writes kept changed)
     (λ p e. c.in_ok-insert.ensures.updates.0 p

@@ -1,6 +1,11 @@
 -- An event that writes no byte changes no last writer.
+use Rattle.sab_judge.specs.Event.{idle_event}
 use Rattle.sab_judge.proofs.Written.{none_more_written, no_byte_written, only_read, no_access_written}
 use Rattle.sab_judge.proofs.past.note_writers.Goals as goal
+
+pub note_bytes-requires-clause-reach : goal.note_bytes-requires-clause-reach
+note_bytes-requires-clause-reach c =
+    ((c.requires.blocks c.args.j idle_event c.requires.within).access c.in-Some.access c.in-Some.is).1
 
 pub returns-in_default : goal.returns-in_default
 returns-in_default c = none_more_written c.args.trace.now c.args.j c.args.writers.now c.requires.writers

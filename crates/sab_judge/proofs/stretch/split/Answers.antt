@@ -1,5 +1,5 @@
 -- Either a stretch begins at the byte, or one is put behind the one that has it.
-use Rattle.std.proofs.Common.{◌≡◌, ◌∙◌, length, List, refl, sym, ap, subst}
+use Rattle.std.proofs.Common.{◌≡◌, ◌∙◌, ℕ, length, List, refl, sym, ap, subst}
 use Rattle.std.proofs.lemmas.List.{get_or_read_under}
 use Rattle.sab_judge.specs.declared.stretch.Stretch.{Stretch}
 use Rattle.sab_judge.specs.Stretch.{no_stretch, stretch_at, HasByte}
@@ -9,8 +9,9 @@ use Rattle.sab_judge.proofs.stretch.split.Goals as goal
 pub returns-then-start-byte : goal.returns-then-start-byte
 returns-then-start-byte c =
     let has : HasByte c.args.list.now.items c.position_of-k.result c.args.byte =
-    subst (λ (xs : List Stretch). HasByte xs c.position_of-k.result c.args.byte) c.deref.ensures.value
-    c.position_of-k.ensures in
+    subst (λ (b : ℕ). HasByte c.args.list.now.items c.position_of-k.result b) c.from.ensures
+    (subst (λ (xs : List Stretch). HasByte xs c.position_of-k.result c.from.result) c.deref.ensures.value
+    c.position_of-k.ensures) in
     let read : c.index.result.now ≡ stretch_at c.args.list.now.items c.position_of-k.result =
     get_or_read_under c.args.list.now.items c.position_of-k.result (length c.args.list.now.items) c.index.result.now
     no_stretch c.index.ensures has.within refl in
@@ -19,8 +20,9 @@ returns-then-start-byte c =
 pub returns : goal.returns
 returns c =
     let has : HasByte c.args.list.now.items c.position_of-k.result c.args.byte =
-    subst (λ (xs : List Stretch). HasByte xs c.position_of-k.result c.args.byte) c.deref.ensures.value
-    c.position_of-k.ensures in
+    subst (λ (b : ℕ). HasByte c.args.list.now.items c.position_of-k.result b) c.from.ensures
+    (subst (λ (xs : List Stretch). HasByte xs c.position_of-k.result c.from.result) c.deref.ensures.value
+    c.position_of-k.ensures) in
     let read : c.index.result.now ≡ stretch_at c.args.list.now.items c.position_of-k.result =
     get_or_read_under c.args.list.now.items c.position_of-k.result (length c.args.list.now.items) c.index.result.now
     no_stretch c.index.ensures has.within refl in
