@@ -189,6 +189,9 @@ for (const [name, { isThere, begin }] of Object.entries(BROWSERS)) {
       assert.equal(status, 1);
       assert.equal(await page.value("document.getElementById('check').textContent"), `${output}`.trimEnd());
       assert.equal(await page.value("document.getElementById('stale').hidden"), false);
+      await choose(page, "step-1");
+      await page.press("l", "d");
+      assert.equal(await page.value("document.getElementById('text').value"), wrong);
       await page.click("#show-place");
       const chosen = await page.value(`(() => {
         const { value, selectionStart, selectionEnd } = document.getElementById("text");
