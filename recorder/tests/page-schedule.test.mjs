@@ -78,7 +78,9 @@ async function savedBy(page) {
 }
 
 for (const [name, { isThere, begin }] of Object.entries(BROWSERS)) {
-  const withBrowser = needing(`sabsim, its module and ${name}`, hasSabsim && SIMULATOR !== undefined && isThere);
+  const needs = [["sabsim", hasSabsim], ["the simulator's module", SIMULATOR !== undefined], [name, isThere]];
+  const [missing] = needs.find(([, is]) => !is) ?? [];
+  const withBrowser = needing(`${missing}`, missing === undefined);
 
   describe(`in ${name}`, { timeout: 300_000 }, () => {
     let browser;
