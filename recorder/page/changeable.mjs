@@ -1,6 +1,7 @@
 // A run of which a reader changes the schedule: it joins what is shown of the run with what can be changed.
 
-import { changedData, marksOf, callLines } from "./changed.mjs";
+import { callLines, changedData, marksOf } from "./changed.mjs";
+import { by } from "./dom.mjs";
 import { Run } from "./model.mjs";
 import { SCHEDULE_KEYS, SchedulePane } from "./schedule-pane.mjs";
 import { Viewer } from "./viewer.mjs";
@@ -32,9 +33,15 @@ export class Changeable {
    */
   open(run, index) {
     this.recorded = run;
+    this.freeze();
+    this.viewer.open(run, index);
+  }
+
+  /** Shows the run as it is, and lets nothing of its schedule be changed. */
+  freeze() {
     this.editing = undefined;
     this.pane = undefined;
-    this.viewer.open(run, index);
+    by("schedule").hidden = true;
   }
 
   /**

@@ -157,7 +157,9 @@ export class SchedulePane {
     const rows = lines.map((line) => {
       return made("tr", "", this.#what(line), made("td", "", line.before), made("td", "now", line.after));
     });
-    return made("table", "differences", made("thead", "", head), made("tbody", "", ...rows));
+    const table = made("table", "differences", made("thead", "", head), made("tbody", "", ...rows));
+    table.setAttribute("aria-label", "What is different");
+    return table;
   }
 
   /** @param {Line} line */

@@ -68,7 +68,11 @@ class TryPage {
     this.place = status === 0 ? undefined : spanOfPlace(text, told.split(": ")[0]);
     by("show-place").hidden = this.place === undefined;
     by("stale").hidden = status === 0;
-    if (status !== 0) return;
+    if (status !== 0) {
+      // A change would be written over the text that is refused.
+      this.shown?.freeze();
+      return;
+    }
     const editing = new Editing(text, this.simulate);
     const run = new Run(scriptData(editing.script, editing.now.report));
     const words = { was: "written", fileName: "script.json", notes: () => NOTES };

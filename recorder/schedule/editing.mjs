@@ -50,7 +50,7 @@ export class Editing {
     /** Whether each turn has all moves of its draw, and is made anew so; else turns keep the moves that they have. */
     this.isWhole = isWhole(this.script, this.recorded);
     this.now = this.recorded;
-    /** @type {{ replayed: Replayed, at: number }[]} what was before each change, and which turn was chosen */
+    /** @type {{ turns: Turn[], moves: Move[], starts: number[], at: number }[]} before each change; `at` was chosen */
     this.before = [];
   }
 
@@ -68,7 +68,7 @@ export class Editing {
     /** @param {Move[]} moves */
     const replay = (moves) => this.#replay(moves);
     if (!this.isWhole) return replayedAsWritten(turns, replay);
-    return replayedWhole(this.script, turns, replay, this.now.report);
+    return replayedWhole(this.script, turns, replay, this.now);
   }
 
   /** The text of the script with the schedule as it is now. */
@@ -97,7 +97,8 @@ export class Editing {
     if ("why" in edited) return edited;
     try {
       const replayed = this.#replayed(edited.turns);
-      this.before.push({ replayed: this.now, at });
+      const { turns, moves, starts } = this.now;
+      this.before.push({ turns, moves, starts, at });
       this.now = replayed;
       return { at: edited.at };
     } catch (problem) {
@@ -112,8 +113,10 @@ export class Editing {
    */
   undo() {
     const last = this.before.pop();
-    if (last !== undefined) this.now = last.replayed;
-    return last?.at;
+    if (last === undefined) return undefined;
+    const { turns, moves, starts, at } = last;
+    this.now = { turns, moves, starts, report: this.#replay(moves) };
+    return at;
   }
 
   /** Takes all changes back. */

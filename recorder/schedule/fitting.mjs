@@ -29,16 +29,19 @@ const MOVES = { passes: 3, joins: 2, leaves: 2, stuck: 1 };
 /** @param {number} agent @param {number} call */
 const callKey = (agent, call) => `${agent} ${call}`;
 
+/** @typedef {{ call: number, waits: boolean, isStuck: boolean }} At how far an agent is; stuck: it couldn't move */
+
 /**
  * What comes of a turn; only of waits it isn't known before.
- * @param {{ call: number, waits: boolean }} at how far the agent is
+ * @param {At} at
  * @param {(string | number)[][]} calls of the agent
  * @param {boolean} timeUp
  * @param {Outcome | undefined} guess
  * @returns {Outcome}
  */
-function outcomeAt({ call, waits }, calls, timeUp, guess) {
-  if (waits) return guess === "stuck" ? "stuck" : "leaves";
+function outcomeAt({ call, waits, isStuck }, calls, timeUp, guess) {
+  if (waits && (guess === "leaves" || guess === "stuck")) return guess;
+  if (waits) return isStuck ? "stuck" : "leaves";
   if (timeUp || call === calls.length) return "stuck";
   return calls[call][0] === "wait" && guess === "joins" ? "joins" : "passes";
 }
@@ -57,20 +60,21 @@ function outcomeOf({ what }, second) {
 /**
  * @param {Script} script
  * @param {Turn[]} turns
- * @param {(turn: number, agent: number, call: number) => Outcome | undefined} guess what comes of a turn
+ * @param {(turn: number, agent: number, at: At) => Outcome | undefined} guess what comes of a turn
  * @returns {Layout}
  */
 function laidOut({ agents }, turns, guess) {
-  const states = agents.map(() => ({ call: 0, waits: false }));
+  const states = agents.map(() => ({ call: 0, waits: false, isStuck: false }));
   /** @type {Layout} */
   const layout = { moves: [], starts: [], outcomes: [] };
   turns.forEach(({ agent, timeUp }, turn) => {
     const [at, { calls }] = [states[agent], agents[agent]];
-    const outcome = outcomeAt(at, calls, timeUp, guess(turn, agent, at.call));
+    const outcome = outcomeAt(at, calls, timeUp, guess(turn, agent, at));
     layout.starts.push(layout.moves.length);
     layout.outcomes.push(outcome);
     let count = MOVES[outcome];
-    at.waits = outcome === "joins" || (at.waits && outcome === "stuck");
+    at.isStuck = outcome === "stuck";
+    at.waits = outcome === "joins" || (at.waits && at.isStuck);
     if (outcome === "passes" || outcome === "leaves") {
       for (at.call += 1; at.call < calls.length && isStandIn(calls[at.call]); at.call += 1) count += MOVES.passes;
     }
@@ -109,22 +113,25 @@ const joinsOf = ({ entries }) =>
  * @param {Script} script
  * @param {Turn[]} turns
  * @param {(moves: Move[]) => Report} replay
- * @param {Report} before of a schedule that is much the same
+ * @param {Pick<Replayed, "turns" | "starts" | "report">} before in which most turns are the same
  * @returns {Replayed}
  */
 export function replayedWhole(script, turns, replay, before) {
-  const joins = joinsOf(before);
-  /** @type {Outcome[]} what comes of the first turns */
-  let known = [];
-  for (;;) {
-    const layout = laidOut(script, turns, (turn, agent, call) => {
-      return known[turn] ?? (joins.has(callKey(agent, call)) ? "joins" : undefined);
+  const last = outcomesOf(before.starts, before.report);
+  const known = new Map(before.turns.map((turn, at) => [turn, last[at]]));
+  // What comes of the turns: of so many first ones it is sure, of the others a guess.
+  let sure = 0;
+  let found = turns.map((turn) => known.get(turn));
+  for (let { report } = before; ; ) {
+    const joins = joinsOf(report);
+    const { moves, starts, outcomes } = laidOut(script, turns, (turn, agent, { call, waits }) => {
+      return turn >= sure && !waits && joins.has(callKey(agent, call)) ? "joins" : found[turn];
     });
-    const report = replay(layout.moves);
-    const found = outcomesOf(layout.starts, report);
-    const wrong = found.findIndex((outcome, turn) => outcome !== layout.outcomes[turn]);
-    if (wrong < 0) return { turns, moves: layout.moves, starts: layout.starts, report };
-    known = found.slice(0, wrong + 1);
+    report = replay(moves);
+    found = outcomesOf(starts, report);
+    const wrong = found.findIndex((outcome, turn) => outcome !== outcomes[turn]);
+    if (wrong < 0) return { turns, moves, starts, report };
+    sure = wrong + 1;
   }
 }
 

@@ -78,7 +78,9 @@ async function savedBy(page) {
 }
 
 for (const [name, { isThere, begin }] of Object.entries(BROWSERS)) {
-  const withBrowser = needing(`sabsim, its module and ${name}`, hasSabsim && SIMULATOR !== undefined && isThere);
+  const needs = [["sabsim", hasSabsim], ["the simulator's module", SIMULATOR !== undefined], [name, isThere]];
+  const [missing] = needs.find(([, is]) => !is) ?? [];
+  const withBrowser = needing(`${missing}`, missing === undefined);
 
   describe(`in ${name}`, { timeout: 300_000 }, () => {
     let browser;
@@ -189,6 +191,9 @@ for (const [name, { isThere, begin }] of Object.entries(BROWSERS)) {
       assert.equal(status, 1);
       assert.equal(await page.value("document.getElementById('check').textContent"), `${output}`.trimEnd());
       assert.equal(await page.value("document.getElementById('stale').hidden"), false);
+      await choose(page, "step-1");
+      await page.press("l", "d");
+      assert.equal(await page.value("document.getElementById('text').value"), wrong);
       await page.click("#show-place");
       const chosen = await page.value(`(() => {
         const { value, selectionStart, selectionEnd } = document.getElementById("text");

@@ -37,7 +37,8 @@ function wholeScript(seed) {
     return { agent, timeUp: dice.percent(10), isFixed: false, moves: [] };
   });
   const replay = (schedule) => replayed(JSON.stringify({ ...script, schedule })).report;
-  return { ...script, schedule: replayedWhole(script, turns, replay, replay([])).moves };
+  const nothing = { turns: [], starts: [], report: replay([]) };
+  return { ...script, schedule: replayedWhole(script, turns, replay, nothing).moves };
 }
 
 /** What happens in each turn, in words: `begin act return`. */
@@ -96,7 +97,7 @@ describe("on random scripts", withSabsim, () => {
           const changed = editing.change(there, at);
           if ("why" in changed) continue;
           moved += 1;
-          assert.notDeepEqual(rowOf(editing.now), rowOf(editing.before.at(-1).replayed));
+          assert.notDeepEqual(rowOf(editing.now), rowOf(editing.before.at(-1)));
           assert.deepEqual(editing.change(back, changed.at), { at });
           assert.equal(editing.text, text, `seed ${seed}: turn ${at}`);
         }
