@@ -40,16 +40,6 @@ impl Case {
         }
     }
 
-    /// Whether the line that a check says lies beside the script.
-    pub fn has_line(&self) -> bool {
-        self.endings.ends_with(".located")
-    }
-
-    /// Whether a picture lies beside the script.
-    pub fn has_picture(&self) -> bool {
-        self.endings.ends_with(".svg")
-    }
-
     /// Whether a table of changes lies beside the script.
     pub fn has_changes(&self) -> bool {
         self.endings.starts_with(".changes")

@@ -1,5 +1,6 @@
-//! Goes over cases: each is a script that lies beside its report in each format, or beside the fault that it is
-//! refused with. Beside a report there may be a table of changes of the script, each with the fault that it leads to.
+//! Goes over cases: each is a script that lies beside its report, or beside the fault that it is refused with. Beside a
+//! report there may be a table of changes of the script, each with the fault that it leads to. The report in further
+//! formats and what a check says also lie beside a script; `tests/cases` asks the built program for these.
 //! Then it makes calls, which `tests/refusals` refuses memory and threads to.
 //!
 //! Its argument is a folder that has a folder of cases for each subject; without one it is the folder where it runs. It
@@ -9,24 +10,20 @@
 
 mod cases;
 mod changes;
-mod checked;
 mod cuts;
 mod raced;
 mod refusals;
 mod refused;
 mod tally;
-mod told;
 mod way;
 
 use anyhow::{Context, Result, ensure};
 use cases::{Case, Partner, cases_of, names_of};
 use changes::check_changes;
-use checked::{check_accepted, check_located};
 use cuts::check_cuts;
 use raced::check_races;
 use refusals::run_calls;
 use refused::check_fault;
-use sab_report::Format;
 use sab_tool::replay_bytes;
 use std::process::ExitCode;
 use std::rt::{Env, Files};
@@ -34,7 +31,6 @@ use std::sync::Wait;
 use std::thread::Threads;
 use std::{env, fs, io};
 use tally::Tally;
-use told::check_told;
 
 /// The file of a case that has this ending.
 fn part<R: Files + AllocGlobal>(rt: &R, folder: &str, name: &str, ending: &str) -> Result<Vec<u8>> {
@@ -42,8 +38,8 @@ fn part<R: Files + AllocGlobal>(rt: &R, folder: &str, name: &str, ending: &str) 
     Ok(fs::read(rt, path.as_str())?)
 }
 
-/// Checks that a script has the report that lies beside it, in each format, replayed and raced, and each of its cuts
-/// and changes a fault.
+/// Checks that a script has the report that lies beside it, that its races replay, and each of its cuts and changes has
+/// a fault.
 fn check_report<R: Files + AllocGlobal + Threads + Wait + Sync>(
     rt: &R,
     folder: &str,
@@ -52,16 +48,6 @@ fn check_report<R: Files + AllocGlobal + Threads + Wait + Sync>(
 ) -> Result<Tally> {
     let (alloc, name) = (rt.alloc(), case.name.as_str());
     let expected = part(rt, folder, name, "report")?;
-    let explained = part(rt, folder, name, "explained")?;
-    let json = part(rt, folder, name, "jsonl")?;
-    check_accepted(alloc, script)?;
-    check_told(alloc, script, Format::Plain, expected.as_slice())?;
-    check_told(alloc, script, Format::Explained, explained.as_slice())?;
-    check_told(alloc, script, Format::Json, json.as_slice())?;
-    if case.has_picture() {
-        let picture = part(rt, folder, name, "svg")?;
-        check_told(alloc, script, Format::Svg, picture.as_slice())?;
-    }
     let mut report = Vec::new(alloc);
     replay_bytes(alloc, script, &mut report)?;
     ensure!(report == expected, "another report");
@@ -90,11 +76,6 @@ fn check<R: Files + AllocGlobal + Threads + Wait + Sync>(
     }
     let fault = part(rt, folder, name, "fault")?;
     check_fault(rt, alloc, script.as_slice(), fault.as_slice())?;
-    let told = check_located(alloc, script.as_slice(), fault.as_slice())?;
-    if case.has_line() {
-        let line = part(rt, folder, name, "located")?;
-        ensure!(told.as_bytes() == line.as_slice(), "check: {told}");
-    }
     let mut tally = Tally::default();
     tally.faults = 1;
     Ok(tally)

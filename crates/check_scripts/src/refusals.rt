@@ -8,10 +8,10 @@ mod found;
 mod gate;
 mod plans;
 mod races;
+mod reports;
 mod scripts;
 mod simulators;
 mod texts;
-mod told;
 
 use case::{Call, Case, cases};
 use found::{Found, Unmade};
@@ -33,10 +33,10 @@ fn make<R: Threads + Wait + Sync>(rt: &R, alloc: Global, call: Call) -> Result<F
         Call::Moves => scripts::script_moves(alloc),
         Call::ReadInput => Ok(scripts::input(alloc)),
         Call::ReadSetup => scripts::setup(alloc),
-        Call::CheckScript => Ok(scripts::checked(alloc)),
         Call::WriteReport => scripts::written(alloc),
         Call::Run(share) => races::run(rt, alloc, share),
-        Call::Tell(told) => Ok(told::write(rt, alloc, told)),
+        Call::ReplayBytes => Ok(reports::replayed(alloc)),
+        Call::RaceBytes(share) => Ok(reports::raced(rt, alloc, share)),
     }
 }
 

@@ -1,6 +1,5 @@
 //! The cases: calls that are made while memory or threads are refused.
 
-use crate::refusals::told::Told;
 use sab_tool::Share;
 
 /// What is called.
@@ -17,12 +16,13 @@ pub enum Call {
     Moves,
     ReadInput,
     ReadSetup,
-    CheckScript,
     WriteReport,
     /// Agents run in threads.
     Run(Share),
-    /// A run of a script is written into an array.
-    Tell(Told),
+    /// The report of a replay is written into an array.
+    ReplayBytes,
+    /// The report of a race is written into an array.
+    RaceBytes(Share),
 }
 
 /// A call, its name on the command line, and its answer when nothing is refused.
@@ -43,12 +43,8 @@ const SUM: &str = "bytes 90010000, 1200 entries, each agent 100 of 100";
 
 const TEXT: &str = "the text of its report";
 
-const WORDS: &str = "its report in words";
-
-const SCRIPT: &str = "the script that keeps it";
-
 /// All cases, in the order in which they are run.
-pub fn cases() -> [Case; 23] {
+pub fn cases() -> [Case; 17] {
     [
         row("block", Call::Block, "4 zero bytes"),
         row("plan-copy", Call::PlanCopy, "an equal plan"),
@@ -69,25 +65,11 @@ pub fn cases() -> [Case; 23] {
             Call::ReadSetup,
             "its plan, its view and its 16 moves",
         ),
-        row(
-            "check-script",
-            Call::CheckScript,
-            "what it has, and two warnings",
-        ),
-        row("replay-bytes", Call::Tell(Told::Replay), TEXT),
+        row("replay-bytes", Call::ReplayBytes, TEXT),
         row("write-report", Call::WriteReport, TEXT),
         row("run-locked", Call::Run(Share::Lock), SUM),
         row("run-rings", Call::Run(Share::Ring), SUM),
-        row("race-bytes-lock", Call::Tell(Told::Race(Share::Lock)), TEXT),
-        row("race-bytes-ring", Call::Tell(Told::Race(Share::Ring)), TEXT),
-        row("replay-in-words", Call::Tell(Told::ReplayInWords), WORDS),
-        row(
-            "replay-as-json",
-            Call::Tell(Told::ReplayAsJson),
-            "its report as JSON",
-        ),
-        row("replay-as-script", Call::Tell(Told::ReplayAsScript), SCRIPT),
-        row("race-in-words", Call::Tell(Told::RaceInWords), WORDS),
-        row("race-as-script", Call::Tell(Told::RaceAsScript), SCRIPT),
+        row("race-bytes-lock", Call::RaceBytes(Share::Lock), TEXT),
+        row("race-bytes-ring", Call::RaceBytes(Share::Ring), TEXT),
     ]
 }

@@ -3,7 +3,6 @@
 use crate::refusals::found::{Found, Refusal, Unmade};
 use crate::refusals::plans::{TWO_WAITS, WAIT_AND_LOAD, plan_of};
 use crate::refusals::texts::{are_all, is_report};
-use sab_check::{Checked, check_script};
 use sab_race::moves;
 use sab_sim::Move::{self, Step, TimeUp};
 use sab_sim::SimFault;
@@ -66,13 +65,6 @@ agent 0 2 of 2
 agent 1 0 of 1
 agent 2 0 of 1
 agent 3 2 of 2
-";
-
-/// What a check says of it.
-const ITS_CHECK: &str = "\
-ok: 1 block, 1 view, 4 agents, 6 calls, 16 moves
-warning: agents[0].calls[0]: wait on a always throws TypeError: the agent can't block
-warning: agents[0].calls[1]: wait on a always throws RangeError: there is no index 9: the length is 1
 ";
 
 /// An agent that stores a value in a byte and loads it.
@@ -210,15 +202,6 @@ pub fn setup(alloc: Global) -> Result<Found, Unmade> {
         Err(ReadFault::OutOfMemory) => Found::Refused(Refusal::OutOfMemory),
         Err(_) => Found::Wrong("another fault"),
     })
-}
-
-/// A script is checked.
-pub fn checked(alloc: Global) -> Found {
-    match check_script(alloc, THREE_WHO_WAIT.as_bytes()) {
-        Ok(Checked::Accepted(text)) => Found::answer(text.as_str() == ITS_CHECK),
-        Ok(Checked::Refused(_)) => Found::Wrong("it is refused"),
-        Err(_) => Found::Refused(Refusal::AllocError),
-    }
 }
 
 /// A report is written into a vector that grows.
