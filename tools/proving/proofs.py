@@ -1,5 +1,6 @@
 """Makes tasks of proving crates, of running what was made of them, and of trying their edits; and counts what passed."""
 import os
+import re
 import shutil
 import threading
 import time
@@ -166,6 +167,14 @@ class Proofs:
         kind = f"{result.kind} alone" if is_refused and result.is_alone else result.kind
         self.tally.say(f"  {label}: {kind}: {' '.join(result.said.split())[:160]}")
         self.tally.add(is_refused, [] if is_refused else [label])
+
+
+def has_only_tests(crate):
+    """Returns whether a library has nothing without its tests: each module of its root is compiled for tests alone."""
+    if crate.is_program:
+        return False
+    text = re.sub(r"^(//|#!\[).*", "", rtlib.text_of(f"{crate.folder}/src/lib.rt"), flags=re.MULTILINE)
+    return bool(re.fullmatch(r"(\s*#\[cfg\(test\)\]\s*mod \w+;)+\s*", text))
 
 
 def made_of(crate, sums):
