@@ -1,20 +1,17 @@
-//! Worked examples of scripts, setups and reports, as tests: those that aren't a case of the program `check_scripts`.
+//! Worked examples of scripts, setups and reports, as tests: those that are no case of the program `check_scripts`, and
+//! that the built program can't show.
 #![tactic(auto)]
 
 #[cfg(test)]
 mod changed_bytes;
 #[cfg(test)]
-mod command_lines;
-#[cfg(test)]
 mod devices;
 #[cfg(test)]
 mod expecting;
 #[cfg(test)]
-mod explaining;
-#[cfg(test)]
 mod faults;
 #[cfg(test)]
-mod jobs;
+mod flushing;
 #[cfg(test)]
 mod keeping;
 #[cfg(test)]
