@@ -18,7 +18,9 @@ const FOLDER = fileURLToPath(new URL("./", import.meta.url));
 const BUILT = fileURLToPath(new URL("../../crates/sabsim/out/sabsim", import.meta.url));
 
 // The slowest files begin first, so that none of them is left alone at the end.
-const SLOWEST = ["page-schedule", "known", "realm", "race-programs", "judge", "examples", "program"].map((name) => `${name}.test.mjs`);
+const SLOWEST = [
+  "page-schedule", "known", "realm", "race-programs", "judge", "examples", "program",
+].map((name) => `${name}.test.mjs`);
 
 /** @typedef {import("./helpers/results.mjs").Result & { name: string, seconds: number }} FileResult */
 
