@@ -11,11 +11,14 @@ import { pathOf, runNode } from "./helpers/programs.mjs";
 
 const IS_BUILT = builtSimulator() !== undefined;
 
-test("docs/try.html is what tools/try-page.mjs makes", needing("the simulator's module", IS_BUILT), async (context) => {
+const whereBuilt = needing("the simulator's module", IS_BUILT);
+
+test("docs/try.html is what tools/try-page.mjs makes", whereBuilt, async (context) => {
   const file = join(temporaryFolder(context), "try.html");
   const { status, errors } = await runNode("tools/try-page.mjs", [file]);
   assert.deepEqual([status, errors], [0, ""]);
-  assert.ok(readFileSync(file, "utf8") === readFileSync(pathOf("docs/try.html"), "utf8"), "run node tools/try-page.mjs");
+  const [made, kept] = [file, pathOf("docs/try.html")].map((path) => readFileSync(path, "utf8"));
+  assert.ok(made === kept, "docs/try.html is of another module or of other code: run node tools/try-page.mjs");
 });
 
 const whereNone = { skip: IS_BUILT && "needs that no module is built" };
