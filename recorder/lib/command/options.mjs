@@ -144,7 +144,9 @@ export function optionsOf(words) {
     throw new Refused(`${why}; --help shows more`);
   }
   const given = givenBy(values);
-  const { seeds, shard, noShorten, help: _help, ...all } = { ...defaultsOf("command"), ...given };
+  /** @type {Record<string, any>} */
+  const chosen = { ...defaultsOf("command"), ...given };
+  const { seeds, shard, noShorten, help: _help, ...all } = chosen;
   const asked = given.seeds === undefined && all.untilCovered ? SEEDS_UNTIL_COVERED : seeds;
   return /** @type {Options} */ ({
     ...all, help: false, module: positionals[0], args: end < 0 ? [] : words.slice(end + 1),

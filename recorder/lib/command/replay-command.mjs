@@ -1,7 +1,7 @@
 // The words that run a module's agents once more by a kept script, as the page of a run shows them.
 
 import { relative } from "node:path";
-import { CHOICES } from "../options/plan.mjs";
+import { OPTIONS } from "../options/table.mjs";
 
 // What a run by a row of draws depends on, besides the module and the agents' arguments.
 const NAMES = /** @type {const} */ (["ordinary", "races", "bounds", "clock"]);
@@ -24,7 +24,7 @@ function programWords() {
  */
 export function replayCommand(options) {
   const { module, args } = options;
-  const others = NAMES.filter((name) => options[name] !== CHOICES[name][0]);
+  const others = NAMES.filter((name) => options[name] !== OPTIONS[name].ifNone);
   const words = others.map((name) => ` --${name} ${options[name]}`);
   return {
     options: `${programWords()} ${quoted(module)}${words.join("")}`,

@@ -101,6 +101,8 @@ import { Thread } from "../processes/thread.mjs";
  * @property {number} [logEvents] how many events the log has room for; as `Log.memory` has it where it isn't given
  */
 
+/** @typedef {"strategy" | "everywhere" | "timeouts" | "maxMoves" | "loadSeconds"} HasDefault options that are always there */
+
 const DEFAULT_LOAD_SECONDS = 30;
 const AGENT_WORKER = new URL("../agent/worker.mjs", import.meta.url);
 const GROUP_WORKER = new URL("./referee.mjs", import.meta.url);
@@ -154,7 +156,8 @@ export class Group {
 
   /** @param {GroupOptions} options */
   constructor(options) {
-    this.options = { ...defaultsOf("record"), loadSeconds: DEFAULT_LOAD_SECONDS, ...options };
+    /** @type {GroupOptions & Required<Pick<GroupOptions, HasDefault>>} */
+    this.options = { .../** @type {any} */ (defaultsOf("record")), loadSeconds: DEFAULT_LOAD_SECONDS, ...options };
     /** @type {Thread[]} */
     this.agents = [];
     /** @type {Thread | undefined} */
