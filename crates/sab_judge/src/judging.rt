@@ -34,10 +34,10 @@ use std::alloc::{AllocError, Global};
 /// Told are its first races, at most `most`, by their later events, and those of one later event by their earlier ones;
 /// the others are counted. So where none is told although one could be, no two events race.
 ///
-/// An event takes time by how many different accesses agents make near its own, and not by how often they make them or
-/// by how many bytes it has; and once more by the events, where its races are told. The first access of a range also
-/// moves what is kept behind it. Some 90 bytes are kept for each event, and some for each different access. Where memory
-/// is refused, that is the answer.
+/// An event takes time by how many different accesses its own meets, and not by how often agents make them or by how
+/// many bytes it has; and once more by the events, where its races are told. The first access of a range also moves what
+/// is kept behind it. Some 90 bytes are kept for each event, and some for each different access. Where memory is
+/// refused, that is the answer.
 pub fn judge(alloc: Global, trace: &Trace, most: usize) -> Result<Verdict, AllocError>
     ensures { IfOk result (λ verdict. IsVerdict trace.now most verdict.races.items verdict.rest verdict.data_races) }
 {
