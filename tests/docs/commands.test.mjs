@@ -56,7 +56,7 @@ const COMMANDS = [
   ["rt doc", { status: 0, ...withKit }],
   ["rt version", { status: 0, ...withKit }],
   ["./build", { by: "tests/build", words: "building\n" }],
-  ["./build --package", { by: "tests/build", words: "building --package\n" }],
+  ["./build --package", { by: "tests/build", words: "building --package --jobs 1\n" }],
   ["./check", RUNS_THIS],
   ["./check --quick", RUNS_THIS],
   ["./check --anew", RUNS_THIS],
