@@ -1,22 +1,21 @@
 #!/usr/bin/env node
 // Runs the program sabsim: the one that the package has for this machine, or that the repository has built. Words,
-// standard streams and signals are passed on to it, and its status is passed back. This launcher isn't proved.
+// standard streams and signals are passed on to it, and its status is passed back. Where there is no program, the
+// simulator in WebAssembly does the same in this process, except races. This launcher isn't proved.
 
 import { spawn } from "node:child_process";
-import { existsSync } from "node:fs";
+import { existsSync, readFileSync } from "node:fs";
 import { constants } from "node:os";
-import { MACHINE, programPath } from "./lib/check/program.mjs";
+import { programPath } from "./lib/check/program.mjs";
+import { Simulator } from "./wasm/simulator.mjs";
 
 const NOT_RUN = 2;
+// The status of the program where a write failed.
+const NOT_WRITTEN = 3;
+const MODULE = new URL("./wasm/sabsim.wasm", import.meta.url);
 
 /** @type {NodeJS.Signals[]} those that end a program, and that a program can pass on */
 const SIGNALS = ["SIGHUP", "SIGINT", "SIGQUIT", "SIGTERM"];
-
-const WITHOUT = `\
-sabsim: there is no program for ${MACHINE} here, so this command does nothing.
-Build one in the repository, where \`./build --package\` makes a package that has it (it is proved with the Rattle kit).
-The recorder, sabsim-record, works without it.
-`;
 
 /** @param {string} message whole lines */
 function refuse(message) {
@@ -53,6 +52,24 @@ function endBy(signal) {
   process.kill(process.pid, signal);
 }
 
+/**
+ * Does in this process what the program does.
+ * @param {string[]} words of the command line
+ */
+function runModule(words) {
+  const simulator = new Simulator(new WebAssembly.Module(readFileSync(MODULE)));
+  const isTerminal = process.stderr.isTTY === true;
+  const { status, output, complaint } = simulator.command(words, (file) => readFileSync(file ?? 0), isTerminal);
+  process.exitCode = status;
+  process.stdout.on("error", () => {
+    process.stderr.write("sabsim: 17 WriteFailed\n");
+    process.exitCode = NOT_WRITTEN;
+  });
+  process.stdout.write(output);
+  process.stderr.write(complaint);
+}
+
 const path = programPath();
-if (existsSync(path)) run(path, process.argv.slice(2));
-else refuse(WITHOUT);
+const words = process.argv.slice(2);
+if (existsSync(path)) run(path, words);
+else runModule(words);

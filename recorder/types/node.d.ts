@@ -24,7 +24,7 @@ declare namespace NodeJS {
 
   interface Output extends Listened {
     readonly isTTY?: boolean;
-    write(text: string, done?: (error?: Error | null) => void): boolean;
+    write(text: string | Uint8Array, done?: (error?: Error | null) => void): boolean;
   }
 
   interface Input extends AsyncIterable<Uint8Array> {}
@@ -233,7 +233,7 @@ declare module "node:fs" {
   export function mkdirSync(path: string, options: { recursive: true }): void;
   export function openSync(path: string, flags: string): number;
   export function readFileSync(file: string | URL | number, encoding: "base64" | "latin1" | "utf8"): string;
-  export function readFileSync(path: string | URL): Buffer;
+  export function readFileSync(file: string | URL | number): Buffer;
   export function readlinkSync(path: string): string;
   export function realpathSync(path: string): string;
   export function renameSync(from: string, to: string): void;

@@ -193,11 +193,17 @@ test("the package's own examples are recorded", () => {
   assert.match(output, /^5 runs: 5 finished$/m);
 });
 
-test("without a program sabsim says what to do, and does nothing else", () => {
-  const { status, output, errors } = npx(project, ["sabsim", "replay"], "{}");
-  assert.deepEqual([status, output], [2, ""]);
-  assert.match(errors, new RegExp(`^sabsim: there is no program for ${MACHINE} here`));
-  assert.match(errors, /\.\/build --package/);
+test("without a program the module does what sabsim does, except races", () => {
+  const script = readFileSync(join(TOP, "examples/lost-wake-up.json"), "utf8");
+  const report = readFileSync(join(TOP, "examples/lost-wake-up.explained"), "utf8");
+  const words = ["sabsim", "replay", "--format", "explained"];
+  assert.deepEqual(npx(project, words, script), { status: 0, signal: null, output: report, errors: "" });
+  const refused = { status: 1, signal: null, output: "", errors: "sabsim: 10 BadShape\n" };
+  assert.deepEqual(npx(project, ["sabsim", "replay"], "{}"), refused);
+  const raced = npx(project, ["sabsim", "race", "--share", "lock"], script);
+  assert.deepEqual([raced.status, raced.output], [4, ""]);
+  assert.match(raced.errors, /^sabsim: 9 NoThread\nraces in threads need the native program/);
+  assert.equal(npx(project, ["sabsim", "replay", "nowhere.json"]).status, 3);
 });
 
 const launched = projectWith("launched", plain);
