@@ -101,7 +101,10 @@ import { Thread } from "../processes/thread.mjs";
  * @property {number} [logEvents] how many events the log has room for; as `Log.memory` has it where it isn't given
  */
 
-/** @typedef {"strategy" | "everywhere" | "timeouts" | "maxMoves" | "loadSeconds"} HasDefault options that are always there */
+/**
+ * The options that always have a value.
+ * @typedef {"strategy" | "everywhere" | "timeouts" | "maxMoves" | "loadSeconds"} HasDefault
+ */
 
 const DEFAULT_LOAD_SECONDS = 30;
 const AGENT_WORKER = new URL("../agent/worker.mjs", import.meta.url);
