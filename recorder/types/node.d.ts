@@ -354,12 +354,7 @@ declare module "node:v8" {
 
 declare module "node:vm" {
   export function runInNewContext(code: string): any;
-  const vm: {
-    runInContext(code: string, context: object, options?: unknown): any;
-    isContext(object: object): boolean;
-    createContext(object: object, options?: unknown): object;
-    Script: Function & { prototype: { runInContext: Function } };
-  };
+  const vm: { Script: Function };
   export default vm;
 }
 

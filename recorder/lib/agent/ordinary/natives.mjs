@@ -10,8 +10,10 @@ import stream from "node:stream";
 import stringDecoder from "node:string_decoder";
 import util from "node:util";
 import v8 from "node:v8";
+import vm from "node:vm";
 import zlib from "node:zlib";
 import { apply, is, ownKeys, put, tagOf, uncurried } from "../../primordials.mjs";
+import { refused } from "./context.mjs";
 import {
   constructing, copying, copyingGiven, looking, madePrivate, refusing, refusingGiven, writing,
 } from "./guards.mjs";
@@ -191,6 +193,20 @@ function watchValues() {
   replaceEach(util.types, ownKeys(util.types).filter((name) => startsWith(name, "is")), looking);
 }
 
+/** A context has typed arrays of its own. Code that was compiled before may lie in recorded memory. */
+function watchContexts() {
+  const { Script } = vm;
+  const makers = [
+    { owner: vm, name: "createContext" }, { owner: vm, name: "runInNewContext" },
+    { owner: Script.prototype, name: "runInNewContext" },
+  ];
+  for (const { owner, name } of makers) {
+    replaceNeeded(owner, name, () => () => refused(`vm.${name} makes a context with typed arrays of its own`));
+  }
+  put(vm, "Script", constructing(Script, refusingGiven("a vm.Script")));
+  replaceNeeded(vm, "compileFunction", refusing("vm.compileFunction"));
+}
+
 /** What marks a time may hold a clone of a value. */
 function watchMarks() {
   /** @type {(engine: Function, name: string) => Function} */
@@ -230,6 +246,7 @@ export function watchNatives() {
   watchTexts();
   watchWebAssembly();
   watchValues();
+  watchContexts();
   watchMarks();
   watchFetching();
 }
