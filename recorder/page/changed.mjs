@@ -2,16 +2,17 @@
 // of how things are shown.
 
 import { isStandIn } from "../schedule/report.mjs";
-import { isOrdinary, sizeOf, valueAt } from "./model.mjs";
+import { sizeOf, valueAt } from "./elements.mjs";
+import { isOrdinary } from "./steps.mjs";
 import { callText, valueText } from "./words.mjs";
 
 /** @typedef {import("../schedule/differences.mjs").Differences} Differences */
 /** @typedef {import("../schedule/report.mjs").Entry} Entry */
 /** @typedef {import("../schedule/report.mjs").Report} Report */
 /** @typedef {import("../schedule/turns.mjs").Script} Script */
-/** @typedef {import("./model.mjs").Event} Event */
+/** @typedef {import("./run-data.mjs").Event} Event */
 /** @typedef {import("./model.mjs").Run} Run */
-/** @typedef {import("./model.mjs").RunData} RunData */
+/** @typedef {import("./run-data.mjs").RunData} RunData */
 
 /** @typedef {{ agent?: number, call?: number, what: string, before: string, after: string }} Line of a table */
 

@@ -4,7 +4,7 @@ import { badge, by, made, spoken } from "./dom.mjs";
 import { valueText } from "./words.mjs";
 
 /** @typedef {import("./model.mjs").Run} Run */
-/** @typedef {import("./model.mjs").Step} Step */
+/** @typedef {import("./steps.mjs").Step} Step */
 
 // A row's height in pixels, as page.css has it; and how many rows there are at least, and are made, beyond those seen.
 const ROW_HEIGHT = 24;
@@ -177,7 +177,7 @@ function acrossAt(lane, least, most) {
   return lane === most ? ["across", "to-the-left"] : ["across"];
 }
 
-/** @param {import("./model.mjs").Change[]} changes */
+/** @param {import("./steps.mjs").Change[]} changes */
 function changesOf(changes) {
   const [first, ...rest] = changes;
   const text = made("span", "changes");

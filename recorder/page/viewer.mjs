@@ -7,7 +7,7 @@ import { Memory } from "./memory.mjs";
 import { Timeline } from "./timeline.mjs";
 
 /** @typedef {import("./model.mjs").Run} Run */
-/** @typedef {import("./model.mjs").Step} Step */
+/** @typedef {import("./steps.mjs").Step} Step */
 
 const PAGE_OF_STEPS = 10;
 

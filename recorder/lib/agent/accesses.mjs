@@ -21,7 +21,7 @@ export class Accesses {
 
   /**
    * @param {number} agent its number
-   * @param {import("./player.mjs").Table} table
+   * @param {import("./table.mjs").Table} table
    */
   constructor(agent, table) {
     this.agent = agent;
