@@ -58,7 +58,7 @@ test("places of equal bytes in different blocks, and of different bytes, have li
   board.line.join(1, 0, 8, false);
   assert.equal(board.line.notify(...HERE, undefined), 0);
   assert.equal(board.line.notify(0, 8, undefined), 1);
-  assert.deepEqual(board.line.waiting(), [0]);
+  assert.deepEqual(board.line.waiting(), [{ agent: 0, block: 1, byte: 4 }]);
 });
 
 test("agents move that ask, that were woken, or that wait with a timeout, and all of them in time", () => {

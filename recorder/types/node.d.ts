@@ -29,9 +29,7 @@ declare namespace NodeJS {
 
   interface Input extends AsyncIterable<Uint8Array> {}
 
-  interface Timer {
-    unref(): this;
-  }
+  type Timer = { unref(): Timer };
 
   interface HighResolutionTime {
     (before?: [number, number]): [number, number];

@@ -1,0 +1,131 @@
+// What is told of the run that was made last: briefly of each run, and of some their script, report, unordered accesses
+// and trace.
+
+import { createHash } from "node:crypto";
+import { reportText } from "../../script/report.mjs";
+import { Records } from "../memory/records.mjs";
+import { Sources } from "../memory/sources.mjs";
+import { Names } from "../options/names.mjs";
+import { preloads } from "../processes/preloads.mjs";
+import { racesTold } from "./findings.mjs";
+import { fitted } from "./fitting.mjs";
+import { UNSEEN_LINE, placesIn, traceText } from "./trace.mjs";
+import { ownCalls, transcriptOf, waitingText } from "./transcript.mjs";
+
+/** @typedef {import("./group.mjs").Outcome} Outcome */
+/** @typedef {import("./run-maker.mjs").Made} Made */
+
+const SHOWN_DIGITS = 48;
+
+export class RunTeller {
+  /** @param {import("./run-maker.mjs").Given} given @param {import("./run-maker.mjs").RunMaker} maker */
+  constructor({ memory, plan, options }, maker) {
+    this.maker = maker;
+    this.options = options;
+    this.sourceNames = maker.sourceNames;
+    this.sources = memory.sources.map((each) => new Sources(each));
+    this.run = {
+      log: maker.log, records: memory.records.map((each) => new Records(each)), lengths: plan.buffers,
+      canBlock: plan.canBlock, names: new Names(plan.names),
+    };
+    /** Whether each ordinary access is seen: code from before the recorder may make some that aren't watched. */
+    this.seesAll = options.ordinary === "watch" && !preloads();
+  }
+
+  /**
+   * What is told of each run.
+   * @param {import("./group.mjs").Wanted} wanted
+   * @param {Made} found
+   * @returns {Outcome}
+   */
+  brief({ seed }, found) {
+    const { maker, options } = this;
+    const { ending, detail } = found;
+    const { journal, row } = maker.board;
+    const draws = row.told();
+    return {
+      seed,
+      ending,
+      fails: ending !== "finished" && !(ending === "bound" && options.bounds === "allow"),
+      detail,
+      moves: journal.moves(),
+      calls: maker.callCount(),
+      ordinary: maker.accessCount(),
+      progress: maker.agents.map((agent) => journal.progress(agent)),
+      state: stateOf(found),
+      races: [],
+      ...(draws === undefined ? {} : { row: draws }),
+    };
+  }
+
+  /**
+   * Adds what is told besides of a run that fails, or that is asked for.
+   * @param {Outcome} outcome
+   * @param {Made} found
+   */
+  addScript(outcome, found) {
+    const { maker: { stores, agents }, run, seesAll } = this;
+    // Ordinary accesses were made, or may have been made unseen.
+    const whole = { ...run, isOrdinary: !seesAll || run.log.hasOrdinary() };
+    const { transcript, script, holds, bytes = [], noScript } = fitted(whole, stores, found.initial, found.bytes);
+    if (outcome.ending === "deadlock") outcome.detail = waitingText(found.waiting, transcript);
+    outcome.bytes = found.bytes;
+    outcome.answers = agents.map((agent) => ownCalls(transcript, agent).map((call) => call.answer));
+    if (script === undefined) {
+      outcome.noScript = noScript;
+      return;
+    }
+    outcome.script = script;
+    outcome.scriptHolds = holds;
+    outcome.report = reportText(transcript, bytes);
+  }
+
+  /**
+   * The unordered accesses.
+   * @param {boolean} tellsSources
+   */
+  races(tellsSources) {
+    const { run, sources, sourceNames } = this;
+    const lists = tellsSources ? sources.map((each) => each.list()) : [];
+    return racesTold({ run, transcript: transcriptOf(run, []), sources: lists, sourceNames });
+  }
+
+  /**
+   * Adds the unordered accesses and the trace of a run whose accesses have told their lines.
+   * @param {Outcome} outcome
+   * @param {boolean} wantsTrace
+   */
+  addSources(outcome, wantsTrace) {
+    const { run: { log }, sourceNames } = this;
+    outcome.races = this.options.ordinary === "watch" ? this.races(true) : [];
+    if (!wantsTrace) return;
+    const names = this.sources.map((each) => each.list().map((/** @type {string} */ place) => {
+      return place === "" ? "" : sourceNames.nameOf(place);
+    }));
+    // If some are found, no verdict on the trace says that there are none.
+    const mayLookClean = !(this.seesAll && log.hasRoom()) && outcome.races.length === 0;
+    outcome.trace = (mayLookClean ? UNSEEN_LINE : "") + traceText(log, names);
+    outcome.sources = sourceNames.textsOf(placesIn(log, names));
+  }
+
+  /**
+   * Whether unordered accesses were found, where the run's script is told, so that both can be checked.
+   * @param {Outcome} outcome
+   * @param {Made} found
+   * @returns {import("./group.mjs").Judgement | undefined}
+   */
+  judgement({ script }, { racy }) {
+    if (script === undefined || this.options.ordinary !== "watch") return undefined;
+    return { racy, events: this.run.log.taken() };
+  }
+}
+
+/**
+ * The bytes at the end: their hash, with the ending's, and their beginnings.
+ * @param {Made} found
+ */
+function stateOf({ ending, bytes }) {
+  const hash = createHash("sha256").update(`${ending} ${bytes.join(" ")}`).digest("base64");
+  const shown = bytes.map((hex) => (hex.length > SHOWN_DIGITS ? `${hex.slice(0, SHOWN_DIGITS)}…` : hex));
+  return { hash, shown };
+}
