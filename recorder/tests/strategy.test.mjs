@@ -3,6 +3,7 @@
 import assert from "node:assert/strict";
 import { test } from "node:test";
 import { Board } from "../lib/board/board.mjs";
+import { STRATEGIES } from "../lib/board/strategy/table.mjs";
 import { waysOf } from "../lib/board/strategy/ways.mjs";
 import { KnownPlaces, placeNumber } from "../lib/memory/known-places.mjs";
 import { PHASE } from "../lib/memory/layout.mjs";
@@ -162,6 +163,18 @@ test("an agent that makes private calls without an end lets the others move in t
   const first = turns.indexOf(1, 1);
   assert.ok(first > 100 && first < 150, `agent 1 moves at ${first}`);
   assert.ok(turns.slice(first).filter((agent) => agent === 1).length > 10);
+});
+
+test("each row of the table is a strategy by its word, and draws among the agents that can move", () => {
+  for (const [name, { hasLikelihood }] of Object.entries(STRATEGIES)) {
+    const [word, wrong] = hasLikelihood ? [`${name}:0.4`, name] : [name, `${name}:0.4`];
+    assert.deepEqual(waysOf(wrong, false), [], wrong);
+    const calls = [0, 1, 2].map(() => call(0, WRITES));
+    assert.deepEqual(new Set(row(asking(word, calls, { everywhere: true }), calls, 400)), new Set([0, 1, 2]), word);
+  }
+  for (const word of ["", "switch:", "switch:1.1", "switch:-1", "switch:.5", "toString", "mixed:1", "uniform "]) {
+    assert.deepEqual(waysOf(word, false), [], word);
+  }
 });
 
 test("of a mixed run the seed says how it is drawn, and each strategy has its share", () => {

@@ -220,10 +220,9 @@ export class Player {
     if (call.limit !== undefined) board.clock.setDeadline(this.agent, call.milliseconds ?? call.limit);
     this.#untilTurn();
     this.#stayInRow();
-    const isWoken = board.line.phase(this.agent) === PHASE.WOKEN;
-    if (!isWoken) board.clock.reachDeadline(this.agent);
-    this.#log(isWoken ? LEAVE : TIME_UP, call, FLAG.WAITERS, source);
-    return isWoken ? this.#answer("ok", LEAVE) : this.#answer("timed-out", TIME_UP);
+    const end = board.timesOut(this.agent) ? TIME_UP : LEAVE;
+    this.#log(end, call, FLAG.WAITERS, source);
+    return this.#answer(end === TIME_UP ? "timed-out" : "ok", end);
   }
 
   /**

@@ -125,6 +125,17 @@ export class Board {
   }
 
   /**
+   * How a wait ends whose agent has the turn.
+   * @param {number} agent
+   * @returns {boolean} whether its time is up, which the clock then tells; else it was woken
+   */
+  timesOut(agent) {
+    const isUp = this.line.phase(agent) !== PHASE.WOKEN;
+    if (isUp) this.clock.reachDeadline(agent);
+    return isUp;
+  }
+
+  /**
    * Counts what was done, and lets its time pass.
    * @param {number} agent
    * @param {number} event

@@ -12,13 +12,8 @@ const NONE = 0;
 const RENEWAL = 64;
 
 export class PartialOrder {
-  /**
-   * @param {Int32Array} words of the board
-   * @param {import("../../memory/random.mjs").Random} random
-   * @param {import("./asked.mjs").Asked} asked
-   * @param {number} agents how many
-   */
-  constructor(words, random, asked, agents) {
+  /** @param {import("./table.mjs").Parts} parts */
+  constructor({ words, random, asked, agents }) {
     this.words = words;
     this.random = random;
     this.asked = asked;

@@ -1,8 +1,8 @@
 // All that can move are alike.
 
 export class Uniform {
-  /** @param {import("../../memory/random.mjs").Random} random */
-  constructor(random) {
+  /** @param {import("./table.mjs").Parts} parts */
+  constructor({ random }) {
     this.random = random;
   }
 
