@@ -71,14 +71,14 @@ export class Accesses {
     }
     const what = writes ? WRITE : READ;
     if (!tellsSources && log.extend(what, this.agent, place.block, from, to, place, this.since)) {
-      this.repeats.keep(place, from, to, writes);
+      this.repeats.add(place, from, to, writes);
       return Accesses.NOTED;
     }
     if (!log.hasRoom()) return tellsSources && !(writes && isNew) ? Accesses.NOTED : Accesses.FULL;
     const source = tellsSources ? numberHere(this.table.sources) : 0;
     const flags = (writes ? FLAG.WRITES : FLAG.READS) | (isNew ? 0 : FLAG.AGAIN);
     log.append(what, this.agent, NO_CALL, flags, made, place.block, from, to, place, source);
-    this.repeats.keep(place, from, to, writes);
+    this.repeats.add(place, from, to, writes);
     return Accesses.NOTED;
   }
 

@@ -176,7 +176,7 @@ export class Player {
       return engineCall(call, view);
     });
     const from = byteOf(call);
-    this.table.memory.keep(call.block, from, from + SIZES[call.kind]);
+    this.table.memory.takeOver(call.block, from, from + SIZES[call.kind]);
     this.#log(MAKE, call, FLAG.ATOMIC | effectOf(call, value), source);
     return this.#answer(value, MAKE);
   }

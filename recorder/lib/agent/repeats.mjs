@@ -51,7 +51,7 @@ export class Repeats {
   }
 
   /**
-   * Whether the agent has made an access since its last call. One that is new is kept by `keep`, when it is in the log:
+   * Whether the agent has made an access since its last call. One that is new is added when it is in the log:
    * where the stack comes to its end between, the agent may make it again.
    * @param {{ block: number }} place
    * @param {number} from
@@ -80,7 +80,7 @@ export class Repeats {
    * @param {number} to
    * @param {boolean} writes
    */
-  keep(place, from, to, writes) {
+  add(place, from, to, writes) {
     const size = to - from;
     if (size > 8) return;
     const stamps = writes ? this.writes[place.block] : this.reads[place.block];

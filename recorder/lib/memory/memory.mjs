@@ -39,7 +39,7 @@ export class Memory {
    * @param {number} from
    * @param {number} to
    */
-  keep(block, from, to) {
+  takeOver(block, from, to) {
     const real = this.real[block];
     const known = this.known[block];
     for (let byte = from; byte < to; byte += 1) known[byte] = real[byte];

@@ -193,7 +193,7 @@ export class Stores {
     let at = byte;
     while (at < to && real[at] === known[at]) at += 1;
     if (at === to) return;
-    this.buffers.keep(block, byte, to);
+    this.buffers.takeOver(block, byte, to);
     if (this.words[WORD.STORES] === ROOM) this.#thin();
     if (this.words[WORD.IS_THINNED] !== ALL && !this.#isTouched(block, byte, to)) {
       this.#drop(agent, position, block, byte, to);

@@ -140,17 +140,17 @@ function replaceStatics() {
  * The getter of what an array has. That of a private array must be fast, and throws for a watched one; the one that was
  * asked through its proxy just now is at hand.
  * @param {(real: object) => unknown} slot
- * @param {(watched: import("./watched.mjs").Watched) => unknown} kept
+ * @param {(watched: import("./watched.mjs").Watched) => unknown} known
  */
-const getterOf = (slot, kept) => () => ({
+const getterOf = (slot, known) => () => ({
   get asked() {
-    if (this === last.standIn) return kept(last);
+    if (this === last.standIn) return known(last);
     try {
       return slot(this);
     } catch (error) {
       const watched = watchedOf(this);
       if (watched === undefined) throw error;
-      return kept(watched);
+      return known(watched);
     }
   },
 });

@@ -8,7 +8,7 @@ import {
 import { blockNumber, refused } from "./context.mjs";
 import { byteIndexOf, elementOf } from "./numbers.mjs";
 import { replace, replaceGetter } from "./patch.mjs";
-import { keepView, tell, viewOn, watchedView } from "./watched.mjs";
+import { registerView, tell, viewOn, watchedView } from "./watched.mjs";
 
 const { TypeError: EngineTypeError, RangeError: EngineRangeError } = globalThis;
 const EngineDataView = DataView;
@@ -31,7 +31,7 @@ export function wrappedView(real, block) {
   if (block < 0) return real;
   const watched = viewOn(real, block);
   const standIn = create(getPrototypeOf(real));
-  keepView(watched, standIn);
+  registerView(watched, standIn);
   return standIn;
 }
 
@@ -104,12 +104,12 @@ function replaceAccessors() {
 /**
  * The getter of what a view has.
  * @param {(real: object) => unknown} slot
- * @param {"buffer" | "offset" | "length"} kept its name in what is known of a watched one
+ * @param {"buffer" | "offset" | "length"} member its name in what is known of a watched one
  */
-const slotGetter = (slot, kept) => () => ({
+const slotGetter = (slot, member) => () => ({
   get asked() {
     const watched = watchedView(this);
-    return watched === undefined ? slot(this) : watched[kept];
+    return watched === undefined ? slot(this) : watched[member];
   },
 });
 

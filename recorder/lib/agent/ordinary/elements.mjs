@@ -6,7 +6,7 @@ import {
 } from "../../primordials.mjs";
 import { blockNumber, watching } from "./context.mjs";
 import { elementOf, indexIn } from "./numbers.mjs";
-import { Watched, arrayOn, keepArray } from "./watched.mjs";
+import { Watched, arrayOn, registerArray } from "./watched.mjs";
 
 const EngineProxy = Proxy;
 
@@ -139,7 +139,7 @@ export function wrapped(real, block) {
   if (block < 0) return real;
   const watched = arrayOn(real, block, Elements);
   const standIn = new EngineProxy(watched.real, watched);
-  keepArray(watched, standIn);
+  registerArray(watched, standIn);
   return standIn;
 }
 

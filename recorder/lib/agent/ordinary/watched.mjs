@@ -131,7 +131,7 @@ export function viewOn(real, block) {
  * @param {Watched} watched an array
  * @param {object} standIn
  */
-export function keepArray(watched, standIn) {
+export function registerArray(watched, standIn) {
   watched.standIn = standIn;
   weakSet(arrays, standIn, watched);
 }
@@ -140,7 +140,7 @@ export function keepArray(watched, standIn) {
  * @param {Watched} watched a DataView
  * @param {object} standIn
  */
-export function keepView(watched, standIn) {
+export function registerView(watched, standIn) {
   watched.standIn = standIn;
   new Marked(standIn, watched);
 }
