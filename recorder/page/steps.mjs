@@ -157,12 +157,7 @@ export class Stepper {
     step.changes.push(...changes);
   }
 
-  /**
-   * @param {Entry} entry
-   * @param {string} sentence
-   * @param {number} place
-   * @param {number | undefined} event
-   */
+  /** @param {Entry} entry @param {string} sentence @param {number} place @param {number | undefined} event */
   #call(entry, sentence, place, event) {
     const { agent, what, entry: number, does, place: at } = entry;
     this.pending[agent] = [];

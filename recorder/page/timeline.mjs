@@ -13,10 +13,7 @@ const ROWS_AROUND = 120;
 
 /** The rows of steps, with a lane for each agent. Of many steps only those near the ones that are seen are there. */
 export class Timeline {
-  /**
-   * @param {Run} run
-   * @param {(index: number) => void} onChosen
-   */
+  /** @param {Run} run @param {(index: number) => void} onChosen */
   constructor(run, onChosen) {
     this.run = run;
     this.pane = by("timeline");
@@ -94,10 +91,7 @@ export class Timeline {
     return lanes;
   }
 
-  /**
-   * @param {Step} step
-   * @param {number} index
-   */
+  /** @param {Step} step @param {number} index */
   #row(step, index) {
     const { agent, entry, text, answer, changes, what, isSwitch } = step;
     const row = made("div", `row ${what}${isSwitch ? " switch" : ""}`);

@@ -27,10 +27,7 @@ const KEEPS_KEYS = "#code, #memory-pane, textarea, select, .keeps-keys";
  */
 
 export class Viewer {
-  /**
-   * @param {Run} run
-   * @param {Host} host
-   */
+  /** @param {Run} run @param {Host} host */
   constructor(run, host) {
     this.run = run;
     this.host = host;

@@ -46,11 +46,7 @@ function outcomeAt({ call, waits, isStuck }, calls, timeUp, guess) {
   return calls[call][0] === "wait" && guess === "joins" ? "joins" : "passes";
 }
 
-/**
- * @param {Entry} first of a turn
- * @param {Entry | undefined} second
- * @returns {Outcome}
- */
+/** @param {Entry} first of a turn @param {Entry | undefined} second @returns {Outcome} */
 function outcomeOf({ what }, second) {
   if (what === "leave") return "leaves";
   if (what === "stuck") return "stuck";

@@ -28,10 +28,7 @@
 
 const OF_STORES = /^(?:ordinary|init)_/;
 
-/**
- * @param {string} text lines of JSON
- * @returns {Report}
- */
+/** @param {string} text lines of JSON @returns {Report} */
 export function readReport(text) {
   const lines = text.split("\n").filter((line) => line !== "").map((line) => JSON.parse(line));
   return {

@@ -36,10 +36,7 @@ function viewText({ name, kind, block, offset, length }) {
   return `{"name": "${name}", "kind": "${kind}", "block": ${block}, "offset": ${offset}, "length": ${length}}`;
 }
 
-/**
- * @param {Done[]} calls
- * @param {boolean} canBlock
- */
+/** @param {Done[]} calls @param {boolean} canBlock */
 function agentText(calls, canBlock) {
   if (calls.length === 0) return `{"block": ${canBlock}, "calls": []}`;
   return `{"block": ${canBlock}, "calls": [\n      ${calls.map((call) => call.text).join(",\n      ")}\n    ]}`;

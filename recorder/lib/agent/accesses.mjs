@@ -19,10 +19,7 @@ export class Accesses {
 
   static FULL = 2;
 
-  /**
-   * @param {number} agent its number
-   * @param {import("./table.mjs").Table} table
-   */
+  /** @param {number} agent its number @param {import("./table.mjs").Table} table */
   constructor(agent, table) {
     this.agent = agent;
     this.table = table;
@@ -121,12 +118,7 @@ export class Accesses {
     this.#takeStretch(block, from, to, kind);
   }
 
-  /**
-   * @param {number} block
-   * @param {number} from
-   * @param {number} to
-   * @param {number} kind
-   */
+  /** @param {number} block @param {number} from @param {number} to @param {number} kind */
   #takeStretch(block, from, to, kind) {
     const { log, stores } = this.table;
     if (from < to) stores.takeWritten(this.agent, log.length, block, from, to, kind);

@@ -239,10 +239,7 @@ export class Later {
     }
   }
 
-  /**
-   * @param {string} type of node's resource
-   * @param {any} resource of which node's own names are known
-   */
+  /** @param {string} type of node's resource @param {any} resource of which node's own names are known */
   #note(type, resource) {
     if (!this.isWatching || this.found !== undefined) return;
     const word = TIMERS[type];

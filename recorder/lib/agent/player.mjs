@@ -164,11 +164,7 @@ export class Player {
     board.turn.leave(this.agent);
   }
 
-  /**
-   * @param {Call} call
-   * @param {object} view
-   * @param {number} source
-   */
+  /** @param {Call} call @param {object} view @param {number} source */
   #access(call, view, source) {
     const value = this.#tried(call, source, () => {
       const from = byteOf(call);
@@ -246,12 +242,7 @@ export class Player {
     }
   }
 
-  /**
-   * @param {number} event
-   * @param {Call} call
-   * @param {number} flags
-   * @param {number} source
-   */
+  /** @param {number} event @param {Call} call @param {number} flags @param {number} source */
   #log(event, call, flags, source) {
     const from = byteOf(call);
     this.table.log.append(

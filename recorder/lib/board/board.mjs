@@ -45,10 +45,7 @@ export class Board {
     };
   }
 
-  /**
-   * @param {BoardMemory} memory
-   * @param {import("./strategy.mjs").Rules} rules
-   */
+  /** @param {BoardMemory} memory @param {import("./strategy.mjs").Rules} rules */
   constructor(memory, rules) {
     const { agents } = rules;
     this.rules = rules;

@@ -26,10 +26,7 @@ const numberOf = (ending) => {
 };
 
 export class End {
-  /**
-   * @param {Int32Array} words of the board
-   * @param {Buffer} text where the details are told
-   */
+  /** @param {Int32Array} words of the board @param {Buffer} text where the details are told */
   constructor(words, text) {
     this.words = words;
     this.text = text;

@@ -56,10 +56,7 @@ export class Journal {
     if (event !== JOIN) words[wordOf(agent, AGENT_WORD.RETURNED)] += 1;
   }
 
-  /**
-   * @param {number} agent
-   * @param {number} accesses how many ordinary reads and writes it has made
-   */
+  /** @param {number} agent @param {number} accesses how many ordinary reads and writes it has made */
   countOrdinary(agent, accesses) {
     this.words[wordOf(agent, AGENT_WORD.ORDINARY)] = accesses;
   }

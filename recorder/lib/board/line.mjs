@@ -5,10 +5,7 @@ import { AGENT_WORD, PHASE, WORD, wordOf } from "../memory/layout.mjs";
 const { load } = Atomics;
 
 export class Line {
-  /**
-   * @param {Int32Array} words of the board
-   * @param {number} agents how many
-   */
+  /** @param {Int32Array} words of the board @param {number} agents how many */
   constructor(words, agents) {
     this.words = words;
     this.agents = agents;
@@ -25,10 +22,7 @@ export class Line {
     return load(this.words, wordOf(agent, AGENT_WORD.PHASE));
   }
 
-  /**
-   * @param {number} agent
-   * @param {number} phase one of `PHASE`
-   */
+  /** @param {number} agent @param {number} phase one of `PHASE` */
   become(agent, phase) {
     this.words[wordOf(agent, AGENT_WORD.PHASE)] = phase;
   }

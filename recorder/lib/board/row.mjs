@@ -106,11 +106,7 @@ export class Row {
     };
   }
 
-  /**
-   * @param {RowMemory} memory
-   * @param {Int32Array} words of the board
-   * @param {number} agents how many
-   */
+  /** @param {RowMemory} memory @param {Int32Array} words of the board @param {number} agents how many */
   constructor(memory, words, agents) {
     this.state = new Int32Array(memory.state);
     this.forced = new Uint8Array(memory.forced);

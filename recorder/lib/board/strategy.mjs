@@ -47,10 +47,7 @@ export class Strategy {
     this.pilotWays = this.#made(PILOT_WAYS);
   }
 
-  /**
-   * @param {number} seed
-   * @param {boolean} [isPilot]
-   */
+  /** @param {number} seed @param {boolean} [isPilot] */
   begin(seed, isPilot = false) {
     const { words } = this;
     words[WORD.LAST] = NOBODY_MOVES;

@@ -190,10 +190,7 @@ export class Log {
     return this.events[event * EACH + SOURCE];
   }
 
-  /**
-   * @param {number} event its position
-   * @returns {LogEvent}
-   */
+  /** @param {number} event its position @returns {LogEvent} */
   at(event) {
     const { events } = this;
     const at = event * EACH;

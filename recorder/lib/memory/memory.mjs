@@ -10,10 +10,7 @@ const areEqual = uncurried(Buffer.prototype.equals);
 /** @typedef {{ block: number, byte: number, was: number, is: number }} Change */
 
 export class Memory {
-  /**
-   * @param {SharedArrayBuffer[]} buffers
-   * @param {SharedArrayBuffer[]} copies as long as they are
-   */
+  /** @param {SharedArrayBuffer[]} buffers @param {SharedArrayBuffer[]} copies as long as they are */
   constructor(buffers, copies) {
     this.real = [];
     this.known = [];
@@ -45,10 +42,7 @@ export class Memory {
     for (let byte = from; byte < to; byte += 1) known[byte] = real[byte];
   }
 
-  /**
-   * @param {number} block
-   * @returns {boolean} whether a byte of the block isn't as it is known
-   */
+  /** @param {number} block @returns {boolean} whether a byte of the block isn't as it is known */
   hasChanged(block) {
     return !areEqual(this.real[block], this.known[block]);
   }

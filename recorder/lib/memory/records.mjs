@@ -77,10 +77,7 @@ export class Records {
     this.words = new Int32Array(memory, this.bigs.byteLength + this.numbers.byteLength, room * WORDS_EACH);
   }
 
-  /**
-   * @param {number} position of the call among the agent's
-   * @param {Call} call that begins
-   */
+  /** @param {number} position of the call among the agent's @param {Call} call that begins */
   begin(position, call) {
     const { words, numbers } = this;
     const word = position * WORDS_EACH;
@@ -120,10 +117,7 @@ export class Records {
     this.words[position * WORDS_EACH + JOINED] = 1;
   }
 
-  /**
-   * @param {number} position
-   * @param {number | bigint | string} answer a value, or one of the words of a report
-   */
+  /** @param {number} position @param {number | bigint | string} answer a value, or one of the words of a report */
   answer(position, answer) {
     const tag = typeof answer === "string"
       ? FIRST_WORD + numberOf(answer)
@@ -131,10 +125,7 @@ export class Records {
     this.words[position * WORDS_EACH + ANSWER] = tag;
   }
 
-  /**
-   * @param {number} position
-   * @returns {Call}
-   */
+  /** @param {number} position @returns {Call} */
   callAt(position) {
     const { words, numbers } = this;
     const word = position * WORDS_EACH;
@@ -211,12 +202,7 @@ export class Records {
     return BIG;
   }
 
-  /**
-   * @param {number} position
-   * @param {number} at
-   * @param {number} tag
-   * @returns {number | bigint}
-   */
+  /** @param {number} position @param {number} at @param {number} tag @returns {number | bigint} */
   #read(position, at, tag) {
     if (tag === NUMBER) return this.numbers[position * NUMBERS_EACH + at];
     const big = position * BIGS_EACH + 2 * at;

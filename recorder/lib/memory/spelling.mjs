@@ -37,17 +37,10 @@ export function viewName(lengths, { kind, block, offset, length }) {
   return `${KINDS[kind]}${whichBlock}${where}${length < room ? `_x${length}` : ""}`;
 }
 
-/**
- * @param {number | bigint} operand
- * @returns {string} as JSON: a BigInt is a string of its digits
- */
+/** @param {number | bigint} operand @returns {string} as JSON: a BigInt is a string of its digits */
 const operandText = (operand) => (typeof operand === "bigint" ? `"${operand}"` : `${operand}`);
 
-/**
- * @param {string} view its name
- * @param {Call} call
- * @returns {string} the call as a script has it
- */
+/** @param {string} view its name @param {Call} call @returns {string} the call as a script has it */
 export function callText(view, call) {
   let text = `["${CALLS[call.call].name}", "${view}", ${call.index}`;
   for (let at = 0; at < call.operands.length; at += 1) text += `, ${operandText(call.operands[at])}`;

@@ -51,12 +51,7 @@ function partsOf(name, value) {
     `for a whole array, or an index alone, which is that of an Int32Array on buffer 0, as in ${EXAMPLE}`);
 }
 
-/**
- * @param {string} name
- * @param {unknown} value
- * @param {number[]} lengths of the blocks
- * @returns {Name}
- */
+/** @param {string} name @param {unknown} value @param {number[]} lengths of the blocks @returns {Name} */
 function checkedName(name, value, lengths) {
   const [kindName, block, index] = partsOf(name, value);
   const kind = KINDS.indexOf(/** @type {string} */ (kindName));

@@ -122,12 +122,7 @@ export class Judge {
     }
   }
 
-  /**
-   * @param {Log} log
-   * @param {number} event
-   * @param {OnRace} onRace
-   * @returns {boolean} whether to go on
-   */
+  /** @param {Log} log @param {number} event @param {OnRace} onRace @returns {boolean} whether to go on */
   #step(log, event, onRace) {
     const flags = log.flagsAt(event);
     const agent = log.agentAt(event);
@@ -183,12 +178,7 @@ export class Judge {
     }
   }
 
-  /**
-   * @param {number} agent
-   * @param {number} flags
-   * @param {number} first
-   * @param {number} last
-   */
+  /** @param {number} agent @param {number} flags @param {number} first @param {number} last */
   #write(agent, flags, first, last) {
     const { written, sizes } = this;
     const clock = flags & FLAG.ATOMIC ? this.#leave(agent) : NONE;

@@ -72,10 +72,7 @@ class Writer {
     for (let move = 0; move < count; move += 1) this.moves.push({ agent, timeUp: timeUp && move === 0 });
   }
 
-  /**
-   * @param {Store} store
-   * @param {string} whose what its view's name begins with
-   */
+  /** @param {Store} store @param {string} whose what its view's name begins with */
   addStore({ agent, block, byte, kind, bytes }, whose) {
     const named = this.names.at(kind, block, byte);
     const name = named === undefined ? this.#storeName(whose, kind, block) : `${whose}_${named.view.name}`;

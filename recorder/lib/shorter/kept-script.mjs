@@ -168,10 +168,7 @@ class Reader {
     this.at[draw.agent].last = draw;
   }
 
-  /**
-   * @param {number} agent
-   * @param {Reader["at"][number]} at
-   */
+  /** @param {number} agent @param {Reader["at"][number]} at */
   #begin(agent, at) {
     const call = this.calls[agent][at.begun];
     need(call !== undefined, `its move ${this.position} is one of no call`);

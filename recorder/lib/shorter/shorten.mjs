@@ -57,10 +57,7 @@ const NOT_AGAIN = "it couldn't be made again in the same way: its agents do some
  */
 const measured = ({ row = [], calls }) => ({ row, changes: changesOf(row), calls });
 
-/**
- * @param {Measured} one
- * @param {Measured} other
- */
+/** @param {Measured} one @param {Measured} other */
 function isShorter(one, other) {
   if (one.changes !== other.changes) return one.changes < other.changes;
   if (one.calls !== other.calls) return one.calls < other.calls;

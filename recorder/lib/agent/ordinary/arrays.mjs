@@ -11,7 +11,7 @@ import { blockNumber, refused } from "./context.mjs";
 import { last, wrapped } from "./elements.mjs";
 import { constructing, madePrivate } from "./guards.mjs";
 import { needsFunction } from "./numbers.mjs";
-import { forWatched, replace, replaceGetter } from "./patch.mjs";
+import { forWatched, methodOf, replace, replaceGetter } from "./patch.mjs";
 import { READING } from "./reading.mjs";
 import { arrayBy, standIns } from "./species.mjs";
 import { ENGINE, tellAll, watchedOf } from "./watched.mjs";
@@ -55,11 +55,7 @@ function madeOf(kind, first, second, third, target) {
 function standInOf(kind) {
   const Engine = ENGINE[kind];
   const { name } = Engine;
-  /**
-   * @param {any} first
-   * @param {any} second
-   * @param {any} third
-   */
+  /** @param {any} first @param {any} second @param {any} third */
   const StandIn = function (first, second, third) {
     if (new.target === undefined) throw new EngineTypeError(`Constructor ${name} requires 'new'`);
     if ((typeof first === "object" && first !== null) || typeof first === "function") {
@@ -114,26 +110,17 @@ function withoutIterator(source) {
 }
 
 function replaceStatics() {
-  replace(TypedArray, "from", (engine) => ({
-    /**
-     * @param {unknown} source
-     * @param {unknown} mapper
-     * @param {unknown} thisArgument
-     */
-    method(source, mapper, thisArgument) {
-      if (isStandIn(this)) return call(engine, this, withoutIterator(source), mapper, thisArgument);
-      if (typeof this !== "function") return apply(engine, this, arguments);
-      if (mapper !== undefined) needsFunction(mapper);
-      return filledBy(this, call(arrayFrom, EngineArray, source), mapper, thisArgument);
-    },
-  }).method);
-  replace(TypedArray, "of", (engine) => ({
-    /** @param {any[]} values */
-    method(...values) {
-      if (isStandIn(this) || typeof this !== "function") return apply(engine, this, values);
-      return filledBy(this, values, undefined, undefined);
-    },
-  }).method);
+  replace(TypedArray, "from", (engine) => methodOf((self, given) => {
+    const mapper = given[1];
+    if (isStandIn(self)) return call(engine, self, withoutIterator(given[0]), mapper, given[2]);
+    if (typeof self !== "function") return apply(engine, self, given);
+    if (mapper !== undefined) needsFunction(mapper);
+    return filledBy(self, call(arrayFrom, EngineArray, given[0]), mapper, given[2]);
+  }));
+  replace(TypedArray, "of", (engine) => methodOf((self, values) => {
+    if (isStandIn(self) || typeof self !== "function") return apply(engine, self, values);
+    return filledBy(self, values, undefined, undefined);
+  }));
 }
 
 /**
@@ -211,10 +198,7 @@ function replaceMethods() {
   replaceAll(ANSWERING);
   replaceAll(WRITING);
   replace(typedArrays, "set", (engine) => ({
-    /**
-     * @param {unknown} source
-     * @param {unknown} offset
-     */
+    /** @param {unknown} source @param {unknown} offset */
     method(source, offset) {
       if (watchedOf(this) === undefined && watchedOf(source) === undefined) return apply(engine, this, arguments);
       return setFrom(this, source, offset);
@@ -244,15 +228,11 @@ function refuseOtherKinds() {
 
 /** The engine's own way to seal a typed array isn't what it asks of a proxy. */
 function replaceSeal() {
-  replace(Object, "seal", (engine) => ({
-    /** @param {unknown} value */
-    method(value) {
-      const watched = watchedOf(value);
-      if (watched === undefined) return engine(value);
-      engine(watched.real);
-      return value;
-    },
-  }).method);
+  replace(Object, "seal", (engine) => methodOf((_self, given) => {
+    const value = given[0];
+    engine(watchedOf(value)?.real ?? value);
+    return value;
+  }));
 }
 
 /** Patches the typed arrays of this realm. */

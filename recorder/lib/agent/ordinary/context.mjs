@@ -35,10 +35,7 @@ export function begin(given) {
 /** Other buffer objects on the memory of a recorded one, as structuredClone makes them: the recorded one of each. */
 const others = new WeakMap();
 
-/**
- * @param {object} buffer another object on the memory of a recorded buffer
- * @param {object} recorded
- */
+/** @param {object} buffer another object on the memory of a recorded buffer @param {object} recorded */
 export function learn(buffer, recorded) {
   weakSet(others, buffer, originalOf(recorded));
 }

@@ -7,7 +7,7 @@ import {
 } from "../../primordials.mjs";
 import { blockNumber, refused } from "./context.mjs";
 import { byteIndexOf, elementOf } from "./numbers.mjs";
-import { replace, replaceGetter } from "./patch.mjs";
+import { methodOf, replace, replaceGetter } from "./patch.mjs";
 import { registerView, tell, viewOn, watchedView } from "./watched.mjs";
 
 const { TypeError: EngineTypeError, RangeError: EngineRangeError } = globalThis;
@@ -46,17 +46,11 @@ function placeOf({ length }, at, size) {
   return at;
 }
 
-/**
- * @param {Function} engine
- * @param {number} size
- */
+/** @param {Function} engine @param {number} size */
 const getterOf = (engine, size) => {
   const read = uncurried(engine);
   return {
-    /**
-     * @param {unknown} offset
-     * @param {unknown} isLittle
-     */
+    /** @param {unknown} offset @param {unknown} isLittle */
     method(offset, isLittle) {
       const watched = watchedView(this);
       if (watched === undefined) return read(this, offset, isLittle);
@@ -67,19 +61,11 @@ const getterOf = (engine, size) => {
   }.method;
 };
 
-/**
- * @param {Function} engine
- * @param {number} size
- * @param {boolean} big
- */
+/** @param {Function} engine @param {number} size @param {boolean} big */
 const setterOf = (engine, size, big) => {
   const write = uncurried(engine);
   return {
-    /**
-     * @param {unknown} offset
-     * @param {unknown} value
-     * @param {unknown} isLittle
-     */
+    /** @param {unknown} offset @param {unknown} value @param {unknown} isLittle */
     method(offset, value, isLittle) {
       const watched = watchedView(this);
       if (watched === undefined) return write(this, offset, value, isLittle);
@@ -125,13 +111,10 @@ function refuseOthers() {
   for (let at = 0; at < names.length; at += 1) {
     const name = names[at];
     if (typeof name !== "string" || !/^[gs]et/.test(name) || SIZES[name.slice(3)] !== undefined) continue;
-    replace(views, name, (engine) => ({
-      /** @param {any[]} given */
-      method(...given) {
-        if (watchedView(this) !== undefined) refused(`${engine.name} of a DataView was called`);
-        return apply(engine, this, given);
-      },
-    }).method);
+    replace(views, name, (engine) => methodOf((self, given) => {
+      if (watchedView(self) !== undefined) refused(`${engine.name} of a DataView was called`);
+      return apply(engine, self, given);
+    }));
   }
 }
 
@@ -140,11 +123,7 @@ export function watchDataView() {
   replaceAccessors();
   replaceSlots();
   refuseOthers();
-  /**
-   * @param {unknown} buffer
-   * @param {unknown} offset
-   * @param {unknown} length
-   */
+  /** @param {unknown} buffer @param {unknown} offset @param {unknown} length */
   const StandIn = function (buffer, offset, length) {
     if (new.target === undefined) throw new EngineTypeError("Constructor DataView requires 'new'");
     const target = new.target === StandIn ? EngineDataView : new.target;

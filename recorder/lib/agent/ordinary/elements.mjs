@@ -13,20 +13,12 @@ const EngineProxy = Proxy;
 // The traps of a watched array are what is known of it. They are short, since each access comes through them.
 class Elements extends Watched {
   // Without one that is written out the engine takes its arguments through the iterator of arrays.
-  /**
-   * @param {any} real
-   * @param {import("./context.mjs").Place} place
-   * @param {number} size
-   */
+  /** @param {any} real @param {import("./context.mjs").Place} place @param {number} size */
   constructor(real, place, size) {
     super(real, place, size);
   }
 
-  /**
-   * @param {any} target
-   * @param {string | symbol} key
-   * @param {unknown} receiver
-   */
+  /** @param {any} target @param {string | symbol} key @param {unknown} receiver */
   get(target, key, receiver) {
     if (typeof key === "string") {
       const index = indexIn(key, this.length);
@@ -40,12 +32,7 @@ class Elements extends Watched {
     return get(target, key, receiver);
   }
 
-  /**
-   * @param {any} target
-   * @param {string | symbol} key
-   * @param {any} value
-   * @param {unknown} receiver
-   */
+  /** @param {any} target @param {string | symbol} key @param {any} value @param {unknown} receiver */
   set(target, key, value, receiver) {
     if (typeof key !== "string") return set(target, key, value, receiver);
     const index = indexIn(key, this.length);
@@ -72,21 +59,14 @@ class Elements extends Watched {
     return set(target, key, value, receiver);
   }
 
-  /**
-   * @param {object} target
-   * @param {string | symbol} key
-   */
+  /** @param {object} target @param {string | symbol} key */
   getOwnPropertyDescriptor(target, key) {
     const index = typeof key === "string" ? indexIn(key, this.length) : -1;
     if (index >= 0) this.tellElement(index, false);
     return getOwnPropertyDescriptor(target, key);
   }
 
-  /**
-   * @param {object} target
-   * @param {string | symbol} key
-   * @param {PropertyDescriptor} descriptor
-   */
+  /** @param {object} target @param {string | symbol} key @param {PropertyDescriptor} descriptor */
   defineProperty(target, key, descriptor) {
     const index = typeof key === "string" ? indexIn(key, this.length) : -1;
     if (index >= 0 && hasOwn(descriptor, "value") && isOfElement(descriptor)) {
@@ -96,10 +76,7 @@ class Elements extends Watched {
     return defineProperty(target, key, descriptor);
   }
 
-  /**
-   * @param {number} index
-   * @param {boolean} writes
-   */
+  /** @param {number} index @param {boolean} writes */
   tellElement(index, writes) {
     const from = this.offset + index * this.size;
     watching.seen(this.place, from, from + this.size, writes);
@@ -159,10 +136,7 @@ class Listed {
     this.watched = watched;
   }
 
-  /**
-   * @param {any} target
-   * @param {string} key
-   */
+  /** @param {any} target @param {string} key */
   get(target, key) {
     const { watched } = this;
     if (key === "length") return watched.length;

@@ -17,9 +17,11 @@ import { refused } from "./context.mjs";
 import {
   constructing, copying, copyingGiven, looking, madePrivate, refusing, refusingGiven, writing,
 } from "./guards.mjs";
-import { replace, replaceEach, replaceNeeded } from "./patch.mjs";
+import { methodOf, replace, replaceEach, replaceNeeded } from "./patch.mjs";
 import { WHOLLY } from "./reach.mjs";
 import { tell, unwrapped, watchedOf } from "./watched.mjs";
+
+/** @typedef {import("./patch.mjs").Standing} Standing */
 
 const startsWith = uncurried(String.prototype.startsWith);
 const EngineBytes = Uint8Array;
@@ -68,10 +70,7 @@ function otherFunctions(owner, lists) {
   return names;
 }
 
-/**
- * @param {(string[] | undefined)[]} lists
- * @param {string} name
- */
+/** @param {(string[] | undefined)[]} lists @param {string} name */
 function isIn(lists, name) {
   for (let at = 0; at < lists.length; at += 1) {
     if (lists[at]?.includes(name)) return true;
@@ -152,27 +151,20 @@ function watchAssertions() {
   }
 }
 
-/**
- * How many bytes a text takes is tried in a private array, so that those alone are told.
- * @param {Function} engine
- */
-const encodingInto = (engine) => ({
-  /**
-   * @param {unknown} text
-   * @param {unknown} target
-   */
-  method(text, target) {
-    const watched = watchedOf(target);
-    const isBytes = watched !== undefined && tagOf(watched.real) === "Uint8Array";
-    if (!isBytes) return apply(engine, this, [text, unwrapped(target)]);
-    const bytes = new EngineBytes(watched.length);
-    const answer = apply(engine, this, [text, bytes]);
-    const { written } = answer;
-    tell(watched, 0, written, true);
-    setBytes(watched.real, subarray(bytes, 0, written), 0);
-    return answer;
-  },
-}).method;
+/** @type {Standing} how many bytes a text takes is tried in a private array, so that those alone are told */
+const encodingInto = (engine) => methodOf((self, given) => {
+  const text = given[0];
+  const target = given[1];
+  const watched = watchedOf(target);
+  const isBytes = watched !== undefined && tagOf(watched.real) === "Uint8Array";
+  if (!isBytes) return apply(engine, self, [text, unwrapped(target)]);
+  const bytes = new EngineBytes(watched.length);
+  const answer = apply(engine, self, [text, bytes]);
+  const { written } = answer;
+  tell(watched, 0, written, true);
+  setBytes(watched.real, subarray(bytes, 0, written), 0);
+  return answer;
+});
 
 function watchTexts() {
   replaceNeeded(TextDecoder.prototype, "decode", copying);

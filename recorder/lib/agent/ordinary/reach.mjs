@@ -182,21 +182,13 @@ function emptyLike(value) {
   return create(getPrototypeOf(value));
 }
 
-/**
- * @template {object} Copy
- * @param {Copy} copy
- * @param {object} value
- */
+/** @template {object} Copy @param {Copy} copy @param {object} value */
 function setPrototyped(copy, value) {
   setPrototypeOf(copy, getPrototypeOf(value));
   return copy;
 }
 
-/**
- * @param {object} value
- * @param {object} copy
- * @param {Map<object, object>} made
- */
+/** @param {object} value @param {object} copy @param {Map<object, object>} made */
 function fillMirror(value, copy, made) {
   if (value instanceof EngineMap) {
     /** @type {(inner: unknown, key: unknown) => void} */

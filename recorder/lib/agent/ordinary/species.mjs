@@ -69,11 +69,7 @@ export function partOf(watched, self, given) {
   return sameContents(watched, arrayBy(constructor, given));
 }
 
-/**
- * @template {object} Made
- * @param {import("./watched.mjs").Watched} watched
- * @param {Made} made
- */
+/** @template {object} Made @param {import("./watched.mjs").Watched} watched @param {Made} made */
 function sameContents(watched, made) {
   if (isBig(tagOf(unwrapped(made))) === watched.big) return made;
   throw new EngineTypeError("Content type of the species' array differs from the receiver's");

@@ -42,10 +42,7 @@ class Marked extends Same {
   /** @type {Watched} */
   #watched;
 
-  /**
-   * @param {object} object
-   * @param {Watched} watched
-   */
+  /** @param {object} object @param {Watched} watched */
   constructor(object, watched) {
     super(object);
     this.#watched = watched;
@@ -115,10 +112,7 @@ export function arrayOn(real, block, Kind) {
   return watched;
 }
 
-/**
- * @param {DataView} real
- * @param {number} block
- */
+/** @param {DataView} real @param {number} block */
 export function viewOn(real, block) {
   const place = { block, kind: DATA_VIEW, offset: viewOffsetOf(real), length: viewLengthOf(real) };
   const buffer = viewBufferOf(real);
@@ -127,19 +121,13 @@ export function viewOn(real, block) {
   return watched;
 }
 
-/**
- * @param {Watched} watched an array
- * @param {object} standIn
- */
+/** @param {Watched} watched an array @param {object} standIn */
 export function registerArray(watched, standIn) {
   watched.standIn = standIn;
   weakSet(arrays, standIn, watched);
 }
 
-/**
- * @param {Watched} watched a DataView
- * @param {object} standIn
- */
+/** @param {Watched} watched a DataView @param {object} standIn */
 export function registerView(watched, standIn) {
   watched.standIn = standIn;
   new Marked(standIn, watched);

@@ -12,10 +12,7 @@ const GOES_ON = 64;
 const MOST_IN_A_ROW = 128;
 
 export class Asked {
-  /**
-   * @param {Int32Array} words of the board
-   * @param {import("../../memory/known-places.mjs").KnownPlaces} places
-   */
+  /** @param {Int32Array} words of the board @param {import("../../memory/known-places.mjs").KnownPlaces} places */
   constructor(words, places) {
     this.words = words;
     this.places = places;
