@@ -6,7 +6,7 @@ import { Board } from "../lib/board/board.mjs";
 import { STEP } from "../lib/board/clock.mjs";
 import { JOIN, LEAVE, MAKE, TIME_UP } from "../lib/board/journal.mjs";
 import { waysOf } from "../lib/board/strategy/ways.mjs";
-import { ORDER, PHASE } from "../lib/memory/layout.mjs";
+import { ORDER, PHASE, WORD } from "../lib/memory/layout.mjs";
 
 const RULES = { ways: waysOf("uniform", true), maxMoves: 100_000, timeouts: 0.05 };
 
@@ -29,7 +29,7 @@ function drawn(board, from, times) {
   let turn = from;
   for (let time = 0; time < times; time += 1) {
     board.pass(turn);
-    turn = board.strategy.lastMoved();
+    turn = board.words[WORD.LAST];
     turns.push(turn);
   }
   return turns;

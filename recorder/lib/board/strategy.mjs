@@ -95,11 +95,6 @@ export class Strategy {
     return words[WORD.MOVES] + MOST_MOVES <= most;
   }
 
-  /** @returns {number} the agent that moved last, or -1 */
-  lastMoved() {
-    return this.words[WORD.LAST];
-  }
-
   /** @returns {number} who moves next by the seed, or `NOBODY_MOVES` */
   #drawn() {
     const { able } = this;

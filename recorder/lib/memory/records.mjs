@@ -4,6 +4,7 @@
 import { CALLS, CALL_NUMBERS } from "../../script/kinds.mjs";
 import { SCRIPT_LIMITS } from "../../script/limits.mjs";
 import { answerText } from "../../script/report.mjs";
+import { positionIn } from "../primordials.mjs";
 
 // Agents may change what they find, so the engine's own functions are kept here, before.
 const { BigInt64Array, Float64Array, Int32Array, SharedArrayBuffer } = globalThis;
@@ -24,13 +25,6 @@ const { asIntN, asUintN } = BigInt;
 
 /** What a call can answer besides a value, as a report spells it. A word's position is its number in a record. */
 const WORDS = Object.freeze(["ok", "not-equal", "timed-out", "TypeError", "RangeError"]);
-
-/** @param {string} word */
-const numberOf = (word) => {
-  let number = 0;
-  while (WORDS[number] !== word) number += 1;
-  return number;
-};
 
 const { load: LOAD } = CALL_NUMBERS;
 
@@ -120,7 +114,7 @@ export class Records {
   /** @param {number} position @param {number | bigint | string} answer a value, or one of the words of a report */
   answer(position, answer) {
     const tag = typeof answer === "string"
-      ? FIRST_WORD + numberOf(answer)
+      ? FIRST_WORD + positionIn(WORDS, answer)
       : this.#write(position, ANSWER_VALUE, answer);
     this.words[position * WORDS_EACH + ANSWER] = tag;
   }
