@@ -56,10 +56,7 @@ export function scriptData(script, report) {
   };
 }
 
-/**
- * Events by agent and call: a call and its end; or the ordinary accesses before a call.
- * @param {Event[]} events
- */
+/** Events by agent and call: a call and its end; or the ordinary accesses before a call. @param {Event[]} events */
 function byCall(events) {
   /** @type {Map<string, Event[]>} */
   const map = new Map();

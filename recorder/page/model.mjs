@@ -86,10 +86,7 @@ export class Run {
     return Math.max(0, Math.min(at, this.steps.length - 1));
   }
 
-  /**
-   * The access that fails to which one goes from a step: each in its turn.
-   * @param {number} index
-   */
+  /** The access that fails to which one goes from a step: each in its turn. @param {number} index */
   failingFrom(index) {
     const at = this.failing.indexOf(index);
     return this.failing[(at < 0 ? this.failing.length - 1 : at + 1) % this.failing.length];

@@ -52,10 +52,7 @@ const SHOWN = Object.freeze({ depth: 0, customInspect: false, compact: true, bre
 const REJECTED = "{ <rejected> ";
 const HOOKS = ", [Symbol(async_id_symbol)]";
 
-/**
- * Where the reason ends in what node shows of a promise: before what its hooks have put there.
- * @param {string} text
- */
+/** Where the reason ends in what node shows of a promise: before what its hooks have put there. @param {string} text */
 function endOf(text) {
   const found = indexOf(text, HOOKS);
   return found < 0 ? text.length - 2 : found;
@@ -97,10 +94,7 @@ function wordFor(type) {
   return undefined;
 }
 
-/**
- * Whether a frame is of what zlib does at once.
- * @param {NodeJS.CallSite} frame
- */
+/** Whether a frame is of what zlib does at once. @param {NodeJS.CallSite} frame */
 function isZlibAtOnce(frame) {
   if (frame.getFileName() !== ZLIB.file) return false;
   const name = frame.getFunctionName();

@@ -58,10 +58,7 @@ const AGENT_WORDS = 16;
  */
 export const wordOf = (agent, word) => AGENTS + AGENT_WORDS * agent + word;
 
-/**
- * How many words there are for so many agents.
- * @param {number} agents
- */
+/** How many words there are for so many agents. @param {number} agents */
 export const wordsFor = (agents) => AGENTS + AGENT_WORDS * agents;
 
 /** What an agent is at. */

@@ -142,10 +142,7 @@ export class RunMaker {
     return !isSilent && !isHidden;
   }
 
-  /**
-   * Has workers started anew, and waits until they are there.
-   * @param {number[]} gone
-   */
+  /** Has workers started anew, and waits until they are there. @param {number[]} gone */
   async replace(gone) {
     if (gone.length > 0) await this.#answered({ replace: gone });
   }
@@ -160,10 +157,7 @@ export class RunMaker {
     return this.agents.reduce((sum, agent) => sum + this.board.journal.ordinary(agent), 0);
   }
 
-  /**
-   * Leaves nothing of an earlier run.
-   * @param {Wanted} wanted
-   */
+  /** Leaves nothing of an earlier run. @param {Wanted} wanted */
   #clear(wanted) {
     this.memory.reset();
     this.board.row.begin(wanted);

@@ -134,10 +134,7 @@ function filled(engine, watched, given, self) {
   return self;
 }
 
-/**
- * An array as long as another one, to try in it what a method would do.
- * @param {unknown} value
- */
+/** An array as long as another one, to try in it what a method would do. @param {unknown} value */
 const likeness = (value) => {
   const watched = watchedOf(value);
   if (watched === undefined) return tagOf(value) === "Uint8Array" ? new EngineBytes(lengthOf(value)) : value;
@@ -232,10 +229,7 @@ function replaceStatics(module) {
   setPrototypeOf(EngineBuffer, standIns[KINDS.indexOf("Uint8")]);
 }
 
-/**
- * Patches node's Buffer.
- * @param {typeof import("node:buffer").default} module
- */
+/** Patches node's Buffer. @param {typeof import("node:buffer").default} module */
 export function watchNodeBuffer(module) {
   replaceMethods();
   replaceStatics(module);
