@@ -44,7 +44,10 @@ export class Changeable {
     by("schedule").hidden = true;
   }
 
-  /** Lets the schedule of the run be changed. @param {Editing} editing of its script */
+  /**
+   * Lets the schedule of the run be changed.
+   * @param {Editing} editing of its script
+   */
   edit(editing) {
     this.editing = editing;
     this.pane = new SchedulePane(editing, {
@@ -79,7 +82,10 @@ export class Changeable {
     return turn;
   }
 
-  /** Shows the run of the schedule as it is now. @param {number | undefined} at the turn that is chosen */
+  /**
+   * Shows the run of the schedule as it is now.
+   * @param {number | undefined} at the turn that is chosen
+   */
   #show(at) {
     const { editing, recorded, pane } = this;
     if (editing === undefined) return;

@@ -56,7 +56,10 @@ export function scriptData(script, report) {
   };
 }
 
-/** Events by agent and call: a call and its end; or the ordinary accesses before a call. @param {Event[]} events */
+/**
+ * Events by agent and call: a call and its end; or the ordinary accesses before a call.
+ * @param {Event[]} events
+ */
 function byCall(events) {
   /** @type {Map<string, Event[]>} */
   const map = new Map();
@@ -141,11 +144,7 @@ export function elementLines(before, after) {
 /** @param {number} count @param {string} one @param {string} several */
 const countedWord = (count, one, several) => `${count} ${count === 1 ? one : several}`;
 
-/**
- * What is different, in a sentence.
- * @param {Differences} differences
- * @returns {string}
- */
+/** @param {Differences} differences @returns {string} what is different, in a sentence */
 export function differenceText({ answers, woken, bytes }) {
   const count = bytes.reduce((sum, { before }) => sum + before.length / 2, 0);
   const parts = [

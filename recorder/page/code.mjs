@@ -7,7 +7,10 @@ import { badge, by, made, reveal, spoken } from "./dom.mjs";
 
 const MOST_BADGES = 2;
 
-/** File, line and column of a place. @param {string} place */
+/**
+ * File, line and column of a place.
+ * @param {string} place
+ */
 function placeParts(place) {
   const [, file = place, line = "0", column = "0"] = /^(.*):(\d+):(\d+)$/.exec(place) ?? [];
   return { file, line: Number(line), column: Number(column) };

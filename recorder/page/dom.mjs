@@ -23,7 +23,10 @@ export function made(name, className, ...children) {
  */
 export const badge = (agent, more = "") => made("span", `badge a${agent % 8} ${more}`, `${agent}`);
 
-/** What only a reader of screens is told. @param {string} text */
+/**
+ * What only a reader of screens is told.
+ * @param {string} text
+ */
 export const spoken = (text) => made("span", "spoken", text);
 
 /**

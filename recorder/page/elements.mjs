@@ -17,7 +17,10 @@ const UNSIGNED = /** @type {Record<number, string>} */ ({ 1: "Uint8", 2: "Uint16
 const OF_STORES = /^(?:ordinary|init)_/;
 const BY_ITSELF = new RegExp(`^(?:${Object.keys(KINDS).join("|")})(?:_b\\d+)?(?:_at\\d+)?(?:_x\\d+)?$`);
 
-/** A view's name without what says that it is one of stores. @param {View} view */
+/**
+ * A view's name without what says that it is one of stores.
+ * @param {View} view
+ */
 export const plainName = ({ name }) => name.replace(OF_STORES, "");
 
 /** @param {View} view @returns {boolean} whether it has a name that the program gave it */
@@ -35,12 +38,7 @@ export const labelOf = (view, byte) => {
   return isWord(view) ? plainName(view) : `${plainName(view)}[${index}]`;
 };
 
-/**
- * The value of an element.
- * @param {Uint8Array} bytes of its block
- * @param {Cell} cell
- * @returns {string}
- */
+/** @param {Uint8Array} bytes of its block @param {Cell} cell @returns {string} the value of an element */
 export function valueAt(bytes, { view, byte }) {
   const value = new KINDS[view.kind](bytes.slice(byte, byte + sizeOf(view)).buffer)[0];
   return typeof value === "bigint" ? `${value}n` : `${value}`;

@@ -52,11 +52,7 @@ export class Run {
     return this.steps.some(({ place }) => place >= 0);
   }
 
-  /**
-   * How things are after a step.
-   * @param {number} index of the step
-   * @returns {State}
-   */
+  /** @param {number} index of the step @returns {State} how things are after a step */
   stateAt(index) {
     const blocks = this.data.blocks.map((length) => new Uint8Array(length));
     /** @type {Map<string, number[]>} */
@@ -86,7 +82,10 @@ export class Run {
     return Math.max(0, Math.min(at, this.steps.length - 1));
   }
 
-  /** The access that fails to which one goes from a step: each in its turn. @param {number} index */
+  /**
+   * The access that fails to which one goes from a step: each in its turn.
+   * @param {number} index
+   */
   failingFrom(index) {
     const at = this.failing.indexOf(index);
     return this.failing[(at < 0 ? this.failing.length - 1 : at + 1) % this.failing.length];

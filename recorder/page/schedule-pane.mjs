@@ -67,7 +67,10 @@ export class SchedulePane {
     return button;
   }
 
-  /** Does what a button or a key asks for. @param {string} id of the button */
+  /**
+   * Does what a button or a key asks for.
+   * @param {string} id of the button
+   */
   act(id) {
     const { editing, host } = this;
     const edit = EDITS.find((each) => each.id === id);

@@ -141,11 +141,7 @@ export class Timeline {
   }
 }
 
-/**
- * The agents that wait while each step is made.
- * @param {Step[]} steps
- * @returns {Set<number>[]}
- */
+/** @param {Step[]} steps @returns {Set<number>[]} the agents that wait while each step is made */
 function waitingAt(steps) {
   /** @type {Set<number>} */
   let waiting = new Set();

@@ -129,7 +129,10 @@ class TryPage {
   }
 }
 
-/** Opens the page. @param {import("./simulate.mjs").SimulatorClass} Simulator the loader's */
+/**
+ * Opens the page.
+ * @param {import("./simulate.mjs").SimulatorClass} Simulator the loader's
+ */
 export async function openPage(Simulator) {
   try {
     new TryPage(JSON.parse(by("run").textContent ?? ""), await simulateBy(Simulator));

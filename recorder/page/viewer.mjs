@@ -79,7 +79,10 @@ export class Viewer {
     for (const id of ["last", "forward", "switch-forward"]) by(id).setAttribute("aria-disabled", `${isAt.last}`);
   }
 
-  /** What each way to go leads to. @param {string} way */
+  /**
+   * What each way to go leads to.
+   * @param {string} way
+   */
   #go(way) {
     const { index, run } = this;
     const last = run.steps.length - 1;

@@ -10,13 +10,22 @@
  * @property {(number | undefined)[]} waits for each agent, the entry of its last wait
  */
 
-/** What a call takes, answers or finds: a string of digits is a BigInt. @param {unknown} value */
+/**
+ * What a call takes, answers or finds: a string of digits is a BigInt.
+ * @param {unknown} value
+ */
 export const valueText = (value) => (typeof value === "string" && /^-?\d+$/.test(value) ? `${value}n` : `${value}`);
 
-/** A call as JavaScript writes it. @param {(string | number)[]} does */
+/**
+ * A call as JavaScript writes it.
+ * @param {(string | number)[]} does
+ */
 export const callText = ([name, view, ...others]) => `${name}(${[view, ...others.map(valueText)].join(", ")})`;
 
-/** The element that a call names. @param {(string | number)[]} does */
+/**
+ * The element that a call names.
+ * @param {(string | number)[]} does
+ */
 export const elementText = ([, view, index]) => `${view}[${index}]`;
 
 /** @param {number} count @param {string} one @param {string} several */

@@ -29,10 +29,16 @@ function swapped(turns, first, chosen) {
   return { turns: spliced(turns, first, 2, other, one), at: chosen === first ? first + 1 : first };
 }
 
-/** Moves a turn before the one that comes before it. @type {Edit} */
+/**
+ * Moves a turn before the one that comes before it.
+ * @type {Edit}
+ */
 export const earlier = ({ turns }, at) => swapped(turns, at - 1, at);
 
-/** Moves a turn behind the one that comes behind it. @type {Edit} */
+/**
+ * Moves a turn behind the one that comes behind it.
+ * @type {Edit}
+ */
 export const later = ({ turns }, at) => swapped(turns, at, at);
 
 /**

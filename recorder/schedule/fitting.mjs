@@ -96,7 +96,10 @@ export function isWhole(script, { turns, moves, starts, report }) {
   return JSON.stringify(laidOut(script, turns, (turn) => outcomes[turn]).moves) === JSON.stringify(moves);
 }
 
-/** The calls that join the line of waiters. @param {Report} report */
+/**
+ * The calls that join the line of waiters.
+ * @param {Report} report
+ */
 const joinsOf = ({ entries }) =>
   new Set(entries.filter(({ what }) => what === "wait").map(({ agent, call }) => callKey(agent, call)));
 

@@ -27,7 +27,10 @@ export const SIZES = Object.freeze(CONSTRUCTORS.map((constructor) => constructor
  * @property {boolean} takesLimit whether a Number may follow: the timeout of a wait, the count of a notify
  */
 
-/** The calls that a script can have. A call's position here is its number in a record. @type {readonly Taken[]} */
+/**
+ * The calls that a script can have. A call's position here is its number in a record.
+ * @type {readonly Taken[]}
+ */
 export const CALLS = Object.freeze([
   { name: "load", operands: 0, takesLimit: false },
   { name: "store", operands: 1, takesLimit: false },

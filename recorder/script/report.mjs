@@ -40,11 +40,7 @@ function wordsOf(call) {
     : ["begin", `act ${answer}`, `return ${answer}`];
 }
 
-/**
- * What each move did.
- * @param {import("./text.mjs").Transcript} transcript
- * @returns {Entry[]}
- */
+/** @param {import("./text.mjs").Transcript} transcript @returns {Entry[]} what each move did */
 function entriesOf(transcript) {
   const at = transcript.calls.map((calls) => ({ call: 0, words: calls.length > 0 ? wordsOf(calls[0]) : [] }));
   return transcript.moves.map(({ agent }) => {

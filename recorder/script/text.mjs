@@ -42,7 +42,10 @@ function agentText(calls, canBlock) {
   return `{"block": ${canBlock}, "calls": [\n      ${calls.map((call) => call.text).join(",\n      ")}\n    ]}`;
 }
 
-/** The moves of a schedule, laid out over lines. @param {Move[]} moves */
+/**
+ * The moves of a schedule, laid out over lines.
+ * @param {Move[]} moves
+ */
 export function scheduleText(moves) {
   const texts = moves.map((move) => (move.timeUp ? `{"timeout": ${move.agent}}` : String(move.agent)));
   const lines = [];
@@ -57,11 +60,7 @@ function listText(items) {
   return items.length === 0 ? "[]" : `[\n    ${items.join(",\n    ")}\n  ]`;
 }
 
-/**
- * The script of what was done.
- * @param {Transcript} transcript
- * @returns {string}
- */
+/** @param {Transcript} transcript @returns {string} the script of what was done */
 export function scriptText(transcript) {
   const views = transcript.views.map(viewText);
   const agents = transcript.calls.map((calls, agent) => agentText(calls, transcript.canBlock[agent]));

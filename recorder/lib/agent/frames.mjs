@@ -68,7 +68,10 @@ function isAgents(file) {
   return found;
 }
 
-/** The innermost of some frames that is of the agents' code. @param {NodeJS.CallSite[]} frames */
+/**
+ * The innermost of some frames that is of the agents' code.
+ * @param {NodeJS.CallSite[]} frames
+ */
 function firstOfAgents(frames) {
   for (let at = 0; at < frames.length; at += 1) {
     if (isAgents(frames[at].getFileName())) return frames[at];

@@ -52,27 +52,32 @@ const SHOWN = Object.freeze({ depth: 0, customInspect: false, compact: true, bre
 const REJECTED = "{ <rejected> ";
 const HOOKS = ", [Symbol(async_id_symbol)]";
 
-/** Where the reason ends in what node shows of a promise: before what its hooks have put there. @param {string} text */
+/**
+ * Where the reason ends in what node shows of a promise: before what its hooks have put there.
+ * @param {string} text
+ */
 function endOf(text) {
   const found = indexOf(text, HOOKS);
   return found < 0 ? text.length - 2 : found;
 }
 
-/** Whether a tick throws what a listener of an EventTarget has thrown. */
-function isListenersTick() {
+/**
+ * @param {(frame: NodeJS.CallSite) => boolean} test
+ * @returns {NodeJS.CallSite | undefined} the innermost frame of the code that runs now for which it holds
+ */
+function frameThat(test) {
   const frames = framesHere();
   for (let at = 0; at < frames.length; at += 1) {
-    if (frames[at].getFileName() !== LISTENERS.file) continue;
-    return frames[at].getFunctionName() === LISTENERS.throwing;
+    if (test(frames[at])) return frames[at];
   }
-  return false;
+  return undefined;
 }
 
-/**
- * What a function throws.
- * @param {Function} act
- * @returns {{ thrown?: unknown }}
- */
+/** @returns {boolean} whether a tick throws what a listener of an EventTarget has thrown */
+const isListenersTick = () =>
+  frameThat((frame) => frame.getFileName() === LISTENERS.file)?.getFunctionName() === LISTENERS.throwing;
+
+/** @param {Function} act @returns {{ thrown?: unknown }} what a function throws */
 function thrownBy(act) {
   try {
     act();
@@ -85,7 +90,7 @@ function thrownBy(act) {
 /** @param {string} type of node's resources @returns {string | undefined} what goes on later, in words */
 function wordFor(type) {
   if (type === "TickObject" && isHarmlessTick()) return undefined;
-  if (type === ZLIB.type) return isMadeForZlib() ? undefined : "a stream of zlib";
+  if (type === ZLIB.type) return frameThat(isZlibAtOnce) === undefined ? "a stream of zlib" : undefined;
   const word = WORDS[type];
   if (word !== undefined) return word;
   for (let at = 0; at < CALLBACKS.length; at += 1) {
@@ -94,20 +99,11 @@ function wordFor(type) {
   return undefined;
 }
 
-/** Whether a frame is of what zlib does at once. @param {NodeJS.CallSite} frame */
+/** @param {NodeJS.CallSite} frame @returns {boolean} whether a frame is of what zlib does at once */
 function isZlibAtOnce(frame) {
   if (frame.getFileName() !== ZLIB.file) return false;
   const name = frame.getFunctionName();
   return name === ZLIB.atOnce || name === ZLIB.making;
-}
-
-/** Whether a stream of zlib is made by zlib itself, for what it does at once. */
-function isMadeForZlib() {
-  const frames = framesHere();
-  for (let at = 0; at < frames.length; at += 1) {
-    if (isZlibAtOnce(frames[at])) return true;
-  }
-  return false;
 }
 
 /** Whether `process.nextTick` is called by one of node's own files that do no harm there. */

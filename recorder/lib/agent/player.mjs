@@ -44,7 +44,10 @@ export class Player {
     return this.part.isPlaying;
   }
 
-  /** Waits until there is something to begin. @returns {number} one of the board's `ORDER` */
+  /**
+   * Waits until there is something to begin.
+   * @returns {number} one of the board's `ORDER`
+   */
   awaitOrder() {
     const { board } = this.table;
     this.started = board.turn.awaitStart(this.agent, this.started);
@@ -303,7 +306,10 @@ export class Player {
     else board.end.end("failed", `agent ${this.agent} ${why}`);
   }
 
-  /** Ends the run where the script could not have the call. @param {Call} call */
+  /**
+   * Ends the run where the script could not have the call.
+   * @param {Call} call
+   */
   #stayWithin(call) {
     const { calls, views, text } = SCRIPT_LIMITS;
     const { board, lengths } = this.table;

@@ -17,7 +17,10 @@ const textOf = uncurried(EngineDate.prototype.toString);
 /** The date at which each run begins: the first moment of the year 2000, UTC. */
 const EPOCH = 946_684_800_000;
 
-/** Lets this realm's clocks tell a run's time. @param {() => number} now in milliseconds from the run's beginning */
+/**
+ * Lets this realm's clocks tell a run's time.
+ * @param {() => number} now in milliseconds from the run's beginning
+ */
 export function simulateTime(now) {
   const today = () => floor(EPOCH + now());
   /** @type {typeof Date} */
@@ -75,13 +78,19 @@ export class Chance {
     return (high * 2 ** 26 + low) / 2 ** 53;
   }
 
-  /** Fills bytes. @param {Uint8Array} bytes */
+  /**
+   * Fills bytes.
+   * @param {Uint8Array} bytes
+   */
   fill(bytes) {
     for (let at = 0; at < bytes.length; at += 1) bytes[at] = this.random.next() >>> 24;
   }
 }
 
-/** Lets this realm's random numbers be those of a row. @param {Chance} chance */
+/**
+ * Lets this realm's random numbers be those of a row.
+ * @param {Chance} chance
+ */
 export function simulateChance(chance) {
   put(Math, "random", likeEngine(() => chance.fraction(), Math.random));
   const { webcrypto } = crypto;
@@ -100,7 +109,10 @@ export function simulateChance(chance) {
   simulateNodeChance(chance);
 }
 
-/** Those of node's module alone. @param {Chance} chance */
+/**
+ * Those of node's module alone.
+ * @param {Chance} chance
+ */
 function simulateNodeChance(chance) {
   const { randomBytes, randomInt, randomFillSync } = crypto;
   put(crypto, "randomBytes", likeEngine((/** @type {number} */ size, /** @type {unknown} */ done) => {
@@ -132,7 +144,10 @@ function simulateNodeChance(chance) {
   put(crypto, "randomInt", likeEngine(randomIntOf, randomInt));
 }
 
-/** A version 4 UUID. @param {Chance} chance */
+/**
+ * A version 4 UUID.
+ * @param {Chance} chance
+ */
 function uuidOf(chance) {
   const bytes = bytesFrom(16);
   chance.fill(bytes);

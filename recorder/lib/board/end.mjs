@@ -46,7 +46,10 @@ export class End {
     return load(this.words, WORD.ENDED) === ASKED;
   }
 
-  /** Waits until the run has ended. @param {number} milliseconds at most */
+  /**
+   * Waits until the run has ended.
+   * @param {number} milliseconds at most
+   */
   await(milliseconds) {
     const found = load(this.words, WORD.ENDED);
     if (found !== ENDED) wait(this.words, WORD.ENDED, found, milliseconds);
@@ -86,7 +89,10 @@ export class End {
     notify(this.words, WORD.ENDED);
   }
 
-  /** How the run ended. What a deadlock is made of is in the log alone. @returns {{ ending: Ended, detail: string }} */
+  /**
+   * How the run ended. What a deadlock is made of is in the log alone.
+   * @returns {{ ending: Ended, detail: string }}
+   */
   told() {
     const detail = this.text.toString("utf8", 0, this.words[WORD.TEXT_LENGTH]);
     return { ending: ENDINGS[this.words[WORD.ENDING]], detail };

@@ -66,7 +66,10 @@ export class Journal {
     return this.words[WORD.MOVES];
   }
 
-  /** How many of an agent's calls returned, and how many began. @param {number} agent */
+  /**
+   * How many of an agent's calls returned, and how many began.
+   * @param {number} agent
+   */
   progress(agent) {
     const { words } = this;
     return { returned: words[wordOf(agent, AGENT_WORD.RETURNED)], calls: words[wordOf(agent, AGENT_WORD.CALLS)] };
@@ -93,7 +96,10 @@ export class Journal {
     return true;
   }
 
-  /** Finds room for a call in the text of the script. @param {number} bytes that it takes at most, with its moves */
+  /**
+   * Finds room for a call in the text of the script.
+   * @param {number} bytes that it takes at most, with its moves
+   */
   takesText(bytes) {
     if (this.words[WORD.ROOM] < bytes) return false;
     this.words[WORD.ROOM] -= bytes;

@@ -111,7 +111,10 @@ export class Row {
 
   // The referee's part.
 
-  /** A run begins. No agent may be busy. @param {RowWanted} wanted */
+  /**
+   * A run begins. No agent may be busy.
+   * @param {RowWanted} wanted
+   */
   begin({ row, isExact = false, calls, tellsRow = false }) {
     const { state } = this;
     state.fill(0);
@@ -150,7 +153,10 @@ export class Row {
     return this.state[HOW] === EXACT ? this.#exactNext() : this.#lenientNext();
   }
 
-  /** Takes note of a draw. @param {number} agent that moves next */
+  /**
+   * Takes note of a draw.
+   * @param {number} agent that moves next
+   */
   note(agent) {
     const { state } = this;
     if (state[HOW] === FREE && state[TELLS] === 0) return;

@@ -63,7 +63,10 @@ export class Turn {
     else this.wake(agent);
   }
 
-  /** An agent gets the turn to begin what it was ordered. @param {number} agent */
+  /**
+   * An agent gets the turn to begin what it was ordered.
+   * @param {number} agent
+   */
   start(agent) {
     const { words } = this;
     compareExchange(words, wordOf(agent, AGENT_WORD.STATUS), STATUS.IDLE, STATUS.BUSY);

@@ -216,11 +216,7 @@ export class Log {
     return this.events.slice(0, this.length * EACH);
   }
 
-  /**
-   * A log of events that were taken from one.
-   * @param {Int32Array} events
-   * @returns {Log}
-   */
+  /** @param {Int32Array} events @returns {Log} a log of events that were taken from one */
   static from(events) {
     // A message may bring them amid other memory.
     return new Log(events.slice().buffer, Int32Array.of(events.length / EACH), 0);

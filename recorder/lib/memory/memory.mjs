@@ -47,7 +47,7 @@ export class Memory {
     return !areEqual(this.real[block], this.known[block]);
   }
 
-  /** The first byte that isn't as it is known. @returns {Change | undefined} */
+  /** @returns {Change | undefined} the first byte that isn't as it is known */
   changed() {
     for (let block = 0; block < this.real.length; block += 1) {
       if (!this.hasChanged(block)) continue;

@@ -30,7 +30,10 @@ export class Random {
     this.words = words;
   }
 
-  /** Starts the row of a seed. @param {number} seed a whole number from 0 to 2^53 - 1 */
+  /**
+   * Starts the row of a seed.
+   * @param {number} seed a whole number from 0 to 2^53 - 1
+   */
   seed(seed) {
     const low = splitmix32(seed % WORD);
     const high = splitmix32(floor(seed / WORD));
@@ -40,7 +43,10 @@ export class Random {
     if ((words[0] | words[1] | words[2] | words[3]) === 0) words[0] = 1;
   }
 
-  /** Goes over to a row that belongs to the seed's, and is another one for each number. @param {number} number */
+  /**
+   * Goes over to a row that belongs to the seed's, and is another one for each number.
+   * @param {number} number
+   */
   branch(number) {
     const mixed = splitmix32(number + 1);
     for (let at = 0; at < this.words.length; at += 1) this.words[at] ^= mixed();

@@ -39,7 +39,10 @@ export class Sources {
     this.#takeOver(bufferFrom(memory, 4, this.used[0]));
   }
 
-  /** Takes over what a worker before this one has written down. @param {Buffer} written */
+  /**
+   * Takes over what a worker before this one has written down.
+   * @param {Buffer} written
+   */
   #takeOver(written) {
     const text = decode(written, "utf8");
     for (let at = 0; at < text.length;) {

@@ -14,7 +14,10 @@ const TIME_UP_MOVE = 20;
 
 const { floor } = Math;
 
-/** A number that no other view has. @param {Range} view */
+/**
+ * A number that no other view has.
+ * @param {Range} view
+ */
 export function viewKey({ kind, block, offset, length }) {
   const places = SCRIPT_LIMITS.bytes + 1;
   return ((kind * SCRIPT_LIMITS.blocks + block) * places + offset) * places + length;

@@ -153,7 +153,10 @@ export class Names {
 /** What names nothing. */
 export const NO_NAMES = new Names([]);
 
-/** How texts call an element that has a name. @param {Named} named */
+/**
+ * How texts call an element that has a name.
+ * @param {Named} named
+ */
 export const nameText = ({ view, index }) => (view.isWord ? view.name : `${view.name}[${index}]`);
 
 /** @param {number} kind @param {number} block */

@@ -1,6 +1,9 @@
 // Which known name somebody meant who has written one that isn't known.
 
-/** A name without what is easily mistaken: its capitals, and what stands between its words. @param {string} name */
+/**
+ * A name without what is easily mistaken: its capitals, and what stands between its words.
+ * @param {string} name
+ */
 const plainOf = (name) => name.toLowerCase().replaceAll(/[^a-z0-9]/g, "");
 
 /**

@@ -26,7 +26,10 @@ import { ownCalls } from "./transcript.mjs";
  * @property {[Side, Side]} sides the one that was made first before the other
  */
 
-/** What an access's flags say. @param {number} flags */
+/**
+ * What an access's flags say.
+ * @param {number} flags
+ */
 function accessOf(flags) {
   if ((flags & FLAG.READS) && (flags & FLAG.WRITES)) return "read and write";
   return flags & FLAG.WRITES ? "write" : "read";

@@ -45,11 +45,7 @@ function touchedBytes(log, lengths) {
   return touched;
 }
 
-/**
- * Whether a call touches a byte of a store.
- * @param {Uint8Array[]} touched
- * @param {Store} store
- */
+/** @param {Uint8Array[]} touched @param {Store} store @returns {boolean} whether a call touches a byte of a store */
 function isTouched(touched, store) {
   const marks = touched[store.block];
   for (let byte = store.byte; byte < endOf(store); byte += 1) {

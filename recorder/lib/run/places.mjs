@@ -23,7 +23,10 @@ export function elementName({ kind, block, offset, length }, byte, lengths, name
   return `${viewName(lengths, { kind, block, offset, length })}[${index}]`;
 }
 
-/** What an access does, in words. @param {LogEvent} event */
+/**
+ * What an access does, in words.
+ * @param {LogEvent} event
+ */
 export function deedOf({ flags, method }) {
   if (method !== NO_CALL) return CALLS[method].name;
   return flags & FLAG.WRITES ? "writes" : "reads";

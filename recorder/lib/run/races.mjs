@@ -284,12 +284,7 @@ function areAlike(log) {
   return true;
 }
 
-/**
- * Whether any two accesses of a run race.
- * @param {Log} log
- * @param {number} agents how many
- * @returns {boolean}
- */
+/** @param {Log} log @param {number} agents how many @returns {boolean} whether any two accesses of a run race */
 export function isRacy(log, agents) {
   if (areAlike(log)) return false;
   let found = false;

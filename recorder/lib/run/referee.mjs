@@ -67,11 +67,7 @@ class Referee {
     await maker.replace(maker.agents);
   }
 
-  /**
-   * The outcome of a seed.
-   * @param {Wanted} wanted
-   * @returns {Promise<One>}
-   */
+  /** @param {Wanted} wanted @returns {Promise<One>} the outcome of a seed */
   async #one(wanted) {
     const { maker, maker: { log }, teller, meetings } = this;
     let hasSources = this.tellsNext;
@@ -144,11 +140,7 @@ class Referee {
     await this.maker.replace(this.options.fresh ? this.maker.agents : gone);
   }
 
-  /**
-   * Whether a run's trace is made.
-   * @param {Wanted} wanted
-   * @param {Outcome} outcome
-   */
+  /** @param {Wanted} wanted @param {Outcome} outcome @returns {boolean} whether a run's trace is made */
   #isTraceWanted({ isTrial = false, tellsTrace = false }, { fails }) {
     if (isTrial) return false;
     const isFirst = fails && !this.isTraced;

@@ -97,11 +97,7 @@ export class RunMaker {
     return { ending: told.ending, detail, bytes, gone, racy, initial, waiting, stray };
   }
 
-  /**
-   * How a run ends, with what is known when its agents are home.
-   * @param {Made} found
-   * @returns {Promise<Made>}
-   */
+  /** @param {Made} found @returns {Promise<Made>} how a run ends, with what is known when its agents are home */
   async judged(found) {
     const { check, races } = this.options;
     if (found.ending !== "finished") return found;
@@ -142,7 +138,10 @@ export class RunMaker {
     return !isSilent && !isHidden;
   }
 
-  /** Has workers started anew, and waits until they are there. @param {number[]} gone */
+  /**
+   * Has workers started anew, and waits until they are there.
+   * @param {number[]} gone
+   */
   async replace(gone) {
     if (gone.length > 0) await this.#answered({ replace: gone });
   }
@@ -157,7 +156,10 @@ export class RunMaker {
     return this.agents.reduce((sum, agent) => sum + this.board.journal.ordinary(agent), 0);
   }
 
-  /** Leaves nothing of an earlier run. @param {Wanted} wanted */
+  /**
+   * Leaves nothing of an earlier run.
+   * @param {Wanted} wanted
+   */
   #clear(wanted) {
     this.memory.reset();
     this.board.row.begin(wanted);
@@ -187,11 +189,7 @@ export class RunMaker {
     return this.agents.filter((agent) => !this.board.turn.isBack(agent, GRACE_MILLISECONDS));
   }
 
-  /**
-   * What another thread answers to a message.
-   * @param {object} message
-   * @returns {Promise<any>}
-   */
+  /** @param {object} message @returns {Promise<any>} what another thread answers to a message */
   #answered(message) {
     return new Promise((done) => {
       this.port.once("message", done);

@@ -32,12 +32,7 @@ export class RunTeller {
     this.seesAll = options.ordinary === "watch" && !preloads();
   }
 
-  /**
-   * What is told of each run.
-   * @param {import("./group.mjs").Wanted} wanted
-   * @param {Made} found
-   * @returns {Outcome}
-   */
+  /** @param {import("./group.mjs").Wanted} wanted @param {Made} found @returns {Outcome} what is told of each run */
   brief({ seed }, found) {
     const { maker, options } = this;
     const { ending, detail } = found;
@@ -80,7 +75,10 @@ export class RunTeller {
     outcome.report = reportText(transcript, bytes);
   }
 
-  /** The unordered accesses. @param {boolean} tellsSources */
+  /**
+   * The unordered accesses.
+   * @param {boolean} tellsSources
+   */
   races(tellsSources) {
     const { run, sources, sourceNames } = this;
     const lists = tellsSources ? sources.map((each) => each.list()) : [];
@@ -117,7 +115,10 @@ export class RunTeller {
   }
 }
 
-/** The bytes at the end: their hash, with the ending's, and their beginnings. @param {Made} found */
+/**
+ * The bytes at the end: their hash, with the ending's, and their beginnings.
+ * @param {Made} found
+ */
 function stateOf({ ending, bytes }) {
   const hash = createHash("sha256").update(`${ending} ${bytes.join(" ")}`).digest("base64");
   const shown = bytes.map((hex) => (hex.length > SHOWN_DIGITS ? `${hex.slice(0, SHOWN_DIGITS)}…` : hex));

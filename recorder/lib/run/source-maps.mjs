@@ -20,7 +20,10 @@ import { SourceMap } from "node:module";
 // The last of them counts.
 const MENTION = /\/[/*][#@]\s*sourceMappingURL=([^\s*]+)/g;
 
-/** The text that a `data:` URL has. @param {string} url */
+/**
+ * The text that a `data:` URL has.
+ * @param {string} url
+ */
 function textOfData(url) {
   const comma = url.indexOf(",");
   const rest = url.slice(comma + 1);

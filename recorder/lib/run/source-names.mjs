@@ -34,7 +34,10 @@ export class SourceNames {
     return name;
   }
 
-  /** A text in which places of the code are named so. @param {string} text */
+  /**
+   * A text in which places of the code are named so.
+   * @param {string} text
+   */
   withNames(text) {
     return text.replace(/(?:file:\/\/)?\/[^\s:]+:\d+:\d+/g, (source) => this.nameOf(source));
   }

@@ -17,7 +17,10 @@ function findingOf(detail) {
   return `${first.replaceAll(NUMBERS, "0")}${place}`;
 }
 
-/** Which agents wait where. @param {Aside} aside */
+/**
+ * Which agents wait where.
+ * @param {Aside} aside
+ */
 const waitersOf = ({ waiting }) => waiting.map(({ agent, block, byte }) => `${agent} ${block} ${byte}`).sort().join();
 
 /** @param {string[]} lines */

@@ -50,11 +50,7 @@ const NOT_AGAIN = "it couldn't be made again in the same way: its agents do some
 
 /** @typedef {{ row: number[], changes: number, calls: number }} Measured */
 
-/**
- * How long a run is.
- * @param {Outcome} outcome whose row is told
- * @returns {Measured}
- */
+/** @param {Outcome} outcome whose row is told @returns {Measured} how long a run is */
 const measured = ({ row = [], calls }) => ({ row, changes: changesOf(row), calls });
 
 /** @param {Measured} one @param {Measured} other */

@@ -48,7 +48,10 @@ function madeOf(kind, first, second, third, target) {
   return construct(ENGINE[kind], [source.real], target);
 }
 
-/** The constructor that agents get in place of an engine's one. @param {number} kind */
+/**
+ * The constructor that agents get in place of an engine's one.
+ * @param {number} kind
+ */
 function standInOf(kind) {
   const Engine = ENGINE[kind];
   const { name } = Engine;
@@ -175,7 +178,10 @@ function replaceAll(methods) {
   }
 }
 
-/** What this engine has besides isn't known here. `toString` asks the array's own `join`. @param {object} owner */
+/**
+ * What this engine has besides isn't known here. `toString` asks the array's own `join`.
+ * @param {object} owner
+ */
 function refuseOthers(owner) {
   const names = ownKeys(owner);
   for (let at = 0; at < names.length; at += 1) {

@@ -28,11 +28,7 @@ const WORDS = ["ascii", "base64", "base64url", "latin1", "hex", "ucs2", "utf8"];
 /** @param {unknown} value */
 const whole = (value) => (value === undefined ? 0 : wholeOf(value));
 
-/**
- * A private Buffer of as many bytes, each zero.
- * @param {number} count
- * @returns {Buffer}
- */
+/** @param {number} count @returns {Buffer} a private Buffer of as many bytes, each zero */
 const zeros = (count) => apply(alloc, EngineBuffer, [count]);
 
 /**
@@ -134,7 +130,10 @@ function filled(engine, watched, given, self) {
   return self;
 }
 
-/** An array as long as another one, to try in it what a method would do. @param {unknown} value */
+/**
+ * An array as long as another one, to try in it what a method would do.
+ * @param {unknown} value
+ */
 const likeness = (value) => {
   const watched = watchedOf(value);
   if (watched === undefined) return tagOf(value) === "Uint8Array" ? new EngineBytes(lengthOf(value)) : value;
@@ -229,7 +228,10 @@ function replaceStatics(module) {
   setPrototypeOf(EngineBuffer, standIns[KINDS.indexOf("Uint8")]);
 }
 
-/** Patches node's Buffer. @param {typeof import("node:buffer").default} module */
+/**
+ * Patches node's Buffer.
+ * @param {typeof import("node:buffer").default} module
+ */
 export function watchNodeBuffer(module) {
   replaceMethods();
   replaceStatics(module);

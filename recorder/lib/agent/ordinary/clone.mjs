@@ -48,7 +48,10 @@ function watchMessages(threads) {
   put(threads, "Worker", constructing(threads.Worker, refusingGiven("a Worker")));
 }
 
-/** Patches what clones values. @param {typeof import("node:worker_threads").default} threads */
+/**
+ * Patches what clones values.
+ * @param {typeof import("node:worker_threads").default} threads
+ */
 export function watchCloning(threads) {
   watchClones();
   watchMessages(threads);

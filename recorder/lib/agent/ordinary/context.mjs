@@ -40,7 +40,10 @@ export function learn(buffer, recorded) {
   weakSet(others, buffer, originalOf(recorded));
 }
 
-/** The recorded buffer whose memory a buffer has, or itself. @param {object} buffer */
+/**
+ * The recorded buffer whose memory a buffer has, or itself.
+ * @param {object} buffer
+ */
 export const originalOf = (buffer) => weakGet(others, buffer) ?? buffer;
 
 /**

@@ -120,7 +120,10 @@ export function wrapped(real, block) {
   return standIn;
 }
 
-/** What agents get for an array, whatever its buffer is. @param {object} real */
+/**
+ * What agents get for an array, whatever its buffer is.
+ * @param {object} real
+ */
 export const wrappedArray = (real) => wrapped(real, blockNumber(bufferOf(real)));
 
 /**

@@ -43,7 +43,10 @@ export const copying = (engine) => methodOf((self, given) => apply(engine, self,
 /** @type {Standing} likewise of what is given itself, where that may be any object */
 export const copyingGiven = (engine) => methodOf((self, given) => apply(engine, self, madePrivate(given, 0)));
 
-/** What a function writes: the engine's own array, told as written. A list has several. @param {unknown} value */
+/**
+ * What a function writes: the engine's own array, told as written. A list has several.
+ * @param {unknown} value
+ */
 function writable(value) {
   const watched = anyWatchedOf(value);
   if (watched === undefined) return value;

@@ -32,7 +32,7 @@ const includes = uncurried(String.prototype.includes);
 /** Node's options where nobody gives others. */
 const { get: defaults } = /** @type {{ get: Function }} */ (getOwnPropertyDescriptor(util.inspect, "defaultOptions"));
 
-/** Whether options leave no way of a value's own, or look into proxies. @param {any} options */
+/** @param {any} options @returns {boolean} whether options leave no way of a value's own, or look into proxies */
 const isPlain = (options) =>
   typeof options === "object" && options !== null && (options.customInspect === false || !!options.showProxy);
 

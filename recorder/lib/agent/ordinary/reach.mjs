@@ -26,10 +26,10 @@ export const WHOLLY = Infinity;
 /** @param {unknown} value @returns {value is object} */
 const isObject = (value) => (typeof value === "object" && value !== null) || typeof value === "function";
 
-/** Whether a value is itself recorded memory. @param {unknown} value */
+/** @param {unknown} value @returns {boolean} whether a value is itself recorded memory */
 export const isRecorded = (value) => anyWatchedOf(value) !== undefined || blockNumber(value) >= 0;
 
-/** Whether a value has nothing in it that a function would look at. @param {unknown} value */
+/** @param {unknown} value @returns {boolean} whether a value has nothing in it that a function would look at */
 const isLeaf = (value) => !isObject(value) || tagOf(value) !== undefined || isView(value);
 
 /**
@@ -105,7 +105,10 @@ function bytesOf(buffer, offset, length) {
   return copy;
 }
 
-/** A private copy of a recorded buffer. It tells that all of it is read. @param {object} buffer */
+/**
+ * A private copy of a recorded buffer. It tells that all of it is read.
+ * @param {object} buffer
+ */
 export function privateBuffer(buffer) {
   tellBuffer(buffer, blockNumber(buffer));
   return bytesOf(buffer, 0, sharedLengthOf(buffer));

@@ -12,7 +12,10 @@ const EngineBytes = Uint8Array;
 const { species } = Symbol;
 const setElements = uncurried(EngineBytes.prototype.set);
 
-/** The constructor of what `slice` answers. @param {any} buffer as agents may have changed it */
+/**
+ * The constructor of what `slice` answers.
+ * @param {any} buffer as agents may have changed it
+ */
 function speciesOf(buffer) {
   const { constructor } = buffer;
   if (constructor === undefined) return EngineShared;

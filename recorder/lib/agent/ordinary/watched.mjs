@@ -29,7 +29,7 @@ const EngineView = DataView;
 /** What is known of an array, by what stands for it in the agents' code. */
 const arrays = new WeakMap();
 
-/** Answers the object itself, so that what is made of it is that object with a field more. */
+/** A constructor that returns its argument, so that a subclass can add a private field to an existing object. */
 const Same = /** @type {{ new (object: object): object }} */ (/** @type {unknown} */ (
   /** @param {object} object */
   function (object) {
@@ -153,7 +153,10 @@ export function anyWatchedOf(value) {
   return watchedView(value);
 }
 
-/** The engine's array behind a watched one, or the value itself. @param {any} value */
+/**
+ * The engine's array behind a watched one, or the value itself.
+ * @param {any} value
+ */
 export function unwrapped(value) {
   const watched = anyWatchedOf(value);
   return watched === undefined ? value : watched.real;

@@ -1,5 +1,5 @@
-// What agents ask for, before it is done: which bytes a call will touch, and how. So whoever draws knows which calls
-// get in each other's way, and which are nobody else's affair.
+// What agents ask for, before it is done: which bytes a call will touch, and how. So a strategy can tell which calls
+// conflict and which are private.
 
 import { AGENT_WORD, PHASE, wordOf } from "../../memory/layout.mjs";
 import { FLAG } from "../../memory/log.mjs";
