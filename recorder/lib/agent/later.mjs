@@ -204,12 +204,12 @@ export class Later {
 
   /** Lets node load what it loads late, without a note of it. */
   #leaveLoading() {
-    for (let at = 0; at < LOADED_LATE.length; at += 1) {
-      const found = getOwnPropertyDescriptor(globalThis, LOADED_LATE[at]);
+    for (const name of LOADED_LATE) {
+      const found = getOwnPropertyDescriptor(globalThis, name);
       if (found?.get === undefined) continue;
       const { get } = found;
       found.get = () => this.#unwatched(() => apply(get, globalThis, []));
-      defineProperty(globalThis, LOADED_LATE[at], found);
+      defineProperty(globalThis, name, found);
     }
   }
 

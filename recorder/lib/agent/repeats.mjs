@@ -1,7 +1,10 @@
 // Which ordinary accesses an agent has made since its last call, so that the same one is noted once, and a spin is
 // found. Nobody else moves between two calls of an agent: what it repeats there tells nothing new.
 
+import { uncurried } from "../primordials.mjs";
+
 const { Int32Array } = globalThis;
+const fill = uncurried(Int32Array.prototype.fill);
 
 // So often is one access repeated before it is a spin: nothing that it reads can change meanwhile.
 const SPIN = 1_000_000;
@@ -33,10 +36,8 @@ export class Repeats {
   begin() {
     if (this.epoch > MOST_EPOCHS / 2) {
       for (let block = 0; block < this.reads.length; block += 1) {
-        for (let byte = 0; byte < this.reads[block].length; byte += 1) {
-          this.reads[block][byte] = 0;
-          this.writes[block][byte] = 0;
-        }
+        fill(this.reads[block], 0);
+        fill(this.writes[block], 0);
       }
       this.epoch = 0;
     }

@@ -110,13 +110,13 @@ export class Board {
       turn.start(first);
       return false;
     }
-    if (!strategy.hasMoves() && this.#somebodyCan()) {
+    if (!strategy.hasMoves() && this.#anyAgent((each) => line.canMove(each))) {
       end.end("bound", `more than ${rules.maxMoves} moves would be made`);
       return false;
     }
     const next = strategy.next();
     if (next === STRAYS) end.end("failed", "");
-    else if (next === NOBODY_MOVES) end.end(this.#somebodyWaits(line) ? "deadlock" : "finished", "");
+    else if (next === NOBODY_MOVES) end.end(this.#anyAgent((each) => line.waits(each)) ? "deadlock" : "finished", "");
     else if (next !== agent) turn.give(next);
     return next === agent;
   }
@@ -151,18 +151,10 @@ export class Board {
     store(words, WORD.RUN, (load(words, WORD.RUN) + 1) | 0);
   }
 
-  #somebodyCan() {
+  /** @param {(agent: number) => boolean} holds @returns {boolean} whether it holds of any agent */
+  #anyAgent(holds) {
     for (let agent = 0; agent < this.rules.agents; agent += 1) {
-      const phase = this.line.phase(agent);
-      if (phase !== PHASE.WAITS && phase !== PHASE.FINISHED && phase !== PHASE.RUNS) return true;
-    }
-    return false;
-  }
-
-  /** @param {Line} line */
-  #somebodyWaits(line) {
-    for (let agent = 0; agent < this.rules.agents; agent += 1) {
-      if (line.waits(agent)) return true;
+      if (holds(agent)) return true;
     }
     return false;
   }

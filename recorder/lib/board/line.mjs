@@ -72,6 +72,12 @@ export class Line {
     }));
   }
 
+  /** @param {number} agent @returns {boolean} whether there is a move for it: also the end of a wait's time */
+  canMove(agent) {
+    const phase = this.phase(agent);
+    return phase === PHASE.ASKS || phase === PHASE.WOKEN || phase === PHASE.WAITS_TIMED;
+  }
+
   /** @param {number} agent */
   waits(agent) {
     const phase = this.words[wordOf(agent, AGENT_WORD.PHASE)];

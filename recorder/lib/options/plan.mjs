@@ -2,7 +2,7 @@
 // leave something open from the export `setup` of the agents' module.
 
 import { SCRIPT_LIMITS } from "../../script/limits.mjs";
-import { checkedNames } from "./names.mjs";
+import { checkedNames, isWithin } from "./names.mjs";
 import { meant, slipOf } from "./nearest.mjs";
 import { Refused } from "./refused.mjs";
 
@@ -19,11 +19,6 @@ const EXPORTS = ["setup", "init", "check"];
  * @property {boolean[]} canBlock of each agent
  * @property {import("./names.mjs").Name[]} names of words and of whole arrays
  */
-
-/** @type {(value: unknown, least: number, most: number) => value is number} */
-const isWithin = (value, least, most) => {
-  return typeof value === "number" && Number.isInteger(value) && value >= least && value <= most;
-};
 
 /** @param {unknown} agents @returns {number} */
 export function checkedAgents(agents) {

@@ -65,9 +65,7 @@ function standInOf(kind) {
   };
   likeEngine(StandIn, Engine);
   setPrototypeOf(StandIn, TypedArray);
-  const keys = ownKeys(Engine);
-  for (let at = 0; at < keys.length; at += 1) {
-    const key = keys[at];
+  for (const key of ownKeys(Engine)) {
     if (key !== "name" && key !== "length") copyProperty(StandIn, Engine, key);
   }
   return StandIn;
@@ -171,10 +169,8 @@ function replaceGetters() {
 
 /** @param {Record<string, import("./patch.mjs").WatchedMethod>} methods */
 function replaceAll(methods) {
-  const names = Object.keys(methods);
-  for (let at = 0; at < names.length; at += 1) {
-    const name = names[at];
-    replace(typedArrays, name, (engine) => forWatched(engine, methods[name]));
+  for (const [name, method] of Object.entries(methods)) {
+    replace(typedArrays, name, (engine) => forWatched(engine, method));
   }
 }
 
@@ -183,9 +179,7 @@ function replaceAll(methods) {
  * @param {object} owner
  */
 function refuseOthers(owner) {
-  const names = ownKeys(owner);
-  for (let at = 0; at < names.length; at += 1) {
-    const name = names[at];
+  for (const name of ownKeys(owner)) {
     const isKnown = name === "constructor" || name === "toString" || name === "set" || name === iterator
       || hasOwn(READING, name) || hasOwn(ANSWERING, name) || hasOwn(WRITING, name);
     if (isKnown) continue;
@@ -211,9 +205,7 @@ function replaceMethods() {
 /** The typed arrays that this engine has besides the eleven kinds: there is no script for them. */
 function refuseOtherKinds() {
   const realm = /** @type {Record<string, unknown>} */ (globalThis);
-  const names = ownKeys(realm);
-  for (let at = 0; at < names.length; at += 1) {
-    const name = names[at];
+  for (const name of ownKeys(realm)) {
     if (typeof name !== "string" || !/^[A-Z]\w*Array$/.test(name)) continue;
     const Engine = realm[name];
     if (typeof Engine !== "function" || getPrototypeOf(Engine) !== TypedArray || isStandIn(Engine)) continue;

@@ -200,9 +200,9 @@ const copyingTo = (engine) => methodOf((self, given) => {
 const filling = (engine) => forBytes(engine, filled, copying(engine));
 
 function replaceMethods() {
-  for (let at = 0; at < WORDS.length; at += 1) {
-    replace(buffers, `${WORDS[at]}Slice`, (engine) => forBytes(engine, textSlice));
-    replace(buffers, `${WORDS[at]}Write`, (engine) => forBytes(engine, textWrite));
+  for (const word of WORDS) {
+    replace(buffers, `${word}Slice`, (engine) => forBytes(engine, textSlice));
+    replace(buffers, `${word}Write`, (engine) => forBytes(engine, textWrite));
   }
   replace(buffers, "write", (engine) => forBytes(engine, textWrite));
   replace(buffers, "toString", (engine) => forBytes(engine, textOf));
@@ -235,9 +235,7 @@ function replaceStatics(module) {
 export function watchNodeBuffer(module) {
   replaceMethods();
   replaceStatics(module);
-  const Blobs = /** @type {const} */ (["Blob", "File"]);
-  for (let at = 0; at < Blobs.length; at += 1) {
-    const name = Blobs[at];
+  for (const name of /** @type {const} */ (["Blob", "File"])) {
     const Engine = module[name];
     if (typeof Engine !== "function") continue;
     const StandIn = constructing(Engine, madePrivate);

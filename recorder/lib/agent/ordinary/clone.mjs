@@ -39,9 +39,7 @@ function watchClones() {
 function watchMessages(threads) {
   /** @param {string} what */
   const message = (what) => refusing(what, WHOLLY, true);
-  const classes = /** @type {const} */ (["MessagePort", "BroadcastChannel", "Worker"]);
-  for (let at = 0; at < classes.length; at += 1) {
-    const name = classes[at];
+  for (const name of /** @type {const} */ (["MessagePort", "BroadcastChannel", "Worker"])) {
     replaceNeeded(threads[name].prototype, "postMessage", message(`postMessage of a ${name}`));
   }
   replaceNeeded(threads, "setEnvironmentData", message("setEnvironmentData"));

@@ -13,7 +13,6 @@ import { registerView, tell, viewOn, watchedView } from "./watched.mjs";
 const { TypeError: EngineTypeError, RangeError: EngineRangeError } = globalThis;
 const EngineDataView = DataView;
 const { prototype: views } = EngineDataView;
-const startsWith = uncurried(String.prototype.startsWith);
 
 const OUTSIDE = "Offset is outside the bounds of the DataView";
 
@@ -79,11 +78,9 @@ const setterOf = (engine, size, big) => {
 };
 
 function replaceAccessors() {
-  const names = Object.keys(SIZES);
-  for (let at = 0; at < names.length; at += 1) {
-    const name = names[at];
-    replace(views, `get${name}`, (engine) => getterOf(engine, SIZES[name]));
-    replace(views, `set${name}`, (engine) => setterOf(engine, SIZES[name], startsWith(name, "Big")));
+  for (const [name, size] of Object.entries(SIZES)) {
+    replace(views, `get${name}`, (engine) => getterOf(engine, size));
+    replace(views, `set${name}`, (engine) => setterOf(engine, size, name.startsWith("Big")));
   }
 }
 
@@ -107,9 +104,7 @@ function replaceSlots() {
 
 /** Accessors that this engine has besides. */
 function refuseOthers() {
-  const names = ownKeys(views);
-  for (let at = 0; at < names.length; at += 1) {
-    const name = names[at];
+  for (const name of ownKeys(views)) {
     if (typeof name !== "string" || !/^[gs]et/.test(name) || SIZES[name.slice(3)] !== undefined) continue;
     replace(views, name, (engine) => methodOf((self, given) => {
       if (watchedView(self) !== undefined) refused(`${engine.name} of a DataView was called`);

@@ -53,30 +53,10 @@ const WRITING = {
   crypto: ["getRandomValues", "randomFillSync"],
 };
 
-/**
- * What a module has under names that begin with a small letter, and isn't named in a list.
- * @param {object} owner
- * @param {(string[] | undefined)[]} lists
- */
-function otherFunctions(owner, lists) {
-  /** @type {string[]} */
-  const names = [];
-  const keys = ownKeys(owner);
-  for (let at = 0; at < keys.length; at += 1) {
-    const key = keys[at];
-    if (typeof key !== "string" || !/^[a-z]/.test(key) || isIn(lists, key)) continue;
-    names[names.length] = key;
-  }
-  return names;
-}
-
-/** @param {(string[] | undefined)[]} lists @param {string} name */
-function isIn(lists, name) {
-  for (let at = 0; at < lists.length; at += 1) {
-    if (lists[at]?.includes(name)) return true;
-  }
-  return false;
-}
+/** @type {(owner: object, lists?: (string[] | undefined)[]) => string[]} its functions' names that no list has */
+const otherFunctions = (owner, lists = []) => /** @type {string[]} */ (ownKeys(owner).filter((key) => {
+  return typeof key === "string" && /^[a-z]/.test(key) && !lists.some((list) => list?.includes(key));
+}));
 
 /**
  * A module whose functions may go on after they have answered: those that aren't named end the run.
@@ -113,7 +93,7 @@ function watchCrypto() {
   replace(webcrypto, "getRandomValues", writing);
   replace(Object.getPrototypeOf(webcrypto), "getRandomValues", writing);
   const prototype = Object.getPrototypeOf(subtle);
-  replaceEach(prototype, otherFunctions(prototype, []), (engine, name) => refusing(`crypto.subtle.${name}`)(engine));
+  replaceEach(prototype, otherFunctions(prototype), (engine, name) => refusing(`crypto.subtle.${name}`)(engine));
 }
 
 function watchStreams() {
@@ -229,7 +209,7 @@ function watchFetching() {
 /** Patches the functions of node's modules and of the engine. */
 export function watchNatives() {
   guardModule("fs", fs);
-  replaceEach(fs.promises, otherFunctions(fs.promises, []), (engine, name) => refusing(`fs.promises.${name}`)(engine));
+  replaceEach(fs.promises, otherFunctions(fs.promises), (engine, name) => refusing(`fs.promises.${name}`)(engine));
   guardModule("zlib", zlib);
   guardModule("child_process", childProcess);
   watchCrypto();
