@@ -74,7 +74,7 @@ function joined(stores) {
   return all;
 }
 
-/** What was last written to each byte of a block, while the stores of one group are joined. */
+/** What was last written to each byte of a block, while the stores of one group are joined: nothing outlives that. */
 const written = new Uint8Array(SCRIPT_LIMITS.bytes);
 
 /**

@@ -266,6 +266,7 @@ function conflict(one, other) {
   return one >> 2 === 0 || other >> 2 === 0 || one >> 2 !== other >> 2;
 }
 
+// One for a thread, since its arrays are large; each judgement begins anew.
 const judge = new Judge();
 
 /**

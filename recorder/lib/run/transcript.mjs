@@ -38,7 +38,7 @@ function viewOf(name, { kind, block, offset, length }) {
   return { name, kind: KINDS[kind], block, offset, length };
 }
 
-// An element of each kind on the same bytes: what a store's bytes stand for.
+// An element of each kind on the same bytes: what a store's bytes stand for. Nothing outlives a look.
 const STORED = new Uint8Array(Math.max(...SIZES));
 const ELEMENTS = CONSTRUCTORS.map((Kind) => new Kind(STORED.buffer, 0, 1));
 

@@ -18,7 +18,7 @@ import { weakGet, weakSet } from "../../primordials.mjs";
  * @property {(why: string) => never} refuse ends the run
  */
 
-/** @type {Watching} */
+/** @type {Watching} the module's own: a realm is patched once, and its patches look here */
 export let watching = {
   blockOf: () => -1,
   seen: () => {},

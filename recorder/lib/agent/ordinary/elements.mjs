@@ -85,7 +85,7 @@ class Elements extends Watched {
 // What agents add to Object.prototype is no trap.
 setPrototypeOf(Watched.prototype, null);
 
-/** @type {Watched} whose property was asked for last: the getters of what an array has look here first */
+/** @type {Watched} whose property was asked for last: the getters of this realm's arrays look here first */
 export let last = new Watched({}, { block: -1, kind: -1, offset: 0, length: 0 }, 1);
 last.standIn = {};
 

@@ -7,7 +7,7 @@ const { TypeError: EngineTypeError, Symbol: EngineSymbol } = globalThis;
 const { species } = EngineSymbol;
 const begins = uncurried(String.prototype.startsWith);
 
-/** The constructors that agents get, by their kind. */
+/** The constructors that agents get in this realm, by their kind. */
 export const standIns = /** @type {Function[]} */ ([]);
 
 /** @param {unknown} value */

@@ -26,7 +26,7 @@ const FIRST_BIG = kindNumbers.BigInt64Array;
 export const ENGINE = CONSTRUCTORS;
 const EngineView = DataView;
 
-/** What is known of an array, by what stands for it in the agents' code. */
+/** What is known of each array of this realm, by what stands for it in the agents' code. */
 const arrays = new WeakMap();
 
 /** A constructor that returns its argument, so that a subclass can add a private field to an existing object. */
