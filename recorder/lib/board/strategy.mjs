@@ -112,7 +112,7 @@ export class Strategy {
 
   /**
    * @param {readonly Way[]} ways
-   * @returns {{ drawing: import("./strategy/table.mjs").Drawing, everywhere: boolean }[]}
+   * @returns {{ drawing: import("./strategy/drawing.mjs").Drawing, everywhere: boolean }[]}
    */
   #made(ways) {
     const { words, random, asked, rules: { agents } } = this;

@@ -5,24 +5,7 @@ import { PartialOrder } from "./partial-order.mjs";
 import { Switching } from "./switching.mjs";
 import { Uniform } from "./uniform.mjs";
 
-/**
- * @typedef {object} Parts what a strategy may draw by
- * @property {Int32Array} words of the board
- * @property {import("../../memory/random.mjs").Random} random
- * @property {import("./asked.mjs").Asked} asked what agents ask for, and which of it conflicts
- * @property {number} agents how many
- */
-
-/**
- * @typedef {object} Drawing who moves next in a run
- * @property {() => void} begin a run begins
- * @property {(able: import("./able.mjs").Able, last: number) => number} drawn one of those that can move, of which there
- * is one at least. The agent `last` moved last, or it is -1
- */
-
-/** @typedef {{ Kind: new (parts: Parts, likelihood: number) => Drawing, hasLikelihood: boolean }} Strategy */
-
-/** @type {Readonly<Record<string, Strategy>>} */
+/** @type {Readonly<Record<string, import("./drawing.mjs").Strategy>>} */
 export const STRATEGIES = Object.freeze({
   uniform: { Kind: Uniform, hasLikelihood: false },
   "partial-order": { Kind: PartialOrder, hasLikelihood: false },
