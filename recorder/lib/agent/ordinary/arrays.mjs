@@ -8,7 +8,7 @@ import {
 } from "../../primordials.mjs";
 import { ANSWERING } from "./answering.mjs";
 import { blockNumber, refused } from "./context.mjs";
-import { last, wrapped } from "./elements.mjs";
+import { lastAsked, wrapped } from "./elements.mjs";
 import { constructing, madePrivate } from "./guards.mjs";
 import { needsFunction } from "./numbers.mjs";
 import { forWatched, replace, replaceGetter } from "./patch.mjs";
@@ -144,7 +144,8 @@ function replaceStatics() {
  */
 const getterOf = (slot, kept) => () => ({
   get asked() {
-    if (this === last.standIn) return kept(last);
+    const last = lastAsked(this);
+    if (last !== undefined) return kept(last);
     try {
       return slot(this);
     } catch (error) {
@@ -158,7 +159,8 @@ const getterOf = (slot, kept) => () => ({
 /** The length is asked for most often, so it has a getter that does nothing else. */
 const lengthGetter = () => ({
   get asked() {
-    if (this === last.standIn) return last.length;
+    const last = lastAsked(this);
+    if (last !== undefined) return last.length;
     try {
       return lengthOf(this);
     } catch (error) {
