@@ -1,28 +1,16 @@
 // The recorder's own modules as its workers get them: as node's loader would have them.
 
 import assert from "node:assert/strict";
-import { createRequire } from "node:module";
 import { readFileSync, writeFileSync } from "node:fs";
 import { join } from "node:path";
 import { test } from "node:test";
 import { fileURLToPath, pathToFileURL } from "node:url";
-import { compileFunction } from "node:vm";
-import { ownModules } from "../lib/processes/own-modules.mjs";
+import { evaluated, ownModules } from "../lib/processes/own-modules.mjs";
 import { temporaryFolder } from "./helpers/common.mjs";
 
 const ROOTS = ["agent/worker.mjs", "run/referee.mjs"].map((path) => new URL(`../lib/${path}`, import.meta.url));
 // These two begin to work where they are evaluated.
 const withoutRoot = (root) => ownModules(root).slice(0, -1);
-
-/** What modules export when they are evaluated as a worker does it. */
-function evaluated(list) {
-  const modules = {};
-  for (const { url, code } of list) {
-    const made = compileFunction(code, ["modules", "require"], { filename: url });
-    modules[url] = made(modules, createRequire(url));
-  }
-  return modules;
-}
 
 /** A module of some text. */
 function written(context, text, name = "module.mjs") {
@@ -37,9 +25,11 @@ for (const root of ROOTS) {
   test(`each module behind ${name} exports the same names, of values of the same types`, async () => {
     const shapes = (exported) =>
       Object.fromEntries(Object.entries(exported).sort().map(([key, value]) => [key, typeof value]));
-    const own = evaluated(withoutRoot(root));
-    assert.ok(Object.keys(own).length > 40);
-    for (const [url, exported] of Object.entries(own)) assert.deepEqual(shapes(exported), shapes(await import(url)), url);
+    const own = withoutRoot(root);
+    assert.ok(own.length > 40);
+    for (const [at, { url }] of own.entries()) {
+      assert.deepEqual(shapes(evaluated(own.slice(0, at + 1))), shapes(await import(url)), url);
+    }
   });
 
   test(`each module behind ${name} has its lines where its file has them`, () => {
@@ -70,7 +60,7 @@ test("a module is evaluated once, behind those that it imports, in strict mode, 
   const url = pathToFileURL(join(folder, "root.mjs"));
   const list = ownModules(url);
   assert.deepEqual(list.map((each) => each.url.split("/").at(-1)), ["one.mjs", "two.mjs", "root.mjs"]);
-  const exported = evaluated(list)[url.href];
+  const exported = evaluated(list);
   assert.deepEqual(Object.keys(exported), ["Told", "later", "told", "self", "url"]);
   assert.deepEqual([exported.told, exported.self, exported.url], [["function", "function", 1, 2, 1, "function"], undefined, url.href]);
 });

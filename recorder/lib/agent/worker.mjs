@@ -111,10 +111,15 @@ function printAtOnce() {
     }
     return true;
   };
-  for (const name of ["stdout", "stderr"]) {
+  for (const name of /** @type {const} */ (["stdout", "stderr"])) {
     const stream = new Writable({ write: (chunk, _encoding, done) => done(printed(chunk) ? null : undefined) });
     // The stream's own way of writing goes on later, for a callback.
     put(stream, "write", printed);
+    /** @type {any} node's messages for it may still come, and are taken by a method that a symbol names */
+    const former = process[name];
+    for (const symbol of Object.getOwnPropertySymbols(Object.getPrototypeOf(former))) {
+      put(stream, symbol, former[symbol].bind(former));
+    }
     Object.defineProperty(process, name, { value: stream, configurable: true });
   }
 }

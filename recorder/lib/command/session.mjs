@@ -24,8 +24,10 @@ export class Session {
   /**
    * @param {import("./options.mjs").Options} options
    * @param {string} module its URL
+   * @param {import("../seeds/remote-job.mjs").RemoteJob} job the first one, which has begun
    */
-  constructor(options, module) {
+  constructor(options, module, job) {
+    this.job = job;
     const { checkEvery, sabsim: path, isSabsimAsked: isAsked } = options;
     const isPreloaded = preloads();
     this.asked = askedOf(options, module, isPreloaded);
@@ -83,11 +85,11 @@ export class Session {
       onceMore();
     };
     const onCheck = () => this.summary.addCheck();
-    const { coverage, summary, interruption: { signal } } = this;
+    const { coverage, job, summary, interruption: { signal } } = this;
     const failing = () => this.#toShorten();
     /** @param {import("../shorter/shorten.mjs").Tried} tried */
     const onTry = (tried) => this.progress.showShortening(this.#failing()?.seed ?? 0, tried);
-    const listening = { onCheck, signal, coverage, failing, onTry };
+    const listening = { onCheck, signal, coverage, failing, onTry, job };
     const { shortened } = await recordSeeds(this.options, onOutcome, listening);
     summary.shortened = shortened;
     const [found, shortest] = [this.#failing(), shortened?.shortest];

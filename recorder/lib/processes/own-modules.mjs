@@ -1,8 +1,11 @@
-// The recorder's own modules as its workers get them: read once for all workers, and evaluated in each as functions.
-// Node's loader would open each file anew for each worker, one after the other.
+// The recorder's own modules as its workers and its further processes get them: as functions. They are read once for all
+// workers of a process. Node's loader would open each file anew for each worker, and would take its time for each.
 
 import { readFileSync } from "node:fs";
+import { createRequire } from "node:module";
+import { compileFunction } from "node:vm";
 
+const builtin = createRequire(import.meta.url);
 const IMPORT = /^import (\{[^}]*\}|\w+) from "([^"]*)";$/gm;
 const EXPORT = /^export (?=(?:async function|function|class|const) (?:(\w+)|\{([^}]*)\}))/gm;
 const OTHER_FORM = /^(?:import|export)\b.*/m;
@@ -49,4 +52,18 @@ export function ownModules(url) {
   };
   add(url);
   return [...bodies].map(([href, code]) => ({ url: href, code }));
+}
+
+/**
+ * Evaluates modules in their order.
+ * @param {OwnModule[]} list
+ * @returns {Record<string, any>} what the last one exports
+ */
+export function evaluated(list) {
+  /** @type {Record<string, Record<string, any>>} */
+  const modules = {};
+  for (const { url, code } of list) {
+    modules[url] = compileFunction(code, ["modules", "require"], { filename: url })(modules, builtin);
+  }
+  return modules[list[list.length - 1].url];
 }

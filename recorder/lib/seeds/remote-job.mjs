@@ -36,7 +36,8 @@ import { jobWords } from "./node-words.mjs";
  * @property {string} [judged] of a difference
  */
 
-const PROGRAM = fileURLToPath(new URL("./job-process.mjs", import.meta.url));
+const PROGRAM = fileURLToPath(new URL("../processes/own-process.mjs", import.meta.url));
+const MODULE = new URL("./job-process.mjs", import.meta.url).href;
 
 /** The process of a job has ended, by itself or by others. */
 export class LostJob extends Error {}
@@ -66,14 +67,14 @@ function unpacked({ kind = "", message, outcome, replayed = "", judged }) {
 }
 
 export class RemoteJob {
-  /** @param {(seed: number) => void} onCheck is told of each run that sabsim says the same of */
-  constructor(onCheck) {
+  /** @param {(seed: number) => void} [onCheck] is told of each run that sabsim says the same of */
+  constructor(onCheck = () => {}) {
     this.onCheck = onCheck;
     /** @type {(tried: import("../shorter/shorten.mjs").Tried) => void} */
     this.onTry = () => {};
     const stdio = ["ignore", "inherit", "inherit", "ipc"];
     const execArgv = jobWords(process.execArgv);
-    this.child = fork(PROGRAM, { stdio, execArgv, serialization: "advanced", detached: true, windowsHide: true });
+    this.child = fork(PROGRAM, [MODULE], { stdio, execArgv, serialization: "advanced", detached: true, windowsHide: true });
     /** @type {((message: Message) => void) | undefined} what is done with messages while a request is under way */
     this.onMessage = undefined;
     /** @type {string | undefined} why its process is no more */

@@ -37,6 +37,7 @@ import { LostJob, RemoteJob } from "./remote-job.mjs";
  * @property {import("./coverage.mjs").Coverage} [coverage] is told of the outcomes; the runs end where it is enough
  * @property {() => Outcome | undefined} [failing] which run is to be shortened when all are made; undefined: none
  * @property {(tried: import("../shorter/shorten.mjs").Tried) => void} [onTry] is told of each run that this takes
+ * @property {RemoteJob} [job] one that has begun
  */
 
 /**
@@ -105,7 +106,7 @@ class Row {
  * with the reason for that
  */
 export async function recordSeeds(options, onOutcome, listening = {}) {
-  const { onCheck = () => {}, signal, pace = UNHINDERED, coverage, failing, onTry = () => {} } = listening;
+  const { onCheck = () => {}, signal, pace = UNHINDERED, coverage, failing, onTry = () => {}, job } = listening;
   const { first, last, checkEvery, sabsim, origin = first, failFast = false, trials = false } = options;
   const checks = checkEvery > 0 && sabsim !== false;
   const program = checks ? foundSabsim(sabsim) : undefined;
@@ -118,8 +119,10 @@ export async function recordSeeds(options, onOutcome, listening = {}) {
     onCheck(seed);
   });
   const needed = Math.min(options.jobs, Math.ceil(count / batch));
-  const newJob = () => (options.here ? new Job(told.addCheck, true) : new RemoteJob(told.addCheck));
-  const jobs = Array.from({ length: needed }, newJob);
+  const newJob = () => (options.here ? new Job(told.addCheck, true) : new RemoteJob());
+  const begun = job === undefined ? [] : [job];
+  const jobs = Array.from({ length: needed }, () => begun.pop() ?? newJob());
+  for (const each of jobs) each.onCheck = told.addCheck;
   try {
     const opening = { ...options, sabsim: program, checks, tellsMeetings: coverage !== undefined };
     await unlessStopped(signal, recordAll(jobs, opening, row, told, pace));
