@@ -9,6 +9,7 @@ const builtin = createRequire(import.meta.url);
 const IMPORT = /^import (\{[^}]*\}|\w+) from "([^"]*)";$/gm;
 const EXPORT = /^export (?=(?:async function|function|class|const) (?:(\w+)|\{([^}]*)\}))/gm;
 const OTHER_FORM = /^(?:import|export)\b.*/m;
+const URL_OF_MODULE = /\bimport\.meta\.url\b/g;
 
 /**
  * @typedef {object} OwnModule
@@ -32,7 +33,7 @@ function bodyOf(url, text) {
   });
   const other = OTHER_FORM.exec(body)?.[0];
   if (other !== undefined) throw new Error(`${url} can't be a function's body: ${other}`);
-  return `"use strict"; ${body.replaceAll("import.meta.url", JSON.stringify(url))}\nreturn { ${names.join(", ")} };`;
+  return `"use strict"; ${body.replace(URL_OF_MODULE, JSON.stringify(url))}\nreturn { ${names.join(", ")} };`;
 }
 
 /**
