@@ -42,16 +42,17 @@ export class Difference extends Error {
  * @param {Simulator} simulator
  * @param {import("../simulator/module.mjs").Job} job
  * @param {string} input
+ * @param {string} what it is asked about
  * @returns {{ status?: number | null, output: string, failure: string }} with the failure that another status is
  * @throws {NoSabsim}
  */
-function asked(simulator, job, input) {
+function asked(simulator, job, input, what) {
   try {
     const { status, output, complaint } = simulator.run(job, input);
-    return { status, output, failure: `ended with status ${status}: ${complaint.trim()}` };
+    return { status, output, failure: `sabsim ended with status ${status} on the ${what}: ${complaint.trim()}` };
   } catch (error) {
     if (error instanceof NoSabsim) throw error;
-    return { output: "", failure: `failed: ${error instanceof Error ? error.message : error}` };
+    return { output: "", failure: `sabsim failed on the ${what}: ${error instanceof Error ? error.message : error}` };
   }
 }
 
@@ -62,10 +63,10 @@ function asked(simulator, job, input) {
  * @throws {Difference}
  */
 function checkReplay(simulator, { seed, script = "", report = "" }) {
-  const { status, output, failure } = asked(simulator, { job: "replay" }, script);
+  const { status, output, failure } = asked(simulator, { job: "replay" }, script, "script");
   /** @param {string[]} lines */
   const differs = (...lines) => new Difference(`seed ${seed}: ${lines.join("\n")}`, { seed, script, report }, output);
-  if (status !== 0) throw differs(`of the script sabsim ${failure}`);
+  if (status !== 0) throw differs(failure);
   const difference = firstDifference(report, output);
   if (difference === undefined) return;
   const { line, recorded, replayed } = difference;
@@ -84,15 +85,13 @@ function checkReplay(simulator, { seed, script = "", report = "" }) {
 function checkRaces(simulator, { seed, script = "", report = "", races }, { racy, events, isInScript }) {
   const traced = () => traceText(Log.from(events));
   const { status, output, failure } = isInScript
-    ? asked(simulator, { job: "judge" }, script)
-    : asked(simulator, { job: "judge-trace" }, traced());
+    ? asked(simulator, { job: "judge" }, script, "script's accesses")
+    : asked(simulator, { job: "judge-trace" }, traced(), "trace");
   if (status === (racy ? FOUND_UNORDERED : 0)) return;
   /** @param {string[]} lines */
   const differs = (...lines) =>
     new Difference(`seed ${seed}: ${lines.join("\n")}`, { seed, script, report, trace: traced() }, report, output);
-  if (status !== 0 && status !== FOUND_UNORDERED) {
-    throw differs(`of the ${isInScript ? "script's accesses" : "trace"} sabsim ${failure}`);
-  }
+  if (status !== 0 && status !== FOUND_UNORDERED) throw differs(failure);
   const found = races.length > 0 ? races[0].text : "unordered accesses";
   throw differs(
     "the recorder and sabsim differ on unordered accesses",
