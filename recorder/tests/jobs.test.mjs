@@ -9,7 +9,7 @@ import { test } from "node:test";
 import { InOrder } from "../lib/seeds/in-order.mjs";
 import { jobWords } from "../lib/seeds/node-words.mjs";
 import { RECORD, agentsOf, agentsPath, temporaryFolder } from "./helpers/common.mjs";
-import { CHECKING, hasSabsim, onLinux } from "./helpers/needs.mjs";
+import { CHECKING, onLinux } from "./helpers/needs.mjs";
 
 /**
  * Runs the command line to its end.
@@ -81,20 +81,17 @@ test("with --fail-fast the first failing run is the last, whatever the number of
   assert.equal(runs.replaceAll(",", ""), seed);
   // Of the seeds 1, 8, 15, .. each is checked, and the last one, since it failed.
   const checked = Math.ceil(Number(seed) / 7) + ((Number(seed) - 1) % 7 === 0 ? 0 : 1);
-  const told = hasSabsim ? `${checked} runs checked: sabsim says the same` : "no run was checked";
-  assert.match(one.stdout, new RegExp(`^${told}$`, "m"));
+  assert.match(one.stdout, new RegExp(`^${checked} of [\\d,]+ runs were replayed by the proved simulator `, "m"));
 });
 
 /** What is told of outcomes that come in some order: seeds that fail are negative, and those lost are texts. */
-function toldOf(arrivals, checks = {}) {
+function toldOf(arrivals) {
   const told = [];
-  const onCheck = (seed) => told.push(`checked ${seed}`);
-  const inOrder = new InOrder(1, ({ fails }) => fails, ({ seed }) => told.push(seed), onCheck);
-  arrivals.forEach((arrival, at) => {
+  const inOrder = new InOrder(1, ({ fails }) => fails, ({ seed }) => told.push(seed));
+  for (const arrival of arrivals) {
     if (typeof arrival === "string") inOrder.lose(Number(arrival));
     else inOrder.add({ seed: Math.abs(arrival), fails: arrival < 0 });
-    (checks[at] ?? []).forEach((seed) => inOrder.addCheck(seed));
-  });
+  }
   inOrder.finish();
   return told;
 }
@@ -105,14 +102,8 @@ test("outcomes that come in any order are told in the order of their seeds, up t
   assert.deepEqual(toldOf([4, -3, 1, 2, 5]), [1, 2, 3]);
   assert.deepEqual(toldOf([-2, -1, 3]), [1]);
   // Where seed 2 is lost, the others are told at once; where nothing comes of it, at the end.
-  assert.deepEqual(toldOf([1, 3, "2", 4], { 2: [3] }), [1, 3, "checked 3", 4]);
+  assert.deepEqual(toldOf([1, 3, "2", 4]), [1, 3, 4]);
   assert.deepEqual(toldOf([5, 1, -4, 3]), [1, 3, 4]);
-});
-
-test("a check is told with its run, and one of a run that isn't told is none", () => {
-  assert.deepEqual(toldOf([2, 1], { 0: [2] }), [1, 2, "checked 2"]);
-  assert.deepEqual(toldOf([1, 2], { 1: [1] }), [1, 2, "checked 1"]);
-  assert.deepEqual(toldOf([3, 1, -2], { 0: [3], 2: [2, 1, 4] }), [1, 2, "checked 2", "checked 1"]);
 });
 
 test("a job's process that dies is told of, with status 3, and the summary of the others", (context) => {

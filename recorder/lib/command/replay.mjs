@@ -3,12 +3,13 @@
 
 import { readFileSync } from "node:fs";
 import { basename } from "node:path";
-import { checkable, check as checkWithSabsim, sabsimFor, sabsimPlaces } from "../check/sabsim.mjs";
+import { checkedBy } from "../check/check.mjs";
 import { Refused } from "../options/refused.mjs";
 import { preloads } from "../processes/preloads.mjs";
 import { Group } from "../run/group.mjs";
 import { NoLongerTheSame, differenceText, strayedText } from "../shorter/differing.mjs";
 import { callNumbers, keptScript } from "../shorter/kept-script.mjs";
+import { chosenProgram, simulatorAt } from "../simulator/chosen.mjs";
 import { print } from "./print.mjs";
 import { Summary } from "./summary.mjs";
 
@@ -75,8 +76,7 @@ export class Replay {
     const named = /^seed-(\d+)\./.exec(basename(file))?.[1];
     this.isNamed = named !== undefined || seed !== undefined;
     this.seed = seed ?? Number(named ?? DEFAULT_SEED);
-    const { checkEvery, sabsim: path, isSabsimAsked: isAsked } = options;
-    this.sabsim = checkEvery === 0 ? undefined : sabsimFor({ path, isAsked });
+    this.simulator = options.checkEvery === 0 ? undefined : simulatorAt(chosenProgram(options.sabsim));
     this.place = placeOf(this.kept, options);
   }
 
@@ -86,22 +86,17 @@ export class Replay {
    * @throws {NoLongerTheSame}
    */
   async run() {
-    const { options, sabsim } = this;
-    const { outcome, judgement, aside } = await this.#made();
+    const { options, simulator } = this;
+    const made = await this.#made();
+    const { outcome, aside } = made;
     if (aside.stray !== undefined) throw new NoLongerTheSame(strayedText(aside.stray, outcome.detail, this.kept));
     const { script } = outcome;
     const difference = script === undefined ? undefined : differenceText(this.kept, keptScript(script, "the run"));
     if (difference !== undefined) throw new NoLongerTheSame(difference);
     const summary = new Summary({
-      ordinary: options.ordinary, races: options.races, checks: sabsim !== undefined,
-      missing: options.checkEvery > 0 && sabsim === undefined ? sabsimPlaces() : undefined,
-      preloads: preloads(),
+      ordinary: options.ordinary, races: options.races, checkedBy: simulator?.version, preloads: preloads(),
     });
-    summary.add(outcome);
-    if (sabsim !== undefined && script !== undefined) {
-      checkWithSabsim(sabsim, checkable(outcome, judgement));
-      summary.addCheck();
-    }
+    summary.add(checkedBy(simulator, made));
     await print(`${this.#title()}\n${summary.text()}`);
     return { failed: outcome.fails, problems: [] };
   }

@@ -1,13 +1,14 @@
 // What the command line does: many runs, a summary of them, and the first failing one kept.
 
 import { resolve } from "node:path";
-import { Difference, sabsimFor, sabsimPlaces, versionOf } from "../check/sabsim.mjs";
+import { Difference } from "../check/check.mjs";
 import { Keeper } from "../keeping/keep.mjs";
 import { keepPictures } from "../keeping/pictures.mjs";
 import { collectGarbage, onceMore } from "../processes/garbage.mjs";
 import { preloads } from "../processes/preloads.mjs";
 import { Coverage } from "../seeds/coverage.mjs";
 import { recordSeeds } from "../seeds/seeds.mjs";
+import { chosenProgram, simulatorAt } from "../simulator/chosen.mjs";
 import { askedOf } from "./asked.mjs";
 import { formatted } from "./formats.mjs";
 import { Interrupted, Interruption } from "./interruption.mjs";
@@ -18,7 +19,7 @@ import { replayCommand } from "./replay-command.mjs";
 import { FORM } from "./summary-form.mjs";
 import { Summary } from "./summary.mjs";
 
-/** @typedef {import("../run/group.mjs").Outcome} Outcome */
+/** @typedef {import("../seeds/job.mjs").Checked} Outcome */
 
 export class Session {
   /**
@@ -28,21 +29,18 @@ export class Session {
    */
   constructor(options, module, job) {
     this.job = job;
-    const { checkEvery, sabsim: path, isSabsimAsked: isAsked } = options;
     const isPreloaded = preloads();
     this.asked = askedOf(options, module, isPreloaded);
-    /** Where sabsim is; undefined: it isn't asked. */
-    this.sabsim = checkEvery === 0 ? undefined : sabsimFor({ path, isAsked });
-    const every = this.sabsim === undefined ? 0 : checkEvery;
-    this.options = { ...options, module, checkEvery: every, sabsim: this.sabsim, origin: options.asked.first };
+    const isChecked = options.checkEvery > 0;
+    const sabsim = isChecked ? chosenProgram(options.sabsim) : undefined;
+    this.simulator = simulatorAt(sabsim);
+    this.options = { ...options, module, sabsim, isBrief: true, origin: options.asked.first };
     this.wanted = options.last - options.first + 1;
     this.coverage = options.untilCovered ? new Coverage() : undefined;
     this.keeper = options.out === undefined ? undefined : new Keeper(options.out);
     this.summary = new Summary({
-      ordinary: options.ordinary, races: options.races, checks: this.sabsim !== undefined,
-      missing: checkEvery > 0 && this.sabsim === undefined ? sabsimPlaces() : undefined,
-      preloads: isPreloaded,
-      coverage: this.coverage,
+      ordinary: options.ordinary, races: options.races, preloads: isPreloaded, coverage: this.coverage,
+      checkedBy: isChecked ? this.simulator.version : undefined,
     });
     /** @type {string[]} what isn't kept though there is a script to make it from, and why */
     this.leftOut = [];
@@ -84,13 +82,12 @@ export class Session {
       if (outcome.fails) this.keeper?.keepLowest(outcome);
       onceMore();
     };
-    const onCheck = () => this.summary.addCheck();
     const { coverage, job, summary, interruption: { signal } } = this;
     const failing = () => this.#toShorten();
     /** @param {import("../shorter/shorten.mjs").Tried} tried */
     const onTry = (tried) => this.progress.showShortening(this.#failing()?.seed ?? 0, tried);
-    const listening = { onCheck, signal, coverage, failing, onTry, job };
-    const { shortened } = await recordSeeds(this.options, onOutcome, listening);
+    const listening = { signal, coverage, failing, onTry, job };
+    const shortened = await recordSeeds(this.options, onOutcome, listening);
     summary.shortened = shortened;
     const [found, shortest] = [this.#failing(), shortened?.shortest];
     if (found !== undefined && shortest !== undefined) this.keeper?.keepShortest(found, shortest);
@@ -125,7 +122,7 @@ export class Session {
     } else if (failing !== undefined && keeper.seed === failing.seed) {
       const outcome = shortened?.shortest ?? failing;
       const command = replayCommand({ ...this.options, module: this.asked.module });
-      const how = { path: this.sabsim, module: this.options.module, command };
+      const how = { simulator: this.simulator, module: this.options.module, command };
       this.leftOut.push(...keepPictures(keeper, outcome, how));
     }
   }
@@ -148,10 +145,8 @@ export class Session {
    * @returns {import("./summary-form.mjs").WholeSummary}
    */
   #told(stopped, problems) {
-    const { keeper, options: { first, last, format } } = this;
+    const { keeper, options: { first, last } } = this;
     const isKept = keeper !== undefined && keeper.names.length > 0;
-    // It takes a program to tell it.
-    if (format === "json" && this.sabsim !== undefined) this.summary.versions.add(versionOf(this.sabsim));
     const told = this.summary.told({
       stopped,
       kept: isKept ? { folder: keeper.folder, path: resolve(keeper.folder), files: keeper.names } : null,

@@ -70,6 +70,7 @@ import { Thread } from "../processes/thread.mjs";
  * looked; told beside an outcome that has a script, where ordinary accesses are watched
  * @property {boolean} racy whether it has found any
  * @property {Int32Array} events those of the run's log
+ * @property {boolean} isInScript whether the script has all of them, and no others
  */
 
 /** @typedef {{ outcome: Outcome, judgement?: Judgement, aside: Aside }} One all that is told of one run */

@@ -347,8 +347,10 @@ const namesOf = (each) =>
  * @param {Made} found
  * @returns {Judgement | undefined}
  */
-function judgementOf({ script }, { racy }) {
-  return script === undefined || options.ordinary !== "watch" ? undefined : { racy, events: log.taken() };
+function judgementOf({ script }, { racy, initial }) {
+  if (script === undefined || options.ordinary !== "watch") return undefined;
+  // The stores of `init` are none of the run's accesses, and ordinary reads are in no script.
+  return { racy, events: log.taken(), isInScript: !isOrdinary() && initial.length === 0 };
 }
 
 /**

@@ -1,14 +1,7 @@
-// Outcomes that are handed out one by one, in the order of their seeds, each when its check is done. Who makes the runs
-// goes only so far ahead of who takes them.
+// Outcomes that are handed out one by one, in the order of their seeds. Who makes the runs goes only so far ahead of
+// who takes them.
 
-/** @typedef {import("../run/group.mjs").Outcome} Outcome */
-
-/**
- * @typedef {object} Arrived
- * @property {Outcome} outcome
- * @property {boolean} isChecked whether its check is done
- * @property {boolean} awaitsCheck whether it has one
- */
+/** @typedef {import("./job.mjs").Checked} Outcome */
 
 /**
  * A promise that is settled from outside.
@@ -29,14 +22,12 @@ export class Delivery {
   /**
    * @param {import("./ranges.mjs").Range} range the seeds
    * @param {number} most how far a seed that is begun may be from the next one to be taken
-   * @param {boolean} checks whether runs that have a script are checked
    */
-  constructor({ first, last }, most, checks) {
+  constructor({ first, last }, most) {
     this.next = first;
     this.last = last;
     this.most = most;
-    this.checks = checks;
-    /** @type {Map<number, Arrived>} outcomes that nobody has taken */
+    /** @type {Map<number, Outcome>} outcomes that nobody has taken */
     this.arrived = new Map();
     /** @type {{ failure: unknown } | undefined} why no more will come */
     this.failed = undefined;
@@ -48,15 +39,7 @@ export class Delivery {
 
   /** @param {Outcome} outcome */
   add(outcome) {
-    const awaitsCheck = this.checks && outcome.script !== undefined;
-    this.arrived.set(outcome.seed, { outcome, awaitsCheck, isChecked: false });
-    this.#changed();
-  }
-
-  /** @param {number} seed of a run that was checked */
-  addCheck(seed) {
-    const arrived = this.arrived.get(seed);
-    if (arrived !== undefined) arrived.isChecked = true;
+    this.arrived.set(outcome.seed, outcome);
     this.#changed();
   }
 
@@ -68,14 +51,14 @@ export class Delivery {
 
   /**
    * The outcome of the next seed.
-   * @returns {Promise<Arrived | undefined>} undefined where all were taken; fails where no more will come
+   * @returns {Promise<Outcome | undefined>} undefined where all were taken; fails where no more will come
    */
   async take() {
     for (;;) {
       if (this.failed !== undefined) throw this.failed.failure;
       if (this.next > this.last) return undefined;
       const arrived = this.arrived.get(this.next);
-      if (arrived !== undefined && (arrived.isChecked || !arrived.awaitsCheck)) return this.#taken(arrived);
+      if (arrived !== undefined) return this.#taken(arrived);
       await this.change.promise;
     }
   }
@@ -89,7 +72,7 @@ export class Delivery {
     };
   }
 
-  /** @param {Arrived} arrived */
+  /** @param {Outcome} arrived */
   #taken(arrived) {
     this.arrived.delete(this.next);
     this.next += 1;

@@ -1,24 +1,29 @@
 // Outcomes in the order of their seeds, up to the one that is the last: they are the same whatever the number of jobs,
 // though jobs are at work on later seeds by then.
 
-/** @typedef {import("../run/group.mjs").Outcome} Outcome */
+/** @typedef {import("./job.mjs").Checked} Outcome */
+
+/**
+ * An outcome without its long texts.
+ * @param {Outcome} outcome
+ * @returns {Outcome}
+ */
+export function lightened({ script, report, trace, sources, bytes, answers, ...rest }) {
+  return rest;
+}
 
 export class InOrder {
   /**
    * @param {number} first seed
    * @param {(outcome: Outcome) => boolean} isLast is asked of each outcome in the order of the seeds
    * @param {(outcome: Outcome) => void} onOutcome
-   * @param {(seed: number) => void} onCheck
    */
-  constructor(first, isLast, onOutcome, onCheck) {
+  constructor(first, isLast, onOutcome) {
     this.next = first;
     this.isLast = isLast;
     this.onOutcome = onOutcome;
-    this.onCheck = onCheck;
     /** @type {Map<number, Outcome | undefined>} outcomes that came too early; undefined: it is lost */
     this.early = new Map();
-    /** @type {Set<number>} the seeds of such runs that were checked */
-    this.checked = new Set();
     /** The seed of the last outcome that is told. */
     this.last = Infinity;
     /** The least seed of the failing runs that came. */
@@ -37,12 +42,6 @@ export class InOrder {
     this.#go();
   }
 
-  /** @param {number} seed of a run that was checked */
-  addCheck(seed) {
-    if (seed >= this.next) this.checked.add(seed);
-    else if (seed <= this.last) this.onCheck(seed);
-  }
-
   /** Tells the others, where runs between them will never be made. */
   finish() {
     for (const seed of [...this.early.keys()].sort((one, other) => one - other)) this.#tell(seed);
@@ -59,8 +58,7 @@ export class InOrder {
       this.failing = outcome.seed;
       return outcome;
     }
-    const { script, report, trace, bytes, answers, ...rest } = outcome;
-    return rest;
+    return lightened(outcome);
   }
 
   #go() {
@@ -75,6 +73,5 @@ export class InOrder {
     if (outcome === undefined || seed > this.last) return;
     if (this.isLast(outcome)) this.last = seed;
     this.onOutcome(outcome);
-    if (this.checked.delete(seed)) this.onCheck(seed);
   }
 }

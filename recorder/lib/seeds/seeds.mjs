@@ -1,11 +1,10 @@
 // Many seeds, shared out among jobs.
 
-import { foundSabsim } from "../check/sabsim.mjs";
 import { InOrder } from "./in-order.mjs";
 import { Job } from "./job.mjs";
 import { LostJob, RemoteJob } from "./remote-job.mjs";
 
-/** @typedef {import("../run/group.mjs").Outcome} Outcome */
+/** @typedef {import("./job.mjs").Checked} Outcome */
 /** @typedef {import("./job.mjs").ShortenedByJob} ShortenedByJob */
 
 /**
@@ -14,11 +13,12 @@ import { LostJob, RemoteJob } from "./remote-job.mjs";
  * @property {number} last seed
  * @property {number} jobs how many groups work side by side, each in a process of its own
  * @property {number} checkEvery every run that fails is checked, and one in so many of the others; 0: none at all
- * @property {string | false} [sabsim] the program's path; it isn't needed where nothing is checked; false: nothing is
- * checked, and the runs are told all the same as if they were
+ * @property {string | false} [sabsim] the path of the native program that checks; undefined: the module does; false:
+ * nothing is checked, and the runs are told all the same as if they were
  * @property {number} [origin] the seed from which one in so many is counted; the first if it isn't given
  * @property {boolean} [failFast] whether the first failing run is the last
  * @property {boolean} [trials] whether only their endings are wanted, which takes less time: no script is told
+ * @property {boolean} [isBrief] whether of runs that don't fail no script, report and answers are told
  * @property {boolean} [here] whether the jobs' workers are of this process, and not of one for each job
  */
 
@@ -31,7 +31,6 @@ import { LostJob, RemoteJob } from "./remote-job.mjs";
 
 /**
  * @typedef {object} Listening
- * @property {(seed: number) => void} [onCheck] is told of each run that sabsim says the same of
  * @property {AbortSignal} [signal] that it is to stop
  * @property {Pace} [pace] as fast as they can, if it isn't given
  * @property {import("./coverage.mjs").Coverage} [coverage] is told of the outcomes; the runs end where it is enough
@@ -43,7 +42,6 @@ import { LostJob, RemoteJob } from "./remote-job.mjs";
 /**
  * @typedef {object} Sink what is done with what comes of runs
  * @property {(outcome: Outcome) => void} add
- * @property {(seed: number) => void} addCheck
  * @property {(seed: number) => void} lose an outcome that will never come
  * @property {() => void} finish
  */
@@ -101,34 +99,26 @@ class Row {
  * @param {import("../run/group.mjs").GroupOptions & SeedsOptions} options
  * @param {(outcome: Outcome) => void} onOutcome
  * @param {Listening} listening
- * @returns {Promise<{ checked: number, shortened?: ShortenedByJob }>} how many runs were checked, and what the
- * shortening of one came to; fails at the first difference, where a job's process was lost, and where it is to stop,
- * with the reason for that
+ * @returns {Promise<ShortenedByJob | undefined>} what the shortening of a run came to; fails at the first difference,
+ * where a job's process was lost, and where it is to stop, with the reason for that
  */
 export async function recordSeeds(options, onOutcome, listening = {}) {
-  const { onCheck = () => {}, signal, pace = UNHINDERED, coverage, failing, onTry = () => {}, job } = listening;
+  const { signal, pace = UNHINDERED, coverage, failing, onTry = () => {}, job } = listening;
   const { first, last, checkEvery, sabsim, origin = first, failFast = false, trials = false } = options;
-  const checks = checkEvery > 0 && sabsim !== false;
-  const program = checks ? foundSabsim(sabsim) : undefined;
-  let checked = 0;
   const count = last - first + 1;
   const batch = failFast ? 1 : Math.max(1, Math.min(BATCH, Math.ceil(count / options.jobs)));
   const row = new Row(first, last, checkEvery, origin, batch, trials);
-  const told = listener({ first, failFast, coverage }, row, onOutcome, (seed) => {
-    checked += 1;
-    onCheck(seed);
-  });
+  const told = listener({ first, failFast, coverage }, row, onOutcome);
   const needed = Math.min(options.jobs, Math.ceil(count / batch));
-  const newJob = () => (options.here ? new Job(told.addCheck, true) : new RemoteJob());
+  const newJob = () => (options.here ? new Job() : new RemoteJob());
   const begun = job === undefined ? [] : [job];
   const jobs = Array.from({ length: needed }, () => begun.pop() ?? newJob());
-  for (const each of jobs) each.onCheck = told.addCheck;
   try {
-    const opening = { ...options, sabsim: program, checks, tellsMeetings: coverage !== undefined };
+    const checking = { checks: checkEvery > 0 && sabsim !== false, sabsim: sabsim || undefined };
+    const opening = { ...options, ...checking, tellsMeetings: coverage !== undefined };
     await unlessStopped(signal, recordAll(jobs, opening, row, told, pace));
     const found = failing?.();
-    const shortened = found && await unlessStopped(signal, jobs[0].shorten(briefly(found), onTry));
-    return { checked, shortened };
+    return found && await unlessStopped(signal, jobs[0].shorten(briefly(found), onTry));
   } finally {
     await Promise.all(jobs.map((job) => job.close()));
     told.finish();
@@ -143,23 +133,21 @@ const briefly = ({ seed, ending, detail, moves, calls, state }) => ({ seed, endi
  * @param {{ first: number, failFast: boolean, coverage?: import("./coverage.mjs").Coverage }} ends
  * @param {Row} row
  * @param {(outcome: Outcome) => void} onOutcome
- * @param {(seed: number) => void} onCheck
  * @returns {Sink}
  */
-function listener({ first, failFast, coverage }, row, onOutcome, onCheck) {
-  if (!failFast && coverage === undefined) return { add: onOutcome, addCheck: onCheck, lose() {}, finish() {} };
+function listener({ first, failFast, coverage }, row, onOutcome) {
+  if (!failFast && coverage === undefined) return { add: onOutcome, lose() {}, finish() {} };
   /** @param {Outcome} outcome */
   const isLast = (outcome) => {
     const isCovered = coverage !== undefined && coverage.add(outcome);
     return isCovered || (failFast && outcome.fails);
   };
-  const inOrder = new InOrder(first, isLast, onOutcome, onCheck);
+  const inOrder = new InOrder(first, isLast, onOutcome);
   return {
     add(outcome) {
       inOrder.add(outcome);
       if ((failFast && outcome.fails) || inOrder.last !== Infinity) row.stop();
     },
-    addCheck: (seed) => inOrder.addCheck(seed),
     lose: (seed) => inOrder.lose(seed),
     finish: () => inOrder.finish(),
   };
@@ -223,10 +211,9 @@ async function settled(promises) {
  */
 async function work(job, row, told, pace) {
   try {
-    for (let seeds = await taken(job, row, pace); seeds.length > 0; seeds = await taken(job, row, pace)) {
+    for (let seeds = await taken(row, pace); seeds.length > 0; seeds = await taken(row, pace)) {
       await runBatch(job, seeds, told);
     }
-    await job.finish();
   } catch (failure) {
     pace.onFailure(failure);
     if (!(failure instanceof LostJob)) row.stop();
@@ -236,17 +223,11 @@ async function work(job, row, told, pace) {
 
 /**
  * The seeds that a job is to run next, when it may begin them.
- * @param {AnyJob} job
  * @param {Row} row
  * @param {Pace} pace
  */
-async function taken(job, row, pace) {
-  const isAhead = () => !row.isEmpty && pace.isAhead(row.next);
-  while (isAhead()) {
-    // Who takes the outcomes may wait for a check of this job.
-    await job.finish();
-    if (isAhead()) await pace.next();
-  }
+async function taken(row, pace) {
+  while (!row.isEmpty && pace.isAhead(row.next)) await pace.next();
   return row.take();
 }
 

@@ -8,8 +8,9 @@ import { toldOf } from "../command/problems.mjs";
 import { Keeper } from "../keeping/keep.mjs";
 import { keepPictures } from "../keeping/pictures.mjs";
 import { counted, digits } from "../keeping/words.mjs";
-import { explored, sabsimOf } from "../library/explore.mjs";
+import { areChecked, explored } from "../library/explore.mjs";
 import { checkedOwn, exploreOptions } from "../library/library-options.mjs";
+import { chosenProgram, simulatorAt } from "../simulator/chosen.mjs";
 import { failureText } from "./failure.mjs";
 import { shortestOf } from "./shortest.mjs";
 
@@ -65,9 +66,11 @@ export async function tried(given, { folder, place }) {
  */
 async function failureOf(failing, passed, { out, shorten, options, folder }) {
   const checked = exploreOptions(options, folder);
-  const sabsim = sabsimOf(checked);
-  const outcome = shorten ? await shortestOf(failing, checked, sabsim) : failing;
-  return failureText({ outcome, passed, sabsim, kept: keptLines({ failing, outcome }, checked.module, out, sabsim) });
+  const isChecked = areChecked(checked);
+  const simulator = simulatorAt(isChecked ? chosenProgram(checked.sabsim) : undefined);
+  const outcome = shorten ? await shortestOf(failing, checked, isChecked ? simulator : undefined) : failing;
+  const kept = keptLines({ failing, outcome }, checked.module, out, simulator);
+  return failureText({ outcome, passed, simulator, kept });
 }
 
 /**
@@ -75,15 +78,15 @@ async function failureOf(failing, passed, { out, shorten, options, folder }) {
  * @param {{ failing: Outcome, outcome: Outcome }} runs the one that has failed, and the shortest that fails so
  * @param {string} module its URL
  * @param {string | undefined} out where; undefined: in a new folder for temporary files
- * @param {string | undefined} sabsim
+ * @param {import("../simulator/chosen.mjs").Simulator} simulator
  * @returns {string[]} what lies where, and what doesn't
  */
-function keptLines({ failing, outcome }, module, out, sabsim) {
+function keptLines({ failing, outcome }, module, out, simulator) {
   try {
     const keeper = new Keeper(resolve(out ?? mkdtempSync(join(tmpdir(), "sabsim-"))), "`out`");
     keeper.keepLowest(failing);
     if (outcome !== failing) keeper.keepShortest(failing, outcome);
-    const notKept = keepPictures(keeper, outcome, { path: sabsim, module });
+    const notKept = keepPictures(keeper, outcome, { simulator, module });
     const kept = keeper.names.length === 0 ? [] : [`kept in ${keeper.folder}: ${keeper.names.join(", ")}`];
     return [...kept, ...notKept];
   } catch (problem) {
