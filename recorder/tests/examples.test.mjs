@@ -8,7 +8,7 @@ import { tmpdir } from "node:os";
 import { join } from "node:path";
 import { after, describe, test } from "node:test";
 import { pathToFileURL } from "node:url";
-import { recordSeeds } from "../lib/seeds/seeds.mjs";
+import { Runs, outcomesOf as taken } from "../lib/seeds/runs.mjs";
 import { CHECKER } from "./helpers/needs.mjs";
 import { Opinions } from "./helpers/opinions.mjs";
 import { pathOf } from "./helpers/programs.mjs";
@@ -25,9 +25,9 @@ async function outcomesOf(module, last, checkEvery) {
   const outcomes = [];
   const fixed = { args: [], jobs: 2, maxMoves: 100_000, seconds: 10, fresh: false, sabsim: CHECKER };
   const options = { ...fixed, module: pathToFileURL(module).href, first: 1, last, checkEvery };
-  await recordSeeds(options, (outcome) => outcomes.push(outcome));
+  for await (const outcome of taken(new Runs(options))) outcomes.push(outcome);
   assert.equal(outcomes.filter(({ checked }) => checked).length, checkEvery * last);
-  return outcomes.sort((one, other) => one.seed - other.seed);
+  return outcomes;
 }
 
 /** How many waits ended by their time. */

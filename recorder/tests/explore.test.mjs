@@ -246,9 +246,8 @@ test("where a signal is aborted while nobody takes, all is ended all the same", 
 });
 
 test("a delivery hands out in order, and tells how far runs may go", async () => {
-  const delivery = new Delivery({ first: 5, last: 7 }, 2);
-  const { pace } = delivery;
-  assert.deepEqual([5, 6, 7].map((seed) => pace.isAhead(seed)), [false, false, true]);
+  const delivery = new Delivery({ first: 5, last: 7 });
+  assert.equal(delivery.next, 5);
   const first = delivery.take();
   delivery.add({ seed: 6 });
   let isTaken = false;
@@ -257,16 +256,16 @@ test("a delivery hands out in order, and tells how far runs may go", async () =>
   });
   await sleep(1);
   assert.equal(isTaken, false);
-  const next = pace.next();
+  const next = delivery.taking.promise;
   delivery.add({ seed: 5, checked: true });
   assert.deepEqual(await first, { seed: 5, checked: true });
   await next;
-  assert.equal(pace.isAhead(7), false);
+  assert.equal(delivery.next, 6);
   assert.equal((await delivery.take()).seed, 6);
   delivery.add({ seed: 7 });
   assert.equal((await delivery.take()).seed, 7);
   assert.equal(await delivery.take(), undefined);
-  pace.onFailure(new Error("too late"));
+  delivery.fail(new Error("too late"));
   delivery.fail(new Error("later"));
   await assert.rejects(delivery.take(), /^Error: too late$/);
 });

@@ -148,7 +148,7 @@ test("each wrong option is refused, with one line that names it", () => {
 
 test("what the command line leaves out has its default", () => {
   const { first, last, jobs, maxMoves, seconds, fresh, args, noBlock, strategy, out } = optionsOf(["m.mjs"]);
-  assert.deepEqual([first, last, jobs, maxMoves, seconds], [1, 100, 1, 100_000, 10]);
+  assert.deepEqual([first, last, jobs, maxMoves, seconds], [1, 100, undefined, 100_000, 10]);
   assert.deepEqual([fresh, args, noBlock, strategy, out], [false, [], undefined, "mixed", undefined]);
   const { sabsim: path, checkEvery, isSabsimAsked } = optionsOf(["m.mjs"]);
   assert.deepEqual([path, checkEvery, isSabsimAsked], [undefined, 10, false]);

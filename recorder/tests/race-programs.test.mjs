@@ -6,7 +6,7 @@ import { readFileSync } from "node:fs";
 import { test } from "node:test";
 import { moduleUrl } from "../lib/library/module-url.mjs";
 import { record } from "../lib/library/recorder.mjs";
-import { recordSeeds } from "../lib/seeds/seeds.mjs";
+import { Runs, outcomesOf } from "../lib/seeds/runs.mjs";
 import { CONSTRUCTORS, KINDS } from "../script/kinds.mjs";
 import { agentsPath } from "./helpers/common.mjs";
 import { CHECKER } from "./helpers/needs.mjs";
@@ -36,9 +36,9 @@ async function recorded(way, options) {
     module: moduleUrl(agentsPath("random-ordinary")), args: [way], first: 1, last: 500, jobs: 2, checkEvery: 1,
     sabsim: CHECKER, maxMoves: 100_000, seconds: 10, fresh: false, ordinary: "watch", trace: true, ...options,
   };
-  await recordSeeds(all, (outcome) => outcomes.push(outcome));
+  for await (const outcome of outcomesOf(new Runs(all))) outcomes.push(outcome);
   assert.equal(outcomes.filter(({ checked }) => checked).length, all.checkEvery * outcomes.length);
-  return outcomes.sort((one, other) => one.seed - other.seed);
+  return outcomes;
 }
 
 /**

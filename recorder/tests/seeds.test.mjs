@@ -4,7 +4,7 @@ import assert from "node:assert/strict";
 import { test } from "node:test";
 import { optionsOf } from "../lib/command/options.mjs";
 import { moduleUrl } from "../lib/library/module-url.mjs";
-import { recordSeeds } from "../lib/seeds/seeds.mjs";
+import { Runs, outcomesOf as taken } from "../lib/seeds/runs.mjs";
 import { agentsPath, recordCase } from "./helpers/common.mjs";
 import { CHECKER } from "./helpers/needs.mjs";
 
@@ -19,8 +19,7 @@ async function outcomesOf(name, options) {
     ...optionsOf([agentsPath(name)]), module: moduleUrl(agentsPath(name)), last: 40, checkEvery: 0, sabsim: CHECKER,
     seconds: 5, ...options,
   };
-  await recordSeeds(all, (outcome) => outcomes.push(outcome));
-  outcomes.sort((one, other) => one.seed - other.seed);
+  for await (const outcome of taken(new Runs(all))) outcomes.push(outcome);
   assert.deepEqual(outcomes.map((outcome) => outcome.seed), outcomes.map((_, at) => all.first + at));
   return { outcomes, checked: outcomes.filter((outcome) => outcome.checked).length };
 }

@@ -3,10 +3,9 @@
 
 import { readFileSync } from "node:fs";
 import { basename } from "node:path";
-import { checkedBy } from "../check/check.mjs";
 import { Refused } from "../options/refused.mjs";
 import { preloads } from "../processes/preloads.mjs";
-import { Group } from "../run/group.mjs";
+import { Runs } from "../seeds/runs.mjs";
 import { NoLongerTheSame, differenceText, strayedText } from "../shorter/differing.mjs";
 import { callNumbers, keptScript } from "../shorter/kept-script.mjs";
 import { chosenProgram, simulatorAt } from "../simulator/chosen.mjs";
@@ -76,7 +75,8 @@ export class Replay {
     const named = /^seed-(\d+)\./.exec(basename(file))?.[1];
     this.isNamed = named !== undefined || seed !== undefined;
     this.seed = seed ?? Number(named ?? DEFAULT_SEED);
-    this.simulator = options.checkEvery === 0 ? undefined : simulatorAt(chosenProgram(options.sabsim));
+    this.sabsim = options.checkEvery === 0 ? false : chosenProgram(options.sabsim);
+    this.simulator = this.sabsim === false ? undefined : simulatorAt(this.sabsim);
     this.place = placeOf(this.kept, options);
   }
 
@@ -87,33 +87,34 @@ export class Replay {
    */
   async run() {
     const { options, simulator } = this;
-    const made = await this.#made();
-    const { outcome, aside } = made;
-    if (aside.stray !== undefined) throw new NoLongerTheSame(strayedText(aside.stray, outcome.detail, this.kept));
+    const outcome = await this.#made();
+    if (outcome.stray !== undefined) throw new NoLongerTheSame(strayedText(outcome.stray, outcome.detail, this.kept));
     const { script } = outcome;
     const difference = script === undefined ? undefined : differenceText(this.kept, keptScript(script, "the run"));
     if (difference !== undefined) throw new NoLongerTheSame(difference);
     const summary = new Summary({
       ordinary: options.ordinary, races: options.races, checkedBy: simulator?.version, preloads: preloads(),
     });
-    summary.add(checkedBy(simulator, made));
+    summary.add(outcome);
     await print(`${this.#title()}\n${summary.text()}`);
     return { failed: outcome.fails, problems: [] };
   }
 
+  /** @returns {Promise<import("../seeds/job.mjs").Checked>} */
   async #made() {
-    const { kept: { draws }, options, place, seed } = this;
+    const { kept: { draws }, options, place, sabsim, seed } = this;
     const long = { seconds: DEBUGGED_SECONDS, loadSeconds: DEBUGGED_SECONDS };
     const limits = await isDebugged() ? long : { seconds: options.seconds };
     // A debugger would stop in each further run of the agents. So there are no pilots, from which nothing is to be
     // learnt, since the row says who moves; and the lines of code are told at once.
-    const only = { fresh: false, everywhere: true, trace: true };
-    const group = await Group.open({ ...options, ...place, ...limits, ...only });
+    const only = { first: seed, last: seed, jobs: 1, here: true, fresh: false, everywhere: true, trace: true };
+    const checking = { sabsim, checkEvery: 1 };
+    const wanted = { row: draws.map(({ agent }) => agent), isExact: true, calls: callNumbers(this.kept) };
+    const runs = new Runs({ ...options, ...place, ...limits, ...only, ...checking, wanted });
     try {
-      const row = draws.map(({ agent }) => agent);
-      return await group.one({ seed, whole: true, row, isExact: true, calls: callNumbers(this.kept) });
+      return /** @type {any} */ ((await runs.outcomes().next()).value);
     } finally {
-      await group.close();
+      await runs.close();
     }
   }
 

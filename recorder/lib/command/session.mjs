@@ -7,7 +7,7 @@ import { keepPictures } from "../keeping/pictures.mjs";
 import { collectGarbage, onceMore } from "../processes/garbage.mjs";
 import { preloads } from "../processes/preloads.mjs";
 import { Coverage } from "../seeds/coverage.mjs";
-import { recordSeeds } from "../seeds/seeds.mjs";
+import { Runs } from "../seeds/runs.mjs";
 import { chosenProgram, simulatorAt } from "../simulator/chosen.mjs";
 import { askedOf } from "./asked.mjs";
 import { formatted } from "./formats.mjs";
@@ -28,13 +28,12 @@ export class Session {
    * @param {import("../seeds/remote-job.mjs").RemoteJob} job the first one, which has begun
    */
   constructor(options, module, job) {
-    this.job = job;
     const isPreloaded = preloads();
     this.asked = askedOf(options, module, isPreloaded);
     const isChecked = options.checkEvery > 0;
     const sabsim = isChecked ? chosenProgram(options.sabsim) : undefined;
     this.simulator = simulatorAt(sabsim);
-    this.options = { ...options, module, sabsim, isBrief: true, origin: options.asked.first };
+    this.options = { ...options, module, sabsim };
     this.wanted = options.last - options.first + 1;
     this.coverage = options.untilCovered ? new Coverage() : undefined;
     this.keeper = options.out === undefined ? undefined : new Keeper(options.out);
@@ -46,6 +45,9 @@ export class Session {
     this.leftOut = [];
     this.progress = new Progress(this.wanted);
     this.interruption = new Interruption();
+    const { asked: { first: origin }, untilCovered: tellsMeetings } = options;
+    const how = { isBrief: true, goesOn: true, origin, tellsMeetings };
+    this.runs = new Runs({ ...this.options, ...how }, { signal: this.interruption.signal, job });
   }
 
   /**
@@ -75,22 +77,31 @@ export class Session {
   /** Makes the runs, and looks for the shortest one that fails as the one that is kept, which it then replaces. */
   async #record() {
     collectGarbage();
-    /** @param {Outcome} outcome */
-    const onOutcome = (outcome) => {
-      this.summary.add(outcome);
-      this.progress.show(this.summary);
-      if (outcome.fails) this.keeper?.keepLowest(outcome);
-      onceMore();
-    };
-    const { coverage, job, summary, interruption: { signal } } = this;
-    const failing = () => this.#toShorten();
-    /** @param {import("../shorter/shorten.mjs").Tried} tried */
-    const onTry = (tried) => this.progress.showShortening(this.#failing()?.seed ?? 0, tried);
-    const listening = { signal, coverage, failing, onTry, job };
-    const shortened = await recordSeeds(this.options, onOutcome, listening);
-    summary.shortened = shortened;
-    const [found, shortest] = [this.#failing(), shortened?.shortest];
-    if (found !== undefined && shortest !== undefined) this.keeper?.keepShortest(found, shortest);
+    const { runs, summary } = this;
+    try {
+      for await (const outcome of runs.outcomes()) if (this.#isLast(outcome)) break;
+      const found = this.#toShorten();
+      if (found === undefined) return;
+      summary.shortened = await runs.shorten(found, (tried) => this.progress.showShortening(found.seed, tried));
+      const { shortest } = summary.shortened;
+      if (shortest !== undefined) this.keeper?.keepShortest(found, shortest);
+    } finally {
+      await runs.close();
+    }
+  }
+
+  /**
+   * Adds what came of a run to the summary, and keeps it if it is to be kept.
+   * @param {Outcome} outcome
+   * @returns {boolean} whether it is the last one
+   */
+  #isLast(outcome) {
+    const { coverage, keeper, options: { failFast }, progress, summary } = this;
+    summary.add(outcome);
+    progress.show(summary);
+    if (outcome.fails) keeper?.keepLowest(outcome);
+    onceMore();
+    return coverage?.add(outcome) || (failFast && outcome.fails);
   }
 
   /** The failing run of the least seed. */

@@ -1,7 +1,7 @@
 // Many runs of the library, one for each of some seeds, handed out as they are asked for.
 
-import { Delivery } from "../seeds/delivery.mjs";
-import { BATCH, recordSeeds } from "../seeds/seeds.mjs";
+import { Runs, outcomesOf } from "../seeds/runs.mjs";
+import { BATCH } from "../seeds/seed-queue.mjs";
 import { chosenProgram } from "../simulator/chosen.mjs";
 import { exploreOptions } from "./library-options.mjs";
 import { folderOfCaller } from "./module-url.mjs";
@@ -21,66 +21,24 @@ import { folderOfCaller } from "./module-url.mjs";
  * @throws {Refused | NoSabsim} for options that can't be, and if the native program is chosen and isn't there
  */
 export function explore(options) {
-  return explored(options, () => folderOfCaller(explore));
+  return outcomesOf(runsOf(options, () => folderOfCaller(explore)));
 }
 
 /**
- * As `explore`, for a caller whose folder is known otherwise.
+ * The runs of some options, for a caller whose folder is known otherwise.
  * @param {ExploreOptions} options
- * @param {() => string | undefined} callersFolder from which a relative path is taken, where that is known
- * @returns {AsyncGenerator<Outcome, void, void>}
+ * @param {() => string | undefined} callersFolder from which a relative path is taken, if that is known
+ * @returns {Runs}
  */
-export function explored(options, callersFolder) {
-  const checked = exploreOptions(options, callersFolder);
-  const checks = areChecked(checked);
-  const { signal, seeds, sabsim: asked, ...rest } = checked;
-  const checking = checks ? { sabsim: chosenProgram(asked) } : { checkEvery: 0 };
-  return outcomesOf({ ...rest, ...seeds, ...checking, here: rest.jobs === 1 }, signal);
-}
-
-/** @param {ReturnType<typeof exploreOptions>} options @returns {boolean} whether the simulator checks the runs */
-export const areChecked = ({ sabsim, checkEvery }) => sabsim !== false && checkEvery > 0;
-
-/**
- * @param {Parameters<typeof recordSeeds>[0]} options
- * @param {AbortSignal | undefined} signal
- * @returns {AsyncGenerator<Outcome, void, void>}
- */
-async function* outcomesOf({ failFast, ...options }, signal) {
-  if (signal?.aborted) throw signal.reason;
+export function runsOf(options, callersFolder) {
+  const { signal, seeds, sabsim, ...rest } = exploreOptions(options, callersFolder);
+  const checking = areChecked({ sabsim, ...rest }) ? { sabsim: chosenProgram(sabsim) } : { checkEvery: 0 };
   // Each job makes a batch while the one before is taken.
-  const delivery = new Delivery(options, options.jobs * BATCH);
-  const end = new AbortController();
-  // All is ended at once, though nobody may ask for more.
-  const stop = () => {
-    delivery.fail(signal?.reason);
-    end.abort();
-  };
-  signal?.addEventListener("abort", stop);
-  const recording = recorded(options, delivery, end.signal);
-  try {
-    for (let next = await delivery.take(); next !== undefined; next = await delivery.take()) {
-      yield next;
-      if (failFast && next.fails) return;
-    }
-  } finally {
-    signal?.removeEventListener("abort", stop);
-    end.abort();
-    await recording;
-  }
+  const how = { ahead: rest.jobs * BATCH, here: rest.jobs === 1 };
+  return new Runs({ ...rest, ...seeds, ...checking, ...how }, { signal });
 }
 
-/**
- * Makes the runs.
- * @param {Parameters<typeof recordSeeds>[0]} options
- * @param {Delivery} delivery is told of what comes of them, and of what goes wrong
- * @param {AbortSignal} signal
- * @returns {Promise<void>} when all that was started has ended
- */
-async function recorded(options, delivery, signal) {
-  try {
-    await recordSeeds(options, (outcome) => delivery.add(outcome), { pace: delivery.pace, signal });
-  } catch (failure) {
-    delivery.fail(failure);
-  }
-}
+/** @typedef {{ sabsim?: string | boolean, checkEvery: number }} Checking */
+
+/** @param {Checking} options @returns {boolean} whether the simulator checks the runs */
+export const areChecked = ({ sabsim, checkEvery }) => sabsim !== false && checkEvery > 0;

@@ -105,7 +105,7 @@ export const checkedOptions = (options, callersFolder) => checkedBy(options, "re
  * @returns {OfAll & OfMany}
  */
 export function exploreOptions(options, callersFolder) {
-  const checked = checkedBy(options, "explore", callersFolder);
+  const checked = { jobs: 1, ...checkedBy(options, "explore", callersFolder) };
   for (const name of /** @type {const} */ (["init", "check"])) {
     if (checked[name] === undefined || checked.jobs === 1) continue;
     const why = `it is a function of this process, and ${checked.jobs} jobs have processes of their own`;

@@ -1,9 +1,7 @@
 // The recorder as a library.
 
-import { checkedBy } from "../check/check.mjs";
-import { Group } from "../run/group.mjs";
-import { shorten } from "../shorter/shorten.mjs";
-import { chosenProgram, simulatorAt } from "../simulator/chosen.mjs";
+import { Runs } from "../seeds/runs.mjs";
+import { chosenProgram } from "../simulator/chosen.mjs";
 import { checkedOptions } from "./library-options.mjs";
 import { folderOfCaller } from "./module-url.mjs";
 
@@ -33,17 +31,16 @@ export { NoSabsim } from "../simulator/native.mjs";
  * program is chosen and isn't there
  */
 export async function record(options) {
-  const { seed, sabsim: asked, shorten: isShortened, ...rest } = checkedOptions(options, () => folderOfCaller(record));
-  const simulator = asked === false ? undefined : simulatorAt(chosenProgram(asked));
-  const group = await Group.open({ ...rest, fresh: false });
+  const { seed, sabsim: asked, shorten, ...rest } = checkedOptions(options, () => folderOfCaller(record));
+  const sabsim = asked === false ? asked : chosenProgram(asked);
+  const only = { first: seed, last: seed, checkEvery: 1, fresh: false, here: true, jobs: 1 };
+  const runs = new Runs({ ...rest, ...only, sabsim });
   try {
-    /** @param {import("../run/group.mjs").One} run */
-    const checked = (run) => checkedBy(simulator, run);
-    const found = checked(await group.one({ seed, whole: true }));
-    if (!isShortened || !found.fails) return found;
-    const { shortest, shortened } = await shorten(group, found);
-    return shortest === undefined ? { ...found, shortened } : { ...checked(shortest), original: found, shortened };
+    const { value: found } = await runs.outcomes().next();
+    if (!found?.fails || !shorten) return /** @type {Outcome} */ (found);
+    const { shortest, shortened } = await runs.shorten(found);
+    return shortest === undefined ? { ...found, shortened } : { ...shortest, original: found, shortened };
   } finally {
-    await group.close();
+    await runs.close();
   }
 }

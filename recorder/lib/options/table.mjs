@@ -83,8 +83,8 @@ export const OPTIONS = Object.freeze({
   check: { kind: FUNCTION, of: LIBRARY },
   sabsim: { kind: PROGRAM, of: ALL, help: ["PATH", "the native program, which then checks in place of the simulator's "
     + "module (what SABSIM of the environment names; else the module)"] },
-  jobs: { kind: whole(1, MOST_JOBS), of: OF_MANY, ifNone: 1,
-    help: ["N", "how many groups of workers run side by side (1)"] },
+  jobs: { kind: whole(1, MOST_JOBS), of: OF_MANY, help: ["N", "how many groups of workers run side by side (one, and "
+    + "after a second as many more as there are idle processors)"] },
   format: { kind: choice(["plain", "json"]), of: COMMAND, ifNone: "plain",
     help: ["FORM", "how the summary is told: plain, or json, which is one line (plain)"] },
   out: { kind: named("the name of a folder"), of: COMMAND,

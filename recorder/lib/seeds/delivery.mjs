@@ -1,5 +1,4 @@
-// Outcomes that are handed out one by one, in the order of their seeds. Who makes the runs goes only so far ahead of
-// who takes them.
+// Outcomes that are handed out one by one, in the order of their seeds: they are the same whatever the number of jobs.
 
 /** @typedef {import("./job.mjs").Checked} Outcome */
 
@@ -19,19 +18,15 @@ class Later {
 }
 
 export class Delivery {
-  /**
-   * @param {import("./ranges.mjs").Range} range the seeds
-   * @param {number} most how far a seed that is begun may be from the next one to be taken
-   */
-  constructor({ first, last }, most) {
+  /** @param {import("./ranges.mjs").Range} range the seeds */
+  constructor({ first, last }) {
     this.next = first;
     this.last = last;
-    this.most = most;
-    /** @type {Map<number, Outcome>} outcomes that nobody has taken */
+    /** @type {Map<number, Outcome | undefined>} outcomes that nobody has taken; undefined: it will never come */
     this.arrived = new Map();
     /** @type {{ failure: unknown } | undefined} why no more will come */
     this.failed = undefined;
-    /** @type {Later<void>} settled when something has changed for who takes */
+    /** @type {Later<void>} settled when something has changed for the one that takes */
     this.change = new Later();
     /** @type {Later<void>} settled when one was taken */
     this.taking = new Later();
@@ -43,43 +38,48 @@ export class Delivery {
     this.#changed();
   }
 
-  /** @param {unknown} failure the first one is told */
+  /** @param {number} seed whose outcome will never come */
+  lose(seed) {
+    this.arrived.set(seed, undefined);
+    this.#changed();
+  }
+
+  /** @param {unknown} failure the first one is reported */
   fail(failure) {
     this.failed ??= { failure };
     this.#changed();
   }
 
   /**
-   * The outcome of the next seed.
-   * @returns {Promise<Outcome | undefined>} undefined where all were taken; fails where no more will come
+   * The outcome of the next seed that has one.
+   * @returns {Promise<Outcome | undefined>} undefined if all were taken; fails if no more will come
    */
   async take() {
     for (;;) {
       if (this.failed !== undefined) throw this.failed.failure;
       if (this.next > this.last) return undefined;
-      const arrived = this.arrived.get(this.next);
-      if (arrived !== undefined) return this.#taken(arrived);
-      await this.change.promise;
+      if (!this.arrived.has(this.next)) await this.change.promise;
+      else {
+        const outcome = this.#taken();
+        if (outcome !== undefined) return outcome;
+      }
     }
   }
 
-  /** @returns {import("./seeds.mjs").Pace} how far the runs may go ahead */
-  get pace() {
-    return {
-      isAhead: (seed) => seed - this.next >= this.most,
-      next: () => this.taking.promise,
-      onFailure: (failure) => this.fail(failure),
-    };
+  /** @returns {Outcome[]} those that have come and weren't taken, also if one before them will never come */
+  left() {
+    const seeds = [...this.arrived.keys()].sort((one, other) => one - other);
+    return seeds.flatMap((seed) => this.arrived.get(seed) ?? []);
   }
 
-  /** @param {Outcome} arrived */
-  #taken(arrived) {
+  #taken() {
+    const outcome = this.arrived.get(this.next);
     this.arrived.delete(this.next);
     this.next += 1;
     const { taking } = this;
     this.taking = new Later();
     taking.settle();
-    return arrived;
+    return outcome;
   }
 
   #changed() {

@@ -6,17 +6,16 @@ import { checkedBy } from "../check/check.mjs";
 import { Group } from "../run/group.mjs";
 import { shorten } from "../shorter/shorten.mjs";
 import { simulatorAt } from "../simulator/chosen.mjs";
-import { lightened } from "./in-order.mjs";
 
 /** @typedef {import("../run/group.mjs").Outcome} Outcome */
-/** @typedef {Outcome & import("../check/check.mjs").Check} Checked */
+/** @typedef {Outcome & import("../check/check.mjs").Check & { stray?: import("../board/row.mjs").Stray }} Checked */
 
 /**
  * @typedef {object} CheckOptions
  * @property {number} checkEvery one in how many of the runs that don't fail is told whole, and checked
  * @property {boolean} checks whether runs that are told whole are checked
  * @property {string} [sabsim] the path of the native program that checks them; undefined: the module does
- * @property {boolean} [isBrief] whether of runs that don't fail no script, report and answers are told
+ * @property {boolean} [isBrief] whether the long texts are told of the first failing run alone
  */
 
 /**
@@ -24,6 +23,15 @@ import { lightened } from "./in-order.mjs";
  * @property {Checked} [shortest] undefined: the run stays as it was found
  * @property {import("../shorter/shorten.mjs").Shortened} shortened
  */
+
+/**
+ * An outcome without its long texts.
+ * @param {Checked} outcome
+ * @returns {Checked}
+ */
+function lightened({ script, report, trace, sources, bytes, answers, ...rest }) {
+  return rest;
+}
 
 export class Job {
   /** @type {Promise<Group> | undefined} */
@@ -37,6 +45,7 @@ export class Job {
 
   #every = 1;
   #isBrief = false;
+  #hasFailed = false;
 
   /**
    * Starts its workers.
@@ -61,7 +70,10 @@ export class Job {
     await (await this.#opened()).run(seeds, (outcome, judgement, aside) => {
       if (this.#failure !== undefined) return;
       const checked = this.#checked({ outcome, judgement, aside });
-      onOutcome(this.#isBrief && !outcome.fails ? lightened(checked) : checked);
+      // A failing run is kept only if its seed is the least, and a job's seeds ascend.
+      const isLight = this.#isBrief && (!outcome.fails || this.#hasFailed);
+      this.#hasFailed ||= outcome.fails;
+      onOutcome(isLight ? lightened(checked) : checked);
     });
     if (this.#failure !== undefined) throw this.#failure;
   }
@@ -92,7 +104,8 @@ export class Job {
   /** @param {import("../run/group.mjs").One} run @returns {Checked} */
   #checked(run) {
     try {
-      return checkedBy(this.#simulator, run, this.#every);
+      const { stray } = run.aside;
+      return { ...checkedBy(this.#simulator, run, this.#every), ...(stray === undefined ? {} : { stray }) };
     } catch (failure) {
       this.#failure = failure;
       return { ...run.outcome, checked: false };
