@@ -246,7 +246,7 @@ test("where a signal is aborted while nobody takes, all is ended all the same", 
 });
 
 test("a delivery hands out in order, and tells how far runs may go", async () => {
-  const delivery = new Delivery({ first: 5, last: 7 });
+  const delivery = new Delivery(5);
   assert.equal(delivery.next, 5);
   const first = delivery.take();
   delivery.add({ seed: 6 });
@@ -264,6 +264,7 @@ test("a delivery hands out in order, and tells how far runs may go", async () =>
   assert.equal((await delivery.take()).seed, 6);
   delivery.add({ seed: 7 });
   assert.equal((await delivery.take()).seed, 7);
+  delivery.finish();
   assert.equal(await delivery.take(), undefined);
   delivery.fail(new Error("too late"));
   delivery.fail(new Error("later"));

@@ -18,14 +18,14 @@ class Later {
 }
 
 export class Delivery {
-  /** @param {import("./ranges.mjs").Range} range the seeds */
-  constructor({ first, last }) {
+  /** @param {number} first seed */
+  constructor(first) {
     this.next = first;
-    this.last = last;
     /** @type {Map<number, Outcome | undefined>} outcomes that nobody has taken; undefined: it will never come */
     this.arrived = new Map();
     /** @type {{ failure: unknown } | undefined} why no more will come */
     this.failed = undefined;
+    this.isOver = false;
     /** @type {Later<void>} settled when something has changed for the one that takes */
     this.change = new Later();
     /** @type {Later<void>} settled when one was taken */
@@ -50,6 +50,12 @@ export class Delivery {
     this.#changed();
   }
 
+  /** All have come. */
+  finish() {
+    this.isOver = true;
+    this.#changed();
+  }
+
   /**
    * The outcome of the next seed that has one.
    * @returns {Promise<Outcome | undefined>} undefined if all were taken; fails if no more will come
@@ -57,12 +63,11 @@ export class Delivery {
   async take() {
     for (;;) {
       if (this.failed !== undefined) throw this.failed.failure;
-      if (this.next > this.last) return undefined;
-      if (!this.arrived.has(this.next)) await this.change.promise;
-      else {
+      if (this.arrived.has(this.next)) {
         const outcome = this.#taken();
         if (outcome !== undefined) return outcome;
-      }
+      } else if (this.isOver) return undefined;
+      else await this.change.promise;
     }
   }
 

@@ -35,7 +35,7 @@ export function isWorthIt({ milliseconds, idle, made }, left, opening) {
 
 /**
  * Yields when a further job is to be taken.
- * @param {Promise<void>} opened settled when the first one is open
+ * @param {Promise<unknown>} opened settled when the first one is open
  * @param {() => Progress} progress
  * @param {AbortSignal} signal aborted when no more runs are wanted
  * @returns {AsyncGenerator<void, void, void>} it fails when the signal is aborted

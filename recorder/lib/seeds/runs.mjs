@@ -55,7 +55,7 @@ export class Runs {
     this.options = options;
     this.signal = signal;
     this.queue = new SeedQueue(options);
-    this.delivery = new Delivery(options);
+    this.delivery = new Delivery(options.first);
     /** @type {AnyJob[]} */
     this.jobs = job === undefined ? [] : [job];
   }
@@ -127,11 +127,11 @@ export class Runs {
     const { first, last, jobs = 1, here } = this.options;
     const needed = Math.min(jobs, Math.ceil((last - first + 1) / this.queue.batch));
     while (this.jobs.length < needed) this.jobs.push(here ? new Job() : new RemoteJob());
-    const opened = this.jobs.map((job) => this.#opened(job));
-    this.#working = this.jobs.map((job, at) => this.#work(job, opened[at]));
+    const opened = Promise.all(this.jobs.map((job) => this.#opened(job)));
+    this.#working = this.jobs.map((job) => this.#work(job, opened));
     void this.#finish();
     // That it is aborted, or that the first job isn't opened, is reported by others.
-    if (this.options.jobs === undefined) this.#grow(opened[0]).catch(() => {});
+    if (this.options.jobs === undefined) this.#grow(opened).catch(() => {});
   }
 
   /** Ends the delivery as the jobs ended: with the first failure, or with all that is known of lost jobs. */
@@ -148,12 +148,13 @@ export class Runs {
     const worst = failures.find((failure) => !(failure instanceof LostJob));
     const messages = new Set(failures.map((failure) => failure.message));
     if (worst !== undefined) this.delivery.fail(worst);
-    else if (failures.length > 0) this.delivery.fail(new LostJob([...messages].join("; ")));
+    if (failures.length > 0) this.delivery.fail(new LostJob([...messages].join("; ")));
+    this.delivery.finish();
   }
 
   /**
    * Takes further jobs while that is worth it.
-   * @param {Promise<void>} opened settled when the first one is there
+   * @param {Promise<unknown>} opened settled when the first one is there
    */
   async #grow(opened) {
     const state = () => ({ jobs: this.jobs.length, made: this.#made, left: this.queue.left });
@@ -176,7 +177,7 @@ export class Runs {
   /**
    * Keeps a job at work until there are no seeds, or something failed. If the job is lost, others can go on.
    * @param {AnyJob} job
-   * @param {Promise<void>} [opened] settled when it can begin
+   * @param {Promise<unknown>} [opened] settled when it can begin
    */
   async #work(job, opened) {
     const { delivery, options: { ahead = Infinity, goesOn }, queue } = this;
