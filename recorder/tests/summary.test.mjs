@@ -11,8 +11,7 @@ import { counted, digits } from "../lib/keeping/words.mjs";
 
 const SEEN = { ordinary: "watch", races: "fail", checkedBy: "module 123" };
 /** What it says about checks of so many runs. */
-const checkedLine = (which) =>
-  `${which} replayed by the proved simulator (module), and judged for unordered accesses: it says the same`;
+const checkedLine = (which) => `${which} replayed and judged by the proved simulator (module): it says the same`;
 
 /**
  * An outcome, of which a test says what matters to it.
@@ -292,9 +291,9 @@ test("the checks of summaries that are joined are told together, with each kind 
   parts.forEach((summary, at) => summary.add(outcome(at, { checked: at < 2 })));
   const joined = new Summary({ ...SEEN, checkedBy: undefined });
   for (const summary of parts.slice(0, 2)) joined.join(summary.told());
-  assert.ok(joined.text().includes("\nevery run was replayed by the proved simulator (module and program), "));
+  assert.ok(joined.text().includes("\nevery run was replayed and judged by the proved simulator (module and program)"));
   joined.join(parts[2].told());
-  assert.ok(joined.text().includes("\n2 of 3 runs were replayed by the proved simulator (module and program), "));
+  assert.ok(joined.text().includes("\n2 of 3 runs were replayed and judged by the proved simulator (module and program)"));
   const versions = ["module 123", "program sabsim 0.1.0"];
   assert.deepEqual(joined.told().sabsim, { asked: true, versions, checked: 2, judges: true });
 });

@@ -25,7 +25,7 @@ import { isRacy } from "./races.mjs";
 import { areSame } from "./same.mjs";
 import { SourceNames } from "./source-names.mjs";
 import { UNSEEN_LINE, placesIn, traceText } from "./trace.mjs";
-import { ownCalls, transcriptOf, waitingText } from "./transcript.mjs";
+import { transcriptOf, waitingText } from "./transcript.mjs";
 
 /** @typedef {import("./group.mjs").Outcome} Outcome */
 /** @typedef {import("./group.mjs").Judgement} Judgement */
@@ -255,7 +255,8 @@ function tellWhole(outcome, found) {
   const { transcript, script, holds, bytes = [], noScript } = fitted(whole, stores, found.initial, found.bytes);
   if (outcome.ending === "deadlock") outcome.detail = waitingText(found.waiting, transcript);
   outcome.bytes = found.bytes;
-  outcome.answers = agents.map((agent) => ownCalls(transcript, agent).map((call) => call.answer));
+  const own = agents.map((agent) => transcript.calls[agent].filter(({ isOwn }) => isOwn));
+  outcome.answers = own.map((calls) => calls.map(({ answer }) => answer));
   if (script === undefined) {
     outcome.noScript = noScript;
     return;
