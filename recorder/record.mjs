@@ -12,6 +12,8 @@ import { moduleUrl } from "./lib/library/module-url.mjs";
 import { Refused } from "./lib/options/refused.mjs";
 import { RemoteJob } from "./lib/seeds/remote-job.mjs";
 
+/** @typedef {import("./lib/command/options.mjs").Options} Options */
+
 /** @param {string} module @returns {string} its URL */
 function existing(module) {
   const url = moduleUrl(module);
@@ -30,7 +32,7 @@ async function complain(problem) {
 }
 
 /**
- * @param {ReturnType<typeof optionsOf>} asked
+ * @param {Options} asked
  * @param {string} module its URL
  */
 async function recorded(asked, module) {
@@ -44,8 +46,8 @@ async function recorded(asked, module) {
 }
 
 /**
- * @param {ReturnType<typeof optionsOf>} asked
- * @param {NonNullable<ReturnType<typeof optionsOf>["replay"]>} replay
+ * @param {Options} asked
+ * @param {NonNullable<Options["replay"]>} replay
  */
 async function replayed(asked, replay) {
   const { Replay } = await import("./lib/command/replay.mjs");

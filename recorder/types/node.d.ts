@@ -108,7 +108,7 @@ declare class TextDecoder {
 interface AbortSignal {
   readonly aborted: boolean;
   readonly reason: any;
-  addEventListener(event: "abort", listener: () => void): void;
+  addEventListener(event: "abort", listener: () => void, options?: { once: boolean }): void;
   removeEventListener(event: "abort", listener: () => void): void;
 }
 
@@ -241,7 +241,7 @@ declare module "node:fs" {
   export function statSync(path: string): Stats;
   export function writeFileSync(file: number | string, text: string): void;
   export function writeSync(file: number, chunk: string | Uint8Array): number;
-  const all: { promises: object };
+  const all: { promises: object; writeSync: typeof writeSync };
   export default all;
 }
 
@@ -255,10 +255,13 @@ declare module "node:module" {
     constructor(payload: object);
     findEntry(line: number, column: number): SourceEntry;
   }
+  export function createRequire(url: string): (name: string) => any;
   export function syncBuiltinESMExports(): void;
 }
 
 declare module "node:os" {
+  export function availableParallelism(): number;
+  export function cpus(): { times: { idle: number } }[];
   export function tmpdir(): string;
   export const constants: { readonly signals: Record<NodeJS.Signals, number> };
 }
@@ -306,7 +309,9 @@ declare module "node:test" {
 
 declare module "node:timers/promises" {
   export function setImmediate(): Promise<void>;
-  export function setTimeout(milliseconds: number): Promise<void>;
+  export function setTimeout(
+    milliseconds: number, value?: undefined, options?: { ref: boolean; signal: AbortSignal },
+  ): Promise<void>;
 }
 
 declare module "node:url" {
@@ -353,6 +358,7 @@ declare module "node:v8" {
 }
 
 declare module "node:vm" {
+  export function compileFunction(code: string, names: string[], options: { filename: string }): Function;
   export function runInNewContext(code: string): any;
   const vm: {
     runInContext(code: string, context: object, options?: unknown): any;

@@ -125,7 +125,7 @@ function replayOf({ replay: file, seeds, out }) {
  */
 
 /**
- * @typedef {import("../run/group.mjs").GroupOptions & Omit<import("../seeds/seeds.mjs").SeedsOptions, "sabsim"> & Own
+ * @typedef {import("../run/group.mjs").GroupOptions & Omit<import("../seeds/runs.mjs").OfRuns, "sabsim"> & Own
  * & { ordinary: "watch" | "store" | "refuse", races: "fail" | "allow" }} Options
  */
 

@@ -75,6 +75,7 @@ export class Replay {
     const named = /^seed-(\d+)\./.exec(basename(file))?.[1];
     this.isNamed = named !== undefined || seed !== undefined;
     this.seed = seed ?? Number(named ?? DEFAULT_SEED);
+    /** @type {string | false | undefined} */
     this.sabsim = options.checkEvery === 0 ? false : chosenProgram(options.sabsim);
     this.simulator = this.sabsim === false ? undefined : simulatorAt(this.sabsim);
     this.place = placeOf(this.kept, options);

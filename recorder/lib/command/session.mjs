@@ -101,7 +101,7 @@ export class Session {
     progress.show(summary);
     if (outcome.fails) keeper?.keepLowest(outcome);
     onceMore();
-    return coverage?.add(outcome) || (failFast && outcome.fails);
+    return coverage?.add(outcome) === true || (failFast === true && outcome.fails);
   }
 
   /** The failing run of the least seed. */

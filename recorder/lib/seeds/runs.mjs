@@ -49,7 +49,7 @@ export class Runs {
   /**
    * Nothing is started before the first outcome is asked for.
    * @param {RunsOptions} options
-   * @param {{ signal?: AbortSignal, job?: RemoteJob }} [given] what ends all runs, with its reason; a job that has begun
+   * @param {{ signal?: AbortSignal, job?: RemoteJob }} given what ends all runs, with its reason; a job that has begun
    */
   constructor(options, { signal, job } = {}) {
     this.options = options;
@@ -76,7 +76,7 @@ export class Runs {
         if (failFast && next.fails) return;
       }
     } catch (failure) {
-      if (goesOn) yield* delivery.left();
+      for (const outcome of goesOn ? delivery.left() : []) yield outcome;
       throw failure;
     }
   }
