@@ -238,7 +238,8 @@ export class Group {
   }
 
   async #start() {
-    for (let count = 0; count < FIRST_WORKERS; count += 1) this.begun.push(this.#begin());
+    this.referee = this.#thread(REFEREE_MODULES, { isIncomplete: true });
+    this.#beginUpTo(FIRST_WORKERS);
     const told = await this.#load(0);
     needsRightNames(told.names);
     this.plan = planOf(this.options, told.setup);
@@ -251,12 +252,14 @@ export class Group {
     this.memory = memoryOf(this.plan, this.options.logEvents);
     this.board = new Board(this.memory.board, this.rules);
     const { memory, plan, rules } = this;
-    this.referee = this.#thread(REFEREE_MODULES, { memory, plan, rules, options });
+    this.referee.post({ memory, plan, rules, options });
     const others = Array.from({ length: this.plan.agents - 1 }, (_, other) => other + 1);
+    // A single agent meets nobody.
+    const learns = !everywhere && others.length > 0;
+    this.#beginUpTo(others.length + (learns ? this.plan.agents : 0));
     await Promise.all(others.map((agent) => this.#load(agent)));
     await Promise.all(this.agents.map((_, agent) => this.#hand(agent)));
-    // A single agent meets nobody.
-    if (!everywhere && this.plan.agents > 1) await this.#learn();
+    if (learns) await this.#learn();
   }
 
   /** Has the pilots made. Meanwhile the workers load the module that the agents have afterwards. */
@@ -275,6 +278,11 @@ export class Group {
     const thread = new Thread(WORKER, { modules, ...given }, { ownPort: true });
     this.threads.add(thread);
     return thread;
+  }
+
+  /** @param {number} count how many agents' workers are to have begun */
+  #beginUpTo(count) {
+    while (this.begun.length < count) this.begun.push(this.#begin());
   }
 
   /** Begins an agent's worker. */
