@@ -5,6 +5,7 @@ import { readFileSync } from "node:fs";
 import { basename } from "node:path";
 import { Refused } from "../options/refused.mjs";
 import { preloads } from "../processes/preloads.mjs";
+import { Job } from "../seeds/job.mjs";
 import { Runs } from "../seeds/runs.mjs";
 import { NoLongerTheSame, differenceText, strayedText } from "../shorter/differing.mjs";
 import { callNumbers, keptScript } from "../shorter/kept-script.mjs";
@@ -108,10 +109,11 @@ export class Replay {
     const limits = await isDebugged() ? long : { seconds: options.seconds };
     // A debugger would stop in each further run of the agents. So there are no pilots, from which nothing is to be
     // learnt, since the row says who moves; and the lines of code are told at once.
-    const only = { first: seed, last: seed, jobs: 1, here: true, fresh: false, everywhere: true, trace: true };
+    const only = { first: seed, last: seed, jobs: 1, fresh: false, everywhere: true, trace: true };
     const checking = { sabsim, checkEvery: 1 };
     const wanted = { row: draws.map(({ agent }) => agent), isExact: true, calls: callNumbers(this.kept) };
-    const runs = new Runs({ ...options, ...place, ...limits, ...only, ...checking, wanted });
+    const all = { ...options, ...place, ...limits, ...only, ...checking, wanted };
+    const runs = new Runs(all, { job: new Job() });
     try {
       return /** @type {any} */ ((await runs.outcomes().next()).value);
     } finally {

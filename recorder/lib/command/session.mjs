@@ -3,7 +3,6 @@
 import { resolve } from "node:path";
 import { Difference } from "../check/check.mjs";
 import { Keeper } from "../keeping/keep.mjs";
-import { keepPictures } from "../keeping/pictures.mjs";
 import { collectGarbage, onceMore } from "../processes/garbage.mjs";
 import { preloads } from "../processes/preloads.mjs";
 import { Coverage } from "../seeds/coverage.mjs";
@@ -122,7 +121,7 @@ export class Session {
    * Keeps what is made from the runs when they are over.
    * @param {unknown} stopped why not all were made, if so
    */
-  #keepMore(stopped) {
+  async #keepMore(stopped) {
     const { keeper, summary: { shortened } } = this;
     const failing = this.#failing();
     if (keeper === undefined) return;
@@ -134,6 +133,7 @@ export class Session {
       const outcome = shortened?.shortest ?? failing;
       const command = replayCommand({ ...this.options, module: this.asked.module });
       const how = { simulator: this.simulator, module: this.options.module, command };
+      const { keepPictures } = await import("../keeping/pictures.mjs");
       this.leftOut.push(...keepPictures(keeper, outcome, how));
     }
   }

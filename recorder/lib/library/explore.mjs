@@ -1,5 +1,6 @@
 // Many runs of the library, one for each of some seeds, handed out as they are asked for.
 
+import { Job } from "../seeds/job.mjs";
 import { Runs, outcomesOf } from "../seeds/runs.mjs";
 import { BATCH } from "../seeds/seed-queue.mjs";
 import { chosenProgram } from "../simulator/chosen.mjs";
@@ -34,8 +35,9 @@ export function runsOf(options, callersFolder) {
   const { signal, seeds, sabsim, ...rest } = exploreOptions(options, callersFolder);
   const checking = areChecked({ sabsim, ...rest }) ? { sabsim: chosenProgram(sabsim) } : { checkEvery: 0 };
   // Each job makes a batch while the one before is taken.
-  const how = { ahead: rest.jobs * BATCH, here: rest.jobs === 1 };
-  return new Runs({ ...rest, ...seeds, ...checking, ...how }, { signal });
+  const ahead = rest.jobs * BATCH;
+  const job = rest.jobs === 1 ? new Job() : undefined;
+  return new Runs({ ...rest, ...seeds, ...checking, ahead }, { signal, job });
 }
 
 /** @typedef {{ sabsim?: string | boolean, checkEvery: number }} Checking */

@@ -1,5 +1,6 @@
 // The recorder as a library.
 
+import { Job } from "../seeds/job.mjs";
 import { Runs } from "../seeds/runs.mjs";
 import { chosenProgram } from "../simulator/chosen.mjs";
 import { checkedOptions } from "./library-options.mjs";
@@ -33,8 +34,8 @@ export { NoSabsim } from "../simulator/native.mjs";
 export async function record(options) {
   const { seed, sabsim: asked, shorten, ...rest } = checkedOptions(options, () => folderOfCaller(record));
   const sabsim = asked === false ? asked : chosenProgram(asked);
-  const only = { first: seed, last: seed, checkEvery: 1, fresh: false, here: true, jobs: 1 };
-  const runs = new Runs({ ...rest, ...only, sabsim });
+  const only = { first: seed, last: seed, checkEvery: 1, fresh: false, jobs: 1 };
+  const runs = new Runs({ ...rest, ...only, sabsim }, { job: new Job() });
   try {
     const { value: found } = await runs.outcomes().next();
     if (!found?.fails || !shorten) return /** @type {Outcome} */ (found);

@@ -2,13 +2,12 @@
 // command line, the library and the tests of suites have their runs from here, and have found ones shortened.
 
 import { Delivery } from "./delivery.mjs";
-import { Job } from "./job.mjs";
 import { moreJobs } from "./more-jobs.mjs";
 import { LostJob, RemoteJob } from "./remote-job.mjs";
 import { SeedQueue } from "./seed-queue.mjs";
 
 /** @typedef {import("./job.mjs").Checked} Outcome */
-/** @typedef {RemoteJob | Job} AnyJob */
+/** @typedef {RemoteJob | import("./job.mjs").Job} AnyJob */
 
 /**
  * @typedef {object} OfRuns
@@ -28,7 +27,6 @@ import { SeedQueue } from "./seed-queue.mjs";
  * it isn't given
  * @property {boolean} [goesOn] whether the other jobs go on when the process of one has ended; and what has come by a
  * failure is handed out before that
- * @property {boolean} [here] whether the job's workers are of this process
  */
 
 /** @typedef {import("../run/group.mjs").GroupOptions & OfRuns} RunsOptions */
@@ -49,7 +47,8 @@ export class Runs {
   /**
    * Nothing is started before the first outcome is asked for.
    * @param {RunsOptions} options
-   * @param {{ signal?: AbortSignal, job?: RemoteJob }} given what ends all runs, with its reason; a job that has begun
+   * @param {{ signal?: AbortSignal, job?: AnyJob }} given what ends all runs, with its reason; the first job, which can
+   * be one in this process
    */
   constructor(options, { signal, job } = {}) {
     this.options = options;
@@ -124,9 +123,9 @@ export class Runs {
 
   /** Starts the jobs, and has them make the runs. */
   #begin() {
-    const { first, last, jobs = 1, here } = this.options;
+    const { first, last, jobs = 1 } = this.options;
     const needed = Math.min(jobs, Math.ceil((last - first + 1) / this.queue.batch));
-    while (this.jobs.length < needed) this.jobs.push(here ? new Job() : new RemoteJob());
+    while (this.jobs.length < needed) this.jobs.push(new RemoteJob());
     const opened = Promise.all(this.jobs.map((job) => this.#opened(job)));
     this.#working = this.jobs.map((job) => this.#work(job, opened));
     void this.#finish();
