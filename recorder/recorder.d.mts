@@ -7,16 +7,16 @@ type ModuleUrl = typeof globalThis extends { URL: new (...given: never[]) => inf
 type StopSignal = typeof globalThis extends { AbortSignal: { prototype: infer Signal } } ? Signal : never;
 
 /**
- * Runs the agents of a module once, under the schedule of one seed. Where sabsim is there it checks the run, unless
- * `sabsim` says otherwise. Fails with `Refused` for options or a module that can't be, with a `Difference` where sabsim
- * says something else, and with `NoSabsim` where it was asked for and isn't there.
+ * Runs the agents of a module once, under the schedule of one seed. The proved simulator checks the run, unless
+ * `sabsim` is false. Fails with `Refused` for options or a module that can't be, with a `Difference` if the simulator
+ * says something else, and with `NoSabsim` if the native program is chosen and isn't there.
  */
 export function record(options: RecordOptions): Promise<Outcome>;
 
 /**
  * Runs the agents of a module under the schedules of many seeds, by workers that are kept from seed to seed. The
  * outcomes come in the order of the seeds. Runs that fail, and one in `checkEvery` of the others, are told whole, and
- * checked by sabsim where it is there. Runs are made only so far ahead of who takes their outcomes; and when no more is
+ * checked by the proved simulator. Runs are made only so far ahead of who takes their outcomes; and when no more is
  * asked for, as after a `break`, all workers and processes are ended. Throws `Refused` for options that can't be, and
  * `NoSabsim`; fails with `Refused` for a module that can't be, with a `Difference`, with `LostJob`, and with its
  * signal's reason.
@@ -26,13 +26,16 @@ export function explore(options: ExploreOptions): AsyncGenerator<Outcome, void, 
 /** What was asked for can't be: the message says why. */
 export class Refused extends Error {}
 
-/** The program isn't there, or can't be run. */
+/** The native program isn't there, or can't be run. */
 export class NoSabsim extends Error {}
 
 /** The process of a job has ended by itself, or by others. */
 export class LostJob extends Error {}
 
-/** What the code saw isn't what sabsim says: a defect of one of them. The message has both sides. */
+/**
+ * What the code saw isn't what the simulator says, or the simulator has failed: a defect of one of them. The message
+ * has both sides.
+ */
 export class Difference extends Error {
   constructor(message: string, outcome: Difference["outcome"], replayed: string, judged?: string);
   /** It has its trace if sabsim's verdict on it is what differs. */
@@ -84,7 +87,7 @@ export interface RecordOptions {
    * `false` or an error that it answers.
    */
   check?: WithBuffers;
-  /** The program's path, or true: it must be there. False: it isn't asked. Else it is asked where it is there. */
+  /** The path of the native program, which checks runs in place of the module. False: runs aren't checked. */
   sabsim?: string | boolean;
   /** Whether the outcome has its trace. */
   trace?: boolean;
@@ -101,7 +104,7 @@ export interface ExploreOptions extends Omit<RecordOptions, "seed" | "shorten"> 
    * With several, `init` and `check` can't be given: they are functions of this process.
    */
   jobs?: number;
-  /** Of the runs that don't fail one in so many is checked by sabsim; 0: none is, nor those that fail; else 10. */
+  /** Of the runs that don't fail one in so many is checked; 0: none is, nor those that fail; else 1, so all. */
   checkEvery?: number;
   /** Whether the agents' workers are started anew for each seed; else what the module keeps in variables stays. */
   fresh?: boolean;

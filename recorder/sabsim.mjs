@@ -1,18 +1,28 @@
 #!/usr/bin/env node
 // Runs the program sabsim: the one that the package has for this machine, or that the repository has built. Words,
-// standard streams and signals are passed on to it, and its status is passed back. Where there is no program, the
+// standard streams and signals are passed on to it, and its status is passed back. If there is no program, the
 // simulator in WebAssembly does the same in this process, except races. This launcher isn't proved.
 
 import { spawn } from "node:child_process";
 import { existsSync, readFileSync } from "node:fs";
 import { constants } from "node:os";
-import { programPath } from "./lib/check/program.mjs";
+import { fileURLToPath } from "node:url";
 import { Simulator } from "./wasm/simulator.mjs";
 
 const NOT_RUN = 2;
 // The status of the program where a write failed.
 const NOT_WRITTEN = 3;
 const MODULE = new URL("./wasm/sabsim.wasm", import.meta.url);
+
+/** Where the program is: in the package, or where the repository builds it. */
+const PROGRAMS = [`../program/${process.platform}-${process.arch}/sabsim`, "../crates/sabsim/out/sabsim"];
+
+/** What the module adds to its version: what the proof doesn't cover. */
+const VERSION = /^(-V|--version)$/;
+const TRUST = `This is the module sabsim.wasm, of the same proved sources. The kit's clang compiled it for
+WebAssembly, with a heap of about 100 lines of C, and binaryen lowered it. The proof covers
+none of these three. The module was compared with the native program when it was made.
+`;
 
 /** @type {NodeJS.Signals[]} those that end a program, and that a program can pass on */
 const SIGNALS = ["SIGHUP", "SIGINT", "SIGQUIT", "SIGTERM"];
@@ -66,10 +76,11 @@ function runModule(words) {
     process.exitCode = NOT_WRITTEN;
   });
   process.stdout.write(output);
+  if (status === 0 && VERSION.test(words[0])) process.stdout.write(TRUST);
   process.stderr.write(complaint);
 }
 
-const path = programPath();
+const path = PROGRAMS.map((place) => fileURLToPath(new URL(place, import.meta.url))).find((place) => existsSync(place));
 const words = process.argv.slice(2);
-if (existsSync(path)) run(path, words);
-else runModule(words);
+if (path === undefined) runModule(words);
+else run(path, words);

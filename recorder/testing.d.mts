@@ -12,8 +12,8 @@ export interface TrialOptions extends Omit<ExploreOptions, "failFast"> {
 
 /**
  * A test of node:test that runs the agents of a module under the schedules of many seeds, up to the first run that
- * fails. What it says then has the seed, how the run ended, its last acts as sabsim explains them where it is there,
- * and where its files lie.
+ * fails. What it says then has the seed, how the run ended, its last acts as sabsim explains them, and where its files
+ * lie.
  */
 export function testAgents(name: string, options: TrialOptions): Promise<void>;
 

@@ -8,7 +8,7 @@ import { readdirSync } from "node:fs";
 import { parseArgs } from "node:util";
 import { fileURLToPath } from "node:url";
 import { checkedOptions } from "../lib/library/library-options.mjs";
-import { recordSeeds } from "../lib/seeds/seeds.mjs";
+import { Runs, outcomesOf } from "../lib/seeds/runs.mjs";
 
 const FOLDER = new URL("./programs/", import.meta.url);
 
@@ -47,11 +47,12 @@ export async function measured(name, options, { seeds, jobs }) {
   const begun = performance.now();
   let failed = 0;
   let first = Infinity;
-  await recordSeeds({ ...checkedOptions(given, () => undefined), ...many }, (outcome) => {
-    if (!outcome.fails) return;
+  const runs = new Runs({ ...checkedOptions(given, () => undefined), ...many });
+  for await (const { fails, seed } of outcomesOf(runs)) {
+    if (!fails) continue;
     failed += 1;
-    first = Math.min(first, outcome.seed);
-  });
+    first = Math.min(first, seed);
+  }
   const seconds = (performance.now() - begun) / 1_000;
   return { runs: seeds, failed, first: first === Infinity ? undefined : first, seconds };
 }

@@ -14,8 +14,5 @@ export const SCRIPT_LIMITS = Object.freeze({
 /** For how many seconds an agent may make no call, where nothing else is asked for. */
 export const DEFAULT_SECONDS = 10;
 
-/** One in how many runs that don't fail is checked by sabsim, where nothing else is asked for. */
-export const DEFAULT_CHECK_EVERY = 10;
-
 /** How many groups of workers may run side by side. */
 export const MOST_JOBS = 64;

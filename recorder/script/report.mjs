@@ -15,10 +15,10 @@
  * @returns {string}
  */
 export function reportOf(entries, bytes, progress) {
-  const moves = entries.map(({ agent, call, text }, position) => `${position} ${agent} ${call} ${text}`);
-  const blocks = bytes.map((hex, block) => `block ${block} ${hex === "" ? "-" : hex}`);
-  const agents = progress.map(({ returned, calls }, agent) => `agent ${agent} ${returned} of ${calls}`);
-  return [...moves, ...blocks, ...agents].map((line) => `${line}\n`).join("");
+  const moves = entries.map(({ agent, call, text }, position) => `${position} ${agent} ${call} ${text}\n`);
+  const blocks = bytes.map((hex, block) => `block ${block} ${hex === "" ? "-" : hex}\n`);
+  const agents = progress.map(({ returned, calls }, agent) => `agent ${agent} ${returned} of ${calls}\n`);
+  return [moves, blocks, agents].map((lines) => lines.join("")).join("");
 }
 
 /**
@@ -29,30 +29,28 @@ export function reportOf(entries, bytes, progress) {
 export const answerText = (answer) => (typeof answer === "bigint" ? `${answer}n` : `${answer}`);
 
 /**
- * What the next step of a call is written as; a call steps through its words.
+ * What a step of a call is written as. A call that joins the line has four steps, and another one three.
  * @param {import("./text.mjs").Done} call
- * @returns {string[]}
+ * @param {number} step from 0
  */
-function wordsOf(call) {
-  const { joined, answer } = call;
-  return joined
-    ? ["begin", "wait", `leave ${answer}`, `return ${answer}`]
-    : ["begin", `act ${answer}`, `return ${answer}`];
+function wordOf({ joined, answer }, step) {
+  if (step === 0) return "begin";
+  if (step === 1) return joined ? "wait" : `act ${answer}`;
+  return joined && step === 2 ? `leave ${answer}` : `return ${answer}`;
 }
 
 /** @param {import("./text.mjs").Transcript} transcript @returns {Entry[]} what each move did */
 function entriesOf(transcript) {
-  const at = transcript.calls.map((calls) => ({ call: 0, words: calls.length > 0 ? wordsOf(calls[0]) : [] }));
+  const cursors = transcript.calls.map(() => ({ call: 0, step: 0 }));
   return transcript.moves.map(({ agent }) => {
-    const cursor = at[agent];
+    const cursor = cursors[agent];
+    const { call, step } = cursor;
     // Each move of an agent is one of its calls'.
-    const entry = { agent, call: cursor.call, text: /** @type {string} */ (cursor.words.shift()) };
-    if (cursor.words.length === 0) {
-      cursor.call += 1;
-      const next = transcript.calls[agent][cursor.call];
-      cursor.words = next === undefined ? [] : wordsOf(next);
-    }
-    return entry;
+    const done = transcript.calls[agent][call];
+    const isLast = step === (done.joined ? 3 : 2);
+    cursor.call = isLast ? call + 1 : call;
+    cursor.step = isLast ? 0 : step + 1;
+    return { agent, call, text: wordOf(done, step) };
   });
 }
 

@@ -4,8 +4,7 @@
 import assert from "node:assert/strict";
 import { readFileSync } from "node:fs";
 import { test } from "node:test";
-import { SABSIM, withSabsim } from "./helpers/needs.mjs";
-import { start } from "./helpers/programs.mjs";
+import { simulatedBeside } from "./helpers/programs.mjs";
 import { slowJudge } from "./helpers/slow-judge.mjs";
 import { jsonText, statusOf } from "./helpers/verdict-texts.mjs";
 
@@ -126,12 +125,12 @@ function* changesOf(bytes) {
 /** Asks sabsim of a trace, and says what it must say. @param {Uint8Array} bytes */
 async function demandOf(bytes) {
   const expected = expectedOf(bytes);
-  const said = await start(SABSIM, ["judge", "--trace", "--format", "json"], bytes).ended;
-  assert.deepEqual(said, { signal: null, ...expected }, Buffer.from(bytes).toString("latin1"));
+  const said = await simulatedBeside(["judge", "--trace", "--format", "json"], bytes);
+  assert.deepEqual(said, expected, Buffer.from(bytes).toString("latin1"));
   return expected.status;
 }
 
-test("a trace of which one byte is changed is refused at its line, or judged as it stands", withSabsim, async () => {
+test("a trace of which one byte is changed is refused at its line, or judged as it stands", async () => {
   const trace = readFileSync(new URL("chain-broken-by-a-store.jsonl", ROWS));
   const changes = [...changesOf(trace)];
   const statuses = new Set();
@@ -157,7 +156,7 @@ function* combinations() {
   }
 }
 
-test("an event is refused if its flags or its size don't go with what it does, and else judged", withSabsim, async () => {
+test("an event is refused if its flags or its size don't go with what it does, and else judged", async () => {
   const all = [...combinations()];
   const counts = { 0: 0, 1: 0 };
   for (let from = 0; from < all.length; from += AT_ONCE) {

@@ -6,11 +6,11 @@ import { execFile } from "node:child_process";
 import { readFileSync, readdirSync, writeFileSync } from "node:fs";
 import { join } from "node:path";
 import { describe, it } from "node:test";
-import { sabsim } from "../lib/check/sabsim.mjs";
 import { Refused, record } from "../recorder.mjs";
 import { RECORD, agentsPath, temporaryFolder } from "./helpers/common.mjs";
-import { CHECKER, SABSIM, withSabsim } from "./helpers/needs.mjs";
+import { CHECKER, CHECKING } from "./helpers/needs.mjs";
 import { different, recorded, seedsTo } from "./helpers/recorded.mjs";
+import { simulated } from "./helpers/simulate.mjs";
 
 const program = (name, options = {}) => ({ module: agentsPath("checked"), args: [name], ...options });
 
@@ -28,9 +28,9 @@ describe("init and check", { concurrency: 2 }, () => {
     }
   });
 
-  it("what fails by its check is kept, and replays", withSabsim, async (context) => {
+  it("what fails by its check is kept, and replays", async (context) => {
     const out = temporaryFolder(context);
-    const words = [RECORD, agentsPath("checked"), "--seeds", "1..20", "--out", out, "--sabsim", SABSIM, "--", "lost"];
+    const words = [RECORD, agentsPath("checked"), "--seeds", "1..20", "--out", out, ...CHECKING, "--", "lost"];
     const { code, stdout } = await new Promise((done) => {
       execFile(process.execPath, words, (error, text) => done({ code: error?.code, stdout: text }));
     });
@@ -41,7 +41,7 @@ describe("init and check", { concurrency: 2 }, () => {
       "explained", "html", "json", "original.json", "original.report", "original.trace.jsonl", "report", "svg",
       "trace.jsonl",
     ].map((ending) => `seed-${seed}.${ending}`));
-    assert.equal(sabsim(SABSIM, ["replay"], kept("json")).output, kept("report"));
+    assert.equal(simulated(["replay"], kept("json")).output, kept("report"));
   });
 
   it("the stores of init stand first, by an agent of its own, in each run anew", async () => {

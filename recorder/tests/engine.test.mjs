@@ -8,7 +8,6 @@ import { Crew, EngineFault } from "./engine/crew.mjs";
 import { replay } from "./engine/replay.mjs";
 import { summary } from "./engine/report.mjs";
 import { readScript, ScriptFault } from "./engine/script.mjs";
-import { withSabsim } from "./helpers/needs.mjs";
 import { Opinions } from "./helpers/opinions.mjs";
 import { pathOf, replayBySabsim, runNode, start } from "./helpers/programs.mjs";
 import { seedsTo } from "./helpers/recorded.mjs";
@@ -55,7 +54,7 @@ describe("generated scripts", () => {
     untimed = await opinionsOn(generatedScript, SCRIPTS);
   });
 
-  test(`the engine and sabsim answer the same to each of ${SCRIPTS} scripts`, withSabsim, () => compare(untimed));
+  test(`the engine and sabsim answer the same to each of ${SCRIPTS} scripts`, () => compare(untimed));
 
   test("the scripts have of everything many", () => {
     const seen = new Map();
@@ -66,7 +65,7 @@ describe("generated scripts", () => {
     assert.ok([...seen.keys()].filter((line) => /^act -?\d+n$/.test(line)).length >= 5, "BigInts");
   });
 
-  test(`and to each of ${TIMED_SCRIPTS} in which times end in every order`, withSabsim, async () => {
+  test(`and to each of ${TIMED_SCRIPTS} in which times end in every order`, async () => {
     await compare(await opinionsOn(timedScript, TIMED_SCRIPTS));
   });
 });

@@ -1,6 +1,6 @@
 // Each example is recorded under 200 seeds: the naive mutex is found, no other run fails, and what is found is what the
-// examples' README says. The engine's own waits and notifies agree with some of the scripts of each. Sabsim, where it is
-// given, replays every script to the same answers.
+// examples' README says. The engine's own waits and notifies agree with some of the scripts of each. The simulator
+// checks every run.
 
 import assert from "node:assert/strict";
 import { mkdtempSync, readFileSync, readdirSync, rmSync, writeFileSync } from "node:fs";
@@ -8,8 +8,8 @@ import { tmpdir } from "node:os";
 import { join } from "node:path";
 import { after, describe, test } from "node:test";
 import { pathToFileURL } from "node:url";
-import { recordSeeds } from "../lib/seeds/seeds.mjs";
-import { CHECKER, hasSabsim } from "./helpers/needs.mjs";
+import { Runs, outcomesOf as taken } from "../lib/seeds/runs.mjs";
+import { CHECKER } from "./helpers/needs.mjs";
 import { Opinions } from "./helpers/opinions.mjs";
 import { pathOf } from "./helpers/programs.mjs";
 
@@ -25,9 +25,9 @@ async function outcomesOf(module, last, checkEvery) {
   const outcomes = [];
   const fixed = { args: [], jobs: 2, maxMoves: 100_000, seconds: 10, fresh: false, sabsim: CHECKER };
   const options = { ...fixed, module: pathToFileURL(module).href, first: 1, last, checkEvery };
-  const { checked } = await recordSeeds(options, (outcome) => outcomes.push(outcome));
-  assert.equal(checked, hasSabsim ? checkEvery * last : 0);
-  return outcomes.sort((one, other) => one.seed - other.seed);
+  for await (const outcome of taken(new Runs(options))) outcomes.push(outcome);
+  assert.equal(outcomes.filter(({ checked }) => checked).length, checkEvery * last);
+  return outcomes;
 }
 
 /** How many waits ended by their time. */

@@ -10,7 +10,7 @@ import { setTimeout as sleep } from "node:timers/promises";
 import { Delivery } from "../lib/seeds/delivery.mjs";
 import { Difference, LostJob, NoSabsim, Refused, explore, record } from "../recorder.mjs";
 import { agentsOf, agentsPath, temporaryFolder } from "./helpers/common.mjs";
-import { CHECKER, NOWHERE, SABSIM, onLinux, withSabsim } from "./helpers/needs.mjs";
+import { CHECKER, NOWHERE, onLinux } from "./helpers/needs.mjs";
 
 const LIBRARY = new URL("../recorder.mjs", import.meta.url).href;
 /** Drawn for before each call, so that there are no pilots, which call `init` too. */
@@ -41,8 +41,8 @@ test("outcomes come in the order of the seeds, and are those of record, whatever
   assert.deepEqual(first, await record({ ...options, seed: 29 }));
 });
 
-test("each outcome says whether sabsim has checked it: those that fail, and one in so many", withSabsim, async () => {
-  for (const outcome of await allOf(explore({ ...naive, sabsim: SABSIM, seeds: "20..60", checkEvery: 4 }))) {
+test("each outcome says whether sabsim has checked it: those that fail, and one in so many", async () => {
+  for (const outcome of await allOf(explore({ ...naive, sabsim: CHECKER, seeds: "20..60", checkEvery: 4 }))) {
     const { seed, fails, checked, unchecked, script } = outcome;
     assert.equal(checked, fails || (seed - 20) % 4 === 0);
     assert.equal(unchecked, checked ? undefined : "of runs that don't fail one in 4 is checked");
@@ -245,29 +245,28 @@ test("where a signal is aborted while nobody takes, all is ended all the same", 
   }));
 });
 
-test("a delivery hands out in order, each when its check is done, and tells how far runs may go", async () => {
-  const delivery = new Delivery({ first: 5, last: 7 }, 2, true);
-  const { pace } = delivery;
-  assert.deepEqual([5, 6, 7].map((seed) => pace.isAhead(seed)), [false, false, true]);
+test("a delivery hands out in order, and tells how far runs may go", async () => {
+  const delivery = new Delivery(5);
+  assert.equal(delivery.next, 5);
   const first = delivery.take();
   delivery.add({ seed: 6 });
-  delivery.add({ seed: 5, script: "{}" });
   let isTaken = false;
   first.then(() => {
     isTaken = true;
   });
   await sleep(1);
   assert.equal(isTaken, false);
-  const next = pace.next();
-  delivery.addCheck(5);
-  assert.deepEqual([(await first).outcome.seed, (await first).isChecked], [5, true]);
+  const next = delivery.taking.promise;
+  delivery.add({ seed: 5, checked: true });
+  assert.deepEqual(await first, { seed: 5, checked: true });
   await next;
-  assert.equal(pace.isAhead(7), false);
-  assert.equal((await delivery.take()).outcome.seed, 6);
+  assert.equal(delivery.next, 6);
+  assert.equal((await delivery.take()).seed, 6);
   delivery.add({ seed: 7 });
-  assert.equal((await delivery.take()).isChecked, false);
+  assert.equal((await delivery.take()).seed, 7);
+  delivery.finish();
   assert.equal(await delivery.take(), undefined);
-  pace.onFailure(new Error("too late"));
+  delivery.fail(new Error("too late"));
   delivery.fail(new Error("later"));
   await assert.rejects(delivery.take(), /^Error: too late$/);
 });

@@ -4,12 +4,15 @@ import assert from "node:assert/strict";
 import { spawn, spawnSync } from "node:child_process";
 import { readFileSync, readdirSync, writeFileSync } from "node:fs";
 import { randomUUID } from "node:crypto";
+import { availableParallelism } from "node:os";
 import { join } from "node:path";
 import { test } from "node:test";
-import { InOrder } from "../lib/seeds/in-order.mjs";
+import { setTimeout as sleep } from "node:timers/promises";
+import { Delivery } from "../lib/seeds/delivery.mjs";
+import { isWorthIt } from "../lib/seeds/more-jobs.mjs";
 import { jobWords } from "../lib/seeds/node-words.mjs";
 import { RECORD, agentsOf, agentsPath, temporaryFolder } from "./helpers/common.mjs";
-import { CHECKING, hasSabsim, onLinux } from "./helpers/needs.mjs";
+import { CHECKING, onLinux } from "./helpers/needs.mjs";
 
 /**
  * Runs the command line to its end.
@@ -71,6 +74,38 @@ test("one job and several tell the same", () => {
   assert.deepEqual(four, one);
 });
 
+test("without --jobs a command that goes on takes further jobs, and tells the same as one", onLinux, async () => {
+  const words = [RECORD, agentsPath("naive-mutex"), "--seeds", "1..4000", ...CHECKING];
+  const mark = randomUUID();
+  const child = spawn(process.execPath, words, { env: { ...process.env, RECORDER_TEST: mark } });
+  let [stdout, most] = ["", 0];
+  child.stdout.setEncoding("utf8").on("data", (text) => {
+    stdout += text;
+  });
+  const counting = setInterval(() => {
+    most = Math.max(most, processesWith(mark).length);
+  }, 50);
+  const status = await new Promise((done) => {
+    child.on("close", done);
+  });
+  clearInterval(counting);
+  assert.deepEqual({ status, stdout }, (({ stderr, ...rest }) => rest)(run([...words.slice(1), "--jobs", "1"])));
+  // Besides the command itself there is a process for each job. Whether one is added depends on what else is running.
+  assert.ok(most >= 2 && most <= 1 + availableParallelism(), `${most} processes`);
+  assert.deepEqual(processesWith(mark), []);
+});
+
+test("a further job is worth it if a processor is idle, and the runs would go on for longer than it takes", () => {
+  const seen = { milliseconds: 200, idle: 400, made: 100 };
+  // 1,000 runs go on for two seconds.
+  assert.equal(isWorthIt(seen, 1_000, 500), true);
+  assert.equal(isWorthIt(seen, 1_000, 1_000), false);
+  assert.equal(isWorthIt({ ...seen, idle: 99 }, 1_000, 500), false);
+  assert.equal(isWorthIt(seen, 0, 500), false);
+  // Runs that take long are worth it as soon as there is one more of them.
+  assert.equal(isWorthIt({ ...seen, made: 0 }, 1, 500), true);
+});
+
 test("with --fail-fast the first failing run is the last, whatever the number of jobs", () => {
   const words = [agentsPath("naive-mutex"), "--seeds", "1..1000000", "--check", "7", ...CHECKING];
   const [one, three] = ["1", "3"].map((jobs) => run([...words, "--fail-fast", "--jobs", jobs]));
@@ -81,38 +116,42 @@ test("with --fail-fast the first failing run is the last, whatever the number of
   assert.equal(runs.replaceAll(",", ""), seed);
   // Of the seeds 1, 8, 15, .. each is checked, and the last one, since it failed.
   const checked = Math.ceil(Number(seed) / 7) + ((Number(seed) - 1) % 7 === 0 ? 0 : 1);
-  const told = hasSabsim ? `${checked} runs checked: sabsim says the same` : "no run was checked";
-  assert.match(one.stdout, new RegExp(`^${told}$`, "m"));
+  assert.match(one.stdout, new RegExp(`^${checked} of [\\d,]+ runs were replayed and judged by the proved simulator `, "m"));
 });
 
-/** What is told of outcomes that come in some order: seeds that fail are negative, and those lost are texts. */
-function toldOf(arrivals, checks = {}) {
-  const told = [];
-  const onCheck = (seed) => told.push(`checked ${seed}`);
-  const inOrder = new InOrder(1, ({ fails }) => fails, ({ seed }) => told.push(seed), onCheck);
-  arrivals.forEach((arrival, at) => {
-    if (typeof arrival === "string") inOrder.lose(Number(arrival));
-    else inOrder.add({ seed: Math.abs(arrival), fails: arrival < 0 });
-    (checks[at] ?? []).forEach((seed) => inOrder.addCheck(seed));
-  });
-  inOrder.finish();
-  return told;
+/**
+ * The outcomes that are taken, up to the first that fails, where they come in some order: those of seeds that fail are
+ * negative, and those that are lost are texts. After the last one there is a failure.
+ */
+async function takenOf(arrivals) {
+  const delivery = new Delivery(1);
+  const taken = [];
+  const isLast = ({ seed, fails }) => {
+    taken.push(seed);
+    return fails;
+  };
+  const taking = (async () => {
+    for (let next = await delivery.take(); next !== undefined; next = await delivery.take()) if (isLast(next)) return;
+  })();
+  for (const arrival of arrivals) {
+    if (typeof arrival === "string") delivery.lose(Number(arrival));
+    else delivery.add({ seed: Math.abs(arrival), fails: arrival < 0 });
+    await sleep(1);
+  }
+  delivery.fail(new Error("no more"));
+  const stopped = await taking.then(() => false, () => true);
+  if (stopped) for (const outcome of delivery.left()) if (isLast(outcome)) break;
+  return taken;
 }
 
-test("outcomes that come in any order are told in the order of their seeds, up to the first that fails", () => {
-  assert.deepEqual(toldOf([1, 2, 3]), [1, 2, 3]);
-  assert.deepEqual(toldOf([3, 1, 2]), [1, 2, 3]);
-  assert.deepEqual(toldOf([4, -3, 1, 2, 5]), [1, 2, 3]);
-  assert.deepEqual(toldOf([-2, -1, 3]), [1]);
-  // Where seed 2 is lost, the others are told at once; where nothing comes of it, at the end.
-  assert.deepEqual(toldOf([1, 3, "2", 4], { 2: [3] }), [1, 3, "checked 3", 4]);
-  assert.deepEqual(toldOf([5, 1, -4, 3]), [1, 3, 4]);
-});
-
-test("a check is told with its run, and one of a run that isn't told is none", () => {
-  assert.deepEqual(toldOf([2, 1], { 0: [2] }), [1, 2, "checked 2"]);
-  assert.deepEqual(toldOf([1, 2], { 1: [1] }), [1, 2, "checked 1"]);
-  assert.deepEqual(toldOf([3, 1, -2], { 0: [3], 2: [2, 1, 4] }), [1, 2, "checked 2", "checked 1"]);
+test("outcomes that come in any order are taken in the order of their seeds, up to the first that fails", async () => {
+  assert.deepEqual(await takenOf([1, 2, 3]), [1, 2, 3]);
+  assert.deepEqual(await takenOf([3, 1, 2]), [1, 2, 3]);
+  assert.deepEqual(await takenOf([4, -3, 1, 2, 5]), [1, 2, 3]);
+  assert.deepEqual(await takenOf([-2, -1, 3]), [1]);
+  // If seed 2 is lost, the others are taken at once; if nothing comes of it, they are left.
+  assert.deepEqual(await takenOf([1, 3, "2", 4]), [1, 3, 4]);
+  assert.deepEqual(await takenOf([5, 1, -4, 3]), [1, 3, 4]);
 });
 
 test("a job's process that dies is told of, with status 3, and the summary of the others", (context) => {

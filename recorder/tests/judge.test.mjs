@@ -8,11 +8,11 @@ import { describe, it, test } from "node:test";
 import { checkedOptions } from "../lib/library/library-options.mjs";
 import { Group } from "../lib/run/group.mjs";
 import { detected, detectedPairs } from "./helpers/detected.mjs";
-import { SABSIM, hasSabsim, withSabsim } from "./helpers/needs.mjs";
-import { pathOf, start } from "./helpers/programs.mjs";
+import { pathOf } from "./helpers/programs.mjs";
 import { seedsTo } from "./helpers/recorded.mjs";
 import { eventsOfTrace, slowJudge } from "./helpers/slow-judge.mjs";
 import { jsonText, plainText, statusOf } from "./helpers/verdict-texts.mjs";
+import { simulated } from "./helpers/simulate.mjs";
 
 const ROWS = new URL("./judge-rows/", import.meta.url);
 const KNOWN = new URL("./known/", import.meta.url);
@@ -30,11 +30,11 @@ const namesIn = (folder, ending) =>
   readdirSync(folder).filter((name) => name.endsWith(ending)).map((name) => name.slice(0, -ending.length));
 
 /** What `sabsim judge --trace` says. @param {string} trace @param {string[]} [words] */
-const judgedBySabsim = (trace, words = []) => start(SABSIM, ["judge", "--trace", ...words], trace).ended;
+const judgedBySabsim = (trace, words = []) => simulated(["judge", "--trace", ...words], trace);
 
 /** Sabsim says of a trace what it must, in words or as JSON. */
-async function demandOfSabsim(trace, words, expected) {
-  assert.deepEqual(await judgedBySabsim(trace, words), { signal: null, errors: "", ...expected });
+function demandOfSabsim(trace, words, expected) {
+  assert.deepEqual(judgedBySabsim(trace, words), { errors: "", ...expected });
 }
 
 describe("rows by hand", () => {
@@ -54,20 +54,20 @@ describe("rows by hand", () => {
     it(`${name}, by the recorder's detector`, () => {
       assert.deepEqual(detected(eventsOfTrace(trace)), detectedPairs(judged));
     });
-    it(`${name}, by sabsim`, withSabsim, async () => {
+    it(`${name}, by sabsim`, () => {
       const status = statusOf(judged);
-      await demandOfSabsim(trace, [], { output: verdict, status });
-      await demandOfSabsim(trace, ["--format", "plain"], { output: verdict, status });
-      await demandOfSabsim(trace, ["--format", "json"], { output: jsonText(judged), status });
+      demandOfSabsim(trace, [], { output: verdict, status });
+      demandOfSabsim(trace, ["--format", "plain"], { output: verdict, status });
+      demandOfSabsim(trace, ["--format", "json"], { output: jsonText(judged), status });
     });
   }
 });
 
-test("what is no event's line is refused, and it is said which line", withSabsim, async () => {
+test("what is no event's line is refused, and it is said which line", () => {
   const trace = readFileSync(new URL("mutex.jsonl", ROWS), "utf8");
   const lines = trace.split("\n");
   for (const line of ['{"event":1}', "[]"]) {
-    const { status, output, errors } = await judgedBySabsim(lines.with(1, line).join("\n"));
+    const { status, output, errors } = judgedBySabsim(lines.with(1, line).join("\n"));
     assert.deepEqual([status, output, errors], [1, "", "sabsim: 10 BadShape: line 2\n"]);
   }
 });
@@ -75,7 +75,7 @@ test("what is no event's line is refused, and it is said which line", withSabsim
 /** What a process finds of the random traces from a seed on. @param {number} first */
 const foundFrom = (first) => new Promise((done) => {
   const words = [first, RANDOM, PROCESSES].map(String);
-  const child = fork(pathOf("recorder/tests/helpers/judge-process.mjs"), hasSabsim ? [...words, SABSIM] : words);
+  const child = fork(pathOf("recorder/tests/helpers/judge-process.mjs"), words);
   const found = { seeds: 0, racy: 0, differing: [] };
   child.on("message", ({ isRacy, differing }) => {
     found.seeds += 1;

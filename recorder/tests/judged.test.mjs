@@ -8,7 +8,7 @@ import { describe, it } from "node:test";
 import { fileURLToPath } from "node:url";
 import { Difference, NoSabsim, record } from "../recorder.mjs";
 import { RECORD, agentsPath, recordCase, temporaryFolder } from "./helpers/common.mjs";
-import { SABSIM, withSabsim } from "./helpers/needs.mjs";
+import { SIMULATOR_WORDS } from "./helpers/simulate.mjs";
 import { eventsOfTrace, slowJudge } from "./helpers/slow-judge.mjs";
 import { plainText, statusOf } from "./helpers/verdict-texts.mjs";
 
@@ -28,7 +28,8 @@ const MEMBERS = [
 function judging(folder, judge) {
   const path = join(folder, "judging");
   const own = `cat > ${folder}/given; ${judge}`;
-  writeFileSync(path, `#!/bin/sh\nif [ "$1" = judge ]; then ${own}; fi\nexec ${SABSIM} "$@"\n`, { mode: 0o755 });
+  const code = `#!/bin/sh\nif [ "$1" = judge ]; then ${own}; fi\nexec ${SIMULATOR_WORDS} "$@"\n`;
+  writeFileSync(path, code, { mode: 0o755 });
   return path;
 }
 
@@ -45,10 +46,10 @@ function run(...words) {
 const addition = ["--agents", "2", "--buffers", "12", "--seeds", "7", "--", "addition"];
 
 describe("the judge of checked runs", () => {
-  it("is given the run's trace, and says what the slow judge finds in it", withSabsim, async (context) => {
+  it("is given the run's trace, and says what the slow judge finds in it", async (context) => {
     const folder = temporaryFolder(context);
     for (const seed of [1, RACING_SEED]) {
-      const sabsim = judging(folder, `${SABSIM} judge --trace < ${folder}/given > ${folder}/said; exit $?`);
+      const sabsim = judging(folder, `${SIMULATOR_WORDS} judge --trace < ${folder}/given > ${folder}/said; exit $?`);
       const { checked, races } = await record({ module: RING, seed, sabsim });
       const events = eventsOfTrace(readFileSync(join(folder, "given"), "utf8"));
       const judged = slowJudge(events);
@@ -60,14 +61,22 @@ describe("the judge of checked runs", () => {
     }
   });
 
-  it("is given the calls of the outcome's trace, without their lines of code", withSabsim, async (context) => {
+  it("is given the calls of the outcome's trace, without their lines of code", async (context) => {
     const folder = temporaryFolder(context);
-    const { trace } = await recordCase("addition", { sabsim: judging(folder, FINDS_NONE), trace: true });
+    const options = { module: RING, seed: 1, everywhere: true, trace: true };
+    const { trace, ordinary } = await record({ ...options, sabsim: judging(folder, FINDS_NONE) });
+    assert.ok(ordinary > 0);
     const without = trace.replaceAll(/"source":"[^"]*"/g, '"source":null');
     assert.equal(readFileSync(join(folder, "given"), "utf8"), without);
   });
 
-  it("says that there is a race, and the recorder found none: both are told", withSabsim, async (context) => {
+  it("is given the script if that has all accesses", async (context) => {
+    const folder = temporaryFolder(context);
+    const { script } = await recordCase("addition", { sabsim: judging(folder, FINDS_NONE) });
+    assert.equal(readFileSync(join(folder, "given"), "utf8"), script);
+  });
+
+  it("says that there is a race, and the recorder found none: both are told", async (context) => {
     const sabsim = judging(temporaryFolder(context), FINDS_ONE);
     await assert.rejects(recordCase("addition", { sabsim, seed: 9 }), (error) => {
       assert.ok(error instanceof Difference);
@@ -83,7 +92,7 @@ describe("the judge of checked runs", () => {
     });
   });
 
-  it("says that there is none, and the recorder found a race: both are told", withSabsim, async (context) => {
+  it("says that there is none, and the recorder found a race: both are told", async (context) => {
     const found = /^ {2}the recorder: agent 1 reads slots\[0\] at ring-frees-first\.mjs:32:17, .*; agent 0 writes /;
     const sabsim = judging(temporaryFolder(context), FINDS_NONE);
     for (const races of ["fail", "allow"]) {
@@ -98,45 +107,53 @@ describe("the judge of checked runs", () => {
     }
   });
 
-  it("refuses the trace: that is a difference too", withSabsim, async (context) => {
+  it("refuses the trace, or the script's accesses: that is a difference too", async (context) => {
     const sabsim = judging(temporaryFolder(context), "echo 'sabsim: 10 BadShape: line 12' >&2; exit 1");
-    await assert.rejects(recordCase("addition", { sabsim, seed: 9 }), (error) => {
-      assert.ok(error instanceof Difference);
-      assert.equal(error.message, "seed 9: sabsim ended with status 1 on the trace: sabsim: 10 BadShape: line 12");
-      return true;
-    });
+    const runs = {
+      trace: () => record({ module: RING, sabsim, seed: 1 }),
+      "script's accesses": () => recordCase("addition", { sabsim }),
+    };
+    for (const [what, run] of Object.entries(runs)) {
+      await assert.rejects(run(), (error) => {
+        assert.ok(error instanceof Difference);
+        assert.equal(error.message, `seed 1: sabsim ended with status 1 on the ${what}: sabsim: 10 BadShape: line 12`);
+        return true;
+      });
+    }
   });
 
-  it("differs under the command line: status 3, and what both went by is kept", withSabsim, (context) => {
+  it("differs under the command line: status 3, and what both went by is kept", (context) => {
     const folder = temporaryFolder(context);
-    const out = join(folder, "out");
-    const sabsim = ["--sabsim", judging(folder, FINDS_ONE), "--out", out];
-    const { status, stdout, stderr } = run(agentsPath("cases"), ...sabsim, ...addition);
-    assert.equal(status, 3);
-    assert.match(stderr, /^record: seed 7: the recorder and sabsim differ on unordered accesses$/m);
-    const kept = ["json", "report", "sabsim-report", "sabsim-verdict", "trace.jsonl"];
-    assert.deepEqual(readdirSync(out).sort(), kept.map((ending) => `seed-7.${ending}`));
-    const read = (ending) => readFileSync(join(out, `seed-7.${ending}`), "utf8");
-    assert.equal(read("sabsim-verdict"), `${RACE}\n`);
-    assert.equal(read("trace.jsonl"), readFileSync(join(folder, "given"), "utf8"));
-    assert.match(stdout, /^no run was checked$/m);
+    const judge = judging(folder, FINDS_ONE);
+    const programs = { json: [agentsPath("cases"), ...addition], "trace.jsonl": [RING, "--seeds", "7"] };
+    for (const [given, [module, ...words]] of Object.entries(programs)) {
+      const out = join(folder, given);
+      const { status, stdout, stderr } = run(module, "--sabsim", judge, "--out", out, ...words);
+      assert.equal(status, 3, stdout);
+      assert.match(stderr, /^record: seed 7: the recorder and sabsim differ on unordered accesses$/m);
+      const kept = ["json", "report", "sabsim-report", "sabsim-verdict", "trace.jsonl"];
+      assert.deepEqual(readdirSync(out).sort(), kept.map((ending) => `seed-7.${ending}`));
+      const read = (ending) => readFileSync(join(out, `seed-7.${ending}`), "utf8");
+      assert.equal(read("sabsim-verdict"), `${RACE}\n`);
+      assert.equal(read(given), readFileSync(join(folder, "given"), "utf8"));
+      assert.match(stdout, /^no run was checked$/m);
+    }
   });
 
-  it("isn't asked where ordinary accesses aren't watched: no races are looked for", withSabsim, (context) => {
+  it("isn't asked where ordinary accesses aren't watched: no races are looked for", (context) => {
     const sabsim = judging(temporaryFolder(context), FINDS_ONE);
     for (const ordinary of ["store", "refuse"]) {
       const words = ["--sabsim", sabsim, "--ordinary", ordinary, ...addition];
       const { status, stdout } = run(agentsPath("cases"), ...words);
       assert.equal(status, 0, stdout);
-      assert.match(stdout, /^1 run checked: sabsim says the same$/m);
-      assert.ok(!stdout.includes("judge"), stdout);
+      assert.match(stdout, /^every run was replayed by the proved simulator \(program\): it says the same$/m);
     }
   });
 
-  it("isn't there in a sabsim that is older: that is told, with status 3", withSabsim, async (context) => {
+  it("isn't there in a sabsim that is older: that is told, with status 3", async (context) => {
     const folder = temporaryFolder(context);
     const sabsim = judging(folder, "echo \"error: unrecognized subcommand 'judge'\" >&2; exit 2");
-    const told = /judging can't judge a trace, so it is older than the recorder: `\.\/build`, .*, builds sabsim$/;
+    const told = /judging can't do judge, so it is older than the recorder: error: unrecognized subcommand 'judge'$/;
     await assert.rejects(recordCase("addition", { sabsim }), (error) => {
       assert.ok(error instanceof NoSabsim);
       assert.match(error.message, told);
@@ -147,11 +164,11 @@ describe("the judge of checked runs", () => {
     assert.match(stderr.trimEnd(), told);
   });
 
-  it("is asked by a process of its own; where that is ended, it is told", withSabsim, (context) => {
+  it("ends by a signal: that is a difference too", (context) => {
     const folder = temporaryFolder(context);
-    const { status, stderr } = run(agentsPath("cases"), "--sabsim", judging(folder, "kill -9 $PPID"), ...addition);
+    const { status, stderr } = run(agentsPath("cases"), "--sabsim", judging(folder, "kill -9 $$"), ...addition);
     assert.equal(status, 3);
-    assert.match(stderr, /a check's process ended: SIGKILL$/m);
+    assert.match(stderr, /^record: seed 7: sabsim ended with status null on the script's accesses: /m);
   });
 
   it("isn't asked of a run that isn't checked", (context) => {
@@ -161,9 +178,9 @@ describe("the judge of checked runs", () => {
     assert.ok(!readdirSync(folder).includes("given"));
   });
 
-  it("judges what init left as no access, and of a run whose init throws nothing", withSabsim, async (context) => {
+  it("judges what init left as no access, and of a run whose init throws nothing", async (context) => {
     const folder = temporaryFolder(context);
-    const options = { sabsim: judging(folder, `exec ${SABSIM} judge --trace < ${folder}/given`) };
+    const options = { sabsim: judging(folder, `exec ${SIMULATOR_WORDS} "$@" < ${folder}/given`) };
     const given = () => readFileSync(join(folder, "given"), "utf8");
     const filled = await recordCase("addition", { ...options, init: ([buffer]) => new Uint8Array(buffer).fill(1) });
     assert.deepEqual([filled.ending, eventsOfTrace(given()).length], ["finished", filled.calls]);
@@ -171,6 +188,6 @@ describe("the judge of checked runs", () => {
       throw new Error("no");
     };
     const { ending, checked } = await recordCase("addition", { ...options, init });
-    assert.deepEqual([ending, checked, given()], ["failed", true, ""]);
+    assert.deepEqual([ending, checked, JSON.parse(given()).schedule], ["failed", true, []]);
   });
 });

@@ -8,7 +8,7 @@ import { test } from "node:test";
 import { Keeper, NotKept } from "../lib/keeping/keep.mjs";
 import { Refused } from "../lib/options/refused.mjs";
 import { RECORD, agentsPath, temporaryFolder } from "./helpers/common.mjs";
-import { CHECKING, hasSabsim } from "./helpers/needs.mjs";
+import { CHECKING } from "./helpers/needs.mjs";
 
 const run = (seed, parts) => ({ seed, script: `script ${seed}`, report: `report ${seed}`, ...parts });
 const filesOf = (seed) => [`seed-${seed}.json`, `seed-${seed}.report`];
@@ -148,7 +148,7 @@ for (const signal of ["SIGINT", "SIGTERM"]) {
     assert.match(second, /^[\d,]+ of [\d,]+ runs failed: /);
     const [, seed] = /^first failing seed: (\d+), /m.exec(stdout);
     const files = readdirSync(out).sort();
-    const endings = ["json", "report", ...(hasSabsim ? ["explained", "html", "svg"] : [])];
+    const endings = ["json", "report", "explained", "html", "svg"];
     for (const ending of endings) assert.ok(files.includes(`seed-${seed}.${ending}`), ending);
     assert.ok(files.every((name) => name.startsWith(`seed-${seed}.`)), files.join());
     const [, names] = /^kept in .*: (.*)$/m.exec(stdout);

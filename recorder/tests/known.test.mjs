@@ -7,7 +7,7 @@ import { readFileSync, readdirSync } from "node:fs";
 import { describe, it } from "node:test";
 import { RemoteJob } from "../lib/seeds/remote-job.mjs";
 import { keptScript } from "../lib/shorter/kept-script.mjs";
-import { SABSIM, hasSabsim } from "./helpers/needs.mjs";
+import { CHECKER } from "./helpers/needs.mjs";
 
 const FOLDER = new URL("./known/", import.meta.url);
 const NAMES = readdirSync(FOLDER).filter((name) => name.endsWith(".mjs"));
@@ -26,26 +26,22 @@ const SIDE_BY_SIDE = 4;
  * @param {string} name of its file
  */
 async function runsOf(name) {
-  let checked = 0;
-  const job = new RemoteJob(() => {
-    checked += 1;
-  });
+  const job = new RemoteJob();
   const module = new URL(name, FOLDER).href;
   /** @param {object[]} wanted */
   const made = async (wanted) => {
     const outcomes = [];
     await job.run(wanted, (outcome) => outcomes.push(outcome));
-    await job.finish();
     return outcomes;
   };
   try {
-    await job.open({ module, args: [], checks: hasSabsim, sabsim: SABSIM, maxMoves: 100_000, seconds: 5, fresh: false });
+    const checking = { checks: true, checkEvery: CHECKED, sabsim: CHECKER };
+    await job.open({ module, args: [], ...checking, maxMoves: 100_000, seconds: 5, fresh: false });
     const seeds = Array.from({ length: SEEDS }, (_, at) => ({ seed: at + 1, whole: at % CHECKED === 0 }));
     const outcomes = await made(seeds);
-    const counted = checked;
     const free = await made(AGAIN.map((seed) => ({ seed, whole: true, tellsRow: true })));
     const forced = await made(free.map(({ seed, row }) => ({ seed, whole: true, tellsRow: true, row, isExact: true })));
-    return { outcomes, checked: counted, free, forced };
+    return { outcomes, free, forced };
   } finally {
     await job.close();
   }
@@ -101,12 +97,12 @@ function demandRaces({ races = [] }, outcomes) {
   assert.deepEqual(shown(found), [], "races that aren't known");
 }
 
-/** Every run that was told whole has a script with all of its ordinary writes. Sabsim has replayed it where it is given. */
-function demandChecks(outcomes, checked) {
+/** Every run that was told whole has a script with all of its ordinary writes, and the simulator has checked it. */
+function demandChecks(outcomes) {
   const whole = outcomes.filter(({ bytes }) => bytes !== undefined);
   assert.deepEqual(whole.filter(({ scriptHolds }) => scriptHolds !== "all").map(({ noScript }) => noScript), []);
   assert.ok(whole.length >= SEEDS / CHECKED);
-  assert.equal(checked, hasSabsim ? whole.length : 0);
+  assert.deepEqual(outcomes.filter(({ checked }) => checked), whole);
 }
 
 /** A run that is made by its row is the same run, and the row of its script is that row. */
@@ -123,11 +119,11 @@ describe("programs with known answers", { concurrency: SIDE_BY_SIDE }, () => {
   for (const name of NAMES) {
     it(name.replace(".mjs", ""), async () => {
       const { known } = await import(new URL(name, FOLDER).href);
-      const { outcomes, checked, free, forced } = await runsOf(name);
+      const { outcomes, free, forced } = await runsOf(name);
       assert.equal(outcomes.length, SEEDS);
       demandEndings(known, outcomes);
       demandRaces(known, outcomes);
-      demandChecks(outcomes, checked);
+      demandChecks(outcomes);
       demandRows(free, forced);
     });
   }

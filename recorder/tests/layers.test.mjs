@@ -117,7 +117,7 @@ test("no modules need each other in a circle", () => {
 });
 
 test("an import from a row above, or from the same row, is a fault that names both files", () => {
-  const [run, seeds, keeping] = ["lib/run/group.mjs", "lib/seeds/seeds.mjs", "lib/keeping/keep.mjs"];
+  const [run, seeds, keeping] = ["lib/run/group.mjs", "lib/seeds/runs.mjs", "lib/keeping/keep.mjs"];
   const [of, to] = [ROWS.get("lib/run"), ROWS.get("lib/seeds")];
   assert.deepEqual(faultsOf(run, seeds), [
     `${run} imports ${seeds}, but lib/run is in row ${of} and lib/seeds in row ${to}`,

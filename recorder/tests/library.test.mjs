@@ -1,14 +1,14 @@
 // The library: what its options may be, and what each of them does.
 
 import assert from "node:assert/strict";
-import { spawnSync } from "node:child_process";
 import { writeFileSync } from "node:fs";
 import { join } from "node:path";
 import { test } from "node:test";
 import { pathToFileURL } from "node:url";
 import { Difference, NoSabsim, Refused, record } from "../recorder.mjs";
 import { agentsOf, agentsPath, recordCase, temporaryFolder } from "./helpers/common.mjs";
-import { CHECKER, NOWHERE, SABSIM, withSabsim } from "./helpers/needs.mjs";
+import { CHECKER, NOWHERE, hasSabsim } from "./helpers/needs.mjs";
+import { simulated } from "./helpers/simulate.mjs";
 
 const module = agentsPath("cases");
 
@@ -98,10 +98,9 @@ test("the outcome is whole", async () => {
   assert.deepEqual([answers, races, scriptHolds], [[["0", "1", "2"], ["0", "1", "2"]], [], "all"]);
 });
 
-test("the outcome's report is what sabsim replays of its script", withSabsim, async () => {
-  const { script, report } = await recordCase("addition", { sabsim: SABSIM, seed: 9 });
-  const replayed = spawnSync(SABSIM, ["replay"], { input: script, encoding: "utf8" });
-  assert.equal(replayed.stdout, report);
+test("the outcome's report is what sabsim replays of its script", async () => {
+  const { script, report } = await recordCase("addition", { sabsim: CHECKER, seed: 9 });
+  assert.equal(simulated(["replay"], script).output, report);
 });
 
 test("sabsim is asked unless `sabsim` is false", async (context) => {
@@ -117,43 +116,37 @@ test("sabsim is asked unless `sabsim` is false", async (context) => {
   });
 });
 
-/** What happens while sabsim is looked for elsewhere. @param {string} place @param {() => Promise<any>} act */
+/** What happens while the environment chooses a program. @param {string} place @param {() => Promise<any>} act */
 async function withSabsimAt(place, act) {
   const { SABSIM: before } = process.env;
   try {
     process.env.SABSIM = place;
     return await act();
   } finally {
-    if (before === undefined) delete process.env.SABSIM;
-    else process.env.SABSIM = before;
+    process.env.SABSIM = before;
   }
 }
 
-/** An outcome of the library's that is told without a place of sabsim. @param {object} [options] */
+/** An outcome of the library's whose options choose no program. @param {object} [options] */
 const recordAddition = (options = {}) => record({ module, agents: 2, buffers: [12], args: ["addition"], ...options });
 
-test("without sabsim a run is made, and the outcome says that it wasn't checked; what asks for it is refused", () =>
+test("the environment chooses the program, and the options go before it", () =>
   withSabsimAt(NOWHERE, async () => {
-    for (const options of [{}, { check() {} }, { check: undefined, sabsim: undefined }]) {
-      const { ending, checked, unchecked, script } = await recordAddition(options);
-      assert.deepEqual([ending, checked], ["finished", false]);
-      assert.match(unchecked, /^sabsim isn't built: there is none at \/nowhere\/sabsim; `\.\/build`, .* sabsim$/);
-      assert.equal(JSON.parse(script).agents.length, 2);
-    }
-    for (const options of [{ sabsim: true }, { sabsim: NOWHERE }, { check() {}, sabsim: true }]) {
+    for (const options of [{}, { sabsim: true }, { check() {}, sabsim: undefined }]) {
       await assert.rejects(recordAddition(options), NoSabsim);
     }
+    assert.equal((await recordAddition({ sabsim: false })).checked, false);
+    if (hasSabsim) assert.equal((await recordAddition({ sabsim: CHECKER })).checked, true);
   }));
 
-test("the outcome says whether sabsim has checked the run", withSabsim, async () => {
-  assert.equal((await recordAddition({ sabsim: SABSIM })).checked, true);
-  for (const sabsim of [true, undefined]) {
-    const found = await withSabsimAt(SABSIM, () => recordAddition({ sabsim }));
+test("the outcome says whether the simulator has checked the run", async () => {
+  for (const sabsim of [true, undefined, CHECKER]) {
+    const found = await withSabsimAt("", () => recordAddition({ sabsim }));
     assert.deepEqual([found.checked, found.unchecked], [true, undefined]);
   }
   // More is written between two calls than a script has calls for.
   const { checked, unchecked, noScript } = await record({
-    module: agentsPath("big-writes"), args: ["overwhelms 400"], agents: 2, buffers: [65_536], sabsim: SABSIM,
+    module: agentsPath("big-writes"), args: ["overwhelms 400"], agents: 2, buffers: [65_536], sabsim: CHECKER,
   });
   assert.deepEqual([checked, unchecked], [false, `the run has no script: ${noScript}`]);
 });

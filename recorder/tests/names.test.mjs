@@ -2,7 +2,6 @@
 // the recorder's own texts.
 
 import assert from "node:assert/strict";
-import { spawnSync } from "node:child_process";
 import { writeFileSync } from "node:fs";
 import { join } from "node:path";
 import { test } from "node:test";
@@ -10,8 +9,8 @@ import { checkedNames, Names } from "../lib/options/names.mjs";
 import { Refused } from "../lib/options/refused.mjs";
 import { KINDS } from "../script/kinds.mjs";
 import { temporaryFolder } from "./helpers/common.mjs";
-import { SABSIM, withSabsim } from "./helpers/needs.mjs";
 import { recorded, seedsTo } from "./helpers/recorded.mjs";
+import { simulated } from "./helpers/simulate.mjs";
 
 const INT32 = KINDS.indexOf("Int32");
 const UINT8 = KINDS.indexOf("Uint8");
@@ -27,11 +26,9 @@ async function recordedModule(context, setup, body, { seeds = [1], ...options } 
 
 /** The lines of the explained report of a script, without begins and returns. */
 function explained(script) {
-  const { status, stdout } = spawnSync(SABSIM, ["replay", "--format", "explained", "--acts"], {
-    input: script, encoding: "utf8",
-  });
+  const { status, output } = simulated(["replay", "--format", "explained", "--acts"], script);
   assert.equal(status, 0);
-  return stdout.trimEnd().split("\n").map((line) => line.replace(/ {2,}/, "  "));
+  return output.trimEnd().split("\n").map((line) => line.replace(/ {2,}/, "  "));
 }
 
 test("what a name may be, and what it may stand for", () => {
@@ -100,7 +97,7 @@ test("an element goes by its word, and else by its array", () => {
   assert.deepEqual([told(UINT8, 0, 0), told(KINDS.indexOf("Int8"), 1, 0)], [undefined, undefined]);
 });
 
-test("scripts and reports have the names, from whichever view a call comes", withSabsim, async (context) => {
+test("scripts and reports have the names, from whichever view a call comes", async (context) => {
   const setup = { agents: 1, buffers: [16, 4], names: { LOCK: 0, wake: ["Int32", 0, 3], slots: ["Uint8", 1] } };
   const [{ script }] = await recordedModule(context, setup, `
     const words = new Int32Array(buffers[0]);
@@ -152,7 +149,7 @@ test("an index that isn't its view's throws, though a word stands there", async 
   assert.deepEqual(answers, [["RangeError", "RangeError", "RangeError", "TypeError", "TypeError"]]);
 });
 
-test("sabsim explains such a call by that view", withSabsim, async (context) => {
+test("sabsim explains such a call by that view", async (context) => {
   const { script } = await throwingRun(context);
   assert.deepEqual(explained(script).filter((line) => / act /.test(line)).map((line) => line.split("  ")[1]), [
     "load(Int32_x1, 1) throws: Int32_x1 has 1 element",

@@ -9,7 +9,11 @@ import { test } from "node:test";
 import { optionsOf, USAGE } from "../lib/command/options.mjs";
 import { Refused } from "../lib/options/refused.mjs";
 import { RECORD, WITHOUT_SABSIM, agentsOf, agentsPath, temporaryFolder } from "./helpers/common.mjs";
-import { CHECKING, NOWHERE, SABSIM, onLinux, withSabsim } from "./helpers/needs.mjs";
+import { CHECKING, NOWHERE, hasSabsim, onLinux } from "./helpers/needs.mjs";
+import { simulated } from "./helpers/simulate.mjs";
+
+/** Which simulator checks the runs of these tests. */
+const KIND = hasSabsim ? "program" : "module";
 
 /**
  * Runs the command line to its end.
@@ -23,15 +27,14 @@ function run(words, options = {}) {
 
 const cases = (name, ...words) => [agentsPath("cases"), "--agents", "2", "--buffers", "12", ...words, "--", name];
 
-test("where no run fails, the status is 0", withSabsim, () => {
+test("where no run fails, the status is 0", () => {
   assert.deepEqual(run(cases("addition", "--seeds", "1..20", ...CHECKING)), {
     status: 0,
     stdout: [
       "20 runs: 20 finished",
       "1 final state: how it ended, and the bytes",
       "  20 runs finished, seed 1 the first: 030000000300000000000000",
-      "2 runs checked: sabsim says the same",
-      "which of them have unordered accesses: sabsim's judge, which is proved, says the same",
+      `every run was replayed and judged by the proved simulator (${KIND}): it says the same`,
       // Two agents add three times each.
       "20 runs made 120 calls of Atomics, and no ordinary read or write",
       "",
@@ -40,7 +43,7 @@ test("where no run fails, the status is 0", withSabsim, () => {
   });
 });
 
-test("where some fail, the status is 1, and the first is kept in --out", withSabsim, (context) => {
+test("where some fail, the status is 1, and the first is kept in --out", (context) => {
   const folder = temporaryFolder(context);
   const out = join(folder, "a", "b");
   const { status, stdout, stderr } = run([agentsPath("naive-mutex"), "--seeds", "1..100", "--out", out, ...CHECKING]);
@@ -52,16 +55,15 @@ test("where some fail, the status is 1, and the first is kept in --out", withSab
   const kept = endings.map((ending) => `seed-${seed}.${ending}`);
   assert.ok(stdout.endsWith(`\nkept in ${out}: ${kept.join(", ")}\n`), stdout);
   const script = readFileSync(join(out, `seed-${seed}.json`));
-  const replayed = spawnSync(SABSIM, ["replay"], { input: script, encoding: "utf8" });
-  assert.equal(replayed.stdout, readFileSync(join(out, `seed-${seed}.report`), "utf8"));
+  assert.equal(simulated(["replay"], script).output, readFileSync(join(out, `seed-${seed}.report`), "utf8"));
   for (const format of ["explained", "svg"]) {
-    const told = spawnSync(SABSIM, ["replay", "--format", format], { input: script, encoding: "utf8" });
-    assert.equal(told.stdout, readFileSync(join(out, `seed-${seed}.${format}`), "utf8"));
+    const { output } = simulated(["replay", "--format", format], script);
+    assert.equal(output, readFileSync(join(out, `seed-${seed}.${format}`), "utf8"));
   }
   assert.deepEqual(readdirSync(out).sort(), kept.sort());
 });
 
-test("the explained report that is kept ends with the agents that wait", withSabsim, (context) => {
+test("the explained report that is kept ends with the agents that wait", (context) => {
   const out = temporaryFolder(context);
   const alike = ["--strategy", "uniform", "--everywhere", "--no-shorten"];
   const { stdout } = run([agentsPath("naive-mutex"), "--seeds", "93", ...alike, "--out", out, ...CHECKING]);
@@ -146,7 +148,7 @@ test("each wrong option is refused, with one line that names it", () => {
 
 test("what the command line leaves out has its default", () => {
   const { first, last, jobs, maxMoves, seconds, fresh, args, noBlock, strategy, out } = optionsOf(["m.mjs"]);
-  assert.deepEqual([first, last, jobs, maxMoves, seconds], [1, 100, 1, 100_000, 10]);
+  assert.deepEqual([first, last, jobs, maxMoves, seconds], [1, 100, undefined, 100_000, 10]);
   assert.deepEqual([fresh, args, noBlock, strategy, out], [false, [], undefined, "mixed", undefined]);
   const { sabsim: path, checkEvery, isSabsimAsked } = optionsOf(["m.mjs"]);
   assert.deepEqual([path, checkEvery, isSabsimAsked], [undefined, 10, false]);
@@ -253,53 +255,27 @@ test("where nobody reads standard output, the status is 3, and what failed is ke
   assert.ok(readdirSync(out).includes("seed-1.json"));
 });
 
-test("where sabsim is asked for and isn't there the status is 3, and with --check 0 it isn't needed", () => {
-  const asked = [[["--sabsim", NOWHERE], {}], [["--check", "7"], { env: WITHOUT_SABSIM }]];
-  for (const [words, options] of asked) {
+test("where a program is chosen that isn't there the status is 3, and with --check 0 it isn't needed", () => {
+  const inEnvironment = { env: WITHOUT_SABSIM };
+  for (const [words, options] of [[["--sabsim", NOWHERE], {}], [[], inEnvironment], [["--check", "7"], inEnvironment]]) {
     const { status, stdout, stderr } = run(cases("nothing", ...words), options);
-    assert.deepEqual([status, stdout], [3, ""]);
-    assert.match(stderr, /^record: sabsim isn't at \/nowhere\/sabsim: `\.\/build`, [^\n]+ builds sabsim; [^\n]+\n$/);
+    assert.deepEqual([status, stdout, stderr], [3, "", `record: there is no program sabsim at ${NOWHERE}\n`]);
   }
   const unchecked = run(cases("waitsForEver", "--seeds", "1", "--check", "0", "--sabsim", NOWHERE));
   assert.equal(unchecked.status, 1);
   assert.match(unchecked.stdout, /^no run was checked$/m);
 });
 
-/** What a summary says where sabsim was looked for and not found. */
-const UNCHECKED = [
-  `nothing was checked by sabsim, which isn't built: there is none at ${NOWHERE}`,
-  "so all of this is the recorder's word alone, and the recorder isn't proved; `./build`, in the root of the " +
-    "repository, builds sabsim",
-];
-
-test("without sabsim, and without a word that asks for it, runs are made and it is said that none was checked", () => {
-  assert.deepEqual(run(cases("addition", "--seeds", "1..20"), { env: WITHOUT_SABSIM }), {
-    status: 0,
-    stdout: [
-      "20 runs: 20 finished",
-      "1 final state: how it ended, and the bytes",
-      "  20 runs finished, seed 1 the first: 030000000300000000000000",
-      ...UNCHECKED,
-      "20 runs made 120 calls of Atomics, and no ordinary read or write",
-      "",
-    ].join("\n"),
-    stderr: "",
-  });
-});
-
-test("without sabsim what it makes isn't kept, and that is said", (context) => {
+test("with nothing built every run is checked, and explanation, picture and page are kept", (context) => {
   const out = join(temporaryFolder(context), "out");
   const words = cases("waitsForEver", "--seeds", "3..4", "--jobs", "2", "--out", out);
-  const { status, stdout, stderr } = run(words, { env: WITHOUT_SABSIM });
+  const { status, stdout, stderr } = run(words, { env: { ...process.env, SABSIM: "" } });
   assert.deepEqual([status, stderr], [1, ""]);
-  assert.deepEqual(readdirSync(out).sort(), ["seed-3.json", "seed-3.report", "seed-3.trace.jsonl"]);
-  const lines = stdout.trimEnd().split("\n");
-  assert.ok(UNCHECKED.every((line) => lines.filter((each) => each === line).length === 1), stdout);
-  assert.ok(!stdout.includes("sabsim says"));
-  assert.deepEqual(lines.slice(-2), [
-    `kept in ${out}: seed-3.json, seed-3.report, seed-3.trace.jsonl`,
-    "not kept, since only sabsim makes them: seed-3.explained, seed-3.svg, seed-3.html",
-  ]);
+  const endings = ["explained", "html", "json", "report", "svg", "trace.jsonl"];
+  const files = readdirSync(out).filter((name) => !name.includes("original"));
+  assert.deepEqual(files.sort(), endings.map((ending) => `seed-3.${ending}`));
+  const checked = "every run was replayed and judged by the proved simulator (module): it says the same";
+  assert.ok(stdout.split("\n").includes(checked), stdout);
 });
 
 test("a picture that sabsim doesn't make is told of", (context) => {
@@ -314,7 +290,7 @@ test("a picture that sabsim doesn't make is told of", (context) => {
   assert.equal(run(cases("waitsForEver", ...unchecked, "--check", "0")).status, 1);
   const { status, stdout } = run(cases("waitsForEver", ...unchecked, "--sabsim", half));
   assert.equal(status, 1, stdout);
-  assert.match(stdout, /^1 run checked: sabsim says the same$/m);
+  assert.match(stdout, /^every run was replayed and judged by the proved simulator \(program\): it says the same$/m);
   const left = "\nnot kept: seed-1.svg: sabsim ended with status 4: no pictures\n" +
     "not kept: seed-1.html: what sabsim says of the run is no JSON\n";
   assert.ok(stdout.endsWith(left), stdout);
@@ -402,7 +378,7 @@ const soon = async (holds, milliseconds = 20_000) => {
 // What the recorder is busy with in two processes when it is killed, what it has printed by then, and what that needs.
 const BUSY = {
   "agents that loop": ["loops", /(it loops\s+){2}/, onLinux],
-  checks: ["prints", /(agent \d says \d+\s+){100}/, { skip: withSabsim.skip || onLinux.skip }],
+  checks: ["prints", /(agent \d says \d+\s+){100}/, onLinux],
 };
 
 for (const signal of ["SIGINT", "SIGTERM", "SIGKILL"]) {

@@ -6,10 +6,10 @@ import { readFileSync } from "node:fs";
 import { test } from "node:test";
 import { moduleUrl } from "../lib/library/module-url.mjs";
 import { record } from "../lib/library/recorder.mjs";
-import { recordSeeds } from "../lib/seeds/seeds.mjs";
+import { Runs, outcomesOf } from "../lib/seeds/runs.mjs";
 import { CONSTRUCTORS, KINDS } from "../script/kinds.mjs";
 import { agentsPath } from "./helpers/common.mjs";
-import { CHECKER, hasSabsim } from "./helpers/needs.mjs";
+import { CHECKER } from "./helpers/needs.mjs";
 import { slowRaces } from "./helpers/second-detector.mjs";
 
 /**
@@ -36,9 +36,9 @@ async function recorded(way, options) {
     module: moduleUrl(agentsPath("random-ordinary")), args: [way], first: 1, last: 500, jobs: 2, checkEvery: 1,
     sabsim: CHECKER, maxMoves: 100_000, seconds: 10, fresh: false, ordinary: "watch", trace: true, ...options,
   };
-  const { checked } = await recordSeeds(all, (outcome) => outcomes.push(outcome));
-  assert.equal(checked, hasSabsim ? all.checkEvery * outcomes.length : 0);
-  return outcomes.sort((one, other) => one.seed - other.seed);
+  for await (const outcome of outcomesOf(new Runs(all))) outcomes.push(outcome);
+  assert.equal(outcomes.filter(({ checked }) => checked).length, all.checkEvery * outcomes.length);
+  return outcomes;
 }
 
 /**

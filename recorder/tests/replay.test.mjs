@@ -14,7 +14,7 @@ import { NoLongerTheSame } from "../lib/shorter/differing.mjs";
 import { keptScript } from "../lib/shorter/kept-script.mjs";
 import { record } from "../recorder.mjs";
 import { RECORD, temporaryFolder } from "./helpers/common.mjs";
-import { CHECKING, hasSabsim } from "./helpers/needs.mjs";
+import { CHECKING } from "./helpers/needs.mjs";
 
 // A relay with an `init`, ordinary writes, waits with and without a time, and an end that its `check` may find wrong.
 const CODE = `
@@ -64,7 +64,7 @@ function replay(words, options = {}) {
   return { status, stdout, stderr };
 }
 
-test("a kept run is made again, and sabsim, where it is given, says the same of it", async (context) => {
+test("a kept run is made again, and the simulator says the same of it", async (context) => {
   const { module, file, outcome } = await keptRun(context);
   const { status, stdout, stderr } = replay([module, "--replay", file, ...CHECKING]);
   assert.deepEqual([status, stderr], [1, ""], stderr);
@@ -78,7 +78,7 @@ test("a kept run is made again, and sabsim, where it is given, says the same of 
     // What agent 1 has added is a random number of the seed.
     `  1 run check, seed 4 the first: ${outcome.bytes[0].slice(0, 48)}…`,
   ]);
-  assert.equal(lines[6], hasSabsim ? "1 run checked: sabsim says the same" : "no run was checked");
+  assert.match(lines[6], /^every run was replayed and judged by the proved simulator \(\w+\): it says the same$/);
 });
 
 test("the seed is that of the file's name, or of --seeds, or else 1", async (context) => {

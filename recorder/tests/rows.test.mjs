@@ -6,13 +6,14 @@ import { readdirSync } from "node:fs";
 import { describe, it, test } from "node:test";
 import { Board } from "../lib/board/board.mjs";
 import { waysOf } from "../lib/board/strategy/ways.mjs";
-import { check as checkWithSabsim, checkable } from "../lib/check/sabsim.mjs";
+import { checkedBy } from "../lib/check/check.mjs";
 import { PHASE, WORD } from "../lib/memory/layout.mjs";
 import { keptScript } from "../lib/shorter/kept-script.mjs";
 import { shorten } from "../lib/shorter/shorten.mjs";
+import { simulatorAt } from "../lib/simulator/chosen.mjs";
 import { agentsPath } from "./helpers/common.mjs";
 import { firstFailing, groupOf } from "./helpers/groups.mjs";
-import { SABSIM, hasSabsim } from "./helpers/needs.mjs";
+import { CHECKER } from "./helpers/needs.mjs";
 
 const { ASKS, WAITS, WAITS_TIMED, WOKEN, FINISHED } = PHASE;
 
@@ -123,7 +124,7 @@ async function demandSame(group) {
   assert.deepEqual(keptScript(free.script, "it").draws.map(({ agent }) => agent), free.row);
 }
 
-/** The shortest run ends as the first one did, isn't longer, and where sabsim is given it says the same of it. */
+/** The shortest run ends as the first one did, isn't longer, and the simulator says the same of it. */
 async function demandShorter(group) {
   const first = await firstFailing(group);
   const { shortest, shortened: { runs, changes, calls, unchanged } } = await shorten(group, first);
@@ -139,7 +140,7 @@ async function demandShorter(group) {
   assert.equal(outcome.row.filter((agent, at) => at > 0 && agent !== outcome.row[at - 1]).length, changes.after);
   assert.deepEqual([calls.before, calls.after], [first.calls, outcome.calls]);
   assert.deepEqual([typeof outcome.trace, outcome.seed], ["string", first.seed]);
-  if (hasSabsim) checkWithSabsim(SABSIM, checkable(outcome, judgement));
+  assert.ok(checkedBy(simulatorAt(CHECKER), { outcome, judgement }).checked);
 }
 
 describe("examples and wrong programs by their rows", { concurrency: 3 }, () => {

@@ -4,7 +4,7 @@
 // usage: node recorder/tests/run.mjs [SABSIM]
 //
 // SABSIM is the built program. Without it the recorder is tested alone, with node and nothing else: tests that need
-// sabsim, rt or a browser are skipped, and the other tests make their runs without a check by sabsim. Some tests watch
+// the program, rt or a browser are skipped, and the simulator's module checks the runs of the others. Some tests watch
 // threads by the clock. So if tests fail, their files run once more, one at a time, and that second run counts. The
 // last line is `N passed, M failed`, and the status is 0 only if no test failed.
 
@@ -90,7 +90,7 @@ async function finalResults(env) {
 /** Tells what tests of the recorder alone leave out, and how to run all. */
 function tellAlone() {
   const how = existsSync(BUILT) ? "It is built, but `npm test` doesn't use it." : "`./build` builds it.";
-  console.log(`The recorder was tested alone: sabsim has checked none of its runs. ${how}`);
+  console.log(`The recorder was tested alone, with the simulator's module and not with the program. ${how}`);
   console.log("To test both together: tests/recorder crates/sabsim/out/sabsim");
 }
 

@@ -10,7 +10,6 @@ import { Editing } from "../schedule/editing.mjs";
 import { earlier, later } from "../schedule/edits.mjs";
 import { whyNotOnCode } from "../schedule/on-code.mjs";
 import { agentsOf, temporaryFolder } from "./helpers/common.mjs";
-import { withSabsim } from "./helpers/needs.mjs";
 import { runNode } from "./helpers/programs.mjs";
 import { simulate } from "./helpers/simulate.mjs";
 
@@ -38,14 +37,14 @@ async function movedOnCode(context, args) {
   return { moved, ended: await runNode("recorder/record.mjs", [module, "--replay", file, "--", ...args]) };
 }
 
-test("code that makes the same calls makes them in the changed order", withSabsim, async (context) => {
+test("code that makes the same calls makes them in the changed order", async (context) => {
   const { moved, ended: { status, output, errors } } = await movedOnCode(context, ["stores"]);
   assert.ok(moved.isChanged);
   assert.deepEqual([status, errors], [0, ""]);
   assert.match(output, /1 run made 2 calls|finished/);
 });
 
-test("of code that takes another path it is said where", withSabsim, async (context) => {
+test("of code that takes another path it is said where", async (context) => {
   const { moved, ended: { status, errors } } = await movedOnCode(context, ["reads"]);
   assert.ok(moved.differences.answers.length > 0);
   assert.equal(status, 3);

@@ -14,7 +14,6 @@ import { readReport } from "../schedule/report.mjs";
 import { textWith } from "../schedule/text.mjs";
 import { KINDS, SIZES } from "../script/kinds.mjs";
 import { HANDED } from "./helpers/handed.mjs";
-import { withSabsim } from "./helpers/needs.mjs";
 import { pathOf } from "./helpers/programs.mjs";
 import { Dice, generatedScript, timedScript } from "./helpers/scripts.mjs";
 import { simulate } from "./helpers/simulate.mjs";
@@ -51,7 +50,7 @@ const WHOLE = /^(?:begin act return(?: begin act return)*|begin wait|leave retur
 /** The agents of turns, and whether each ends a time. */
 const rowOf = ({ turns }) => turns.map(({ agent, timeUp }) => `${agent}${timeUp ? " time up" : ""}`);
 
-describe("on random scripts", withSabsim, () => {
+describe("on random scripts", () => {
   for (const [kind, scriptOf] of Object.entries({ written: generatedScript, timed: timedScript, whole: wholeScript })) {
     it(`${kind}: each operation does what it says, and can be taken back`, () => {
       const counts = { changed: 0, refused: 0, whole: 0 };
@@ -155,7 +154,7 @@ describe("on random scripts", withSabsim, () => {
 
 const handed = (parts = {}) => new Editing(JSON.stringify({ ...HANDED, ...parts }), simulate);
 
-describe("by hand", withSabsim, () => {
+describe("by hand", () => {
   it("the moves of a draw, and the stores behind it, are a turn", () => {
     const { now, isWhole } = handed();
     assert.equal(isWhole, true);

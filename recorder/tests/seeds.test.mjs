@@ -4,9 +4,9 @@ import assert from "node:assert/strict";
 import { test } from "node:test";
 import { optionsOf } from "../lib/command/options.mjs";
 import { moduleUrl } from "../lib/library/module-url.mjs";
-import { recordSeeds } from "../lib/seeds/seeds.mjs";
+import { Runs, outcomesOf as taken } from "../lib/seeds/runs.mjs";
 import { agentsPath, recordCase } from "./helpers/common.mjs";
-import { CHECKER, hasSabsim } from "./helpers/needs.mjs";
+import { CHECKER } from "./helpers/needs.mjs";
 
 /**
  * The outcomes of some seeds, in the order of the seeds.
@@ -19,10 +19,9 @@ async function outcomesOf(name, options) {
     ...optionsOf([agentsPath(name)]), module: moduleUrl(agentsPath(name)), last: 40, checkEvery: 0, sabsim: CHECKER,
     seconds: 5, ...options,
   };
-  const { checked } = await recordSeeds(all, (outcome) => outcomes.push(outcome));
-  outcomes.sort((one, other) => one.seed - other.seed);
+  for await (const outcome of taken(new Runs(all))) outcomes.push(outcome);
   assert.deepEqual(outcomes.map((outcome) => outcome.seed), outcomes.map((_, at) => all.first + at));
-  return { outcomes, checked };
+  return { outcomes, checked: outcomes.filter((outcome) => outcome.checked).length };
 }
 
 /** The first digits of the first buffer at the end of each run. */
@@ -38,21 +37,21 @@ test("the lost wake-up of a naive mutex is found within 200 seeds, and sabsim ag
   const waits = /^agent \d waits at byte 4 of block 0: its call \d+, \["wait", /;
   for (const { detail } of failing) assert.match(detail, waits);
   const others = outcomes.filter((outcome, at) => outcome.ending === "finished" && at % 10 === 0);
-  assert.equal(checked, hasSabsim ? failing.length + others.length : 0);
+  assert.equal(checked, failing.length + others.length);
 });
 
 test("the mutex of three states comes to its end under 200 seeds, each checked", async () => {
   const { outcomes, checked } = await outcomesOf("three-state-mutex", { last: 200, checkEvery: 1, jobs: 2 });
   assert.deepEqual([...endingsOf(outcomes)], ["finished"]);
   assert.deepEqual([...new Set(bytesOf(outcomes))], ["0000000009000000"]);
-  assert.equal(checked, hasSabsim ? 200 : 0);
+  assert.equal(checked, 200);
 });
 
 test("random calls of all kinds, right and wrong, are answered as sabsim answers them", async () => {
   const seen = new Set();
   for (const start of ["1", "2"]) {
     const { outcomes, checked } = await outcomesOf("random", { args: [start], last: 60, checkEvery: 1 });
-    assert.equal(checked, hasSabsim ? 60 : 0);
+    assert.equal(checked, 60);
     for (const outcome of outcomes) for (const answer of outcome.answers.flat()) seen.add(answer);
   }
   for (const answer of ["ok", "not-equal", "timed-out", "TypeError", "RangeError", "1", "2", "0n", "-1n", null]) {
@@ -75,8 +74,8 @@ test("a run among others is the run that is recorded by itself, in fresh workers
   const { outcomes } = await outcomesOf("cases", { args: ["racy"], agents: 3, buffers: [12], checkEvery: 1, last: 6 });
   const options = { args: ["racy"], agents: 3, buffers: [12], checkEvery: 1, last: 6, fresh: true };
   assert.deepEqual((await outcomesOf("cases", options)).outcomes, outcomes);
-  const { checked, unchecked: _, ...alone } = await recordCase("racy", { agents: 3, seed: 5, sabsim: CHECKER });
-  assert.deepEqual([alone, checked], [outcomes[4], hasSabsim]);
+  assert.deepEqual(await recordCase("racy", { agents: 3, seed: 5, sabsim: CHECKER }), outcomes[4]);
+  assert.ok(outcomes[4].checked);
 });
 
 test("a value that is read and written gets lost under some seeds, and under others not", async () => {

@@ -13,7 +13,7 @@ import { Refused } from "../lib/options/refused.mjs";
 import { Coverage } from "../lib/seeds/coverage.mjs";
 import { shardOf, united, without } from "../lib/seeds/ranges.mjs";
 import { RECORD, agentsOf, agentsPath, temporaryFolder } from "./helpers/common.mjs";
-import { CHECKING, SABSIM, hasSabsim, needing } from "./helpers/needs.mjs";
+import { CHECKING, needing } from "./helpers/needs.mjs";
 
 const MERGE = fileURLToPath(new URL("../merge.mjs", import.meta.url));
 const known = (name) => fileURLToPath(new URL(`./known/${name}.mjs`, import.meta.url));
@@ -92,7 +92,7 @@ for (const [what, of, module, words, endings] of MODULES) {
     assert.deepEqual(joined, one);
     const found = [...one.endings.failing, ...one.endings.passing].map(({ ending }) => ending);
     assert.deepEqual(found, endings);
-    assert.equal(one.sabsim.checked > 0, hasSabsim);
+    assert.ok(one.sabsim.checked > 0);
   });
 }
 
@@ -174,7 +174,7 @@ test("files that are no summaries, or don't fit together, are refused with one l
     [[write("text", "15 of 200 runs failed\n")], /^merge: line 1 of .*text is no summary .*: it is no JSON\n/],
     [[write("number", "5")], /it isn't what `record\.mjs --format json` writes\n/],
     [[write("null", "null")], /it isn't what `record\.mjs --format json` writes\n/],
-    [[changed("form", { summary: 99 })], /it is of form 99, and this recorder writes and reads form 1\n/],
+    [[changed("form", { summary: 99 })], /it is of form 99, and this recorder writes and reads form 2\n/],
     [[changed("runs", { runs: "5" })], /its member runs is missing, or isn't what it must be\n/],
     [[changed("endings", { endings: { failing: [{ ending: "race", runs: 1 }], passing: [] } })],
       /its member endings\.failing\[0\]\.first is missing/],
@@ -245,7 +245,7 @@ test("GNU parallel runs the shards, as recorder/README.md shows it", withParalle
   const readme = readFileSync(fileURLToPath(new URL("../README.md", import.meta.url)), "utf8");
   const [command] = /^ {4}seq 4 \| parallel [^]*?(?=\n\n)/m.exec(readme);
   const cwd = fileURLToPath(new URL("../../", import.meta.url));
-  const env = { ...process.env, SABSIM, PARALLEL_HOME: folder };
+  const env = { ...process.env, PARALLEL_HOME: folder };
   const { status, stdout, stderr } = spawnSync("sh", ["-c", command], { cwd, env, encoding: "utf8" });
   assert.equal(status, 1, stderr);
   const words = [RECORD, agentsPath("naive-mutex"), "--seeds", "1..200"];
@@ -262,6 +262,6 @@ test("what shards have covered is joined, and with it of how many accesses the l
 
 test("each part of a file is named by its line", (context) => {
   const folder = temporaryFolder(context);
-  writeFileSync(join(folder, "two"), '{"summary":1}\n{"summary":2}\n');
+  writeFileSync(join(folder, "two"), '{"summary":2}\n{"summary":3}\n');
   assert.throws(() => partsOf(join(folder, "two")), /^Error: line 1 of .*two is no summary .*: its member asked is /);
 });

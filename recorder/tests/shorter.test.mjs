@@ -16,7 +16,8 @@ import { changesOf, joinedFrom, rowOf, shortenedAt, stretchesOf, without } from 
 import { record } from "../recorder.mjs";
 import { RECORD, agentsOf, agentsPath, temporaryFolder } from "./helpers/common.mjs";
 import { firstFailing, groupOf } from "./helpers/groups.mjs";
-import { SABSIM, withSabsim } from "./helpers/needs.mjs";
+import { CHECKER, CHECKING } from "./helpers/needs.mjs";
+import { simulated } from "./helpers/simulate.mjs";
 
 const MODULE = agentsPath("shortest");
 
@@ -162,14 +163,14 @@ test("a run that can't be made again stays as it was found", async (context) => 
 /** Runs the command line on the program `bell` with an own folder, and tells what is kept there. */
 function keptBy(context, ...words) {
   const out = temporaryFolder(context);
-  const all = [RECORD, MODULE, "--seeds", "1..80", "--sabsim", SABSIM, "--out", out, ...words, "--", "bell"];
+  const all = [RECORD, MODULE, "--seeds", "1..80", ...CHECKING, "--out", out, ...words, "--", "bell"];
   const { status, stdout, stderr } = spawnSync(process.execPath, all, { encoding: "utf8" });
   assert.deepEqual([status, stderr], [1, ""], stderr);
   const files = Object.fromEntries(readdirSync(out).map((name) => [name, readFileSync(join(out, name), "utf8")]));
   return { stdout, files };
 }
 
-test("the shortest run is kept with the original beside it, whatever the jobs; --no-shorten keeps one", withSabsim,
+test("the shortest run is kept with the original beside it, whatever the jobs; --no-shorten keeps one",
   async (context) => {
     const { stdout, files } = keptBy(context, "--jobs", "2");
     const [, seed] = /^first failing seed: (\d+), deadlock$/m.exec(stdout);
@@ -179,15 +180,14 @@ test("the shortest run is kept with the original beside it, whatever the jobs; -
     const endings = [...first, ...first.map((ending) => `original.${ending}`), "explained", "svg", "html"];
     assert.deepEqual(Object.keys(files).sort(), endings.map((ending) => `seed-${seed}.${ending}`).sort());
     assert.ok(stdout.endsWith(`: ${endings.map((ending) => `seed-${seed}.${ending}`).join(", ")}\n`), stdout);
-    const options = { module: MODULE, args: ["bell"], seed: Number(seed), sabsim: SABSIM };
+    const options = { module: MODULE, args: ["bell"], seed: Number(seed), sabsim: CHECKER };
     const { original, ...shortest } = await record({ ...options, shorten: true });
     assert.equal(files[`seed-${seed}.json`], shortest.script);
     assert.equal(files[`seed-${seed}.report`], shortest.report);
     assert.equal(files[`seed-${seed}.original.json`], original.script);
     assert.deepEqual([shortest.checked, original.checked], [true, true]);
     assert.equal(shortest.shortened.calls.after, shortest.calls);
-    const replayed = spawnSync(SABSIM, ["replay"], { input: files[`seed-${seed}.json`], encoding: "utf8" });
-    assert.equal(replayed.stdout, files[`seed-${seed}.report`]);
+    assert.equal(simulated(["replay"], files[`seed-${seed}.json`]).output, files[`seed-${seed}.report`]);
 
     const unshortened = keptBy(context, "--no-shorten");
     assert.ok(!unshortened.stdout.includes("shortened"), unshortened.stdout);
@@ -200,14 +200,14 @@ test("what a summary says of it", () => {
   const calls = { before: 60, after: 22 };
   const about = { runs: 84, changes, calls };
   const failing = { detail: "as found" };
-  const shortest = { detail: "one\ntwo" };
+  const shortest = { detail: "one\ntwo", checked: true };
   /** @param {object} found */
   const linesOf = (found) => shortenedLines(shorteningOf(found, failing));
   const start = "shortened: 1,031 changes of agents to 4, 60 calls to 22, in";
-  assert.deepEqual(linesOf({ shortest, shortened: about, checked: true }),
+  assert.deepEqual(linesOf({ shortest, shortened: about }),
     [`${start} 84 runs; sabsim says the same of it`, "  one", "  two"]);
   const stopped = { ...about, runs: 400, stopped: "the most that are made" };
-  assert.deepEqual(linesOf({ shortest: failing, shortened: stopped, checked: false }),
+  assert.deepEqual(linesOf({ shortest: failing, shortened: stopped }),
     [`${start} 400 runs, the most that are made`]);
   assert.deepEqual(linesOf({ shortened: { ...about, runs: 0, unchanged: "it met a bound" } }),
     ["not shortened: it met a bound"]);

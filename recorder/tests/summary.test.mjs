@@ -9,7 +9,9 @@ import { Summary } from "../lib/command/summary.mjs";
 import { MOST_KEYS, Tally } from "../lib/command/tally.mjs";
 import { counted, digits } from "../lib/keeping/words.mjs";
 
-const SEEN = { ordinary: "watch", races: "fail", checks: true };
+const SEEN = { ordinary: "watch", races: "fail", checkedBy: "module 123" };
+/** What it says about checks of so many runs. */
+const checkedLine = (which) => `${which} replayed and judged by the proved simulator (module): it says the same`;
 
 /**
  * An outcome, of which a test says what matters to it.
@@ -28,8 +30,7 @@ function outcome(seed, { ending = "finished", fails = ending !== "finished", sho
  */
 function linesOf(outcomes, { checked = 1, stop, ...options } = {}) {
   const summary = new Summary({ ...SEEN, ...options });
-  for (const each of outcomes) summary.add(each);
-  for (let check = 0; check < checked; check += 1) summary.addCheck();
+  outcomes.forEach((each, at) => summary.add({ ...each, checked: at < checked }));
   const text = summary.text(stop);
   assert.ok(text.endsWith("\n"));
   return text.slice(0, -1).split("\n");
@@ -62,8 +63,7 @@ test("a summary tells first what failed, and it is the same in whatever order th
     "  3 runs race, seed 192 the first: 0900",
     "  1 run deadlock, seed 191 the first: 0800",
     "  185 runs finished, seed 1 the first: 0900",
-    "28 runs checked: sabsim says the same",
-    "which of them have unordered accesses: sabsim's judge, which is proved, says the same",
+    checkedLine("28 of 194 runs were"),
     // 185 times 40 and 9 times 2; 185 times 5.
     "194 runs made 7,418 calls of Atomics, and 925 ordinary reads and writes",
   ];
@@ -148,9 +148,8 @@ test("scripts that hold a part, and runs that have none, are told", () => {
   assert.deepEqual(lines.slice(1, 4), [
     "first failing seed: 4, bound", "  it is too long", "  it has no script: it would have 2,000 calls",
   ]);
-  const checked = lines.indexOf("1 run checked: sabsim says the same");
-  assert.deepEqual(lines.slice(checked + 1, checked + 4), [
-    "whether it has unordered accesses: sabsim's judge, which is proved, says the same",
+  const checked = lines.indexOf(checkedLine("1 of 4 runs was"));
+  assert.deepEqual(lines.slice(checked + 1, checked + 3), [
     "2 scripts hold only the ordinary writes of bytes that calls touch, since all don't fit; their other bytes " +
       "weren't compared",
     "1 run has no script, and wasn't checked: it would have 2,000 calls",
@@ -160,7 +159,7 @@ test("scripts that hold a part, and runs that have none, are told", () => {
     "1 script holds only the ordinary writes of bytes that calls touch, since all don't fit; its other bytes " +
       "weren't compared",
   ));
-  const unchecked = linesOf([outcome(1, none), outcome(2, none)], { checked: 0, checks: false });
+  const unchecked = linesOf([outcome(1, none), outcome(2, none)], { checked: 0, checkedBy: undefined });
   assert.ok(unchecked.includes("no run was checked"));
   assert.ok(unchecked.includes("2 runs have no script: it would have 2,000 calls"));
 });
@@ -217,9 +216,10 @@ test("the object of a summary has all that its text has, and what the text leave
   const summary = new Summary(SEEN);
   const races = [race("ring.mjs:12:7", "ring.mjs:20:11")];
   const failing = { ending: "race", detail: "one\ntwo", shown: ["0900", ""], races, noScript: "it is too long" };
-  for (const each of [outcome(4, failing), ...seeds(1, 3, { calls: 5, ordinary: 7 })]) summary.add(each);
-  summary.addCheck();
-  summary.versions.add("sabsim 0.1.0");
+  const checked = { calls: 5, ordinary: 7, checked: true };
+  for (const each of [outcome(4, failing), ...seeds(1, 2, { calls: 5, ordinary: 7 }), outcome(3, checked)]) {
+    summary.add(each);
+  }
   const kept = { folder: "found", path: "/tmp/found", files: ["seed-4.report"] };
   const stopped = { why: "stopped", wanted: 9 };
   const told = summary.told({ stopped, kept, notKept: ["not kept: this"], problems: ["a job ended"] });
@@ -241,7 +241,7 @@ test("the object of a summary has all that its text has, and what the text leave
       failing: { listed: [{ ending: "race", hash: "race 0900 ", shown: ["0900", ""], runs: 1, first: 4 }], others: 0 },
       passing: { listed: [{ ending: "finished", hash: "finished 01", shown: ["01"], runs: 3, first: 1 }], others: 0 },
     },
-    sabsim: { asked: true, versions: ["sabsim 0.1.0"], checked: 1, judges: true, missing: null },
+    sabsim: { asked: true, versions: ["module 123"], checked: 1, judges: true },
     scripts: { parts: 0, none: { listed: [{ why: "it is too long", runs: 1, first: 4 }], others: 0 } },
     coverage: null,
     calls: 17,
@@ -257,7 +257,7 @@ test("the object of a summary has all that its text has, and what the text leave
   assert.deepEqual(lines.slice(-3), ["kept in found: seed-4.report", "not kept: this", ""]);
   const options = { ...SEEN, args: [], preloads: false };
   const asked = { module: "m.mjs", digest: "", seeds: [], shard: null, options };
-  assert.equal(whyNoSummary({ summary: 1, asked, seeds: [], ...told }), undefined);
+  assert.equal(whyNoSummary({ summary: 2, asked, seeds: [], ...told }), undefined);
 });
 
 /** Made-up outcomes of all kinds: which one a seed has is drawn from it. */
@@ -275,10 +275,7 @@ test("summaries that are joined are the summary of all runs, in whatever order",
   const whole = new Summary(SEEN);
   for (let seed = 1; seed <= 2_000; seed += 1) {
     const one = mixed(seed);
-    for (const summary of [whole, parts[(seed * 31) % 5]]) {
-      summary.add(one);
-      if (seed % 9 === 0) summary.addCheck();
-    }
+    for (const summary of [whole, parts[(seed * 31) % 5]]) summary.add({ ...one, checked: seed % 9 === 0 });
   }
   for (const order of [[0, 1, 2, 3, 4], [3, 0, 4, 2, 1]]) {
     const joined = new Summary(SEEN);
@@ -288,20 +285,22 @@ test("summaries that are joined are the summary of all runs, in whatever order",
   }
 });
 
-test("where sabsim was missing for some of the runs, it is told for how many", () => {
-  const [with_, without] = [new Summary(SEEN), new Summary({ ...SEEN, checks: false, missing: ["/nowhere"] })];
-  for (const each of seeds(1, 3)) with_.add(each);
-  with_.addCheck();
-  for (const each of seeds(4, 8)) without.add(each);
-  const joined = new Summary(SEEN);
-  for (const { told } of [with_, without].map((summary) => ({ told: summary.told() }))) joined.join(told);
-  const lines = joined.text().split("\n");
-  const at = lines.indexOf("1 run checked: sabsim says the same");
-  assert.deepEqual(lines.slice(at + 2, at + 4), [
-    "of 5 runs none was checked by sabsim, which isn't built: there is none at /nowhere",
-    "so what is told of them is the recorder's word alone, and the recorder isn't proved; `./build`, in the root of " +
-      "the repository, builds sabsim",
-  ]);
+test("the checks of summaries that are joined are told together, with each kind of simulator", () => {
+  const kinds = ["module 123", "program sabsim 0.1.0", undefined];
+  const parts = kinds.map((checkedBy) => new Summary({ ...SEEN, checkedBy }));
+  parts.forEach((summary, at) => summary.add(outcome(at, { checked: at < 2 })));
+  const joined = new Summary({ ...SEEN, checkedBy: undefined });
+  for (const summary of parts.slice(0, 2)) joined.join(summary.told());
+  assert.ok(joined.text().includes("\nevery run was replayed and judged by the proved simulator (module and program)"));
+  joined.join(parts[2].told());
+  assert.ok(joined.text().includes("\n2 of 3 runs were replayed and judged by the proved simulator (module and program)"));
+  const versions = ["module 123", "program sabsim 0.1.0"];
+  assert.deepEqual(joined.told().sabsim, { asked: true, versions, checked: 2, judges: true });
+});
+
+test("of runs whose ordinary accesses aren't watched it isn't said that they were judged", () => {
+  const lines = linesOf(seeds(1, 2), { ordinary: "store", checked: 2 });
+  assert.ok(lines.includes("every run was replayed by the proved simulator (module): it says the same"));
 });
 
 /** A tally of keys, with three seeds for each. @param {number[]} keys @param {number} most */

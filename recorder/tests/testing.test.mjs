@@ -7,7 +7,6 @@ import { join } from "node:path";
 import { test } from "node:test";
 import { assertAgents } from "../testing.mjs";
 import { WITHOUT_SABSIM, agentsPath, temporaryFolder } from "./helpers/common.mjs";
-import { SABSIM, hasSabsim, withSabsim } from "./helpers/needs.mjs";
 
 const HELPER = new URL("../testing.mjs", import.meta.url).href;
 
@@ -24,7 +23,7 @@ async function suite(context, code, env = {}, reporter = "spec") {
   mkdirSync(temporary);
   writeFileSync(join(folder, "agents.mjs"), readFileSync(agentsPath("naive-mutex"), "utf8"));
   writeFileSync(join(folder, "lock.test.mjs"), `import { assertAgents, testAgents } from "${HELPER}";\n${code}\n`);
-  const inherited = Object.entries({ ...process.env, SABSIM, ...env, TMPDIR: temporary });
+  const inherited = Object.entries({ ...process.env, ...env, TMPDIR: temporary });
   const own = Object.fromEntries(inherited.filter(([name]) => name !== "NODE_TEST_CONTEXT" && name !== "FORCE_COLOR"));
   const words = ["--test", `--test-reporter=${reporter}`, "lock.test.mjs"];
   const child = spawn(process.execPath, words, { cwd: folder, env: own, stdio: ["ignore", "pipe", "inherit"] });
@@ -42,7 +41,7 @@ async function suite(context, code, env = {}, reporter = "spec") {
 const ALIKE = 'module: "./agents.mjs", strategy: "uniform", everywhere: true';
 const AGENTS = `testAgents("no wake-up is lost", { ${ALIKE}, seeds: "1..200", shorten: false });`;
 
-test("a failing test shows seed, ending, its explained end, and where its files lie", withSabsim, async (the) => {
+test("a failing test shows seed, ending, its explained end, and where its files lie", async (the) => {
   const { folder, temporary, output, status } = await suite(the, AGENTS);
   assert.equal(status, 1);
   const [made] = readdirSync(temporary);
@@ -71,21 +70,28 @@ test("a failing test shows seed, ending, its explained end, and where its files 
   assert.ok(!output.includes("generatedMessage"));
 });
 
-test("without sabsim it shows what is known, and a passing test says that nothing was checked", async (the) => {
+test("a failing run is kept where `out` says, and a passing test says how many runs were checked", async (the) => {
   const { folder, output, status, temporary } = await suite(the, `
     testAgents("fails", { ${ALIKE}, seeds: "29", out: "found", shorten: false });
     testAgents("passes", { ${ALIKE}, seeds: { first: 3, last: 12 }, jobs: 2 });
-  `, WITHOUT_SABSIM, "tap");
+    testAgents("isn't checked", { ${ALIKE}, seeds: 2, sabsim: false });
+  `, {}, "tap");
   assert.equal(status, 1);
   assert.match(output, /^not ok 1 - fails$/m);
   assert.match(output, /^ +seed 29: deadlock\n +agent 0 waits at byte 4 of block 0: its call 19, /m);
-  const kept = ["json", "report", "trace.jsonl"].map((ending) => `seed-29.${ending}`);
+  const kept = ["json", "report", "trace.jsonl", "explained", "svg", "html"].map((ending) => `seed-29.${ending}`);
   assert.ok(output.includes(`kept in ${join(folder, "found")}: ${kept.join(", ")}`), output);
-  assert.match(output, /not kept, since only sabsim makes them: seed-29\.explained, seed-29\.svg, seed-29\.html$/m);
-  assert.deepEqual(readdirSync(join(folder, "found")).sort(), kept);
+  assert.deepEqual(readdirSync(join(folder, "found")).sort(), kept.toSorted());
   assert.match(output, /^ok 2 - passes$/m);
-  assert.match(output, /^# 10 runs passed, none checked: sabsim isn't built: there is none at \/nowhere\/sabsim; /m);
+  assert.match(output, /^# 10 runs passed, 10 checked by sabsim$/m);
+  assert.match(output, /^# 2 runs passed, none checked: the options say that sabsim isn't asked$/m);
   assert.deepEqual(readdirSync(temporary), []);
+});
+
+test("a chosen program that isn't there fails the test", async (the) => {
+  const { output, status } = await suite(the, AGENTS, WITHOUT_SABSIM, "tap");
+  assert.equal(status, 1);
+  assert.match(output, /there is no program sabsim at \/nowhere\/sabsim/);
 });
 
 test("the shortest run that fails so is shown and kept, with the original beside it", async (the) => {
@@ -94,8 +100,7 @@ test("the shortest run that fails so is shown and kept, with the original beside
   assert.match(output, /^ +agent 0 waits at byte 4 of block 0: its call 1, \["wait", "Int32", 1, 0\]$/m);
   const place = join(temporary, readdirSync(temporary)[0]);
   const texts = ["json", "report", "trace.jsonl"];
-  const endings = [...texts, ...texts.map((ending) => `original.${ending}`)];
-  if (hasSabsim) endings.push("explained", "svg", "html");
+  const endings = [...texts, ...texts.map((ending) => `original.${ending}`), "explained", "svg", "html"];
   assert.deepEqual(readdirSync(place).sort(), endings.map((ending) => `seed-29.${ending}`).sort());
   const callsOf = (name) => JSON.parse(readFileSync(join(place, name), "utf8")).agents.flatMap(({ calls }) => calls);
   assert.ok(callsOf("seed-29.json").length < callsOf("seed-29.original.json").length);
@@ -113,7 +118,7 @@ test("options that can't be fail their test, and others go on", async (the) => {
   }
   assert.match(output, /error: .*there is no file .*none\.mjs/);
   assert.match(output, /^ok 4 - right$/m);
-  assert.match(output, hasSabsim ? /^# 20 runs passed, 2 checked by sabsim$/m : /^# 20 runs passed, none checked: /m);
+  assert.match(output, /^# 20 runs passed, 20 checked by sabsim$/m);
   assert.match(output, /^# fail 3$/m);
   assert.deepEqual(readdirSync(temporary), []);
 });

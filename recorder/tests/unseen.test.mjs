@@ -11,8 +11,9 @@ import { fileURLToPath } from "node:url";
 import { UNSEEN_LINE } from "../lib/run/trace.mjs";
 import { SCRIPT_LIMITS } from "../script/limits.mjs";
 import { RECORD, agentsPath, temporaryFolder } from "./helpers/common.mjs";
-import { CHECKING, SABSIM, withSabsim } from "./helpers/needs.mjs";
+import { CHECKING, withSabsim } from "./helpers/needs.mjs";
 import { recorded, summaryLines } from "./helpers/recorded.mjs";
+import { simulated } from "./helpers/simulate.mjs";
 
 const RING = fileURLToPath(new URL("./known/ring-frees-first.mjs", import.meta.url));
 const FORMATS = new URL("../../docs/FORMATS.md", import.meta.url);
@@ -29,12 +30,6 @@ async function outcomeOf(program, options = {}) {
 
 const viewsOf = (script) => JSON.parse(script).views;
 const namesOf = ({ script }) => viewsOf(script).map(({ name }) => name);
-
-/** What sabsim does with an input. */
-function saidOf(words, input) {
-  const { status, stdout, stderr } = spawnSync(SABSIM, words, { input, encoding: "utf8" });
-  return { status, output: stdout, errors: stderr };
-}
 
 describe("a script of a run with ordinary accesses", () => {
   it("says so by an empty view: the ring whose kept scripts show no race", (context) => {
@@ -171,34 +166,38 @@ describe("a script that is full of views", () => {
 });
 
 describe("sabsim takes such a script", () => {
-  it("for a replay: the report is what the code saw, and no report has the empty view", withSabsim, async () => {
+  it("for a replay: the report is what the code saw, and no report has the empty view", async () => {
     const { script, report } = await outcomeOf("reads");
-    assert.deepEqual(saidOf(["replay"], script), { status: 0, output: report, errors: "" });
+    assert.deepEqual(simulated(["replay"], script), { status: 0, output: report, errors: "" });
     const { views, ...rest } = JSON.parse(script);
     const without = JSON.stringify({ ...rest, views: views.slice(0, -1) });
     // A picture has room for the longest name of a view, so there it is wider.
     for (const format of ["plain", "explained", "json"]) {
       const words = ["replay", "--format", format];
-      assert.deepEqual(saidOf(words, script), saidOf(words, without), format);
+      assert.deepEqual(simulated(words, script), simulated(words, without), format);
     }
   });
 
-  it("for a check and a race", withSabsim, async () => {
+  it("for a check", async () => {
     const { script } = await outcomeOf("reads");
-    assert.match(saidOf(["check"], script).output, /^ok: 1 block, 2 views, 2 agents, 1 call, 3 moves\n$/);
-    assert.equal(saidOf(["race", "--share", "lock"], script).status, 0);
+    assert.match(simulated(["check"], script).output, /^ok: 1 block, 2 views, 2 agents, 1 call, 3 moves\n$/);
   });
 
-  it("not for a verdict, which would be about other accesses than the run's", withSabsim, async () => {
+  it("for a race", withSabsim, async () => {
+    const { script } = await outcomeOf("reads");
+    assert.equal(simulated(["race", "--share", "lock"], script).status, 0);
+  });
+
+  it("not for a verdict, which would be about other accesses than the run's", async () => {
     const programs = [["reads", {}], ["atomics", { ordinary: "store" }], ["atomics", { ordinary: "refuse" }]];
     for (const [program, options] of programs) {
       const { script, trace, races } = await outcomeOf(program, { trace: true, ...options });
       for (const words of [["judge"], ["judge", "--format", "json"]]) {
-        const { status, output, errors } = saidOf(words, script);
+        const { status, output, errors } = simulated(words, script);
         assert.deepEqual([status, output], [1, ""]);
         assert.match(errors, /^sabsim: 21 OrdinaryData/);
       }
-      const judged = saidOf(["judge", "--trace"], trace);
+      const judged = simulated(["judge", "--trace"], trace);
       if (races.length > 0) assert.deepEqual([judged.status, judged.errors], [5, ""]);
       else assert.deepEqual(judged, { status: 1, output: "", errors: "sabsim: 10 BadShape: line 1\n" });
     }

@@ -65,9 +65,7 @@ declare interface ErrorConstructor {
   captureStackTrace(holder: object, from?: Function): void;
 }
 
-declare interface Error {
-  readonly code?: string;
-}
+declare interface Error { readonly code?: string }
 
 declare module "node:inspector" {
   const inspector: { url(): string | undefined };
@@ -87,9 +85,7 @@ declare class Buffer extends Uint8Array {
   write(text: string, encoding?: string): number;
 }
 
-interface URL {
-  readonly href: string;
-}
+interface URL { readonly href: string }
 
 declare var URL: { readonly prototype: URL; new (url: string, base?: string | URL): URL };
 
@@ -106,7 +102,7 @@ declare class TextDecoder {
 interface AbortSignal {
   readonly aborted: boolean;
   readonly reason: any;
-  addEventListener(event: "abort", listener: () => void): void;
+  addEventListener(event: "abort", listener: () => void, options?: { once: boolean }): void;
   removeEventListener(event: "abort", listener: () => void): void;
 }
 
@@ -239,7 +235,7 @@ declare module "node:fs" {
   export function statSync(path: string): Stats;
   export function writeFileSync(file: number | string, text: string): void;
   export function writeSync(file: number, chunk: string | Uint8Array): number;
-  const all: { promises: object };
+  const all: { promises: object; writeSync: typeof writeSync };
   export default all;
 }
 
@@ -253,10 +249,13 @@ declare module "node:module" {
     constructor(payload: object);
     findEntry(line: number, column: number): SourceEntry;
   }
+  export function createRequire(url: string): (name: string) => any;
   export function syncBuiltinESMExports(): void;
 }
 
 declare module "node:os" {
+  export function availableParallelism(): number;
+  export function cpus(): { times: { idle: number } }[];
   export function tmpdir(): string;
   export const constants: { readonly signals: Record<NodeJS.Signals, number> };
 }
@@ -276,9 +275,7 @@ declare module "node:perf_hooks" {
   export default all;
 }
 
-declare module "node:process" {
-  export default process;
-}
+declare module "node:process" { export default process }
 
 declare module "node:stream" {
   type Done = (error?: Error | null) => void;
@@ -304,7 +301,9 @@ declare module "node:test" {
 
 declare module "node:timers/promises" {
   export function setImmediate(): Promise<void>;
-  export function setTimeout(milliseconds: number): Promise<void>;
+  export function setTimeout(
+    milliseconds: number, value?: undefined, options?: { ref: boolean; signal: AbortSignal },
+  ): Promise<void>;
 }
 
 declare module "node:url" {
@@ -351,6 +350,7 @@ declare module "node:v8" {
 }
 
 declare module "node:vm" {
+  export function compileFunction(code: string, names: string[], options: { filename: string }): Function;
   export function runInNewContext(code: string): any;
   const vm: { Script: Function };
   export default vm;

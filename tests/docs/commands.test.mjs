@@ -3,7 +3,9 @@
 
 import assert from "node:assert/strict";
 import { spawnSync } from "node:child_process";
-import { cpSync, mkdirSync, mkdtempSync, rmSync, symlinkSync, writeFileSync } from "node:fs";
+import {
+  cpSync, mkdirSync, mkdtempSync, readFileSync, readdirSync, rmSync, symlinkSync, writeFileSync,
+} from "node:fs";
 import { tmpdir } from "node:os";
 import { basename, join } from "node:path";
 import { after, test } from "node:test";
@@ -42,11 +44,10 @@ const COMMANDS = [
   ["npm install ./sabsim-0.1.0.tgz", { by: INSTALLS, words: '"--no-fund", `./sabsim-${version}.tgz`' }],
   ["node --test", { by: INSTALLS, words: '"node", ["--test", "--test-reporter=tap", "readme.mjs"]' }],
   ["npm test", { notRun: "tests/recorder runs the same tests" }],
-  ["node recorder/record.mjs recorder/tests/agents/naive-mutex.mjs --seeds 1..200", { status: 1, ...built }],
-  ["node recorder/record.mjs recorder/tests/known/ring-frees-first.mjs --seeds 1..200", { status: 1, ...built }],
-  ["node recorder/record.mjs recorder/tests/known/ring-frees-first.mjs --seeds 1..200 --out found",
-    { status: 1, ...built }],
-  ["crates/sabsim/out/sabsim judge --trace found/seed-3.trace.jsonl", { status: 5, ...built }],
+  ["node recorder/record.mjs recorder/tests/agents/naive-mutex.mjs --seeds 1..200", { status: 1 }],
+  ["node recorder/record.mjs recorder/tests/known/ring-frees-first.mjs --seeds 1..200", { status: 1 }],
+  ["node recorder/record.mjs recorder/tests/known/ring-frees-first.mjs --seeds 1..200 --out found", { status: 1 }],
+  ["node recorder/sabsim.mjs judge --trace found/seed-3.trace.jsonl", { status: 5 }],
   ["node --test recorder/tests/nearest.test.mjs", { status: 0 }],
   ["SABSIM=crates/sabsim/out/sabsim node --test recorder/tests/traces.test.mjs", { status: 0, ...built }],
   ["cd crates/sab_refusal && rt check", PROVES],
@@ -145,6 +146,14 @@ for (const [command, { status, isBuilt = false, when = {}, by, words, notRun }] 
     }
   });
 }
+
+test("with nothing built the first command keeps explanation, picture and page", () => {
+  const files = readdirSync(join(copy, "found")).filter((name) => name.startsWith("seed-13."));
+  const kept = ["explained", "html", "json", "report", "svg", "trace.jsonl"].map((ending) => `seed-13.${ending}`);
+  assert.deepEqual(files.filter((name) => !name.includes("original")), kept);
+  const page = readFileSync(join(copy, "found/seed-13.html"), "utf8");
+  assert.match(page, /<script type="text\/plain" id="simulator">[A-Za-z0-9+/=]{1000}/);
+});
 
 test("README names the kit that is here", withKit.when, () => {
   const { stdout } = spawnSync("rt", ["version"], { encoding: "utf8" });

@@ -27,6 +27,9 @@ const withProgram = { skip: SABSIM === undefined ? "the program wasn't given" : 
 const hasCompiler = spawnSync("tsc", ["--version"]).status === 0;
 const withCompiler = { skip: hasCompiler ? false : "there is no tsc on this machine" };
 
+/** What a summary says of runs that the module has checked. */
+const CHECKED = /^every run was replayed and judged by the proved simulator \(module\): it says the same$/m;
+
 const room = mkdtempSync(join(tmpdir(), "sabsim-package-"));
 after(() => rmSync(room, { recursive: true, force: true }));
 
@@ -68,11 +71,11 @@ function filesOf(path) {
   return names.map((name) => name.replace(/^package\//, "")).sort();
 }
 
-/** A project of a user's own with the package installed; answers its folder. */
-function projectWith(name, path) {
+/** A project of a user's own with some files and the package installed; answers its folder. */
+function projectWith(name, path, files = readdirSync(PROJECT)) {
   const folder = join(room, name);
   mkdirSync(folder);
-  for (const file of readdirSync(PROJECT)) copyFileSync(join(PROJECT, file), join(folder, file));
+  for (const file of files) copyFileSync(join(PROJECT, file), join(folder, file));
   writeFileSync(join(folder, "package.json"), '{ "name": "own", "version": "1.0.0", "private": true }\n');
   copyFileSync(path, join(folder, `sabsim-${version}.tgz`));
   const words = ["install", "--offline", "--no-audit", "--no-fund", `./sabsim-${version}.tgz`];
@@ -113,7 +116,7 @@ test("a program's version is the package's", () => {
 test("a project's own tests import it", () => {
   const output = succeeds(project, "node", ["--test", "--test-reporter=tap"]);
   assert.match(output, /^# pass 4$/m);
-  assert.match(output, /^# 10 runs passed, none checked: sabsim isn't built: /m);
+  assert.match(output, /^# 10 runs passed, 10 checked by sabsim$/m);
   assert.match(output, /^# fail 0$/m);
 });
 
@@ -168,7 +171,7 @@ function recorded(folder, words) {
 
 test("sabsim-record finds the failing seed, and its script is what the engine says", () => {
   const { seed, output: told } = recorded(project, ["--out", "found"]);
-  assert.match(told, /^nothing was checked by sabsim, .*node_modules\/sabsim\/program\/.*\/sabsim$/m);
+  assert.match(told, CHECKED);
   const kept = (ending) => readFileSync(join(project, `found/seed-${seed}.${ending}`), "utf8");
   if (seed > 1) {
     assert.equal(npx(project, ["sabsim-record", "lock.mjs", "--seeds", `1..${seed - 1}`]).status, 0);
@@ -191,6 +194,40 @@ test("the package's own examples are recorded", () => {
   const { status, output, errors } = npx(project, ["sabsim-record", example, "--seeds", "1..5"]);
   assert.equal(status, 0, errors);
   assert.match(output, /^5 runs: 5 finished$/m);
+});
+
+test("in an empty folder README's first command checks every run, and keeps explanation, picture and page", () => {
+  const folder = projectWith("empty", plain, []);
+  const example = "node_modules/sabsim/recorder/examples/mutex-naive.agents.mjs";
+  const words = ["sabsim-record", example, "--seeds", "1..200", "--out", "found"];
+  const { status, output, errors } = npx(folder, words);
+  assert.deepEqual([status, errors], [1, ""]);
+  assert.match(output, CHECKED);
+  const kept = (ending) => readFileSync(join(folder, `found/seed-13.${ending}`), "utf8");
+  for (const [ending, format] of [["report", "plain"], ["explained", "explained"], ["svg", "svg"]]) {
+    const replay = npx(folder, ["sabsim", "replay", "--format", format, "found/seed-13.json"]);
+    assert.deepEqual(replay, { status: 0, signal: null, output: kept(ending), errors: "" });
+  }
+  assert.match(kept("html"), /^<!doctype html>\n[^]*id="simulator">[A-Za-z0-9+/=]{1000}[^]*<\/html>\n$/);
+});
+
+test("without a program `npx sabsim replay` of every example gives its report", () => {
+  const folder = join(TOP, "examples");
+  const names = readdirSync(folder).filter((name) => name.endsWith(".json"));
+  assert.ok(names.length > 5);
+  for (const name of names) {
+    const output = readFileSync(join(folder, name.replace(/json$/, "report")), "utf8");
+    const replay = npx(project, ["sabsim", "replay", join(folder, name)]);
+    assert.deepEqual(replay, { status: 0, signal: null, output, errors: "" });
+  }
+});
+
+test("the module's version says what the proof doesn't cover", () => {
+  for (const word of ["--version", "-V"]) {
+    const [first, ...others] = npx(project, ["sabsim", word]).output.split("\n");
+    assert.ok(first.startsWith(`sabsim ${version}, proved with Rattle logic `));
+    assert.match(others.join(" "), /^This is the module sabsim\.wasm, of the same proved sources\. .*heap .*binaryen/);
+  }
 });
 
 test("without a program the module does what sabsim does, except races", () => {
@@ -276,12 +313,14 @@ test("with a program it replays what was recorded, and checks", withProgram, asy
   });
 
   await the.test("its version", () => {
-    assert.ok(npx(folder, ["sabsim", "--version"]).output.startsWith(`sabsim ${version},`));
+    assert.match(npx(folder, ["sabsim", "--version"]).output, new RegExp(`^sabsim ${version},[^\\n]*\\n$`));
   });
 
-  await the.test("runs are checked by it", () => {
+  await the.test("runs are checked by it if it is chosen, and else by the module", () => {
+    const chosen = recorded(folder, ["--sabsim", join(place, "sabsim")]);
+    assert.match(chosen.output, /^every run .* by the proved simulator \(program\): it says the same$/m);
     const { seed, output } = recorded(folder, ["--out", "found"]);
-    assert.match(output, /^[0-9]+ runs checked: sabsim says the same$/m);
+    assert.match(output, CHECKED);
     const kept = (ending) => join(folder, `found/seed-${seed}.${ending}`);
     const { status, output: report } = npx(folder, ["sabsim", "replay", kept("json")]);
     assert.equal(status, 0);

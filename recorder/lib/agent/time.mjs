@@ -58,11 +58,10 @@ function simulateProcess(now) {
 
 /** A row of random numbers that an agent's code draws from. */
 export class Chance {
-  /** @param {number} agent */
-  constructor(agent) {
-    this.agent = agent;
+  constructor() {
+    /** Which agent it is. */
+    this.agent = 0;
     this.random = new Random(new Int32Array(4));
-    this.begin(0);
   }
 
   /** @param {number} seed of the run that begins */

@@ -5,7 +5,7 @@
 // All of this runs beside the agents' code, which may change what it finds: so it uses functions that it has kept from
 // before that code is loaded, and loops in place of the methods of arrays.
 
-import { writeSync } from "node:fs";
+import fs from "node:fs";
 import { syncBuiltinESMExports } from "node:module";
 import { Writable } from "node:stream";
 import { workerData } from "node:worker_threads";
@@ -105,16 +105,21 @@ function printAtOnce() {
     // Of runs that are made to learn from nothing is told.
     if (self.player?.isPilot() === true) return true;
     try {
-      writeSync(2, chunk);
+      fs.writeSync(2, chunk);
     } catch {
       // Nobody reads it, or not fast enough: what an agent prints isn't worth its end.
     }
     return true;
   };
-  for (const name of ["stdout", "stderr"]) {
+  for (const name of /** @type {const} */ (["stdout", "stderr"])) {
     const stream = new Writable({ write: (chunk, _encoding, done) => done(printed(chunk) ? null : undefined) });
     // The stream's own way of writing goes on later, for a callback.
     put(stream, "write", printed);
+    /** @type {any} node's messages for it may still come, and are taken by a method that a symbol names */
+    const former = process[name];
+    for (const symbol of Object.getOwnPropertySymbols(Object.getPrototypeOf(former))) {
+      put(stream, symbol, former[symbol].bind(former));
+    }
     Object.defineProperty(process, name, { value: stream, configurable: true });
   }
 }
@@ -124,7 +129,6 @@ const NO_AGENT = "it has no function as its default export, as `export default f
 /**
  * @typedef {object} Given what a worker is started with
  * @property {import("node:worker_threads").MessagePort} port
- * @property {number} agent
  * @property {string[]} args
  * @property {"watch" | "store" | "refuse"} ordinary
  * @property {"run" | "real"} clock
@@ -138,14 +142,14 @@ const NO_AGENT = "it has no function as its default export, as `export default f
  * @property {import("../board/strategy.mjs").Rules} rules
  */
 
-const { port, agent: number, args, ordinary, clock, module: file } = /** @type {Given} */ (workerData);
+const { port, args, ordinary, clock, module: file } = /** @type {Given} */ (workerData);
 
 /**
- * How the agent's calls are made; none can be while its module is being loaded.
- * @type {{ player: Player | undefined, buffers: unknown[] }}
+ * Which agent it is, and how its calls are made; none can be while its module is being loaded.
+ * @type {{ agent: number, player: Player | undefined, buffers: unknown[] }}
  */
-const self = { player: undefined, buffers: [] };
-const chance = new Chance(number);
+const self = { agent: 0, player: undefined, buffers: [] };
+const chance = new Chance();
 
 /** @param {unknown} buffer */
 const blockOf = (buffer) => {
@@ -255,11 +259,12 @@ function namesIn(module, agent) {
 
 /**
  * Imports the agents' module, and tells what it exports besides the agent.
+ * @param {(url: string) => Promise<any>} load
  * @returns {Promise<{ default: Function, init?: Function, check?: Function } | undefined>}
  */
-async function loaded() {
+async function loaded(load) {
   try {
-    const found = await import(file);
+    const found = await load(file);
     // A compiled CommonJS module has its exports in its default export.
     const isCompiled = typeof found.default === "object" && typeof found.default?.default === "function";
     const module = isCompiled ? found.default : found;
@@ -295,17 +300,17 @@ function playerOf({ memory, plan, rules }, later) {
   later.enable();
   const board = new Board(memory.board, rules);
   const buffers = new Memory(memory.buffers, memory.copies);
-  return new Player(number, {
+  return new Player(self.agent, {
     board,
     memory: buffers,
     log: new Log(memory.log, board.words, WORD.EVENTS),
     stores: new Stores(memory.stores, board.words, buffers),
-    records: new Records(memory.records[number]),
-    sources: new Sources(memory.sources[number]),
+    records: new Records(memory.records[self.agent]),
+    sources: new Sources(memory.sources[self.agent]),
     later,
     chance,
     lengths: plan.buffers,
-    canBlock: plan.canBlock[number],
+    canBlock: plan.canBlock[self.agent],
     ordinary,
   });
 }
@@ -333,19 +338,27 @@ function serve(module, agents) {
     onceMore();
     const order = player.awaitOrder();
     const own = { agents, args: words() };
-    const play = () => module.default({ buffers: buffers(), agent: number, agents, args: words() });
+    const play = () => module.default({ buffers: buffers(), agent: self.agent, agents, args: words() });
     if (order === ORDER.PLAY) player.play(play, described);
     else player.serve(() => (order === ORDER.INIT ? module.init : module.check)?.(buffers(), own), described);
   }
 }
 
-async function main() {
-  /** @type {Promise<Handed>} */
-  const handed = new Promise((done) => {
-    port.once("message", done);
-  });
+/** @returns {Promise<any>} the next message, which mustn't have come yet */
+const nextMessage = () => new Promise((done) => {
+  port.once("message", done);
+});
+
+/** @param {(url: string) => Promise<any>} load imports a module */
+export async function main(load) {
+  const numbered = nextMessage();
   const later = furnish();
-  const module = await loaded();
+  self.agent = (await numbered).agent;
+  chance.agent = self.agent;
+  chance.begin(0);
+  /** @type {Promise<Handed>} */
+  const handed = nextMessage();
+  const module = await loaded(load);
   if (module === undefined) {
     port.close();
     return;
@@ -356,5 +369,3 @@ async function main() {
   port.postMessage({ ready: true });
   serve(module, given.plan.agents);
 }
-
-await main();

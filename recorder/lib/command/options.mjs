@@ -35,8 +35,8 @@ Runs the agents of a module under seeded schedules, and keeps the first run that
 
 ${ROWS.map(helpOf).join("\n")}
 
-Status: 0 no run failed, 1 some did, 2 the command line or the module was refused, 3 the code and sabsim differ, sabsim
-was asked for and isn't there, a file or standard output can't be written, or a job's process ended.
+Status: 0 no run failed, 1 some did, 2 the command line or the module was refused, 3 the code and the simulator differ,
+the native program was chosen and isn't there, a file or standard output can't be written, or a job's process ended.
 `;
 
 /** @type {Record<string, { type: "string" | "boolean", multiple?: boolean }>} */
@@ -117,8 +117,7 @@ function replayOf({ replay: file, seeds, out }) {
  * @property {import("../seeds/ranges.mjs").Range} asked the seeds of all shards
  * @property {import("../seeds/ranges.mjs").Shard | undefined} shard
  * @property {boolean} untilCovered
- * @property {boolean} isSabsimAsked whether the checks are asked for
- * @property {string} [sabsim] where it must be
+ * @property {string} [sabsim] where the native program must be
  * @property {string} format
  * @property {string} [out]
  * @property {boolean} shorten
@@ -126,7 +125,7 @@ function replayOf({ replay: file, seeds, out }) {
  */
 
 /**
- * @typedef {import("../run/group.mjs").GroupOptions & Omit<import("../seeds/seeds.mjs").SeedsOptions, "sabsim"> & Own
+ * @typedef {import("../run/group.mjs").GroupOptions & Omit<import("../seeds/runs.mjs").OfRuns, "sabsim"> & Own
  * & { ordinary: "watch" | "store" | "refuse", races: "fail" | "allow" }} Options
  */
 
@@ -151,6 +150,5 @@ export function optionsOf(words) {
   return /** @type {Options} */ ({
     ...all, help: false, module: positionals[0], args: end < 0 ? [] : words.slice(end + 1),
     ...shardFrom(asked, shard), shorten: !noShorten, replay: replayOf(given),
-    isSabsimAsked: given.checkEvery !== undefined,
   });
 }

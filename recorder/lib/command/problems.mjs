@@ -1,10 +1,11 @@
 // What went wrong, as it is told.
 
-import { Difference, NoSabsim } from "../check/sabsim.mjs";
+import { Difference } from "../check/check.mjs";
 import { NotKept } from "../keeping/keep.mjs";
 import { Refused } from "../options/refused.mjs";
 import { LostJob } from "../seeds/remote-job.mjs";
 import { NoLongerTheSame } from "../shorter/differing.mjs";
+import { NoSabsim } from "../simulator/native.mjs";
 import { NotPrinted } from "./print.mjs";
 
 /** What can go wrong without a defect of the recorder: a sentence says all of it. */

@@ -3,12 +3,13 @@
 
 import { readFileSync } from "node:fs";
 import { basename } from "node:path";
-import { checkable, check as checkWithSabsim, sabsimFor, sabsimPlaces } from "../check/sabsim.mjs";
 import { Refused } from "../options/refused.mjs";
 import { preloads } from "../processes/preloads.mjs";
-import { Group } from "../run/group.mjs";
+import { Job } from "../seeds/job.mjs";
+import { Runs } from "../seeds/runs.mjs";
 import { NoLongerTheSame, differenceText, strayedText } from "../shorter/differing.mjs";
 import { callNumbers, keptScript } from "../shorter/kept-script.mjs";
+import { chosenProgram, simulatorAt } from "../simulator/chosen.mjs";
 import { print } from "./print.mjs";
 import { Summary } from "./summary.mjs";
 
@@ -75,8 +76,9 @@ export class Replay {
     const named = /^seed-(\d+)\./.exec(basename(file))?.[1];
     this.isNamed = named !== undefined || seed !== undefined;
     this.seed = seed ?? Number(named ?? DEFAULT_SEED);
-    const { checkEvery, sabsim: path, isSabsimAsked: isAsked } = options;
-    this.sabsim = checkEvery === 0 ? undefined : sabsimFor({ path, isAsked });
+    /** @type {string | false | undefined} */
+    this.sabsim = options.checkEvery === 0 ? false : chosenProgram(options.sabsim);
+    this.simulator = this.sabsim === false ? undefined : simulatorAt(this.sabsim);
     this.place = placeOf(this.kept, options);
   }
 
@@ -86,39 +88,36 @@ export class Replay {
    * @throws {NoLongerTheSame}
    */
   async run() {
-    const { options, sabsim } = this;
-    const { outcome, judgement, aside } = await this.#made();
-    if (aside.stray !== undefined) throw new NoLongerTheSame(strayedText(aside.stray, outcome.detail, this.kept));
+    const { options, simulator } = this;
+    const outcome = await this.#made();
+    if (outcome.stray !== undefined) throw new NoLongerTheSame(strayedText(outcome.stray, outcome.detail, this.kept));
     const { script } = outcome;
     const difference = script === undefined ? undefined : differenceText(this.kept, keptScript(script, "the run"));
     if (difference !== undefined) throw new NoLongerTheSame(difference);
     const summary = new Summary({
-      ordinary: options.ordinary, races: options.races, checks: sabsim !== undefined,
-      missing: options.checkEvery > 0 && sabsim === undefined ? sabsimPlaces() : undefined,
-      preloads: preloads(),
+      ordinary: options.ordinary, races: options.races, checkedBy: simulator?.version, preloads: preloads(),
     });
     summary.add(outcome);
-    if (sabsim !== undefined && script !== undefined) {
-      checkWithSabsim(sabsim, checkable(outcome, judgement));
-      summary.addCheck();
-    }
     await print(`${this.#title()}\n${summary.text()}`);
     return { failed: outcome.fails, problems: [] };
   }
 
+  /** @returns {Promise<import("../seeds/job.mjs").Checked>} */
   async #made() {
-    const { kept: { draws }, options, place, seed } = this;
+    const { kept: { draws }, options, place, sabsim, seed } = this;
     const long = { seconds: DEBUGGED_SECONDS, loadSeconds: DEBUGGED_SECONDS };
     const limits = await isDebugged() ? long : { seconds: options.seconds };
     // A debugger would stop in each further run of the agents. So there are no pilots, from which nothing is to be
     // learnt, since the row says who moves; and the lines of code are told at once.
-    const only = { fresh: false, everywhere: true, trace: true };
-    const group = await Group.open({ ...options, ...place, ...limits, ...only });
+    const only = { first: seed, last: seed, jobs: 1, fresh: false, everywhere: true, trace: true };
+    const checking = { sabsim, checkEvery: 1 };
+    const wanted = { row: draws.map(({ agent }) => agent), isExact: true, calls: callNumbers(this.kept) };
+    const all = { ...options, ...place, ...limits, ...only, ...checking, wanted };
+    const runs = new Runs(all, { job: new Job() });
     try {
-      const row = draws.map(({ agent }) => agent);
-      return await group.one({ seed, whole: true, row, isExact: true, calls: callNumbers(this.kept) });
+      return /** @type {any} */ ((await runs.outcomes().next()).value);
     } finally {
-      await group.close();
+      await runs.close();
     }
   }
 

@@ -1,13 +1,13 @@
 // What the command line does: many runs, a summary of them, and the first failing one kept.
 
 import { resolve } from "node:path";
-import { Difference, sabsimFor, sabsimPlaces, versionOf } from "../check/sabsim.mjs";
+import { Difference } from "../check/check.mjs";
 import { Keeper } from "../keeping/keep.mjs";
-import { keepPictures } from "../keeping/pictures.mjs";
 import { collectGarbage, onceMore } from "../processes/garbage.mjs";
 import { preloads } from "../processes/preloads.mjs";
 import { Coverage } from "../seeds/coverage.mjs";
-import { recordSeeds } from "../seeds/seeds.mjs";
+import { Runs } from "../seeds/runs.mjs";
+import { chosenProgram, simulatorAt } from "../simulator/chosen.mjs";
 import { askedOf } from "./asked.mjs";
 import { formatted } from "./formats.mjs";
 import { Interrupted, Interruption } from "./interruption.mjs";
@@ -18,34 +18,35 @@ import { replayCommand } from "./replay-command.mjs";
 import { FORM } from "./summary-form.mjs";
 import { Summary } from "./summary.mjs";
 
-/** @typedef {import("../run/group.mjs").Outcome} Outcome */
+/** @typedef {import("../seeds/job.mjs").Checked} Outcome */
 
 export class Session {
   /**
    * @param {import("./options.mjs").Options} options
    * @param {string} module its URL
+   * @param {import("../seeds/remote-job.mjs").RemoteJob} job the first one, which has begun
    */
-  constructor(options, module) {
-    const { checkEvery, sabsim: path, isSabsimAsked: isAsked } = options;
+  constructor(options, module, job) {
     const isPreloaded = preloads();
     this.asked = askedOf(options, module, isPreloaded);
-    /** Where sabsim is; undefined: it isn't asked. */
-    this.sabsim = checkEvery === 0 ? undefined : sabsimFor({ path, isAsked });
-    const every = this.sabsim === undefined ? 0 : checkEvery;
-    this.options = { ...options, module, checkEvery: every, sabsim: this.sabsim, origin: options.asked.first };
+    const isChecked = options.checkEvery > 0;
+    const sabsim = isChecked ? chosenProgram(options.sabsim) : undefined;
+    this.simulator = simulatorAt(sabsim);
+    this.options = { ...options, module, sabsim };
     this.wanted = options.last - options.first + 1;
     this.coverage = options.untilCovered ? new Coverage() : undefined;
     this.keeper = options.out === undefined ? undefined : new Keeper(options.out);
     this.summary = new Summary({
-      ordinary: options.ordinary, races: options.races, checks: this.sabsim !== undefined,
-      missing: checkEvery > 0 && this.sabsim === undefined ? sabsimPlaces() : undefined,
-      preloads: isPreloaded,
-      coverage: this.coverage,
+      ordinary: options.ordinary, races: options.races, preloads: isPreloaded, coverage: this.coverage,
+      checkedBy: isChecked ? this.simulator.version : undefined,
     });
     /** @type {string[]} what isn't kept though there is a script to make it from, and why */
     this.leftOut = [];
     this.progress = new Progress(this.wanted);
     this.interruption = new Interruption();
+    const { asked: { first: origin }, untilCovered: tellsMeetings } = options;
+    const how = { isBrief: true, goesOn: true, origin, tellsMeetings };
+    this.runs = new Runs({ ...this.options, ...how }, { signal: this.interruption.signal, job });
   }
 
   /**
@@ -75,23 +76,31 @@ export class Session {
   /** Makes the runs, and looks for the shortest one that fails as the one that is kept, which it then replaces. */
   async #record() {
     collectGarbage();
-    /** @param {Outcome} outcome */
-    const onOutcome = (outcome) => {
-      this.summary.add(outcome);
-      this.progress.show(this.summary);
-      if (outcome.fails) this.keeper?.keepLowest(outcome);
-      onceMore();
-    };
-    const onCheck = () => this.summary.addCheck();
-    const { coverage, summary, interruption: { signal } } = this;
-    const failing = () => this.#toShorten();
-    /** @param {import("../shorter/shorten.mjs").Tried} tried */
-    const onTry = (tried) => this.progress.showShortening(this.#failing()?.seed ?? 0, tried);
-    const listening = { onCheck, signal, coverage, failing, onTry };
-    const { shortened } = await recordSeeds(this.options, onOutcome, listening);
-    summary.shortened = shortened;
-    const [found, shortest] = [this.#failing(), shortened?.shortest];
-    if (found !== undefined && shortest !== undefined) this.keeper?.keepShortest(found, shortest);
+    const { runs, summary } = this;
+    try {
+      for await (const outcome of runs.outcomes()) if (this.#isLast(outcome)) break;
+      const found = this.#toShorten();
+      if (found === undefined) return;
+      summary.shortened = await runs.shorten(found, (tried) => this.progress.showShortening(found.seed, tried));
+      const { shortest } = summary.shortened;
+      if (shortest !== undefined) this.keeper?.keepShortest(found, shortest);
+    } finally {
+      await runs.close();
+    }
+  }
+
+  /**
+   * Adds what came of a run to the summary, and keeps it if it is to be kept.
+   * @param {Outcome} outcome
+   * @returns {boolean} whether it is the last one
+   */
+  #isLast(outcome) {
+    const { coverage, keeper, options: { failFast }, progress, summary } = this;
+    summary.add(outcome);
+    progress.show(summary);
+    if (outcome.fails) keeper?.keepLowest(outcome);
+    onceMore();
+    return coverage?.add(outcome) === true || (failFast === true && outcome.fails);
   }
 
   /** The failing run of the least seed. */
@@ -112,7 +121,7 @@ export class Session {
    * Keeps what is made from the runs when they are over.
    * @param {unknown} stopped why not all were made, if so
    */
-  #keepMore(stopped) {
+  async #keepMore(stopped) {
     const { keeper, summary: { shortened } } = this;
     const failing = this.#failing();
     if (keeper === undefined) return;
@@ -123,7 +132,8 @@ export class Session {
     } else if (failing !== undefined && keeper.seed === failing.seed) {
       const outcome = shortened?.shortest ?? failing;
       const command = replayCommand({ ...this.options, module: this.asked.module });
-      const how = { path: this.sabsim, module: this.options.module, command };
+      const how = { simulator: this.simulator, module: this.options.module, command };
+      const { keepPictures } = await import("../keeping/pictures.mjs");
       this.leftOut.push(...keepPictures(keeper, outcome, how));
     }
   }
@@ -146,10 +156,8 @@ export class Session {
    * @returns {import("./summary-form.mjs").WholeSummary}
    */
   #told(stopped, problems) {
-    const { keeper, options: { first, last, format } } = this;
+    const { keeper, options: { first, last } } = this;
     const isKept = keeper !== undefined && keeper.names.length > 0;
-    // It takes a program to tell it.
-    if (format === "json" && this.sabsim !== undefined) this.summary.versions.add(versionOf(this.sabsim));
     const told = this.summary.told({
       stopped,
       kept: isKept ? { folder: keeper.folder, path: resolve(keeper.folder), files: keeper.names } : null,

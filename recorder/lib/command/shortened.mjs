@@ -21,9 +21,9 @@ import { counted, digits } from "../keeping/words.mjs";
  * @param {{ detail: string } | undefined} failing the run as it was found
  * @returns {Shortening}
  */
-export function shorteningOf({ shortest, shortened, checked }, failing) {
+export function shorteningOf({ shortest, shortened }, failing) {
   const { runs, changes, calls, stopped = null, unchanged = null } = shortened;
-  const { detail = "" } = shortest ?? {};
+  const { detail = "", checked = false } = shortest ?? {};
   const lines = detail === "" || detail === failing?.detail ? [] : detail.split("\n");
   return { runs, changes, calls, stopped, unchanged, checked, detail: lines };
 }

@@ -7,7 +7,7 @@
  */
 
 /** The number of this form: another one has another. */
-export const FORM = 1;
+export const FORM = 2;
 
 /** @typedef {(value: unknown, place: string) => string | undefined} Check it answers where a value isn't right */
 
@@ -74,10 +74,7 @@ const MEMBERS = object({
   })),
   races: object({ allowed: flag, runs: whole, pairs: listed({ lines: texts }) }),
   states: object({ failing: states, passing: states }),
-  sabsim: object({
-    asked: flag, versions: texts, checked: whole, judges: flag,
-    missing: orNull(object({ places: texts, runs: whole })),
-  }),
+  sabsim: object({ asked: flag, versions: texts, checked: whole, judges: flag }),
   scripts: object({ parts: whole, none: listed({ why: text }) }),
   coverage: orNull(object({
     pairs: texts, last: orNull(whole), row: orNull(whole), unplaced: whole, covered: flag,

@@ -1,6 +1,5 @@
 // The plain text of a summary. It is made from the object that `--format json` tells, and from nothing else.
 
-import { HOW_TO_BUILD } from "../check/sabsim.mjs";
 import { counted, digits, listed } from "../keeping/words.mjs";
 import { rangeText } from "../seeds/ranges.mjs";
 import { shortenedLines } from "./shortened.mjs";
@@ -91,13 +90,12 @@ function coverageLines({ coverage }) {
 }
 
 /** @param {SummaryData} summary */
-function checkLines({ runs, sabsim: { checked, judges, missing } }) {
-  const lines = missing === null ? [] : uncheckedLines(missing, runs);
-  if (checked === 0) return lines.length === 0 ? ["no run was checked"] : lines;
-  const same = `${counted(checked, "run")} checked: sabsim says the same`;
-  const which = checked === 1 ? "whether it has" : "which of them have";
-  const judged = judges ? [`${which} unordered accesses: sabsim's judge, which is proved, says the same`] : [];
-  return [same, ...judged, ...lines];
+function checkLines({ runs, sabsim: { checked, judges, versions } }) {
+  if (checked === 0) return ["no run was checked"];
+  const some = `${digits(checked)} of ${counted(runs, "run")} ${checked === 1 ? "was" : "were"}`;
+  const which = checked === runs ? "every run was" : some;
+  const kinds = [...new Set(versions.map((version) => version.split(" ", 1)[0]))].join(" and ");
+  return [`${which} replayed ${judges ? "and judged " : ""}by the proved simulator (${kinds}): it says the same`];
 }
 
 /** @param {SummaryData} summary */
@@ -120,22 +118,6 @@ function accessLine({ runs, calls, accesses }) {
   if (accesses === 0) return `${made}, and no ordinary read or write`;
   if (accesses === 1) return `${made}, and 1 ordinary read or write`;
   return `${made}, and ${digits(accesses)} ordinary reads and writes`;
-}
-
-/**
- * What is said where sabsim isn't there.
- * @param {{ places: string[], runs: number }} missing where it was looked for, and how many runs weren't checked so
- * @param {number} runs how many there are in all
- */
-function uncheckedLines({ places, runs: unchecked }, runs) {
-  const isAll = unchecked === runs;
-  const [none, all] = isAll
-    ? ["nothing", "all of this"]
-    : [`of ${counted(unchecked, "run")} none`, "what is told of them"];
-  return [
-    `${none} was checked by sabsim, which isn't built: there is none at ${places.join(" or ")}`,
-    `so ${all} is the recorder's word alone, and the recorder isn't proved; ${HOW_TO_BUILD}`,
-  ];
 }
 
 /**

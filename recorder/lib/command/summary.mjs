@@ -6,7 +6,7 @@ import { shorteningOf } from "./shortened.mjs";
 import { summaryText } from "./summary-text.mjs";
 import { Tally } from "./tally.mjs";
 
-/** @typedef {import("../run/group.mjs").Outcome} Outcome */
+/** @typedef {import("../run/group.mjs").Outcome & { checked?: boolean }} Outcome */
 
 /** @typedef {Pick<Outcome, "seed" | "ending" | "detail" | "noScript"> & Partial<Outcome>} Failing */
 
@@ -14,8 +14,7 @@ import { Tally } from "./tally.mjs";
  * @typedef {object} SummaryOptions
  * @property {"watch" | "store" | "refuse"} ordinary how ordinary reads and writes were seen
  * @property {"fail" | "allow"} races
- * @property {boolean} checks whether runs are checked
- * @property {string[]} [missing] where sabsim was looked for, where it isn't there and so nothing is checked
+ * @property {string} [checkedBy] which simulator checks runs; undefined: they aren't checked
  * @property {boolean} [preloads] whether node's own words load code before the recorder
  * @property {import("../seeds/coverage.mjs").Coverage} [coverage] which pairs of lines the runs have shown, where that
  * is looked for
@@ -67,11 +66,9 @@ import { Tally } from "./tally.mjs";
 /**
  * @typedef {object} CheckedBy
  * @property {boolean} asked whether runs were to be checked by it
- * @property {string[]} versions of the programs that were asked
+ * @property {string[]} versions of the module and of the programs that were asked, as `module 87759d9a6ee9`
  * @property {number} checked how many runs it says the same of
  * @property {boolean} judges whether it has judged too which of these have unordered accesses
- * @property {{ places: string[], runs: number } | null} missing where it was looked for and isn't, and for how many
- * runs
  */
 
 /**
@@ -99,18 +96,13 @@ const BOTH = ["failing", "passing"];
 
 export class Summary {
   /** @param {SummaryOptions} options */
-  constructor({ ordinary, races, checks, missing, preloads = false, coverage }) {
+  constructor({ ordinary, races, checkedBy, preloads = false, coverage }) {
     this.ordinary = ordinary;
     this.coverage = coverage;
     this.preloads = preloads;
     this.races = races;
-    this.checks = checks;
-    /** @type {Set<string>} where sabsim was looked for and isn't */
-    this.missing = new Set(missing);
-    /** How many runs weren't checked for that. */
-    this.unchecked = 0;
-    /** @type {Set<string>} the versions of sabsim that checked */
-    this.versions = new Set();
+    /** Which simulators check runs. */
+    this.versions = new Set(checkedBy === undefined ? [] : [checkedBy]);
     this.runs = 0;
     this.failed = 0;
     this.checked = 0;
@@ -139,7 +131,7 @@ export class Summary {
     this.runs += 1;
     this.calls += calls;
     this.accesses += ordinary;
-    if (this.missing.size > 0) this.unchecked += 1;
+    if (outcome.checked) this.checked += 1;
     this.endings[which].add(ending, seed);
     this.states[which].add(state.hash, seed, { ending, shown: state.shown });
     this.#addRaces(outcome);
@@ -147,11 +139,6 @@ export class Summary {
     if (!fails) return;
     this.failed += 1;
     this.#addFailing(outcome);
-  }
-
-  /** Takes note that one more run was checked, and that sabsim says the same. */
-  addCheck() {
-    this.checked += 1;
   }
 
   /**
@@ -241,24 +228,15 @@ export class Summary {
   }
 
   /** @param {CheckedBy} sabsim */
-  #joinChecks({ asked, versions, checked, missing }) {
-    this.checks ||= asked;
+  #joinChecks({ versions, checked }) {
     this.checked += checked;
     for (const version of versions) this.versions.add(version);
-    for (const place of missing?.places ?? []) this.missing.add(place);
-    this.unchecked += missing?.runs ?? 0;
   }
 
   /** @returns {CheckedBy} */
   #checksTold() {
-    const { checks: asked, checked, missing, unchecked } = this;
-    return {
-      asked,
-      versions: [...this.versions].sort(),
-      checked,
-      judges: this.ordinary === "watch",
-      missing: missing.size === 0 ? null : { places: [...missing].sort(), runs: unchecked },
-    };
+    const { checked, versions, ordinary } = this;
+    return { asked: versions.size > 0, versions: [...versions].sort(), checked, judges: ordinary === "watch" };
   }
 }
 

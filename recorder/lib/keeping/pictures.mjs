@@ -1,14 +1,15 @@
-// What sabsim makes of a kept script for people to look at: the explained report, the picture, and the page of the run.
+// What the simulator makes of a kept script for people to look at: the explained report, the picture, and the page of
+// the run.
 
-import { sabsim } from "../check/sabsim.mjs";
 import { pageText } from "./page.mjs";
 
 /** @typedef {import("../run/group.mjs").Outcome} Outcome */
+/** @typedef {import("../simulator/chosen.mjs").Simulator} Simulator */
 
 /**
  * @typedef {object} Picture
  * @property {string} ending of its file's name
- * @property {string} format of `sabsim replay`, which it is made from
+ * @property {"explained" | "svg" | "json"} format of the replay that it is made from
  * @property {(output: string, outcome: Outcome, how: How) => string} made
  */
 
@@ -44,37 +45,46 @@ function pageMade(facts, outcome, { module, command }) {
 
 /**
  * Makes something of the script of a run.
- * @param {string} path of sabsim
+ * @param {Simulator} simulator
  * @param {Picture} picture what
  * @param {Outcome} outcome that has a script
  * @param {How} how it was made
  * @returns {string}
  * @throws {NotMade}
  */
-export function pictureOf(path, { format, made }, outcome, how) {
-  const { status, output, errors } = sabsim(path, ["replay", "--format", format], outcome.script ?? "");
-  if (status !== 0) throw new NotMade(`sabsim ended with status ${status}: ${errors.trim()}`);
+export function pictureOf(simulator, { format, made }, outcome, how) {
+  const { status, output, complaint } = replayed(simulator, format, outcome.script ?? "");
+  if (status !== 0) throw new NotMade(`sabsim ended with status ${status}: ${complaint.trim()}`);
   return made(output, outcome, how);
+}
+
+/**
+ * @param {Simulator} simulator
+ * @param {Picture["format"]} format
+ * @param {string} script
+ */
+function replayed(simulator, format, script) {
+  try {
+    return simulator.run({ job: "replay", format }, script);
+  } catch (problem) {
+    throw new NotMade(problem instanceof Error ? problem.message : String(problem));
+  }
 }
 
 /**
  * Keeps all of them beside the script.
  * @param {import("./keep.mjs").Keeper} keeper
  * @param {Outcome} outcome of the run that is kept
- * @param {How & { path?: string }} how the run was made, and where sabsim is; undefined: it isn't there, or isn't asked
+ * @param {How & { simulator: Simulator }} how the run was made, and the simulator
  * @returns {string[]} what isn't kept though there is a script to make it from, and why
  */
-export function keepPictures(keeper, outcome, { path, ...how }) {
+export function keepPictures(keeper, outcome, { simulator, ...how }) {
   const { seed, script } = outcome;
   if (script === undefined) return [];
-  if (path === undefined) {
-    const names = PICTURES.map(({ ending }) => `seed-${seed}.${ending}`);
-    return [`not kept, since only sabsim makes them: ${names.join(", ")}`];
-  }
   return PICTURES.flatMap((picture) => {
     const { ending } = picture;
     try {
-      keeper.keepAll(seed, { [ending]: pictureOf(path, picture, outcome, how) });
+      keeper.keepAll(seed, { [ending]: pictureOf(simulator, picture, outcome, how) });
       return [];
     } catch (problem) {
       if (problem instanceof NotMade) return [`not kept: seed-${seed}.${ending}: ${problem.message}`];

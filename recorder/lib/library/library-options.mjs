@@ -34,8 +34,8 @@ import { moduleUrlOf } from "./module-url.mjs";
  * @property {WithBuffers} [init] fills the buffers before the run
  * @property {WithBuffers} [check] is called after a run that finished; what it throws fails the run, as does `false`
  * or an error that it answers
- * @property {string | boolean} [sabsim] the program's path, or true: it must be there; false: it isn't asked; else it
- * is asked where it is there
+ * @property {string | boolean} [sabsim] the path of the native program, which then checks in place of the module;
+ * false: runs aren't checked
  * @property {boolean} [trace] whether the outcome has its trace
  * @property {boolean} [shorten] whether the outcome of a run that fails is that of the shortest one that fails in the
  * same way; else false
@@ -47,8 +47,7 @@ import { moduleUrlOf } from "./module-url.mjs";
  * on; else 1..100
  * @property {number} [jobs] how many groups of workers run side by side, 1 to 64: one in this process, several in one
  * for each; else 1
- * @property {number} [checkEvery] where sabsim is asked, every failing run is checked by it, and one in so many of the
- * others; 0: it isn't asked; else 10
+ * @property {number} [checkEvery] every failing run is checked, and one in so many of the others; 0: none is; else 1
  * @property {boolean} [fresh] whether the agents' workers are started anew for each seed; else they are kept, with what
  * the module keeps in its variables
  * @property {boolean} [failFast] whether the first failing run is the last
@@ -106,7 +105,7 @@ export const checkedOptions = (options, callersFolder) => checkedBy(options, "re
  * @returns {OfAll & OfMany}
  */
 export function exploreOptions(options, callersFolder) {
-  const checked = checkedBy(options, "explore", callersFolder);
+  const checked = { jobs: 1, ...checkedBy(options, "explore", callersFolder) };
   for (const name of /** @type {const} */ (["init", "check"])) {
     if (checked[name] === undefined || checked.jobs === 1) continue;
     const why = `it is a function of this process, and ${checked.jobs} jobs have processes of their own`;

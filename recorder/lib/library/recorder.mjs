@@ -1,18 +1,18 @@
 // The recorder as a library.
 
-import { sabsimFor } from "../check/sabsim.mjs";
-import { checkedBy } from "../check/unchecked.mjs";
-import { Group } from "../run/group.mjs";
-import { shorten } from "../shorter/shorten.mjs";
+import { Job } from "../seeds/job.mjs";
+import { Runs } from "../seeds/runs.mjs";
+import { chosenProgram } from "../simulator/chosen.mjs";
 import { checkedOptions } from "./library-options.mjs";
 import { folderOfCaller } from "./module-url.mjs";
 
-export { Difference, NoSabsim } from "../check/sabsim.mjs";
+export { Difference } from "../check/check.mjs";
 export { explore } from "./explore.mjs";
 export { Refused } from "../options/refused.mjs";
 export { LostJob } from "../seeds/remote-job.mjs";
+export { NoSabsim } from "../simulator/native.mjs";
 
-/** @typedef {import("../check/unchecked.mjs").Check} Check */
+/** @typedef {import("../check/check.mjs").Check} Check */
 /** @typedef {import("../run/group.mjs").Outcome & Check & Shortening} Outcome */
 /** @typedef {import("./library-options.mjs").RecordOptions} RecordOptions */
 
@@ -24,27 +24,24 @@ export { LostJob } from "../seeds/remote-job.mjs";
  */
 
 /**
- * Runs the agents once, under the schedule of one seed. Sabsim checks the run where it is there, unless that is said to
- * be needed or not to be done. A relative path of the module is taken from the file whose code calls this function.
+ * Runs the agents once, under the schedule of one seed. The simulator checks the run, unless the options say that it
+ * isn't asked. A relative path of the module is taken from the file whose code calls this function.
  * @param {RecordOptions} options
  * @returns {Promise<Outcome>} told whole, that of the shortest run where it was to be shortened; fails with Refused for
- * options that can't be, with a Difference where sabsim says something else, and with NoSabsim where it was asked for
- * and isn't there
+ * options that can't be, with a Difference where the simulator says something else, and with NoSabsim if the native
+ * program is chosen and isn't there
  */
 export async function record(options) {
-  const { seed, sabsim: asked, shorten: isShortened, ...rest } = checkedOptions(options, () => folderOfCaller(record));
-  const isLeftOut = asked === false;
-  const path = typeof asked === "string" ? asked : undefined;
-  const sabsim = isLeftOut ? undefined : sabsimFor({ path, isAsked: asked === true });
-  const group = await Group.open({ ...rest, fresh: false });
+  const { seed, sabsim: asked, shorten, ...rest } = checkedOptions(options, () => folderOfCaller(record));
+  const sabsim = asked === false ? asked : chosenProgram(asked);
+  const only = { first: seed, last: seed, checkEvery: 1, fresh: false, jobs: 1 };
+  const runs = new Runs({ ...rest, ...only, sabsim }, { job: new Job() });
   try {
-    /** @param {import("../run/group.mjs").One} run */
-    const checked = (run) => checkedBy({ isLeftOut, sabsim }, run);
-    const found = checked(await group.one({ seed, whole: true }));
-    if (!isShortened || !found.fails) return found;
-    const { shortest, shortened } = await shorten(group, found);
-    return shortest === undefined ? { ...found, shortened } : { ...checked(shortest), original: found, shortened };
+    const { value: found } = await runs.outcomes().next();
+    if (!found?.fails || !shorten) return /** @type {Outcome} */ (found);
+    const { shortest, shortened } = await runs.shorten(found);
+    return shortest === undefined ? { ...found, shortened } : { ...shortest, original: found, shortened };
   } finally {
-    await group.close();
+    await runs.close();
   }
 }

@@ -1,7 +1,7 @@
 // All options, a row for each: what it may be, what serves where it isn't given, who takes it, whether summaries can be
 // joined only where it is the same, and the line of help. The command line, the library and the summary go by it.
 
-import { DEFAULT_CHECK_EVERY, DEFAULT_SECONDS, MOST_JOBS, SCRIPT_LIMITS } from "../../script/limits.mjs";
+import { DEFAULT_SECONDS, MOST_JOBS, SCRIPT_LIMITS } from "../../script/limits.mjs";
 import {
   AGENTS, AGENTS_THAT_CANT, BUFFERS, FLAG, FUNCTION, PART, PATH_OR_URL, PROGRAM, SEED, SEEDS, SHARD, SIGNAL, STRATEGY,
   WORDS, above0, choice, named, whole,
@@ -77,15 +77,14 @@ export const OPTIONS = Object.freeze({
   failFast: { kind: FLAG, of: OF_MANY, ifNone: false, isShared: true, help: ["", "ends at the first failing run"] },
   untilCovered: { kind: FLAG, of: COMMAND, ifNone: false, isShared: true, help: ["", "ends when 500 seeds in a row "
     + "have shown no new pair of lines that came one after the other at a place"] },
-  checkEvery: { kind: whole(0, Number.MAX_SAFE_INTEGER), of: OF_MANY, ifNone: DEFAULT_CHECK_EVERY, isShared: true,
-    word: "check", help: ["N", "sabsim checks every run that fails, and one in N of the others; 0: none at all "
-      + `(${DEFAULT_CHECK_EVERY}; none where sabsim isn't built, which the summary says)`] },
+  checkEvery: { kind: whole(0, Number.MAX_SAFE_INTEGER), of: OF_MANY, ifNone: 1, isShared: true, word: "check",
+    help: ["N", "the simulator checks every run that fails, and one in N of the others; 0: none at all (1)"] },
   init: { kind: FUNCTION, of: LIBRARY },
   check: { kind: FUNCTION, of: LIBRARY },
-  sabsim: { kind: PROGRAM, of: ALL, help: ["PATH", "the built program (what SABSIM of the environment names, or "
-    + "crates/sabsim/out/sabsim in the repository)"] },
-  jobs: { kind: whole(1, MOST_JOBS), of: OF_MANY, ifNone: 1,
-    help: ["N", "how many groups of workers run side by side (1)"] },
+  sabsim: { kind: PROGRAM, of: ALL, help: ["PATH", "the native program, which then checks in place of the simulator's "
+    + "module (what SABSIM of the environment names; else the module)"] },
+  jobs: { kind: whole(1, MOST_JOBS), of: OF_MANY, help: ["N", "how many groups of workers run side by side (one, and "
+    + "after a second as many more as there are idle processors)"] },
   format: { kind: choice(["plain", "json"]), of: COMMAND, ifNone: "plain",
     help: ["FORM", "how the summary is told: plain, or json, which is one line (plain)"] },
   out: { kind: named("the name of a folder"), of: COMMAND,

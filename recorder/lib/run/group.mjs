@@ -8,6 +8,7 @@ import { waysOf } from "../board/strategy/ways.mjs";
 import { needsRightNames, planOf } from "../options/plan.mjs";
 import { Refused } from "../options/refused.mjs";
 import { defaultsOf } from "../options/table.mjs";
+import { ownModules } from "../processes/own-modules.mjs";
 import { Thread } from "../processes/thread.mjs";
 
 /** @typedef {"finished" | "deadlock" | "failed" | "check" | "race" | "bound"} Ending */
@@ -69,9 +70,13 @@ import { Thread } from "../processes/thread.mjs";
  * looked; told beside an outcome that has a script, where ordinary accesses are watched
  * @property {boolean} racy whether it has found any
  * @property {Int32Array} events those of the run's log
+ * @property {boolean} isInScript whether the script has all of them, and no others
  */
 
 /** @typedef {{ outcome: Outcome, judgement?: Judgement, aside: Aside }} One all that is told of one run */
+
+/** @typedef {{ setup: unknown, names: string[], hasInit: boolean, hasCheck: boolean }} Has what a module has */
+/** @typedef {{ thread: Thread, has: Has }} Loaded */
 
 /** @typedef {(buffers: SharedArrayBuffer[], about: { agents: number, args: string[] }) => unknown} OfBuffers */
 
@@ -107,8 +112,12 @@ import { Thread } from "../processes/thread.mjs";
  */
 
 const DEFAULT_LOAD_SECONDS = 30;
-const AGENT_WORKER = new URL("../agent/worker.mjs", import.meta.url);
-const GROUP_WORKER = new URL("./referee.mjs", import.meta.url);
+const WORKER = new URL("../processes/own-worker.mjs", import.meta.url);
+const AGENT_MODULES = ownModules(new URL("../agent/worker.mjs", import.meta.url));
+const REFEREE_MODULES = ownModules(new URL("./referee.mjs", import.meta.url));
+
+/** How many agents' workers are begun at once. Two agents need as many: two more of them load after the pilots. */
+const FIRST_WORKERS = 4;
 
 /**
  * The answer of a promise, or that it took too long.
@@ -161,8 +170,14 @@ export class Group {
   constructor(options) {
     /** @type {GroupOptions & Required<Pick<GroupOptions, HasDefault>>} */
     this.options = { .../** @type {any} */ (defaultsOf("record")), loadSeconds: DEFAULT_LOAD_SECONDS, ...options };
+    /** @type {Set<Thread>} all that were started, and weren't ended */
+    this.threads = new Set();
     /** @type {Thread[]} */
     this.agents = [];
+    /** @type {Thread[]} agents' workers that have begun, and don't know yet which agent's they are */
+    this.begun = [];
+    /** @type {Promise<Loaded>[]} for some agents the worker that will replace the one that they have */
+    this.next = [];
     /** @type {Thread | undefined} */
     this.referee = undefined;
     /** @type {import("../options/plan.mjs").Plan | undefined} */
@@ -186,7 +201,7 @@ export class Group {
 
   /** Ends all workers. */
   async close() {
-    await Promise.all([this.referee, ...this.agents].map((thread) => thread?.stop()));
+    await Promise.all([...this.threads].map((thread) => thread.stop()));
   }
 
   /**
@@ -223,6 +238,8 @@ export class Group {
   }
 
   async #start() {
+    this.referee = this.#thread(REFEREE_MODULES, { isIncomplete: true });
+    this.#beginUpTo(FIRST_WORKERS);
     const told = await this.#load(0);
     needsRightNames(told.names);
     this.plan = planOf(this.options, told.setup);
@@ -235,12 +252,43 @@ export class Group {
     this.memory = memoryOf(this.plan, this.options.logEvents);
     this.board = new Board(this.memory.board, this.rules);
     const { memory, plan, rules } = this;
-    this.referee = new Thread(GROUP_WORKER, { memory, plan, rules, options }, { ownPort: true });
+    this.referee.post({ memory, plan, rules, options });
     const others = Array.from({ length: this.plan.agents - 1 }, (_, other) => other + 1);
+    // A single agent meets nobody.
+    const learns = !everywhere && others.length > 0;
+    this.#beginUpTo(others.length + (learns ? this.plan.agents : 0));
     await Promise.all(others.map((agent) => this.#load(agent)));
     await Promise.all(this.agents.map((_, agent) => this.#hand(agent)));
-    // A single agent meets nobody.
-    if (!everywhere && this.plan.agents > 1) await this.#work({ learns: true }, () => {});
+    if (learns) await this.#learn();
+  }
+
+  /** Has the pilots made. Meanwhile the workers load the module that the agents have afterwards. */
+  async #learn() {
+    this.next = this.agents.map((_, agent) => this.#loaded(agent));
+    // One that can't load it is told of when it is needed.
+    for (const loading of this.next) loading.catch(() => {});
+    await this.#work({ learns: true }, () => {});
+  }
+
+  /**
+   * @param {import("../processes/own-modules.mjs").OwnModule[]} modules
+   * @param {object} given
+   */
+  #thread(modules, given) {
+    const thread = new Thread(WORKER, { modules, ...given }, { ownPort: true });
+    this.threads.add(thread);
+    return thread;
+  }
+
+  /** @param {number} count how many agents' workers are to have begun */
+  #beginUpTo(count) {
+    while (this.begun.length < count) this.begun.push(this.#begin());
+  }
+
+  /** Begins an agent's worker. */
+  #begin() {
+    const { module, args, ordinary, clock } = this.options;
+    return this.#thread(AGENT_MODULES, { module, args, ordinary, clock });
   }
 
   /**
@@ -280,25 +328,35 @@ export class Group {
 
   /** @param {number} agent whose worker is ended, and started anew */
   async #replace(agent) {
+    const loading = this.next[agent] ?? this.#loaded(agent);
+    delete this.next[agent];
     await this.agents[agent].stop();
-    await this.#load(agent);
+    this.threads.delete(this.agents[agent]);
+    this.agents[agent] = (await loading).thread;
     await this.#hand(agent);
     started(this.board).turn.arrive(agent);
   }
 
-  /**
-   * Starts an agent's worker.
-   * @param {number} agent
-   * @returns {Promise<{ setup: unknown, names: string[], hasInit: boolean, hasCheck: boolean }>} what its module has
-   */
+  /** @param {number} agent @returns {Promise<Has>} what its module has */
   async #load(agent) {
-    const { module, args, ordinary, clock } = this.options;
-    const thread = new Thread(AGENT_WORKER, { module, args, agent, ordinary, clock }, { ownPort: true });
+    const { thread, has } = await this.#loaded(agent);
     this.agents[agent] = thread;
+    return has;
+  }
+
+  /**
+   * A worker that has loaded the module for an agent.
+   * @param {number} agent
+   * @returns {Promise<Loaded>}
+   */
+  async #loaded(agent) {
+    const { module } = this.options;
+    const thread = this.begun.shift() ?? this.#begin();
+    thread.post({ agent });
     const { message, ended } = await this.#told(thread);
     if (ended !== undefined) throw new Refused(`${module} can't be loaded: its worker ended (${ended})`);
     if (message.failed !== undefined) throw new Refused(`${module} can't be loaded: ${message.failed}`);
-    return message;
+    return { thread, has: message };
   }
 
   /** @param {number} agent that gets the shared memory, and then plays by the board */

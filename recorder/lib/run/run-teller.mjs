@@ -10,7 +10,7 @@ import { preloads } from "../processes/preloads.mjs";
 import { racesTold } from "./findings.mjs";
 import { fitted } from "./fitting.mjs";
 import { UNSEEN_LINE, placesIn, traceText } from "./trace.mjs";
-import { ownCalls, transcriptOf, waitingText } from "./transcript.mjs";
+import { transcriptOf, waitingText } from "./transcript.mjs";
 
 /** @typedef {import("./group.mjs").Outcome} Outcome */
 /** @typedef {import("./run-maker.mjs").Made} Made */
@@ -59,13 +59,13 @@ export class RunTeller {
    * @param {Made} found
    */
   addScript(outcome, found) {
-    const { maker: { stores, agents }, run, seesAll } = this;
-    // Ordinary accesses were made, or may have been made unseen.
-    const whole = { ...run, isOrdinary: !seesAll || run.log.hasOrdinary() };
+    const { maker: { stores, agents }, run } = this;
+    const whole = { ...run, isOrdinary: this.#isOrdinary() };
     const { transcript, script, holds, bytes = [], noScript } = fitted(whole, stores, found.initial, found.bytes);
     if (outcome.ending === "deadlock") outcome.detail = waitingText(found.waiting, transcript);
     outcome.bytes = found.bytes;
-    outcome.answers = agents.map((agent) => ownCalls(transcript, agent).map((call) => call.answer));
+    const own = agents.map((agent) => transcript.calls[agent].filter(({ isOwn }) => isOwn));
+    outcome.answers = own.map((calls) => calls.map(({ answer }) => answer));
     if (script === undefined) {
       outcome.noScript = noScript;
       return;
@@ -109,9 +109,15 @@ export class RunTeller {
    * @param {Made} found
    * @returns {import("./group.mjs").Judgement | undefined}
    */
-  judgement({ script }, { racy }) {
+  judgement({ script }, { racy, initial }) {
     if (script === undefined || this.options.ordinary !== "watch") return undefined;
-    return { racy, events: this.run.log.taken() };
+    // The stores of `init` are none of the run's accesses, and ordinary reads are in no script.
+    return { racy, events: this.run.log.taken(), isInScript: !this.#isOrdinary() && initial.length === 0 };
+  }
+
+  /** @returns {boolean} whether ordinary accesses were made, or may have been made unseen */
+  #isOrdinary() {
+    return !this.seesAll || this.run.log.hasOrdinary();
   }
 }
 

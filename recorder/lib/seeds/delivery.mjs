@@ -1,14 +1,6 @@
-// Outcomes that are handed out one by one, in the order of their seeds, each when its check is done. Who makes the runs
-// goes only so far ahead of who takes them.
+// Outcomes that are handed out one by one, in the order of their seeds: they are the same whatever the number of jobs.
 
-/** @typedef {import("../run/group.mjs").Outcome} Outcome */
-
-/**
- * @typedef {object} Arrived
- * @property {Outcome} outcome
- * @property {boolean} isChecked whether its check is done
- * @property {boolean} awaitsCheck whether it has one
- */
+/** @typedef {import("./job.mjs").Checked} Outcome */
 
 /**
  * A promise that is settled from outside.
@@ -26,21 +18,15 @@ class Later {
 }
 
 export class Delivery {
-  /**
-   * @param {import("./ranges.mjs").Range} range the seeds
-   * @param {number} most how far a seed that is begun may be from the next one to be taken
-   * @param {boolean} checks whether runs that have a script are checked
-   */
-  constructor({ first, last }, most, checks) {
+  /** @param {number} first seed */
+  constructor(first) {
     this.next = first;
-    this.last = last;
-    this.most = most;
-    this.checks = checks;
-    /** @type {Map<number, Arrived>} outcomes that nobody has taken */
+    /** @type {Map<number, Outcome | undefined>} outcomes that nobody has taken; undefined: it will never come */
     this.arrived = new Map();
     /** @type {{ failure: unknown } | undefined} why no more will come */
     this.failed = undefined;
-    /** @type {Later<void>} settled when something has changed for who takes */
+    this.isOver = false;
+    /** @type {Later<void>} settled when something has changed for the one that takes */
     this.change = new Later();
     /** @type {Later<void>} settled when one was taken */
     this.taking = new Later();
@@ -48,55 +34,57 @@ export class Delivery {
 
   /** @param {Outcome} outcome */
   add(outcome) {
-    const awaitsCheck = this.checks && outcome.script !== undefined;
-    this.arrived.set(outcome.seed, { outcome, awaitsCheck, isChecked: false });
+    this.arrived.set(outcome.seed, outcome);
     this.#changed();
   }
 
-  /** @param {number} seed of a run that was checked */
-  addCheck(seed) {
-    const arrived = this.arrived.get(seed);
-    if (arrived !== undefined) arrived.isChecked = true;
+  /** @param {number} seed whose outcome will never come */
+  lose(seed) {
+    this.arrived.set(seed, undefined);
     this.#changed();
   }
 
-  /** @param {unknown} failure the first one is told */
+  /** @param {unknown} failure the first one is reported */
   fail(failure) {
     this.failed ??= { failure };
     this.#changed();
   }
 
+  /** All have come. */
+  finish() {
+    this.isOver = true;
+    this.#changed();
+  }
+
   /**
-   * The outcome of the next seed.
-   * @returns {Promise<Arrived | undefined>} undefined where all were taken; fails where no more will come
+   * The outcome of the next seed that has one.
+   * @returns {Promise<Outcome | undefined>} undefined if all were taken; fails if no more will come
    */
   async take() {
     for (;;) {
       if (this.failed !== undefined) throw this.failed.failure;
-      if (this.next > this.last) return undefined;
-      const arrived = this.arrived.get(this.next);
-      if (arrived !== undefined && (arrived.isChecked || !arrived.awaitsCheck)) return this.#taken(arrived);
-      await this.change.promise;
+      if (this.arrived.has(this.next)) {
+        const outcome = this.#taken();
+        if (outcome !== undefined) return outcome;
+      } else if (this.isOver) return undefined;
+      else await this.change.promise;
     }
   }
 
-  /** @returns {import("./seeds.mjs").Pace} how far the runs may go ahead */
-  get pace() {
-    return {
-      isAhead: (seed) => seed - this.next >= this.most,
-      next: () => this.taking.promise,
-      onFailure: (failure) => this.fail(failure),
-    };
+  /** @returns {Outcome[]} those that have come and weren't taken, also if one before them will never come */
+  left() {
+    const seeds = [...this.arrived.keys()].sort((one, other) => one - other);
+    return seeds.flatMap((seed) => this.arrived.get(seed) ?? []);
   }
 
-  /** @param {Arrived} arrived */
-  #taken(arrived) {
+  #taken() {
+    const outcome = this.arrived.get(this.next);
     this.arrived.delete(this.next);
     this.next += 1;
     const { taking } = this;
     this.taking = new Later();
     taking.settle();
-    return arrived;
+    return outcome;
   }
 
   #changed() {

@@ -13,9 +13,9 @@ function send(message) {
   process.send?.(message);
 }
 
-const job = new Job((seed) => send({ checked: seed }));
+const job = new Job();
 
-/** @param {import("../run/group.mjs").Outcome} outcome */
+/** @param {import("./job.mjs").Checked} outcome */
 function tell(outcome) {
   send({ outcome });
   onceMore();
@@ -25,8 +25,7 @@ function tell(outcome) {
 async function answerTo(request) {
   if (request.open !== undefined) await job.open(request.open);
   if (request.run !== undefined) await job.run(request.run, tell);
-  if (request.shorten !== undefined) return job.shorten(request.shorten, (tried) => send({ tried }));
-  return request.finish === undefined ? undefined : job.finish();
+  return request.shorten && job.shorten(request.shorten, (tried) => send({ tried }));
 }
 
 process.on("disconnect", () => endGroup(process.pid));

@@ -1,126 +1,114 @@
-// One job: a group of workers, and the checks of its runs. In the library it is one in this process: what it calls with
-// the buffers can be the caller's functions, and no process has to be started. It is used as a `RemoteJob` is.
+// One job: a group of workers, and the checks of its runs. The checks are made in this thread, while the group makes
+// the next runs in its own. In the library a job is one in this process: what it calls with the buffers can be the
+// caller's functions, and no process has to be started. It is used as a `RemoteJob` is.
 
-import { Checker } from "../check/checker.mjs";
-import { checkable, foundSabsim } from "../check/sabsim.mjs";
+import { checkedBy } from "../check/check.mjs";
 import { Group } from "../run/group.mjs";
 import { shorten } from "../shorter/shorten.mjs";
+import { simulatorAt } from "../simulator/chosen.mjs";
+
+/** @typedef {import("../run/group.mjs").Outcome} Outcome */
+/** @typedef {Outcome & import("../check/check.mjs").Check & { stray?: import("../board/row.mjs").Stray }} Checked */
 
 /**
  * @typedef {object} CheckOptions
+ * @property {number} checkEvery one in how many of the runs that don't fail is told whole, and checked
  * @property {boolean} checks whether runs that are told whole are checked
- * @property {string} [sabsim] the program's path
+ * @property {string} [sabsim] the path of the native program that checks them; undefined: the module does
+ * @property {boolean} [isBrief] whether the long texts are told of the first failing run alone
  */
 
 /**
  * @typedef {object} ShortenedByJob
- * @property {import("../run/group.mjs").Outcome} [shortest] undefined: the run stays as it was found
+ * @property {Checked} [shortest] undefined: the run stays as it was found
  * @property {import("../shorter/shorten.mjs").Shortened} shortened
- * @property {boolean} checked whether sabsim has replayed and judged the shortest run, and says the same
  */
 
-// How many checks may wait before more runs are made.
-const MOST_WAITING = 64;
-
-// How many words of events checks may hold by then.
-const MOST_WORDS = 2 ** 24;
+/**
+ * An outcome without its long texts.
+ * @param {Checked} outcome
+ * @returns {Checked}
+ */
+function lightened({ script, report, trace, sources, bytes, answers, ...rest }) {
+  return rest;
+}
 
 export class Job {
-  /**
-   * @param {(seed: number) => void} onCheck is told of each run that sabsim says the same of
-   * @param {boolean} [ends] whether `close` ends it, and its process goes on then
-   */
-  constructor(onCheck, ends = false) {
-    this.onCheck = onCheck;
-    this.ends = ends;
-    /** @type {Checker | undefined} */
-    this.checker = undefined;
-    /** @type {Promise<Group> | undefined} */
-    this.group = undefined;
-    /** @type {Set<Promise<void>>} */
-    this.checks = new Set();
-    /** How many words of events these hold. */
-    this.words = 0;
-    /** @type {unknown} */
-    this.failure = undefined;
-  }
+  /** @type {Promise<Group> | undefined} */
+  #group;
+
+  /** @type {import("../simulator/chosen.mjs").Simulator | undefined} */
+  #simulator;
+
+  /** @type {unknown} why a check has failed */
+  #failure;
+
+  #every = 1;
+  #isBrief = false;
+  #hasFailed = false;
 
   /**
    * Starts its workers.
    * @param {import("../run/group.mjs").GroupOptions & CheckOptions} options
    */
   async open(options) {
-    this.checker = options.checks ? new Checker(foundSabsim(options.sabsim), this.ends) : undefined;
-    this.group = Group.open(options);
-    await this.group;
+    const { checks, checkEvery, sabsim, isBrief = false } = options;
+    this.#simulator = checks ? simulatorAt(sabsim) : undefined;
+    this.#every = checkEvery;
+    this.#isBrief = isBrief;
+    this.#group = Group.open(options);
+    await this.#group;
   }
 
   /**
-   * Makes runs; their checks go on meanwhile, and afterwards.
+   * Makes runs, and checks them.
    * @param {import("../run/group.mjs").Wanted[]} seeds
-   * @param {(outcome: import("../run/group.mjs").Outcome) => void} onOutcome
-   * @returns {Promise<void>} fails where a check has failed
+   * @param {(outcome: Checked) => void} onOutcome
+   * @returns {Promise<void>} fails if a check has failed; the outcome of that run is the last one
    */
   async run(seeds, onOutcome) {
-    const { checker } = this;
-    const isBehind = () => checker !== undefined && (checker.waiting > MOST_WAITING || this.words > MOST_WORDS);
-    while (this.checks.size > 0 && isBehind()) await Promise.race(this.checks);
-    await (await this.#opened()).run(seeds, (outcome, judgement) => {
-      if (this.failure !== undefined) return;
-      onOutcome(outcome);
-      if (checker !== undefined && outcome.script !== undefined) this.#check(checker, checkable(outcome, judgement));
+    await (await this.#opened()).run(seeds, (outcome, judgement, aside) => {
+      if (this.#failure !== undefined) return;
+      const checked = this.#checked({ outcome, judgement, aside });
+      // A failing run is kept only if its seed is the least, and a job's seeds ascend.
+      const isLight = this.#isBrief && (!outcome.fails || this.#hasFailed);
+      this.#hasFailed ||= outcome.fails;
+      onOutcome(isLight ? lightened(checked) : checked);
     });
-    if (this.failure !== undefined) throw this.failure;
+    if (this.#failure !== undefined) throw this.#failure;
   }
 
   /**
-   * Looks for the shortest run that fails as one that was found, and has it checked.
+   * Looks for the shortest run that fails as one that was found, and checks it.
    * @param {import("../run/same.mjs").RunSummary} told of that run
    * @param {(tried: import("../shorter/shorten.mjs").Tried) => void} onTry
-   * @returns {Promise<ShortenedByJob>} fails where the check has failed
+   * @returns {Promise<ShortenedByJob>} fails if the check has failed
    */
   async shorten(told, onTry) {
     const { shortest, shortened } = await shorten(await this.#opened(), told, { onTry, isFresh: true });
-    const isChecked = this.checker !== undefined && shortest?.outcome.script !== undefined;
-    if (isChecked) await this.checker?.check(checkable(shortest.outcome, shortest.judgement));
-    return { shortest: shortest?.outcome, shortened, checked: isChecked };
+    return { shortest: shortest && checkedBy(this.#simulator, shortest), shortened };
   }
 
-  /** @returns {Promise<void>} when the last check is done; fails where one has failed */
-  async finish() {
-    await Promise.all(this.checks);
-    if (this.failure !== undefined) throw this.failure;
-  }
-
-  /** Ends its workers, and the processes of its checks. Nothing more is told of it. */
+  /** Ends its workers. */
   async close() {
-    this.onCheck = () => {};
     // A group that wasn't opened has ended all that it had started.
-    const group = await this.group?.catch(() => undefined);
-    await Promise.all([group?.close(), this.checker?.close()]);
+    const group = await this.#group?.catch(() => undefined);
+    await group?.close();
   }
 
   /** @returns {Promise<Group>} */
   #opened() {
-    return this.group ?? Promise.reject(new Error("the job wasn't opened"));
+    return this.#group ?? Promise.reject(new Error("the job wasn't opened"));
   }
 
-  /**
-   * @param {Checker} checker
-   * @param {import("../check/sabsim.mjs").Checkable} run
-   */
-  #check(checker, run) {
-    const agreed = () => this.onCheck(run.seed);
-    /** @param {unknown} failure */
-    const fail = (failure) => {
-      this.failure ??= failure;
-    };
-    const words = run.judgement?.events.length ?? 0;
-    const checking = checker.check(run).then(agreed, fail).finally(() => {
-      this.checks.delete(checking);
-      this.words -= words;
-    });
-    this.checks.add(checking);
-    this.words += words;
+  /** @param {import("../run/group.mjs").One} run @returns {Checked} */
+  #checked(run) {
+    try {
+      const { stray } = run.aside;
+      return { ...checkedBy(this.#simulator, run, this.#every), ...(stray === undefined ? {} : { stray }) };
+    } catch (failure) {
+      this.#failure = failure;
+      return { ...run.outcome, checked: false };
+    }
   }
 }

@@ -3,26 +3,25 @@
 
 import { fork } from "node:child_process";
 import { fileURLToPath } from "node:url";
-import { Difference, NoSabsim } from "../check/sabsim.mjs";
+import { Difference } from "../check/check.mjs";
 import { Refused } from "../options/refused.mjs";
 import { endGroup } from "../processes/group-end.mjs";
+import { NoSabsim } from "../simulator/native.mjs";
 import { jobWords } from "./node-words.mjs";
 
-/** @typedef {import("../run/group.mjs").Outcome} Outcome */
+/** @typedef {import("./job.mjs").Checked} Checked */
 
 /**
  * @typedef {object} Request what a job's process is asked for: one of these
  * @property {Parameters<import("./job.mjs").Job["open"]>[0]} [open]
  * @property {import("../run/group.mjs").Wanted[]} [run]
  * @property {import("../run/same.mjs").RunSummary} [shorten]
- * @property {true} [finish]
  */
 
 /**
  * @typedef {object} Message what it answers: one of these
- * @property {number} [checked] the seed of a run that sabsim says the same of
  * @property {import("../shorter/shorten.mjs").Tried} [tried]
- * @property {Outcome} [outcome]
+ * @property {Checked} [outcome]
  * @property {Packed} [failed]
  * @property {unknown} [done]
  */
@@ -31,12 +30,13 @@ import { jobWords } from "./node-words.mjs";
  * @typedef {object} Packed an error as a message
  * @property {string} [kind] undefined: it is a defect
  * @property {string} message
- * @property {import("../check/sabsim.mjs").Scripted} [outcome] of a difference
+ * @property {import("../check/check.mjs").Scripted} [outcome] of a difference
  * @property {string} [replayed] of a difference
  * @property {string} [judged] of a difference
  */
 
-const PROGRAM = fileURLToPath(new URL("./job-process.mjs", import.meta.url));
+const PROGRAM = fileURLToPath(new URL("../processes/own-process.mjs", import.meta.url));
+const MODULE = new URL("./job-process.mjs", import.meta.url).href;
 
 /** The process of a job has ended, by itself or by others. */
 export class LostJob extends Error {}
@@ -66,14 +66,12 @@ function unpacked({ kind = "", message, outcome, replayed = "", judged }) {
 }
 
 export class RemoteJob {
-  /** @param {(seed: number) => void} onCheck is told of each run that sabsim says the same of */
-  constructor(onCheck) {
-    this.onCheck = onCheck;
+  constructor() {
     /** @type {(tried: import("../shorter/shorten.mjs").Tried) => void} */
     this.onTry = () => {};
     const stdio = ["ignore", "inherit", "inherit", "ipc"];
     const execArgv = jobWords(process.execArgv);
-    this.child = fork(PROGRAM, { stdio, execArgv, serialization: "advanced", detached: true, windowsHide: true });
+    this.child = fork(PROGRAM, [MODULE], { stdio, execArgv, serialization: "advanced", detached: true, windowsHide: true });
     /** @type {((message: Message) => void) | undefined} what is done with messages while a request is under way */
     this.onMessage = undefined;
     /** @type {string | undefined} why its process is no more */
@@ -94,7 +92,7 @@ export class RemoteJob {
 
   /**
    * @param {import("../run/group.mjs").Wanted[]} seeds
-   * @param {(outcome: Outcome) => void} onOutcome
+   * @param {(outcome: Checked) => void} onOutcome
    * @returns {Promise<void>}
    */
   run(seeds, onOutcome) {
@@ -111,15 +109,9 @@ export class RemoteJob {
     return this.#ask({ shorten: told });
   }
 
-  /** @returns {Promise<void>} when the last check is done */
-  finish() {
-    return this.#ask({ finish: true });
-  }
-
   /** Ends the process, and all that it has started. Nothing more is told of it. */
   async close() {
     this.onMessage = undefined;
-    this.onCheck = () => {};
     this.onTry = () => {};
     if (this.lost === undefined) endGroup(this.child.pid);
     await this.gone;
@@ -148,14 +140,13 @@ export class RemoteJob {
 
   /** @param {Message} message */
   #take(message) {
-    if (message.checked !== undefined) this.onCheck(message.checked);
-    else if (message.tried !== undefined) this.onTry(message.tried);
+    if (message.tried !== undefined) this.onTry(message.tried);
     else this.onMessage?.(message);
   }
 
   /**
    * @param {Request} request
-   * @param {(outcome: Outcome) => void} [onOutcome]
+   * @param {(outcome: Checked) => void} [onOutcome]
    * @returns {Promise<any>}
    */
   #ask(request, onOutcome) {

@@ -8,12 +8,13 @@ import { toldOf } from "../command/problems.mjs";
 import { Keeper } from "../keeping/keep.mjs";
 import { keepPictures } from "../keeping/pictures.mjs";
 import { counted, digits } from "../keeping/words.mjs";
-import { explored, sabsimOf } from "../library/explore.mjs";
-import { checkedOwn, exploreOptions } from "../library/library-options.mjs";
+import { runsOf } from "../library/explore.mjs";
+import { checkedOwn } from "../library/library-options.mjs";
+import { simulatorAt } from "../simulator/chosen.mjs";
 import { failureText } from "./failure.mjs";
-import { shortestOf } from "./shortest.mjs";
 
 /** @typedef {import("../library/recorder.mjs").Outcome} Outcome */
+/** @typedef {import("../seeds/runs.mjs").Runs} Runs */
 /** @typedef {import("../library/library-options.mjs").TrialOptions} TrialOptions */
 
 /**
@@ -45,29 +46,36 @@ class AgentsFailed extends AssertionError {
  */
 export async function tried(given, { folder, place }) {
   const { out, shorten = true, ...options } = checkedOwn(given);
-  let [runs, checked, unchecked] = [0, 0, ""];
-  for await (const outcome of explored({ ...options, failFast: true }, folder)) {
-    if (outcome.fails) throw new AgentsFailed(await failureOf(outcome, runs, { out, shorten, options, folder }), place);
-    runs += 1;
-    if (outcome.checked) checked += 1;
-    else unchecked = outcome.unchecked ?? "";
+  let [passed, checked, unchecked] = [0, 0, ""];
+  const runs = runsOf({ ...options, failFast: true }, folder);
+  try {
+    for await (const outcome of runs.outcomes()) {
+      if (outcome.fails) throw new AgentsFailed(await failureOf(runs, outcome, passed, { out, shorten }), place);
+      passed += 1;
+      if (outcome.checked) checked += 1;
+      else unchecked = outcome.unchecked ?? "";
+    }
+  } finally {
+    await runs.close();
   }
   const checks = checked > 0 ? `${digits(checked)} checked by sabsim` : `none checked: ${unchecked}`;
-  return `${counted(runs, "run")} passed, ${checks}`;
+  return `${counted(passed, "run")} passed, ${checks}`;
 }
 
 /**
  * What is told of a run that fails. What can't be kept or explained is told beside it.
+ * @param {Runs} runs
  * @param {Outcome} failing
  * @param {number} passed how many runs of lower seeds passed
- * @param {{ out?: string, shorten: boolean, options: Omit<TrialOptions, "out">, folder: Caller["folder"] }} about
+ * @param {{ out?: string, shorten: boolean }} about
  * @returns {Promise<string>}
  */
-async function failureOf(failing, passed, { out, shorten, options, folder }) {
-  const checked = exploreOptions(options, folder);
-  const sabsim = sabsimOf(checked);
-  const outcome = shorten ? await shortestOf(failing, checked, sabsim) : failing;
-  return failureText({ outcome, passed, sabsim, kept: keptLines({ failing, outcome }, checked.module, out, sabsim) });
+async function failureOf(runs, failing, passed, { out, shorten }) {
+  const { module, sabsim } = runs.options;
+  const simulator = simulatorAt(sabsim || undefined);
+  const outcome = shorten ? (await runs.shorten(failing)).shortest ?? failing : failing;
+  const kept = keptLines({ failing, outcome }, module, out, simulator);
+  return failureText({ outcome, passed, simulator, kept });
 }
 
 /**
@@ -75,15 +83,15 @@ async function failureOf(failing, passed, { out, shorten, options, folder }) {
  * @param {{ failing: Outcome, outcome: Outcome }} runs the one that has failed, and the shortest that fails so
  * @param {string} module its URL
  * @param {string | undefined} out where; undefined: in a new folder for temporary files
- * @param {string | undefined} sabsim
+ * @param {import("../simulator/chosen.mjs").Simulator} simulator
  * @returns {string[]} what lies where, and what doesn't
  */
-function keptLines({ failing, outcome }, module, out, sabsim) {
+function keptLines({ failing, outcome }, module, out, simulator) {
   try {
     const keeper = new Keeper(resolve(out ?? mkdtempSync(join(tmpdir(), "sabsim-"))), "`out`");
     keeper.keepLowest(failing);
     if (outcome !== failing) keeper.keepShortest(failing, outcome);
-    const notKept = keepPictures(keeper, outcome, { path: sabsim, module });
+    const notKept = keepPictures(keeper, outcome, { simulator, module });
     const kept = keeper.names.length === 0 ? [] : [`kept in ${keeper.folder}: ${keeper.names.join(", ")}`];
     return [...kept, ...notKept];
   } catch (problem) {

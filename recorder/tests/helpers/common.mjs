@@ -7,7 +7,7 @@ import { fileURLToPath } from "node:url";
 import { record } from "../../recorder.mjs";
 import { NOWHERE } from "./needs.mjs";
 
-/** An environment in which sabsim is looked for where it isn't. */
+/** An environment that chooses a program which isn't there. */
 export const WITHOUT_SABSIM = Object.freeze({ ...process.env, SABSIM: NOWHERE });
 
 /** @param {string} name of a module of agents */

@@ -9,20 +9,20 @@ export const NOWHERE = "/nowhere/sabsim";
 
 const { SABSIM: named = "" } = process.env;
 
-/** Whether SABSIM of the environment names the built program. Otherwise the recorder is tested alone. */
-export const hasSabsim = named !== "" && named !== NOWHERE;
+/** Whether SABSIM of the environment names the built program. If not, tests ask the simulator's module. */
+export const hasSabsim = named !== "";
 
 /** The built program, by its whole path. */
 export const SABSIM = hasSabsim ? resolve(named) : NOWHERE;
 
-// What tests start looks for sabsim here too. So it never takes a program that happens to be built.
-process.env.SABSIM = SABSIM;
+// What tests start asks the same simulator.
+process.env.SABSIM = hasSabsim ? SABSIM : "";
 
-/** The option `sabsim` of a test's runs: sabsim checks them where it is given; the tests need nothing else of it. */
-export const CHECKER = hasSabsim && SABSIM;
+/** The option `sabsim` of a test's runs: the program checks them if it is given, and else the module. */
+export const CHECKER = hasSabsim ? SABSIM : undefined;
 
 /** The same as words of the command line. */
-export const CHECKING = hasSabsim ? ["--sabsim", SABSIM] : ["--check", "0"];
+export const CHECKING = hasSabsim ? ["--sabsim", SABSIM] : [];
 
 /**
  * The options of a test that needs something.
@@ -31,7 +31,7 @@ export const CHECKING = hasSabsim ? ["--sabsim", SABSIM] : ["--check", "0"];
  */
 export const needing = (what, isThere) => ({ skip: isThere ? false : `needs ${what}` });
 
-/** For tests that need sabsim. */
+/** For tests that need the program itself. */
 export const withSabsim = needing("sabsim", hasSabsim);
 
 /** For tests that look for processes. */

@@ -1,8 +1,9 @@
-// Runs programs in tests: sabsim and those of this folder.
+// Runs programs in tests: those of this folder, and the simulator.
 
 import { spawn } from "node:child_process";
 import { fileURLToPath } from "node:url";
-import { SABSIM } from "./needs.mjs";
+import { SABSIM, hasSabsim } from "./needs.mjs";
+import { simulated } from "./simulate.mjs";
 
 /** The path of something in this repository. */
 export const pathOf = (path) => fileURLToPath(new URL(`../../../${path}`, import.meta.url));
@@ -35,12 +36,23 @@ export function start(program, args, input) {
 export const runNode = (program, args, input) => start(process.execPath, [pathOf(program), ...args], input).ended;
 
 /**
- * The report that `sabsim replay` answers to a script.
+ * What the simulator does: the native program beside others, if it is given, and else the module.
+ * @param {string[]} words
+ * @param {string | Uint8Array} input
+ */
+export async function simulatedBeside(words, input) {
+  if (!hasSabsim) return simulated(words, input);
+  const { status, output, errors } = await start(SABSIM, words, input).ended;
+  return { status, output, errors };
+}
+
+/**
+ * The report that `sabsim replay` writes about a script.
  * @param {string} script
  * @returns {Promise<string>}
  */
 export async function replayBySabsim(script) {
-  const { status, output, errors } = await start(SABSIM, ["replay"], script).ended;
+  const { status, output, errors } = await simulatedBeside(["replay"], script);
   if (status !== 0) throw new Error(`sabsim ended with status ${status}: ${errors}`);
   return output;
 }

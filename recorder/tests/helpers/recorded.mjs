@@ -1,15 +1,17 @@
-// Runs of one program under several seeds, by one group of workers, each told whole. Sabsim replays and judges them too
-// where it is given.
+// Runs of one program under several seeds, by one group of workers, each told whole and checked by the simulator.
 
 import { readFileSync } from "node:fs";
-import { check as checkWithSabsim, checkable } from "../../lib/check/sabsim.mjs";
+import { checkedBy } from "../../lib/check/check.mjs";
 import { Summary } from "../../lib/command/summary.mjs";
 import { checkedOptions } from "../../lib/library/library-options.mjs";
 import { Group } from "../../lib/run/group.mjs";
+import { simulatorAt } from "../../lib/simulator/chosen.mjs";
 import { agentsPath } from "./common.mjs";
-import { SABSIM, hasSabsim } from "./needs.mjs";
+import { CHECKER } from "./needs.mjs";
 
 /** @typedef {import("../../lib/run/group.mjs").Outcome} Outcome */
+
+const simulator = simulatorAt(CHECKER);
 
 /**
  * @param {import("../../lib/library/library-options.mjs").RecordOptions} options
@@ -20,14 +22,13 @@ export async function recorded(options, seeds = [1]) {
   const group = await Group.open({ ...checkedOptions({ seconds: 5, ...options }, () => undefined), fresh: false });
   const runs = [];
   try {
-    await group.run(seeds.map((seed) => ({ seed, whole: true })), (...run) => runs.push(run));
+    const wanted = seeds.map((seed) => ({ seed, whole: true }));
+    await group.run(wanted, (outcome, judgement) => runs.push({ outcome, judgement }));
   } finally {
     await group.close();
   }
-  for (const [outcome, judgement] of runs) {
-    if (hasSabsim && outcome.script !== undefined) checkWithSabsim(SABSIM, checkable(outcome, judgement));
-  }
-  return runs.map(([outcome]) => outcome);
+  for (const run of runs) checkedBy(simulator, run);
+  return runs.map(({ outcome }) => outcome);
 }
 
 /** The seeds from 1 to a last one. @param {number} last */
@@ -59,7 +60,7 @@ export function placesOf(name, text) {
  * @param {object} [rules] as the command line gives them to a Summary
  */
 export function summaryLines(outcomes, rules = {}) {
-  const summary = new Summary({ ordinary: "watch", races: "fail", checks: false, ...rules });
+  const summary = new Summary({ ordinary: "watch", races: "fail", ...rules });
   for (const outcome of outcomes) summary.add(outcome);
   return summary.text().trimEnd().split("\n");
 }

@@ -8,7 +8,7 @@ import {
 } from "../../primordials.mjs";
 import { ANSWERING } from "./answering.mjs";
 import { blockNumber, refused } from "./context.mjs";
-import { last, wrapped } from "./elements.mjs";
+import { lastAsked, wrapped } from "./elements.mjs";
 import { constructing, madePrivate } from "./guards.mjs";
 import { needsFunction } from "./numbers.mjs";
 import { forWatched, methodOf, replace, replaceGetter } from "./patch.mjs";
@@ -129,7 +129,8 @@ function replaceStatics() {
  */
 const getterOf = (slot, known) => () => ({
   get asked() {
-    if (this === last.standIn) return known(last);
+    const last = lastAsked(this);
+    if (last !== undefined) return known(last);
     try {
       return slot(this);
     } catch (error) {
@@ -143,7 +144,8 @@ const getterOf = (slot, known) => () => ({
 /** The length is asked for most often, so it has a getter that does nothing else. */
 const lengthGetter = () => ({
   get asked() {
-    if (this === last.standIn) return last.length;
+    const last = lastAsked(this);
+    if (last !== undefined) return last.length;
     try {
       return lengthOf(this);
     } catch (error) {

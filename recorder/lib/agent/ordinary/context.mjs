@@ -19,7 +19,7 @@ import { weakGet, weakSet } from "../../primordials.mjs";
  */
 
 /** @type {Watching} the module's own: a realm is patched once, and its patches look here */
-export let watching = {
+export const watching = {
   blockOf: () => -1,
   seen: () => {},
   refuse: (why) => {
@@ -29,7 +29,7 @@ export let watching = {
 
 /** @param {Watching} given */
 export function begin(given) {
-  watching = given;
+  Object.assign(watching, given);
 }
 
 /** Other buffer objects on the memory of a recorded one, as structuredClone makes them: the recorded one of each. */

@@ -86,8 +86,11 @@ class Elements extends Watched {
 setPrototypeOf(Watched.prototype, null);
 
 /** @type {Watched} whose property was asked for last: the getters of this realm's arrays look here first */
-export let last = new Watched({}, { block: -1, kind: -1, offset: 0, length: 0 }, 1);
+let last = new Watched({}, { block: -1, kind: -1, offset: 0, length: 0 }, 1);
 last.standIn = {};
+
+/** @param {unknown} array @returns {Watched | undefined} that array, if its property was asked for last */
+export const lastAsked = (array) => (array === last.standIn ? last : undefined);
 
 /**
  * An element is neither hidden nor fixed; the engine refuses what would make it so, and writes nothing.

@@ -1,0 +1,234 @@
+// Runs of many seeds. Jobs make them side by side; their outcomes are taken one by one, in the order of the seeds. The
+// command line, the library and the tests of suites have their runs from here, and have found ones shortened.
+
+import { Delivery } from "./delivery.mjs";
+import { moreJobs } from "./more-jobs.mjs";
+import { LostJob, RemoteJob } from "./remote-job.mjs";
+import { SeedQueue } from "./seed-queue.mjs";
+
+/** @typedef {import("./job.mjs").Checked} Outcome */
+/** @typedef {RemoteJob | import("./job.mjs").Job} AnyJob */
+
+/**
+ * @typedef {object} OfRuns
+ * @property {number} first seed
+ * @property {number} last seed
+ * @property {number} [jobs] how many groups work side by side, each in a process of its own; undefined: one at first,
+ * and further ones while processors are idle
+ * @property {number} checkEvery every run that fails is checked, and one in so many of the others; 0: none at all
+ * @property {string | false} [sabsim] the path of the native program that checks; undefined: the module does; false:
+ * nothing is checked, and the runs are told all the same as if they were
+ * @property {number} [origin] the seed from which one in so many is counted; the first if it isn't given
+ * @property {boolean} [failFast] whether the first failing run is the last
+ * @property {boolean} [trials] whether only their endings are wanted, which takes less time: no script is told
+ * @property {Omit<import("../run/group.mjs").Wanted, "seed" | "whole">} [wanted] what else is wanted of each run
+ * @property {boolean} [isBrief] whether the long texts are told of the first failing run alone
+ * @property {number} [ahead] how far a seed that is begun may be from the next one to be taken; as far as it likes, if
+ * it isn't given
+ * @property {boolean} [goesOn] whether the other jobs go on when the process of one has ended; and what has come by a
+ * failure is handed out before that
+ */
+
+/** @typedef {import("../run/group.mjs").GroupOptions & OfRuns} RunsOptions */
+
+/** @param {Outcome} outcome @returns {import("../run/same.mjs").RunSummary} */
+const briefly = ({ seed, ending, detail, moves, calls, state }) => ({ seed, ending, detail, moves, calls, state });
+
+export class Runs {
+  /** @type {Promise<void>[]} of each job, settled when it has made its last run */
+  #working = [];
+
+  /** How many seeds have an outcome, or will never have one. */
+  #made = 0;
+
+  /** @type {AbortController} aborted when no more runs are wanted */
+  #end = new AbortController();
+
+  /**
+   * Nothing is started before the first outcome is asked for.
+   * @param {RunsOptions} options
+   * @param {{ signal?: AbortSignal, job?: AnyJob }} given what ends all runs, with its reason; the first job, which can
+   * be one in this process
+   */
+  constructor(options, { signal, job } = {}) {
+    this.options = options;
+    this.signal = signal;
+    this.queue = new SeedQueue(options);
+    this.delivery = new Delivery(options.first);
+    /** @type {AnyJob[]} */
+    this.jobs = job === undefined ? [] : [job];
+  }
+
+  /**
+   * Makes the runs, up to the first failing one if that is to be the last.
+   * @returns {AsyncGenerator<Outcome, void, void>} in the order of the seeds; it fails at the first difference, if the
+   * process of a job has ended, and by the signal
+   */
+  async *outcomes() {
+    const { delivery, options: { failFast, goesOn }, signal } = this;
+    if (signal?.aborted) throw signal.reason;
+    signal?.addEventListener("abort", this.#stop);
+    this.#begin();
+    try {
+      for (let next = await delivery.take(); next !== undefined; next = await delivery.take()) {
+        yield next;
+        if (failFast && next.fails) return;
+      }
+    } catch (failure) {
+      for (const outcome of goesOn ? delivery.left() : []) yield outcome;
+      throw failure;
+    }
+  }
+
+  /**
+   * Looks for the shortest run that fails as one that was found, in the first job.
+   * @param {Outcome} found
+   * @param {(tried: import("../shorter/shorten.mjs").Tried) => void} [onTry] is told of each run that this takes
+   * @returns {Promise<import("./job.mjs").ShortenedByJob>}
+   */
+  async shorten(found, onTry = () => {}) {
+    this.#stopTaking();
+    await Promise.race([Promise.allSettled(this.#working), this.#stopped()]);
+    return Promise.race([this.jobs[0].shorten(briefly(found), onTry), this.#stopped()]);
+  }
+
+  /** Ends all that was started. */
+  async close() {
+    this.#end.abort();
+    this.signal?.removeEventListener("abort", this.#stop);
+    this.#stopTaking();
+    await Promise.all(this.jobs.map((job) => job.close()));
+  }
+
+  /** No job begins another run. */
+  #stopTaking() {
+    this.queue.stop();
+    this.delivery.taking.settle();
+  }
+
+  /** Ends all at once, though nobody may ask for more. */
+  #stop = () => {
+    this.delivery.fail(this.signal?.reason);
+    void this.close();
+  };
+
+  /** @returns {Promise<never>} fails when the signal says so */
+  #stopped() {
+    const { signal } = this;
+    return new Promise((_, fail) => {
+      if (signal?.aborted) fail(signal.reason);
+      signal?.addEventListener("abort", () => fail(signal.reason), { once: true });
+    });
+  }
+
+  /** Starts the jobs, and has them make the runs. */
+  #begin() {
+    const { first, last, jobs = 1 } = this.options;
+    const needed = Math.min(jobs, Math.ceil((last - first + 1) / this.queue.batch));
+    while (this.jobs.length < needed) this.jobs.push(new RemoteJob());
+    const opened = Promise.all(this.jobs.map((job) => this.#opened(job)));
+    this.#working = this.jobs.map((job) => this.#work(job, opened));
+    void this.#finish();
+    // That it is aborted, or that the first job isn't opened, is reported by others.
+    if (this.options.jobs === undefined) this.#grow(opened).catch(() => {});
+  }
+
+  /** Ends the delivery as the jobs ended: with the first failure, or with all that is known of lost jobs. */
+  async #finish() {
+    let settled = 0;
+    /** @type {PromiseSettledResult<void>[]} */
+    let all = [];
+    // Further jobs may come while these are at work.
+    while (settled < this.#working.length) {
+      settled = this.#working.length;
+      all = await Promise.allSettled(this.#working);
+    }
+    const failures = all.flatMap((each) => (each.status === "rejected" ? [each.reason] : []));
+    const worst = failures.find((failure) => !(failure instanceof LostJob));
+    const messages = new Set(failures.map((failure) => failure.message));
+    if (worst !== undefined) this.delivery.fail(worst);
+    if (failures.length > 0) this.delivery.fail(new LostJob([...messages].join("; ")));
+    this.delivery.finish();
+  }
+
+  /**
+   * Takes further jobs while that is worth it.
+   * @param {Promise<unknown>} opened settled when the first one is there
+   */
+  async #grow(opened) {
+    const state = () => ({ jobs: this.jobs.length, made: this.#made, left: this.queue.left });
+    for await (const _ of moreJobs(opened, state, this.#end.signal)) {
+      const job = new RemoteJob();
+      this.jobs.push(job);
+      // One that can't be opened has taken no seed, and the others make all runs.
+      await this.#opened(job);
+      this.#working.push(this.#work(job));
+    }
+  }
+
+  /** @param {AnyJob} job */
+  #opened(job) {
+    const { checkEvery, sabsim } = this.options;
+    const checking = { checks: checkEvery > 0 && sabsim !== false, sabsim: sabsim || undefined };
+    return job.open({ ...this.options, ...checking });
+  }
+
+  /**
+   * Keeps a job at work until there are no seeds, or something failed. If the job is lost, others can go on.
+   * @param {AnyJob} job
+   * @param {Promise<unknown>} [opened] settled when it can begin
+   */
+  async #work(job, opened) {
+    const { delivery, options: { ahead = Infinity, goesOn }, queue } = this;
+    try {
+      await opened;
+      for (;;) {
+        while (queue.left > 0 && queue.next - delivery.next >= ahead) await delivery.taking.promise;
+        const seeds = queue.take();
+        if (seeds.length === 0) return;
+        await this.#run(job, seeds);
+      }
+    } catch (failure) {
+      if (!goesOn || !(failure instanceof LostJob)) {
+        queue.stop();
+        delivery.fail(failure);
+      }
+      throw failure;
+    }
+  }
+
+  /**
+   * @param {AnyJob} job
+   * @param {import("../run/group.mjs").Wanted[]} seeds in their order
+   */
+  async #run(job, seeds) {
+    let made = 0;
+    try {
+      await job.run(seeds, (outcome) => {
+        made += 1;
+        this.#made += 1;
+        this.delivery.add(outcome);
+        if (this.options.failFast && outcome.fails) this.queue.stop();
+      });
+    } catch (failure) {
+      for (const { seed } of seeds.slice(made)) this.delivery.lose(seed);
+      if (!(failure instanceof LostJob) || made === seeds.length) throw failure;
+      const [from, to] = [seeds[made].seed, seeds[seeds.length - 1].seed];
+      const missing = from === to ? `of seed ${from}` : `of the seeds ${from} to ${to}`;
+      throw new LostJob(`${failure.message}, and nothing is told ${missing}`);
+    }
+  }
+}
+
+/**
+ * All outcomes of some runs. When no more are taken, all that was started is ended.
+ * @param {Runs} runs
+ * @returns {AsyncGenerator<Outcome, void, void>}
+ */
+export async function* outcomesOf(runs) {
+  try {
+    yield* runs.outcomes();
+  } finally {
+    await runs.close();
+  }
+}

@@ -1,0 +1,140 @@
+// How the recorder asks the simulator: the module and the native program come to the same, and a module that is wrong
+// fails the check and is no answer.
+
+import assert from "node:assert/strict";
+import { spawnSync } from "node:child_process";
+import { cpSync, readFileSync, readdirSync, writeFileSync } from "node:fs";
+import { join } from "node:path";
+import { describe, it, test } from "node:test";
+import { fileURLToPath, pathToFileURL } from "node:url";
+import { Difference, checkedBy } from "../lib/check/check.mjs";
+import { Log } from "../lib/memory/log.mjs";
+import { traceText } from "../lib/run/trace.mjs";
+import { simulatorAt } from "../lib/simulator/chosen.mjs";
+import { ModuleSimulator } from "../lib/simulator/module.mjs";
+import { agentsPath, temporaryFolder } from "./helpers/common.mjs";
+import { groupOf } from "./helpers/groups.mjs";
+import { limited } from "./helpers/limited-module.mjs";
+import { SABSIM, withSabsim } from "./helpers/needs.mjs";
+import { TRAPPING, misspelling } from "./helpers/wrong-modules.mjs";
+
+const RECORDER = fileURLToPath(new URL("../", import.meta.url));
+const KNOWN = new URL("./known/", import.meta.url);
+const NAMES = readdirSync(KNOWN).filter((name) => name.endsWith(".mjs"));
+const FORMATS = ["plain", "explained", "json", "svg", "script"];
+const SEEDS = [1, 2];
+
+const module = simulatorAt();
+
+/** Runs of a module of agents, each with what the recorder has judged. */
+async function runsOf(context, path, options = {}) {
+  const group = await groupOf(context, path, { everywhere: true, ...options });
+  const runs = [];
+  const wanted = SEEDS.map((seed) => ({ seed, whole: true }));
+  await group.run(wanted, (outcome, judgement) => runs.push({ outcome, judgement }));
+  return runs;
+}
+
+/** The trace of a run. */
+const traceOf = ({ judgement }) => traceText(Log.from(judgement.events));
+
+describe("known programs", { concurrency: 2 }, () => {
+  for (const name of NAMES) {
+    it(name, async (context) => {
+      const runs = await runsOf(context, fileURLToPath(new URL(name, KNOWN)));
+      for (const run of runs) {
+        const { outcome: { script, report }, judgement: { racy, isInScript } } = run;
+        assert.equal(module.run({ job: "replay" }, script).output, report);
+        const { status } = module.run({ job: "judge-trace" }, traceOf(run));
+        assert.equal(status, racy ? 5 : 0);
+        // A script that hasn't all accesses is refused.
+        assert.equal(module.run({ job: "judge" }, script).status, isInScript ? status : 1);
+      }
+      await context.test("the native program does the same", withSabsim, () => {
+        const native = simulatorAt(SABSIM);
+        for (const run of runs) {
+          const { script } = run.outcome;
+          const jobs = [
+            ...FORMATS.map((format) => [{ job: "replay", format }, script]),
+            [{ job: "replay", format: "explained", acts: true }, script],
+            [{ job: "judge" }, script],
+            [{ job: "judge-trace" }, traceOf(run)],
+          ];
+          for (const [job, input] of jobs) assert.deepEqual(module.run(job, input), native.run(job, input));
+        }
+      });
+    });
+  }
+});
+
+/** A simulator whose module has other bytes. @param {import("node:test").TestContext} context @param {Uint8Array} bytes */
+function simulatorOf(context, bytes) {
+  const path = join(temporaryFolder(context), "sabsim.wasm");
+  writeFileSync(path, bytes);
+  return new ModuleSimulator(pathToFileURL(path));
+}
+
+/** What modules are wrong in, and what the check says then. */
+const WRONG = {
+  "traps": [TRAPPING, /^seed 1: sabsim failed on the script: the simulator stopped: unreachable$/],
+  "can't be compiled": [TRAPPING.subarray(0, 20), /^seed 1: sabsim failed on the script: WebAssembly.Module\(\): /],
+  "has no memory": [
+    limited(readFileSync(join(RECORDER, "wasm/sabsim.wasm")), 17),
+    /^seed 1: sabsim ended with status 4 on the script: sabsim: 5 OutOfMemory$/,
+  ],
+  "writes a wrong report": [
+    misspelling(),
+    /^seed 1: the code and sabsim differ, in line 3 of the report\n {2}the code: 2 . 0 return 0\n {2}sabsim: {3}2 . 0 retorn 0$/,
+  ],
+};
+
+for (const [what, [bytes, why]] of Object.entries(WRONG)) {
+  test(`a module that ${what} fails the check, each time`, async (context) => {
+    const runs = await runsOf(context, agentsPath("three-state-mutex"));
+    assert.ok(checkedBy(module, runs[0]).checked);
+    const wrong = simulatorOf(context, bytes);
+    for (const time of [1, 2]) {
+      assert.throws(() => checkedBy(wrong, runs[0]), (error) => {
+        assert.ok(error instanceof Difference);
+        assert.match(error.message, why, `time ${time}`);
+        return true;
+      });
+    }
+  });
+}
+
+/** The recorder without its tests and with another module, in a folder of its own. */
+function recorderWith(context, bytes) {
+  const folder = join(temporaryFolder(context), "recorder");
+  const left = ["tests", "bench", "pictures"].map((name) => join(RECORDER, name));
+  cpSync(RECORDER, folder, { recursive: true, filter: (from) => !left.includes(from) });
+  writeFileSync(join(folder, "wasm/sabsim.wasm"), bytes);
+  return join(folder, "record.mjs");
+}
+
+for (const [what, bytes, told] of [
+  ["traps", TRAPPING, /^record: seed 1: sabsim failed on the script: the simulator stopped: unreachable$/m],
+  ["writes a wrong report", misspelling(), /^record: seed 1: the code and sabsim differ, in line 3 of the report$/m],
+]) {
+  test(`with a module that ${what} the recorder ends with status 3, and keeps what it was asked`, (context) => {
+    const out = join(temporaryFolder(context), "out");
+    const words = [recorderWith(context, bytes), agentsPath("three-state-mutex"), "--seeds", "1..20", "--out", out];
+    const env = { ...process.env, SABSIM: "" };
+    const { status, stdout, stderr } = spawnSync(process.execPath, words, { env, encoding: "utf8" });
+    assert.equal(status, 3, stderr);
+    assert.match(stderr, told);
+    assert.match(stdout, /^stopped after 1 of 20 runs\n[^]*^no run was checked$/m);
+    assert.deepEqual(readdirSync(out).sort(), ["seed-1.json", "seed-1.report", "seed-1.sabsim-report"]);
+  });
+}
+
+test("without a check a module that traps makes no explanation, picture or page, and that is said", (context) => {
+  const out = join(temporaryFolder(context), "out");
+  const words = [recorderWith(context, TRAPPING), agentsPath("cases"), "--seeds", "1", "--check", "0", "--out", out];
+  const group = ["--agents", "2", "--buffers", "12", "--", "waitsForEver"];
+  const { status, stdout, stderr } = spawnSync(process.execPath, [...words, ...group], { encoding: "utf8" });
+  assert.deepEqual([status, stderr], [1, ""]);
+  const why = "the simulator stopped: unreachable";
+  const lines = ["explained", "svg", "html"].map((ending) => `not kept: seed-1.${ending}: ${why}\n`);
+  assert.ok(stdout.endsWith(lines.join("")), stdout);
+});

@@ -1,0 +1,73 @@
+// The recorder's own modules as its workers get them: as node's loader would have them.
+
+import assert from "node:assert/strict";
+import { readFileSync, writeFileSync } from "node:fs";
+import { join } from "node:path";
+import { test } from "node:test";
+import { fileURLToPath, pathToFileURL } from "node:url";
+import { evaluated, ownModules } from "../lib/processes/own-modules.mjs";
+import { temporaryFolder } from "./helpers/common.mjs";
+
+const ROOTS = ["agent/worker.mjs", "run/referee.mjs"].map((path) => new URL(`../lib/${path}`, import.meta.url));
+// These two begin to work where they are evaluated.
+const withoutRoot = (root) => ownModules(root).slice(0, -1);
+
+/** A module of some text. */
+function written(context, text, name = "module.mjs") {
+  const path = join(temporaryFolder(context), name);
+  writeFileSync(path, text);
+  return pathToFileURL(path);
+}
+
+for (const root of ROOTS) {
+  const name = root.href.split("/").at(-1);
+
+  test(`each module behind ${name} exports the same names, of values of the same types`, async () => {
+    const shapes = (exported) =>
+      Object.fromEntries(Object.entries(exported).sort().map(([key, value]) => [key, typeof value]));
+    const own = withoutRoot(root);
+    assert.ok(own.length > 40);
+    for (const [at, { url }] of own.entries()) {
+      assert.deepEqual(shapes(evaluated(own.slice(0, at + 1))), shapes(await import(url)), url);
+    }
+  });
+
+  test(`each module behind ${name} has its lines where its file has them`, () => {
+    for (const { url, code } of ownModules(root)) {
+      const lines = readFileSync(fileURLToPath(url), "utf8").split("\n");
+      const own = code.split("\n");
+      lines.slice(1, -1).forEach((line, at) => {
+        if (!/^(import|export|\} from)\b/.test(line) && !line.includes("import.meta.url")) {
+          assert.equal(own[at + 1], line, `${url}:${at + 2}`);
+        }
+      });
+    }
+  });
+}
+
+test("a module is evaluated once, behind those that it imports, in strict mode, and knows its URL", (context) => {
+  const folder = temporaryFolder(context);
+  writeFileSync(join(folder, "one.mjs"), "export const counted = { times: 0 };\nexport const { a, b } = { a: 1, b: 2 };\n");
+  writeFileSync(join(folder, "two.mjs"), 'import { counted } from "./one.mjs";\ncounted.times += 1;\nexport function f() {}\n');
+  const text = [
+    'import fs from "node:fs";', 'import { join as joined } from "node:path";', "import {", "  a, b,", '} from "./one.mjs";',
+    'import { counted } from "./one.mjs";', 'import { f } from "./two.mjs";',
+    "export class Told {}", "export async function later() {}",
+    "export const told = [typeof fs.readFileSync, typeof joined, a, b, counted.times, typeof f];",
+    "export const self = (function () { return this; })();", "export const url = import.meta.url;",
+  ];
+  writeFileSync(join(folder, "root.mjs"), text.join("\n"));
+  const url = pathToFileURL(join(folder, "root.mjs"));
+  const list = ownModules(url);
+  assert.deepEqual(list.map((each) => each.url.split("/").at(-1)), ["one.mjs", "two.mjs", "root.mjs"]);
+  const exported = evaluated(list);
+  assert.deepEqual(Object.keys(exported), ["Told", "later", "told", "self", "url"]);
+  assert.deepEqual([exported.told, exported.self, exported.url], [["function", "function", 1, 2, 1, "function"], undefined, url.href]);
+});
+
+test("a module that imports or exports in another form is refused, with its line", (context) => {
+  for (const line of ["export let count = 0;", "export default 5;", 'import * as all from "node:fs";', 'export * from "node:fs";']) {
+    const url = written(context, `export const a = 1;\n${line}\n`);
+    assert.throws(() => ownModules(url), (error) => error.message === `${url} can't be a function's body: ${line}`);
+  }
+});
