@@ -17,10 +17,7 @@ const UNSIGNED = /** @type {Record<number, string>} */ ({ 1: "Uint8", 2: "Uint16
 const OF_STORES = /^(?:ordinary|init)_/;
 const BY_ITSELF = new RegExp(`^(?:${Object.keys(KINDS).join("|")})(?:_b\\d+)?(?:_at\\d+)?(?:_x\\d+)?$`);
 
-/**
- * A view's name without what says that it is one of stores.
- * @param {View} view
- */
+/** @param {View} view @returns {string} a view's name without what says that it is one of stores */
 export const plainName = ({ name }) => name.replace(OF_STORES, "");
 
 /** @param {View} view @returns {boolean} whether it has a name that the program gave it */

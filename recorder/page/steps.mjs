@@ -209,10 +209,7 @@ const isNoCall = ({ what, does }) => what === "stuck" || isStandIn(does);
 /** @param {Event} event */
 export const isOrdinary = ({ does }) => does === "read" || does === "write";
 
-/**
- * What came of a call, in short.
- * @param {Entry} entry
- */
+/** @param {Entry} entry @returns {string} what came of a call, in short */
 function answerText({ what, does: [name], answer, found = {} }) {
   if (what === "wait") return "waits";
   if (what === "leave") return answer === "ok" ? "goes on" : "its time is up";

@@ -42,10 +42,7 @@ function agentText(calls, canBlock) {
   return `{"block": ${canBlock}, "calls": [\n      ${calls.map((call) => call.text).join(",\n      ")}\n    ]}`;
 }
 
-/**
- * The moves of a schedule, laid out over lines.
- * @param {Move[]} moves
- */
+/** @param {Move[]} moves @returns {string} the moves of a schedule, laid out over lines */
 export function scheduleText(moves) {
   const texts = moves.map((move) => (move.timeUp ? `{"timeout": ${move.agent}}` : String(move.agent)));
   const lines = [];

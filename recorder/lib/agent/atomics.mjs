@@ -22,11 +22,7 @@ const { isNaN } = Number;
  * @property {(why: string) => never} refuse ends the run, for a call that no script can have
  */
 
-/**
- * What a call's operands are named in a refusal.
- * @param {number} call
- * @param {number} place
- */
+/** @param {number} call @param {number} place @returns {string} what a call's operands are named in a refusal */
 function operandName(call, place) {
   if (call === COMPARE_EXCHANGE) return place === 0 ? "the expected value" : "the replacement";
   return "the value";

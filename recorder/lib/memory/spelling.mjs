@@ -14,10 +14,7 @@ const TIME_UP_MOVE = 20;
 
 const { floor } = Math;
 
-/**
- * A number that no other view has.
- * @param {Range} view
- */
+/** @param {Range} view @returns {number} a number that no other view has */
 export function viewKey({ kind, block, offset, length }) {
   const places = SCRIPT_LIMITS.bytes + 1;
   return ((kind * SCRIPT_LIMITS.blocks + block) * places + offset) * places + length;

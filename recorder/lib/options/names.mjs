@@ -155,10 +155,7 @@ export class Names {
 /** What names nothing. */
 export const NO_NAMES = new Names([]);
 
-/**
- * How texts call an element that has a name.
- * @param {Named} named
- */
+/** @param {Named} named @returns {string} how texts call an element that has a name */
 export const nameText = ({ view, index }) => (view.isWord ? view.name : `${view.name}[${index}]`);
 
 /** @param {number} kind @param {number} block */

@@ -34,10 +34,7 @@ export class SourceNames {
     return name;
   }
 
-  /**
-   * A text in which places of the code are named so.
-   * @param {string} text
-   */
+  /** @param {string} text @returns {string} a text in which places of the code are named so */
   withNames(text) {
     return text.replace(/(?:file:\/\/)?\/[^\s:]+:\d+:\d+/g, (source) => this.nameOf(source));
   }

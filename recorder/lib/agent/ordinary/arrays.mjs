@@ -48,10 +48,7 @@ function madeOf(kind, first, second, third, target) {
   return construct(ENGINE[kind], [source.real], target);
 }
 
-/**
- * The constructor that agents get in place of an engine's one.
- * @param {number} kind
- */
+/** @param {number} kind @returns {Function} the constructor that agents get in place of an engine's one */
 function standInOf(kind) {
   const Engine = ENGINE[kind];
   const { name } = Engine;

@@ -130,10 +130,7 @@ function filled(engine, watched, given, self) {
   return self;
 }
 
-/**
- * An array as long as another one, to try in it what a method would do.
- * @param {unknown} value
- */
+/** @param {unknown} value @returns {any} an array as long as another one, to try in it what a method would do */
 const likeness = (value) => {
   const watched = watchedOf(value);
   if (watched === undefined) return tagOf(value) === "Uint8Array" ? new EngineBytes(lengthOf(value)) : value;

@@ -40,10 +40,7 @@ export function learn(buffer, recorded) {
   weakSet(others, buffer, originalOf(recorded));
 }
 
-/**
- * The recorded buffer whose memory a buffer has, or itself.
- * @param {object} buffer
- */
+/** @param {object} buffer @returns {any} the recorded buffer whose memory a buffer has, or itself */
 export const originalOf = (buffer) => weakGet(others, buffer) ?? buffer;
 
 /**

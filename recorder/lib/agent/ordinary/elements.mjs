@@ -123,10 +123,7 @@ export function wrapped(real, block) {
   return standIn;
 }
 
-/**
- * What agents get for an array, whatever its buffer is.
- * @param {object} real
- */
+/** @param {object} real @returns {any} what agents get for an array, whatever its buffer is */
 export const wrappedArray = (real) => wrapped(real, blockNumber(bufferOf(real)));
 
 /**

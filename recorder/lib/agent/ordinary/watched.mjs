@@ -153,10 +153,7 @@ export function anyWatchedOf(value) {
   return watchedView(value);
 }
 
-/**
- * The engine's array behind a watched one, or the value itself.
- * @param {any} value
- */
+/** @param {any} value @returns {any} the engine's array behind a watched one, or the value itself */
 export function unwrapped(value) {
   const watched = anyWatchedOf(value);
   return watched === undefined ? value : watched.real;
