@@ -102,7 +102,7 @@ declare class TextDecoder {
 interface AbortSignal {
   readonly aborted: boolean;
   readonly reason: any;
-  addEventListener(event: "abort", listener: () => void, options?: { once: boolean }): void;
+  addEventListener(event: "abort", listener: () => void): void;
   removeEventListener(event: "abort", listener: () => void): void;
 }
 

@@ -37,8 +37,9 @@ export async function record(options) {
   const only = { first: seed, last: seed, checkEvery: 1, fresh: false, jobs: 1 };
   const runs = new Runs({ ...rest, ...only, sabsim }, { job: new Job() });
   try {
-    const { value: found } = await runs.outcomes().next();
-    if (!found?.fails || !shorten) return /** @type {Outcome} */ (found);
+    const { value } = await runs.outcomes().next();
+    const found = /** @type {Outcome} */ (value);
+    if (!found.fails || !shorten) return found;
     const { shortest, shortened } = await runs.shorten(found);
     return shortest === undefined ? { ...found, shortened } : { ...shortest, original: found, shortened };
   } finally {

@@ -38,7 +38,7 @@ export class Runs {
   /** @type {Promise<void>[]} of each job, settled when it has made its last run */
   #working = [];
 
-  /** How many seeds have an outcome, or will never have one. */
+  /** How many outcomes have come. */
   #made = 0;
 
   /** @type {AbortController} aborted when no more runs are wanted */
@@ -88,8 +88,13 @@ export class Runs {
    */
   async shorten(found, onTry = () => {}) {
     this.#stopTaking();
-    await Promise.race([Promise.allSettled(this.#working), this.#stopped()]);
-    return Promise.race([this.jobs[0].shorten(briefly(found), onTry), this.#stopped()]);
+    const { signal } = this;
+    const stopped = new Promise((_, fail) => {
+      if (signal?.aborted) fail(signal.reason);
+      signal?.addEventListener("abort", () => fail(signal.reason));
+    });
+    await Promise.race([Promise.allSettled(this.#working), stopped]);
+    return Promise.race([this.jobs[0].shorten(briefly(found), onTry), stopped]);
   }
 
   /** Ends all that was started. */
@@ -111,15 +116,6 @@ export class Runs {
     this.delivery.fail(this.signal?.reason);
     void this.close();
   };
-
-  /** @returns {Promise<never>} fails when the signal says so */
-  #stopped() {
-    const { signal } = this;
-    return new Promise((_, fail) => {
-      if (signal?.aborted) fail(signal.reason);
-      signal?.addEventListener("abort", () => fail(signal.reason), { once: true });
-    });
-  }
 
   /** Starts the jobs, and has them make the runs. */
   #begin() {
@@ -203,14 +199,19 @@ export class Runs {
    */
   async #run(job, seeds) {
     let made = 0;
+    /** @type {Outcome[]} the run whose check has failed: the failure comes before it */
+    const differing = [];
     try {
       await job.run(seeds, (outcome) => {
         made += 1;
         this.#made += 1;
-        this.delivery.add(outcome);
+        if (outcome.checked || outcome.unchecked !== undefined) this.delivery.add(outcome);
+        else differing.push(outcome);
         if (this.options.failFast && outcome.fails) this.queue.stop();
       });
     } catch (failure) {
+      if (differing.length > 0) this.delivery.fail(failure);
+      for (const outcome of differing) this.delivery.add(outcome);
       for (const { seed } of seeds.slice(made)) this.delivery.lose(seed);
       if (!(failure instanceof LostJob) || made === seeds.length) throw failure;
       const [from, to] = [seeds[made].seed, seeds[seeds.length - 1].seed];
