@@ -1,5 +1,7 @@
 // The elements of a run's memory: which view tells best of some bytes, what an element is called, and its value.
 
+import { OF_STORES } from "../schedule/report.mjs";
+
 /** @typedef {import("./words.mjs").View} View */
 
 /** @typedef {{ view: View, label: string, block: number, byte: number }} Cell of memory that is shown */
@@ -14,7 +16,6 @@ const KINDS = {
 };
 const UNSIGNED = /** @type {Record<number, string>} */ ({ 1: "Uint8", 2: "Uint16", 4: "Uint32", 8: "BigUint64" });
 
-const OF_STORES = /^(?:ordinary|init)_/;
 const BY_ITSELF = new RegExp(`^(?:${Object.keys(KINDS).join("|")})(?:_b\\d+)?(?:_at\\d+)?(?:_x\\d+)?$`);
 
 /** @param {View} view @returns {string} a view's name without what says that it is one of stores */

@@ -23,7 +23,7 @@ export const callText = ([name, view, ...others]) => `${name}(${[view, ...others
 export const elementText = ([, view, index]) => `${view}[${index}]`;
 
 /** @param {number} count @param {string} one @param {string} several */
-const counted = (count, one, several) => `${count} ${count === 1 ? one : several}`;
+export const counted = (count, one, several) => `${count} ${count === 1 ? one : several}`;
 
 /**
  * Why a call throws, by the first check that fails.

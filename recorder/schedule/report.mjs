@@ -26,7 +26,8 @@
  * @property {Progress[]} agents
  */
 
-const OF_STORES = /^(?:ordinary|init)_/;
+/** What the names of views begin with whose stores stand for something else. */
+export const OF_STORES = /^(?:ordinary|init)_/;
 
 /** @param {string} text lines of JSON @returns {Report} */
 export function readReport(text) {

@@ -3,10 +3,18 @@
 import { SCRIPT_LIMITS } from "../../script/limits.mjs";
 import { Accesses } from "./accesses.mjs";
 import { sourceHere } from "./frames.mjs";
-import { RunIsOver } from "./over.mjs";
 import { changeText, laterText } from "./undone.mjs";
 
 /** @typedef {import("../memory/records.mjs").Call} Call */
+
+const { Error: EngineError } = globalThis;
+
+/** Ends an agent whose run is over. Agents may catch it; their next call throws it again. */
+export class RunIsOver extends EngineError {
+  constructor() {
+    super("this run is over: the recorder ends the agent here");
+  }
+}
 
 /** @returns {string} where the agent's code is, to be added to what it does */
 function whereText() {

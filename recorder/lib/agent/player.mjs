@@ -10,13 +10,12 @@ import { FLAG } from "../memory/log.mjs";
 import { byteOf } from "../memory/memory.mjs";
 import { callText, textRoom, viewKey, viewName } from "../memory/spelling.mjs";
 import { mapGet, mapSet, mapHas, uncurried } from "../primordials.mjs";
-import { Accesses } from "./accesses.mjs";
+import { NOTED } from "./accesses.mjs";
 import { foundBy, leftOpen } from "./answer.mjs";
 import { effectOf, flagsAsked, isWithin } from "./effects.mjs";
 import { engineCall } from "./engine.mjs";
 import { numberAbove } from "./frames.mjs";
-import { RunIsOver } from "./over.mjs";
-import { Part } from "./part.mjs";
+import { Part, RunIsOver } from "./part.mjs";
 import { undone } from "./undone.mjs";
 
 const { wait: WAIT, notify: NOTIFY } = CALL_NUMBERS;
@@ -132,8 +131,8 @@ export class Player {
     const { part } = this;
     if (part.isOver || this.table.board.words[WORD.ENDED] !== 0) part.interrupted();
     const noted = part.accesses.note(place, from, to, writes, part.made);
-    if (noted === Accesses.SPINS) part.spins("it reads the same bytes again and again without a call of Atomics");
-    if (noted === Accesses.FULL) part.bound(`more than ${this.table.log.most} reads and writes were made that differ`);
+    if (noted === NOTED.SPINS) part.spins("it reads the same bytes again and again without a call of Atomics");
+    if (noted === NOTED.FULL) part.bound(`more than ${this.table.log.most} reads and writes were made that differ`);
   }
 
   /** @returns {boolean} whether what is done now is done to learn from alone */

@@ -11,13 +11,10 @@ const SPIN = 1_000_000;
 
 const MOST_EPOCHS = 2 ** 26;
 
+/** What an access is among those since the last call. */
+export const REPEATED = Object.freeze({ NEW: 0, KNOWN: 1, SPINS: 2 });
+
 export class Repeats {
-  static NEW = 0;
-
-  static KNOWN = 1;
-
-  static SPINS = 2;
-
   /** @param {number[]} lengths of the blocks */
   constructor(lengths) {
     /** For each byte, when an access began there last, and how long it was: of reads, and of writes. */
@@ -62,16 +59,16 @@ export class Repeats {
    */
   note(place, from, to, writes) {
     const size = to - from;
-    if (size > 8) return Repeats.NEW;
+    if (size > 8) return REPEATED.NEW;
     const stamps = writes ? this.writes[place.block] : this.reads[place.block];
-    if (stamps[from] !== ((this.epoch << 4) | size)) return Repeats.NEW;
+    if (stamps[from] !== ((this.epoch << 4) | size)) return REPEATED.NEW;
     if (writes || this.last !== from) {
       this.last = writes ? -1 : from;
       this.again = 0;
-      return Repeats.KNOWN;
+      return REPEATED.KNOWN;
     }
     this.again += 1;
-    return this.again < SPIN ? Repeats.KNOWN : Repeats.SPINS;
+    return this.again < SPIN ? REPEATED.KNOWN : REPEATED.SPINS;
   }
 
   /**

@@ -7,7 +7,7 @@ import { ORDER, PHASE, WORD, wordsFor } from "../memory/layout.mjs";
 import { Random } from "../memory/random.mjs";
 import { Clock } from "./clock.mjs";
 import { End } from "./end.mjs";
-import { EVENTS, Journal } from "./journal.mjs";
+import { Journal, MOVES } from "./journal.mjs";
 import { Line } from "./line.mjs";
 import { Row, STRAYS } from "./row.mjs";
 import { NOBODY_MOVES, Strategy } from "./strategy.mjs";
@@ -139,7 +139,7 @@ export class Board {
    */
   did(agent, event) {
     this.journal.count(agent, event);
-    this.clock.advance(EVENTS[event].moves);
+    this.clock.advance(MOVES[event]);
   }
 
   /** @param {number} order */

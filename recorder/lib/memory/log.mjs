@@ -3,7 +3,7 @@
 
 const { Int32Array, SharedArrayBuffer } = globalThis;
 
-/** The first four are those of `EVENTS` of the board; then come ordinary reads and writes. */
+/** The first four are what the board counts (`journal.mjs`); then come ordinary reads and writes. */
 export const READ = 4;
 export const WRITE = 5;
 

@@ -4,7 +4,7 @@
 
 import { CONSTRUCTORS, KINDS, SIZES } from "../../script/kinds.mjs";
 import { answerText } from "../../script/report.mjs";
-import { EVENTS, LEAVE, TIME_UP } from "../board/journal.mjs";
+import { LEAVE, MAKE, MOVES, TIME_UP } from "../board/journal.mjs";
 import { READ } from "../memory/log.mjs";
 import { callText, viewName } from "../memory/spelling.mjs";
 import { NO_NAMES, nameText } from "../options/names.mjs";
@@ -83,7 +83,7 @@ class Writer {
     const index = named?.index ?? byte / SIZES[kind];
     const text = `["store", "${name}", ${index}, ${isBig ? `"${value}"` : value}]`;
     this.calls[agent].push({ text, joined: false, answer: answerText(value), isOwn: false });
-    this.addMoves(agent, EVENTS[0].moves, false);
+    this.addMoves(agent, MOVES[MAKE], false);
   }
 
   /**
@@ -117,7 +117,7 @@ class Writer {
       this.calls[agent].push({ text, ...done, isOwn: true, name: named && nameText(named) });
       this.own[agent] += 1;
     }
-    this.addMoves(agent, EVENTS[event].moves, event === TIME_UP);
+    this.addMoves(agent, MOVES[event], event === TIME_UP);
   }
 }
 
