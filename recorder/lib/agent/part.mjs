@@ -1,4 +1,4 @@
-// An agent's part in a run: how far it has come in it, and how its own code ends the run.
+// An agent's part in a run: how far the agent has come, and how it ends the run.
 
 import { SCRIPT_LIMITS } from "../../script/limits.mjs";
 import { Accesses } from "./accesses.mjs";

@@ -70,7 +70,7 @@ export class Player {
   }
 
   /**
-   * Does something else than its part in a run: nothing of it is recorded. It tells what went wrong in it.
+   * Does something else than its part in a run. Nothing of it is recorded. It reports what went wrong.
    * @param {() => unknown} body
    * @param {(thrown: unknown) => string} described
    */

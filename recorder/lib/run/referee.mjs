@@ -1,5 +1,5 @@
-// The referee's thread: it has a run made for each seed that it is sent, and tells what came of it. A run whose lines of
-// code are wanted is made once more, by the same seed, and then each access tells its own.
+// The referee's thread. It has a run made for each seed that it gets, and sends its outcome. If lines of code are wanted,
+// the run is made once more by the same seed, and then each access notes its line.
 
 import { workerData } from "node:worker_threads";
 import { WORD } from "../memory/layout.mjs";
@@ -7,7 +7,7 @@ import { onceMore } from "../processes/garbage.mjs";
 import { Meetings } from "./meetings.mjs";
 import { PILOTS, Pilots } from "./pilots.mjs";
 import { RunMaker } from "./run-maker.mjs";
-import { RunTeller } from "./run-teller.mjs";
+import { RunReporter } from "./run-reporter.mjs";
 import { areSame } from "./same.mjs";
 import { SourceNames } from "./source-names.mjs";
 
@@ -25,12 +25,12 @@ class Referee {
     this.plan = plan;
     this.options = options;
     this.maker = new RunMaker(given, sourceNames);
-    this.teller = new RunTeller(given, this.maker);
+    this.reporter = new RunReporter(given, this.maker);
     this.meetings = options.tellsMeetings ? new Meetings(sourceNames) : undefined;
     this.tellsAlways = options.trace || this.meetings !== undefined;
-    /** Whether the next run tells its lines of code at once: where the one before raced, it may well. */
+    /** Whether the next run notes its lines of code at once. If the run before raced, the next one may race too. */
     this.tellsNext = this.tellsAlways;
-    /** Whether the trace of a failing run was made already, or tried: a later seed's isn't kept. */
+    /** Whether a failing run's trace was made already, or tried. A later seed's trace isn't kept. */
     this.isTraced = false;
   }
 
@@ -69,24 +69,24 @@ class Referee {
 
   /** @param {Wanted} wanted @returns {Promise<One>} the outcome of a seed */
   async #one(wanted) {
-    const { maker, maker: { log }, teller, meetings } = this;
+    const { maker, maker: { log }, reporter, meetings } = this;
     let hasSources = this.tellsNext;
     let found = await maker.made(wanted, hasSources);
     /** @type {import("./group.mjs").Covering} */
     const covering = meetings === undefined
-      ? {} : { meetings: meetings.add(log, teller.sources), unplaced: meetings.unplaced };
+      ? {} : { meetings: meetings.add(log, reporter.sources), unplaced: meetings.unplaced };
     const isCut = hasSources && !log.hasRoom();
     if (isCut) {
-      // Not all accesses have told their lines: this is judged by a run that keeps each of them once.
+      // Not all accesses have noted their lines, so another run is judged, which notes each of them once.
       await maker.replace(found.gone);
       hasSources = false;
       found = await maker.made(wanted, false);
     }
     found = await maker.judged(found);
-    const outcome = teller.brief(wanted, found);
-    if (wanted.whole || outcome.fails) teller.addScript(outcome, found);
-    // Here the log has all events: one with lines of code, in a run that is made once more, may lack some reads.
-    const judgement = teller.judgement(outcome, found);
+    const outcome = reporter.brief(wanted, found);
+    if (wanted.whole || outcome.fails) reporter.addScript(outcome, found);
+    // Here the log has all events. The log of a run that is made once more, with lines of code, may lack some reads.
+    const judgement = reporter.judgement(outcome, found);
     await this.#replace(found);
     await this.#addSources(wanted, outcome, found, hasSources);
     Object.assign(outcome, covering);
@@ -96,46 +96,46 @@ class Referee {
   }
 
   /**
-   * A run that is made only to see how it ends: nothing is kept of it.
+   * A run that is made only to see how it ends.
    * @param {Wanted} wanted
    * @returns {Promise<One>}
    */
   async #tried(wanted) {
-    const { maker, teller } = this;
+    const { maker, reporter } = this;
     const { tellsLines = false } = wanted;
     const found = await maker.judged(await maker.made(wanted, tellsLines));
-    const outcome = teller.brief(wanted, found);
+    const outcome = reporter.brief(wanted, found);
     await this.#replace(found);
     if (tellsLines) await this.#addSources(wanted, outcome, found, maker.log.hasRoom());
     return { outcome, aside: asideOf(found) };
   }
 
   /**
-   * Adds the lines of code to what is told of a run: it is made once more where it hasn't told them.
+   * Adds lines of code to an outcome. If its accesses haven't noted them, the run is made once more.
    * @param {Wanted} wanted
    * @param {Outcome} outcome
    * @param {Made} found
-   * @param {boolean} hasSources whether its accesses have told their lines
+   * @param {boolean} hasSources whether its accesses have noted their lines
    */
   async #addSources(wanted, outcome, found, hasSources) {
-    const { maker, teller } = this;
+    const { maker, reporter } = this;
     const wantsTrace = this.#isTraceWanted(wanted, outcome);
     if (!found.racy && !wantsTrace) return;
     if (hasSources) {
-      teller.addSources(outcome, wantsTrace);
+      reporter.addSources(outcome, wantsTrace);
       return;
     }
-    // Until the agents have told their lines, this is all that is known.
-    outcome.races = found.racy ? teller.races(false) : [];
-    // Who didn't come back made no call for long, and would take as long again.
+    // If the second run isn't the same, this is all that is known.
+    outcome.races = found.racy ? reporter.races(false) : [];
+    // An agent that didn't come back made no call for long, and would take as long again.
     if (found.gone.length > 0) return;
     const again = await maker.made(wanted, true);
-    const same = areSame(teller.brief(wanted, await maker.judgedAgain(again, found)), outcome);
+    const same = areSame(reporter.brief(wanted, await maker.judgedAgain(again, found)), outcome);
     await this.#replace(again);
-    if (same) teller.addSources(outcome, wantsTrace);
+    if (same) reporter.addSources(outcome, wantsTrace);
   }
 
-  /** @param {Made} run after which workers are started anew that can't run again, or all where that is asked for */
+  /** @param {Made} run after which workers that can't run again are started anew, or all if the option says so */
   async #replace({ gone }) {
     await this.maker.replace(this.options.fresh ? this.maker.agents : gone);
   }

@@ -1,5 +1,5 @@
-// Makes the runs of a group, by a seed or by a row: leaves nothing of an earlier one, has `init` called, waits for the
-// end, and finds how it ends, by races and by `check`.
+// Makes the runs of a group, by a seed or by a row. It clears what an earlier run left, has `init` called, waits for the
+// end, looks for unordered accesses, and has `check` called.
 
 import { Board } from "../board/board.mjs";
 import { strayText } from "../board/row.mjs";
@@ -14,7 +14,7 @@ import { isRacy } from "./races.mjs";
 /** @typedef {import("./group.mjs").Wanted} Wanted */
 
 /**
- * @typedef {object} Made what a run came to, before it is told
+ * @typedef {object} Made how a run ended
  * @property {import("./group.mjs").Ending} ending
  * @property {string} detail
  * @property {string[]} bytes of each block, in hexadecimal digits
@@ -71,7 +71,7 @@ export class RunMaker {
   /**
    * One run, by a seed, or by a row.
    * @param {Wanted} wanted
-   * @param {boolean} tellsSources whether each access tells its line of code
+   * @param {boolean} tellsSources whether each access notes its line of code
    * @returns {Promise<Made>}
    */
   async made(wanted, tellsSources) {
@@ -108,8 +108,8 @@ export class RunMaker {
   }
 
   /**
-   * How a run ends that was made once more. A check that has come to no end before isn't called again: it would take as
-   * long again.
+   * How a run ends that was made once more. A check that didn't come to its end before isn't called again, since it would
+   * take as long again.
    * @param {Made} again
    * @param {Made} found the run as it was made before
    * @returns {Promise<Made>}
@@ -120,9 +120,9 @@ export class RunMaker {
   }
 
   /**
-   * Makes a pilot: a run of which nothing is told.
+   * Makes a pilot, a run without an outcome.
    * @param {number} seed
-   * @returns {Promise<boolean>} whether all is seen that the agents did
+   * @returns {Promise<boolean>} whether everything that the agents did was seen
    */
   async pilot(seed) {
     const { board, options } = this;
@@ -133,7 +133,7 @@ export class RunMaker {
     board.begin(seed, true);
     const isSilent = board.turn.awaitEnd(Math.min(options.seconds, PILOT_SECONDS));
     await this.replace(this.#sentHome());
-    // Where ordinary reads aren't seen, it isn't known what an agent does between its calls.
+    // If ordinary reads aren't seen, nobody knows what an agent does between its calls.
     const isHidden = options.ordinary !== "watch" && board.words[WORD.STORES] > 0;
     return !isSilent && !isHidden;
   }

@@ -1,5 +1,5 @@
-// What is told of the run that was made last: briefly of each run, and of some their script, report, unordered accesses
-// and trace.
+// Makes the outcome of the run that was made last. Each outcome is brief; to some it adds the script, the report, the
+// unordered accesses and the trace.
 
 import { createHash } from "node:crypto";
 import { reportText } from "../../script/report.mjs";
@@ -17,7 +17,7 @@ import { transcriptOf, waitingText } from "./transcript.mjs";
 
 const SHOWN_DIGITS = 48;
 
-export class RunTeller {
+export class RunReporter {
   /** @param {import("./run-maker.mjs").Given} given @param {import("./run-maker.mjs").RunMaker} maker */
   constructor({ memory, plan, options }, maker) {
     this.maker = maker;
@@ -32,7 +32,7 @@ export class RunTeller {
     this.seesAll = options.ordinary === "watch" && !preloads();
   }
 
-  /** @param {import("./group.mjs").Wanted} wanted @param {Made} found @returns {Outcome} what is told of each run */
+  /** @param {import("./group.mjs").Wanted} wanted @param {Made} found @returns {Outcome} what each outcome has */
   brief({ seed }, found) {
     const { maker, options } = this;
     const { ending, detail } = found;
@@ -54,7 +54,7 @@ export class RunTeller {
   }
 
   /**
-   * Adds what is told besides of a run that fails, or that is asked for.
+   * Adds the script and its report, for a run that fails or is to be checked.
    * @param {Outcome} outcome
    * @param {Made} found
    */
@@ -76,7 +76,7 @@ export class RunTeller {
   }
 
   /**
-   * The unordered accesses.
+   * The unordered accesses, with their lines of code if these are known.
    * @param {boolean} tellsSources
    */
   races(tellsSources) {
@@ -86,7 +86,7 @@ export class RunTeller {
   }
 
   /**
-   * Adds the unordered accesses and the trace of a run whose accesses have told their lines.
+   * Adds the unordered accesses and the trace of a run whose accesses have noted their lines of code.
    * @param {Outcome} outcome
    * @param {boolean} wantsTrace
    */
@@ -104,7 +104,7 @@ export class RunTeller {
   }
 
   /**
-   * Whether unordered accesses were found, where the run's script is told, so that both can be checked.
+   * Whether unordered accesses were found, if the outcome has the script, so that both can be checked.
    * @param {Outcome} outcome
    * @param {Made} found
    * @returns {import("./group.mjs").Judgement | undefined}
