@@ -6,9 +6,9 @@ import { OF_STORES } from "../schedule/report.mjs";
 
 /** @typedef {{ view: View, label: string, block: number, byte: number }} Cell of memory that is shown */
 
-/** @typedef {{ new (bytes: ArrayBufferLike): ArrayLike<number | bigint>, BYTES_PER_ELEMENT: number }} KindConstructor */
+/** @typedef {{ new (bytes: ArrayBufferLike): ArrayLike<number | bigint>, BYTES_PER_ELEMENT: number }} Kind */
 
-/** @type {Record<string, KindConstructor>} */
+/** @type {Record<string, Kind>} */
 const KINDS = {
   Int8: Int8Array, Uint8: Uint8Array, Uint8Clamped: Uint8ClampedArray, Int16: Int16Array, Uint16: Uint16Array,
   Int32: Int32Array, Uint32: Uint32Array, Float32: Float32Array, Float64: Float64Array, BigInt64: BigInt64Array,

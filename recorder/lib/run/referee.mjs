@@ -1,5 +1,5 @@
-// The referee's thread. It has a run made for each seed that it gets, and sends its outcome. If lines of code are wanted,
-// the run is made once more by the same seed, and then each access notes its line.
+// The referee's thread. It has a run made for each seed that it gets, and sends its outcome. If lines of code are
+// wanted, the run is made once more by the same seed, and then each access notes its line.
 
 import { workerData } from "node:worker_threads";
 import { WORD } from "../memory/layout.mjs";
@@ -51,7 +51,7 @@ class Referee {
     this.port.once("message", (work) => this.record(work));
   }
 
-  /** Learns by pilots where agents meet. The agents have other workers afterwards: no module keeps anything of pilots. */
+  /** Learns by pilots where agents meet. The agents have other workers afterwards, so no module remembers pilots. */
   async #learn() {
     const { maker, maker: { board, log }, plan } = this;
     const pilots = new Pilots(plan.agents);

@@ -1,5 +1,5 @@
-// Makes the runs of a group, by a seed or by a row. It clears what an earlier run left, has `init` called, waits for the
-// end, looks for unordered accesses, and has `check` called.
+// Makes the runs of a group, by a seed or by a row. It clears what an earlier run left, has `init` called, waits for
+// the end, looks for unordered accesses, and has `check` called.
 
 import { Board } from "../board/board.mjs";
 import { strayText } from "../board/row.mjs";
@@ -108,8 +108,8 @@ export class RunMaker {
   }
 
   /**
-   * How a run ends that was made once more. A check that didn't come to its end before isn't called again, since it would
-   * take as long again.
+   * How a run ends that was made once more. A check that didn't come to its end before isn't called again, since it
+   * would take as long again.
    * @param {Made} again
    * @param {Made} found the run as it was made before
    * @returns {Promise<Made>}

@@ -11,8 +11,8 @@
 /**
  * @typedef {object} Drawing who moves next in a run
  * @property {() => void} begin a run begins
- * @property {(able: import("./able.mjs").Able, last: number) => number} drawn one of those that can move, of which there
- * is one at least. The agent `last` moved last, or it is -1
+ * @property {(able: import("./able.mjs").Able, last: number) => number} drawn one of those that can move, of which
+ * there is one at least. The agent `last` moved last, or it is -1
  */
 
 /** @typedef {{ Kind: new (parts: Parts, likelihood: number) => Drawing, hasLikelihood: boolean }} Strategy a row */
