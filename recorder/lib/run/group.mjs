@@ -113,8 +113,8 @@ import { Thread } from "../processes/thread.mjs";
 
 const DEFAULT_LOAD_SECONDS = 30;
 const WORKER = new URL("../processes/own-worker.mjs", import.meta.url);
-const AGENT_MODULES = ownModules(new URL("../agent/worker.mjs", import.meta.url));
-const REFEREE_MODULES = ownModules(new URL("./referee.mjs", import.meta.url));
+const AGENT_MODULE = new URL("../agent/worker.mjs", import.meta.url);
+const REFEREE_MODULE = new URL("./referee.mjs", import.meta.url);
 
 /** How many agents' workers are begun at once. Two agents need as many: two more of them load after the pilots. */
 const FIRST_WORKERS = 4;
@@ -238,7 +238,7 @@ export class Group {
   }
 
   async #start() {
-    this.referee = this.#thread(REFEREE_MODULES, { isIncomplete: true });
+    this.referee = this.#thread(REFEREE_MODULE, { isIncomplete: true });
     this.#beginUpTo(FIRST_WORKERS);
     const told = await this.#load(0);
     needsRightNames(told.names);
@@ -271,11 +271,11 @@ export class Group {
   }
 
   /**
-   * @param {import("../processes/own-modules.mjs").OwnModule[]} modules
+   * @param {URL} module of the recorder
    * @param {object} given
    */
-  #thread(modules, given) {
-    const thread = new Thread(WORKER, { modules, ...given }, { ownPort: true });
+  #thread(module, given) {
+    const thread = new Thread(WORKER, { modules: ownModules(module), ...given }, { ownPort: true });
     this.threads.add(thread);
     return thread;
   }
@@ -288,7 +288,7 @@ export class Group {
   /** Begins an agent's worker. */
   #begin() {
     const { module, args, ordinary, clock } = this.options;
-    return this.#thread(AGENT_MODULES, { module, args, ordinary, clock });
+    return this.#thread(AGENT_MODULE, { module, args, ordinary, clock });
   }
 
   /**
