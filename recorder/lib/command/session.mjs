@@ -45,6 +45,8 @@ export class Session {
     this.leftOut = [];
     this.progress = new Progress(this.wanted);
     this.interruption = new Interruption();
+    /** @type {Promise<void> | undefined} settled when nothing is left of the jobs */
+    this.closed = undefined;
     const { asked: { first: origin }, untilCovered: tellsMeetings } = options;
     const how = { isBrief: true, goesOn: true, origin, tellsMeetings };
     this.runs = new Runs({ ...this.options, ...how }, { signal: this.interruption.signal, job });
@@ -70,6 +72,7 @@ export class Session {
     this.progress.clear();
     await attempt(() => this.#keepMore(stopped));
     await attempt(() => this.#tell(stopped, problems));
+    await attempt(() => this.closed);
     await attempt(() => this.interruption.end());
     return { failed: this.summary.failed > 0, problems };
   }
@@ -86,7 +89,7 @@ export class Session {
       const { shortest } = summary.shortened;
       if (shortest !== undefined) this.keeper?.keepShortest(found, shortest);
     } finally {
-      await runs.close();
+      this.closed = runs.close();
     }
   }
 
