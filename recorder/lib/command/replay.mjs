@@ -2,6 +2,7 @@
 // debugger that is attached to it can stop in them.
 
 import { readFileSync } from "node:fs";
+import { createRequire } from "node:module";
 import { basename } from "node:path";
 import { Refused } from "../options/refused.mjs";
 import { preloads } from "../processes/preloads.mjs";
@@ -53,11 +54,10 @@ function placeOf({ lengths, canBlock }, options) {
   return { agents: canBlock.length, buffers: lengths, noBlock };
 }
 
-/** @returns {Promise<boolean>} whether a debugger may be attached to this process */
-async function isDebugged() {
+/** @returns {boolean} whether a debugger may be attached to this process */
+function isDebugged() {
   try {
-    const { default: inspector } = await import("node:inspector");
-    return inspector.url() !== undefined;
+    return createRequire(import.meta.url)("node:inspector").url() !== undefined;
   } catch {
     // A node without one can't be debugged.
     return false;
@@ -106,7 +106,7 @@ export class Replay {
   async #made() {
     const { kept: { draws }, options, place, sabsim, seed } = this;
     const long = { seconds: DEBUGGED_SECONDS, loadSeconds: DEBUGGED_SECONDS };
-    const limits = await isDebugged() ? long : { seconds: options.seconds };
+    const limits = isDebugged() ? long : { seconds: options.seconds };
     // A debugger would stop in each further run of the agents. So there are no pilots, from which nothing is to be
     // learnt, since the row says who moves; and the lines of code are told at once.
     const only = { first: seed, last: seed, jobs: 1, fresh: false, everywhere: true, trace: true };

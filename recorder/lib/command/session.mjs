@@ -3,6 +3,7 @@
 import { resolve } from "node:path";
 import { Difference } from "../check/check.mjs";
 import { Keeper } from "../keeping/keep.mjs";
+import { keepPictures } from "../keeping/pictures.mjs";
 import { collectGarbage, onceMore } from "../processes/garbage.mjs";
 import { preloads } from "../processes/preloads.mjs";
 import { Coverage } from "../seeds/coverage.mjs";
@@ -24,7 +25,7 @@ export class Session {
   /**
    * @param {import("./options.mjs").Options} options
    * @param {string} module its URL
-   * @param {import("../seeds/remote-job.mjs").RemoteJob} job the first one, which has begun
+   * @param {import("../seeds/remote-job.mjs").RemoteJob} [job] the first one, if it has begun
    */
   constructor(options, module, job) {
     const isPreloaded = preloads();
@@ -44,6 +45,8 @@ export class Session {
     this.leftOut = [];
     this.progress = new Progress(this.wanted);
     this.interruption = new Interruption();
+    /** @type {Promise<void> | undefined} settled when nothing is left of the jobs */
+    this.closed = undefined;
     const { asked: { first: origin }, untilCovered: tellsMeetings } = options;
     const how = { isBrief: true, goesOn: true, origin, tellsMeetings };
     this.runs = new Runs({ ...this.options, ...how }, { signal: this.interruption.signal, job });
@@ -69,6 +72,7 @@ export class Session {
     this.progress.clear();
     await attempt(() => this.#keepMore(stopped));
     await attempt(() => this.#tell(stopped, problems));
+    await attempt(() => this.closed);
     await attempt(() => this.interruption.end());
     return { failed: this.summary.failed > 0, problems };
   }
@@ -85,7 +89,7 @@ export class Session {
       const { shortest } = summary.shortened;
       if (shortest !== undefined) this.keeper?.keepShortest(found, shortest);
     } finally {
-      await runs.close();
+      this.closed = runs.close();
     }
   }
 
@@ -121,7 +125,7 @@ export class Session {
    * Keeps what is made from the runs when they are over.
    * @param {unknown} stopped why not all were made, if so
    */
-  async #keepMore(stopped) {
+  #keepMore(stopped) {
     const { keeper, summary: { shortened } } = this;
     const failing = this.#failing();
     if (keeper === undefined) return;
@@ -133,7 +137,6 @@ export class Session {
       const outcome = shortened?.shortest ?? failing;
       const command = replayCommand({ ...this.options, module: this.asked.module });
       const how = { simulator: this.simulator, module: this.options.module, command };
-      const { keepPictures } = await import("../keeping/pictures.mjs");
       this.leftOut.push(...keepPictures(keeper, outcome, how));
     }
   }

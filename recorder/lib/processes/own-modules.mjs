@@ -7,7 +7,7 @@ import { compileFunction } from "node:vm";
 
 const builtin = createRequire(import.meta.url);
 const IMPORT = /^import (\{[^}]*\}|\w+) from "([^"]*)";$/gm;
-const EXPORT = /^export (?=(?:async function|function|class|const) (?:(\w+)|\{([^}]*)\}))/gm;
+const EXPORT = /^export (?=(?:(?:async )?function\*?|class|const) (?:(\w+)|\{([^}]*)\}))/gm;
 const OTHER_FORM = /^(?:import|export)\b.*/m;
 const URL_OF_MODULE = /\bimport\.meta\.url\b/g;
 
@@ -36,12 +36,17 @@ function bodyOf(url, text) {
   return `"use strict"; ${body.replace(URL_OF_MODULE, JSON.stringify(url))}\nreturn { ${names.join(", ")} };`;
 }
 
+/** @type {Map<string, OwnModule[]>} what was read, since the files stay as they are */
+const read = new Map();
+
 /**
  * A module, behind all that it imports.
  * @param {URL} url
  * @returns {OwnModule[]}
  */
 export function ownModules(url) {
+  const known = read.get(url.href);
+  if (known !== undefined) return known;
   /** @type {Map<string, string>} */
   const bodies = new Map();
   /** @param {URL} each */
@@ -52,7 +57,9 @@ export function ownModules(url) {
     bodies.set(each.href, bodyOf(each.href, text));
   };
   add(url);
-  return [...bodies].map(([href, code]) => ({ url: href, code }));
+  const list = [...bodies].map(([href, code]) => ({ url: href, code }));
+  read.set(url.href, list);
+  return list;
 }
 
 /**

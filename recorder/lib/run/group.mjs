@@ -113,8 +113,8 @@ import { Thread } from "../processes/thread.mjs";
 
 const DEFAULT_LOAD_SECONDS = 30;
 const WORKER = new URL("../processes/own-worker.mjs", import.meta.url);
-const AGENT_MODULES = ownModules(new URL("../agent/worker.mjs", import.meta.url));
-const REFEREE_MODULES = ownModules(new URL("./referee.mjs", import.meta.url));
+const AGENT_MODULE = new URL("../agent/worker.mjs", import.meta.url);
+const REFEREE_MODULE = new URL("./referee.mjs", import.meta.url);
 
 /** How many agents' workers are begun at once. Two agents need as many: two more of them load after the pilots. */
 const FIRST_WORKERS = 4;
@@ -238,7 +238,9 @@ export class Group {
   }
 
   async #start() {
-    this.referee = this.#thread(REFEREE_MODULES, { isIncomplete: true });
+    // Their modules are read while the workers begin.
+    const referee = this.#thread();
+    this.referee = referee;
     this.#beginUpTo(FIRST_WORKERS);
     const told = await this.#load(0);
     needsRightNames(told.names);
@@ -252,7 +254,7 @@ export class Group {
     this.memory = memoryOf(this.plan, this.options.logEvents);
     this.board = new Board(this.memory.board, this.rules);
     const { memory, plan, rules } = this;
-    this.referee.post({ memory, plan, rules, options });
+    referee.post({ modules: ownModules(REFEREE_MODULE), memory, plan, rules, options });
     const others = Array.from({ length: this.plan.agents - 1 }, (_, other) => other + 1);
     // A single agent meets nobody.
     const learns = !everywhere && others.length > 0;
@@ -270,25 +272,20 @@ export class Group {
     await this.#work({ learns: true }, () => {});
   }
 
-  /**
-   * @param {import("../processes/own-modules.mjs").OwnModule[]} modules
-   * @param {object} given
-   */
-  #thread(modules, given) {
-    const thread = new Thread(WORKER, { modules, ...given }, { ownPort: true });
+  /** Begins a worker. */
+  #thread() {
+    const thread = new Thread(WORKER, {}, { ownPort: true });
     this.threads.add(thread);
     return thread;
   }
 
   /** @param {number} count how many agents' workers are to have begun */
   #beginUpTo(count) {
-    while (this.begun.length < count) this.begun.push(this.#begin());
-  }
-
-  /** Begins an agent's worker. */
-  #begin() {
     const { module, args, ordinary, clock } = this.options;
-    return this.#thread(AGENT_MODULES, { module, args, ordinary, clock });
+    const begun = Array.from({ length: count - this.begun.length }, () => this.#thread());
+    const modules = ownModules(AGENT_MODULE);
+    for (const thread of begun) thread.post({ modules, module, args, ordinary, clock });
+    this.begun.push(...begun);
   }
 
   /**
@@ -351,7 +348,8 @@ export class Group {
    */
   async #loaded(agent) {
     const { module } = this.options;
-    const thread = this.begun.shift() ?? this.#begin();
+    this.#beginUpTo(1);
+    const thread = /** @type {Thread} */ (this.begun.shift());
     thread.post({ agent });
     const { message, ended } = await this.#told(thread);
     if (ended !== undefined) throw new Refused(`${module} can't be loaded: its worker ended (${ended})`);

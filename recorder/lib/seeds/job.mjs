@@ -57,6 +57,8 @@ export class Job {
     this.#every = checkEvery;
     this.#isBrief = isBrief;
     this.#group = Group.open(options);
+    // The workers begin meanwhile.
+    this.#simulator?.prepare();
     await this.#group;
   }
 

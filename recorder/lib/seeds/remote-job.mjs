@@ -1,13 +1,11 @@
 // A job in a process of its own. All threads of a process share one lock of the engine's for Atomics.wait, so several
 // jobs in one process would stand in each other's way; and a process that agents hold or end isn't the recorder's.
 
-import { fork } from "node:child_process";
-import { fileURLToPath } from "node:url";
 import { Difference } from "../check/check.mjs";
 import { Refused } from "../options/refused.mjs";
 import { endGroup } from "../processes/group-end.mjs";
 import { NoSabsim } from "../simulator/native.mjs";
-import { jobWords } from "./node-words.mjs";
+import { startJob } from "./start-job.mjs";
 
 /** @typedef {import("./job.mjs").Checked} Checked */
 
@@ -34,9 +32,6 @@ import { jobWords } from "./node-words.mjs";
  * @property {string} [replayed] of a difference
  * @property {string} [judged] of a difference
  */
-
-const PROGRAM = fileURLToPath(new URL("../processes/own-process.mjs", import.meta.url));
-const MODULE = new URL("./job-process.mjs", import.meta.url).href;
 
 /** The process of a job has ended, by itself or by others. */
 export class LostJob extends Error {}
@@ -66,12 +61,11 @@ function unpacked({ kind = "", message, outcome, replayed = "", judged }) {
 }
 
 export class RemoteJob {
-  constructor() {
+  /** @param {import("node:child_process").ChildProcess} child its process */
+  constructor(child = startJob()) {
+    this.child = child;
     /** @type {(tried: import("../shorter/shorten.mjs").Tried) => void} */
     this.onTry = () => {};
-    const stdio = ["ignore", "inherit", "inherit", "ipc"];
-    const execArgv = jobWords(process.execArgv);
-    this.child = fork(PROGRAM, [MODULE], { stdio, execArgv, serialization: "advanced", detached: true, windowsHide: true });
     /** @type {((message: Message) => void) | undefined} what is done with messages while a request is under way */
     this.onMessage = undefined;
     /** @type {string | undefined} why its process is no more */

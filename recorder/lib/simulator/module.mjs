@@ -34,6 +34,20 @@ export class ModuleSimulator {
     return `module ${module.slice(0, DIGITS_SHOWN)}`;
   }
 
+  /** Compiles the module while nothing else is to be done. If that can't be, it is an error when it is asked. */
+  prepare() {
+    try {
+      this.#asked();
+    } catch {
+      // It is reported then.
+    }
+  }
+
+  #asked() {
+    this.#simulator ??= new Simulator(new WebAssembly.Module(readFileSync(this.file)));
+    return this.#simulator;
+  }
+
   /**
    * @param {Job} job
    * @param {string} input
@@ -41,8 +55,7 @@ export class ModuleSimulator {
    * @throws {Error} if the module stops in the middle, or can't be compiled
    */
   run(job, input) {
-    this.#simulator ??= new Simulator(new WebAssembly.Module(readFileSync(this.file)));
-    const { status, output, complaint } = this.#simulator.run(job, encoder.encode(input));
+    const { status, output, complaint } = this.#asked().run(job, encoder.encode(input));
     return { status, output: decoder.decode(output), complaint };
   }
 }

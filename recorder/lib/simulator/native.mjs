@@ -40,6 +40,9 @@ export class NativeSimulator {
     }
   }
 
+  /** The program needs no preparation. */
+  prepare() {}
+
   /**
    * @param {Job} job
    * @param {string} input

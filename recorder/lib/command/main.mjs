@@ -1,0 +1,74 @@
+// The command line, from its words to its status.
+
+import { statSync } from "node:fs";
+import { fileURLToPath } from "node:url";
+import { moduleUrl } from "../library/module-url.mjs";
+import { Refused } from "../options/refused.mjs";
+import { RemoteJob } from "../seeds/remote-job.mjs";
+import { endBy, Interrupted } from "./interruption.mjs";
+import { USAGE, optionsOf } from "./options.mjs";
+import { print } from "./print.mjs";
+import { toldOf } from "./problems.mjs";
+import { Replay } from "./replay.mjs";
+import { Session } from "./session.mjs";
+import { STATUS } from "./status.mjs";
+
+/** @param {string} module @returns {string} its URL */
+function existing(module) {
+  const url = moduleUrl(module);
+  try {
+    if (statSync(fileURLToPath(url)).isFile()) return url;
+  } catch {
+    // It is told of below.
+  }
+  throw new Refused(`there is no file ${module}`);
+}
+
+/** @param {unknown} problem */
+function complain(problem) {
+  process.stderr.write(`record: ${toldOf(problem)}\n`);
+}
+
+/**
+ * @param {string[]} words of the command line
+ * @param {RemoteJob} [job] the first one, if it has begun
+ * @returns {Promise<{ failed: boolean, problems: unknown[] }>}
+ */
+async function run(words, job) {
+  try {
+    const asked = optionsOf(words);
+    if (asked.help) {
+      await print(USAGE);
+      return { failed: false, problems: [] };
+    }
+    const module = existing(asked.module);
+    if (asked.replay === undefined) return await new Session(asked, module, job).run();
+    return await new Replay({ ...asked, module }, asked.replay).run();
+  } catch (problem) {
+    return { failed: false, problems: [problem] };
+  } finally {
+    await job?.close();
+  }
+}
+
+/** @type {(problem: unknown) => problem is Interrupted} */
+const isInterrupted = (problem) => problem instanceof Interrupted;
+
+/**
+ * @param {string[]} words of the command line
+ * @param {import("node:child_process").ChildProcess} [child] the process of the first job, if it has begun
+ * @returns {Promise<number>} the status
+ */
+export async function main(words, child) {
+  const job = child && new RemoteJob(child);
+  // Where nobody reads what went wrong, the status tells it.
+  process.stderr.on("error", () => {});
+  const { failed, problems } = await run(words, job);
+  const interrupted = problems.find(isInterrupted);
+  for (const problem of problems) {
+    if (!(problem instanceof Interrupted)) complain(problem);
+  }
+  if (interrupted !== undefined) await endBy(interrupted.by);
+  if (problems.length > 0) return problems[0] instanceof Refused ? STATUS.REFUSED : STATUS.NOT_DONE;
+  return failed ? STATUS.SOME_FAILED : STATUS.NONE_FAILED;
+}
