@@ -9,8 +9,9 @@ import { needsRightNames, planOf } from "../options/plan.mjs";
 import { Refused } from "../options/refused.mjs";
 import { defaultsOf } from "../options/table.mjs";
 import { ownModules } from "../processes/own-modules.mjs";
-import { Thread } from "../processes/thread.mjs";
+import { FIRST_THREADS, begunThread } from "../processes/thread.mjs";
 
+/** @typedef {import("../processes/thread.mjs").Thread} Thread */
 /** @typedef {"finished" | "deadlock" | "failed" | "check" | "race" | "bound"} Ending */
 
 /**
@@ -112,12 +113,11 @@ import { Thread } from "../processes/thread.mjs";
  */
 
 const DEFAULT_LOAD_SECONDS = 30;
-const WORKER = new URL("../processes/own-worker.mjs", import.meta.url);
 const AGENT_MODULE = new URL("../agent/worker.mjs", import.meta.url);
 const REFEREE_MODULE = new URL("./referee.mjs", import.meta.url);
 
-/** How many agents' workers are begun at once. Two agents need as many: two more of them load after the pilots. */
-const FIRST_WORKERS = 4;
+/** How many agents' workers begin at once: all first ones but that of the referee. */
+const FIRST_WORKERS = FIRST_THREADS - 1;
 
 /**
  * The answer of a promise, or that it took too long.
@@ -274,7 +274,7 @@ export class Group {
 
   /** Begins a worker. */
   #thread() {
-    const thread = new Thread(WORKER, {}, { ownPort: true });
+    const thread = begunThread();
     this.threads.add(thread);
     return thread;
   }
