@@ -30,11 +30,16 @@ class Trial:
         self.proved = set()
 
     def make_batches(self):
-        """Returns the edits to try together each time. Those in place go with the first twins, as far as they can."""
-        twins = [edit for edit in self.edits if edit.way == IN_A_TWIN]
-        first, placed = twins[:MOST_TOGETHER], [edit for edit in self.edits if edit.way == IN_PLACE]
-        batches = [first + apart(placed, first, self.calls)]
-        return batches + [twins[at : at + MOST_TOGETHER] for at in range(MOST_TOGETHER, len(twins), MOST_TOGETHER)]
+        """Returns the edits to try together each time. Those in place go with the first twins, as far as they can, and
+        else with each other."""
+        twins, placed = ([edit for edit in self.edits if edit.way == way] for way in (IN_A_TWIN, IN_PLACE))
+        batches = [twins[at : at + MOST_TOGETHER] for at in range(0, len(twins), MOST_TOGETHER)] or [[]]
+        batches[0] += apart(placed, batches[0], self.calls)
+        left = [edit for edit in placed if edit not in batches[0]]
+        while left:
+            batches.append(apart(left, [], self.calls))
+            left = [edit for edit in left if edit not in batches[-1]]
+        return batches
 
     def results(self):
         """Tries all edits, and yields each one's name with its result."""
@@ -50,35 +55,50 @@ class Trial:
                     yield edit.name, self.try_alone(edit, kept)
 
     def try_batch(self, batch, kept):
-        """Tries edits together. Returns the results of those that are refused so; if a check decides nothing, each
-        half of them is tried."""
-        found, why = self.check_together(tried_of(self.crate, batch), kept) if batch else ({}, "")
+        """Tries edits together. Returns the results of those that are refused so. If a check decides nothing, it tries
+        the batch without the edits that can't be read, or each half of it."""
+        found, why, unread = self.check_together(batch, kept) if batch else ({}, "", ())
         if not why:
             return found
         self.report(f"{self.crate.name}: {len(batch)} edits together tell nothing: {why[:300]}")
-        half = len(batch) // 2
-        return {**self.try_batch(batch[:half], kept), **self.try_batch(batch[half:], kept)} if half else {}
+        half, rest = len(batch) // 2, [edit for edit in batch if edit not in unread]
+        parts = [rest] if len(rest) < len(batch) else [batch[:half], batch[half:]] if half else []
+        return {name: result for part in parts for name, result in self.try_batch(part, kept).items()}
 
-    def check_together(self, tried, kept):
-        """Checks functions with edits. Returns the results of the edits that are refused, and why it decides nothing,
-        or nothing."""
-        twins = [it for it in tried if isinstance(it, Twin)]
+    def check_together(self, batch, kept):
+        """Checks functions with edits. Returns the results of the edits that are refused, why it decides nothing, or
+        nothing, and the edits that can't be read."""
+        tried = tried_of(self.crate, batch, self.calls)
         with tempfile.TemporaryDirectory(prefix="sabsim-twins-") as room:
-            write_with(self.crate, tried, room)
-            try:
-                functions = functions_of(self.crate.name, room)
-            except Unreadable:
-                return {}, "the text can't be read"
-            if sorted(it.name for it in functions) != sorted(it.name for it in [*self.functions, *twins]):
-                return {}, "the text has other functions than it should"
+            functions = self.functions_with(tried, room)
+            if not functions:
+                return {}, "the text can't be read", [edit for edit in batch if not self.is_readable(edit)]
             only = [word for it in tried for word in ("--only", it.name.partition("::")[2])]
             ran = run_check(self.crate, room, [*self.flags, *only], kept)
             sources = {file: rtlib.text_of(f"{room}/{file}") for file in source_files(room)}
-            reading = Reading(ran.returncode, ran.stdout)
-            why = reading.why_no_verdict()
-        judge = None if why else Judge(reading, tried, functions, sources)
-        why = why or judge.why_spoiled()
-        return ({}, why) if why else (self.results_of(judge, tried), "")
+        reading = Reading(ran.returncode, ran.stdout)
+        judge, why = Judge(reading, tried, functions, sources), reading.why_no_verdict()
+        if why:
+            return {}, why, judge.unread_edits()
+        why = judge.why_spoiled()
+        return ({}, why, ()) if why else (self.results_of(judge, tried), "", ())
+
+    def functions_with(self, tried, room):
+        """Writes the crate with what is tried into a folder. Returns its functions; none, if it can't be read or has
+        others than it should."""
+        write_with(self.crate, tried, room)
+        try:
+            functions = functions_of(self.crate.name, room)
+        except Unreadable:
+            return []
+        twins = [it for it in tried if isinstance(it, Twin)]
+        names = sorted(it.name for it in [*self.functions, *twins])
+        return functions if sorted(it.name for it in functions) == names else []
+
+    def is_readable(self, edit):
+        """Returns whether the crate with this edit alone can be read, and has the functions that it should."""
+        with tempfile.TemporaryDirectory(prefix="sabsim-twins-") as room:
+            return bool(self.functions_with(tried_of(self.crate, [edit], self.calls), room))
 
     def results_of(self, judge, tried):
         """Returns the results of the edits that are refused: one is refused if a function is with it."""
