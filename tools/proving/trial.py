@@ -115,10 +115,10 @@ class Trial:
         return found
 
     def try_alone(self, edit, kept):
-        """Tries an edit as rt does: over what is kept, and from nothing if it isn't refused so."""
+        """Tries an edit as rt does: over what is kept, and from nothing if it is read and isn't refused so."""
         if edit.name not in self.proved:
             result = result_of(rt.must_fail(self.crate, edit.file, self.flags, kept))
-            if result.kind in (REFUSED, LOSES_A_NAME):
+            if result.kind in (REFUSED, LOSES_A_NAME) or result.said.startswith(BAD):
                 return result
         return result_of(rt.must_fail(self.crate, edit.file, self.flags))
 
