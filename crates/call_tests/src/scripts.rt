@@ -1,5 +1,15 @@
 //! Scripts, and the reports that are expected of them.
 
+mod changed_bytes;
+mod devices;
+mod faults;
+mod flushing;
+mod keeping;
+mod limits;
+mod racing;
+mod reading;
+mod reports;
+
 use sab_sim::{Report, replay};
 use sab_tool::{Setup, read_setup, replay_bytes};
 use serde_json::Value;
