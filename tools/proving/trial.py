@@ -7,7 +7,7 @@ from .edits import Edit
 from .functions import IN_A_TWIN, IN_PLACE, Unreadable, calls_of, functions_of, source_files
 from .kit import rt, rtlib
 from .modules import unpack_modules
-from .twins import Twin, apart, tried_of, write_with
+from .twins import Twin, apart, placed_of, tried_of, wants_copy, write_with
 from .verdicts import Judge, Reading
 
 # The results that a try can have.
@@ -16,6 +16,8 @@ REFUSED, LOSES_A_NAME, NOT_REFUSED, BAD = "refused", "loses a name", "NOT REFUSE
 Result = namedtuple("Result", "kind said is_alone")
 # So many edits are tried together at most: each has a twin, which a check holds in memory.
 MOST_TOGETHER = 64
+# So many edits in place are worth a check of their own. Else each would want a copy of its function, which is proved.
+WORTH_A_CHECK = 5
 
 
 class Trial:
@@ -39,7 +41,19 @@ class Trial:
         while left:
             batches.append(apart(left, [], self.calls))
             left = [edit for edit in left if edit not in batches[-1]]
+        for chosen in iter(lambda: self.better_placed(batches[0]), []):
+            batches[0] = [edit for edit in batches[0] if edit not in chosen]
+            batches.append(chosen)
         return batches
+
+    def better_placed(self, batch):
+        """Returns edits of a batch that are better made in place, with each other: each is the only one of its
+        functions, and wants a copy beside its twin. None, if they are too few for a check of their own."""
+        functions, placed = [it for edit in batch for it in edit.changes], placed_of(self.crate, batch, self.calls)
+        is_only = lambda edit: all(functions.count(it) == 1 for it in edit.changes)
+        lone = [edit for edit in batch if edit not in placed and is_only(edit) and wants_copy(self.crate, edit)]
+        chosen = apart(lone, [], self.calls)
+        return chosen if len(chosen) >= WORTH_A_CHECK else []
 
     def results(self):
         """Tries all edits, and yields each one's name with its result."""

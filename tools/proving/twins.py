@@ -92,8 +92,13 @@ def placed_of(crate, edits, calls):
     functions = [function for edit in edits for function in edit.changes]
     reached = set().union(*(reached_by(function.name, calls) for function in functions))
     is_free = lambda it: functions.count(it) == 1 and it.name not in reached
-    wants_copy = lambda edit: any(has_proof_files(crate, it) for it in edit.changes)
-    return [edit for edit in edits if edit.way == IN_PLACE or wants_copy(edit) and all(map(is_free, edit.changes))]
+    may_be = lambda edit: wants_copy(crate, edit) and all(map(is_free, edit.changes))
+    return [edit for edit in edits if edit.way == IN_PLACE or may_be(edit)]
+
+
+def wants_copy(crate, edit):
+    """Returns whether a twin for an edit wants a copy beside it: if a function that it changes has proof files."""
+    return any(has_proof_files(crate, it) for it in edit.changes)
 
 
 def apart(edits, twins, calls):
