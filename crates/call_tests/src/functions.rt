@@ -2,32 +2,28 @@
 
 use crate::expecting::expect;
 use crate::run::{compare_exchange, load, notify, number, rmw, store, wait};
-use sab_block::{Access, RmwOp};
+use sab_block::RmwOp;
 use sab_sim::Call;
 use std::test::Fail;
 
-/// Fails, and says which function was expected, if a call of an access is of another one.
-fn expect_of(access: Access, function: &'static str) -> Result<(), Fail> {
-    let call = Call::Access { view: 0, access };
-    expect(call.function() == function, function)
-}
-
-/// The same of an access that reads, modifies and writes.
-fn expect_of_each(op: RmwOp, function: &'static str) -> Result<(), Fail> {
-    expect_of(rmw(op, 0, number(1)), function)
-}
-
 #[test]
 fn a_call_names_its_function(rt: HostRuntime) -> Result<(), Fail> {
-    expect_of(load(0), "load")?;
-    expect_of(store(0, number(1)), "store")?;
-    expect_of_each(RmwOp::Exchange, "exchange")?;
-    expect_of_each(RmwOp::Add, "add")?;
-    expect_of_each(RmwOp::Sub, "sub")?;
-    expect_of_each(RmwOp::And, "and")?;
-    expect_of_each(RmwOp::Or, "or")?;
-    expect_of_each(RmwOp::Xor, "xor")?;
-    expect_of(compare_exchange(0, number(1), number(1)), "compareExchange")?;
+    let one = number(1);
+    let accesses = [
+        (load(0), "load"),
+        (store(0, one), "store"),
+        (rmw(RmwOp::Exchange, 0, one), "exchange"),
+        (rmw(RmwOp::Add, 0, one), "add"),
+        (rmw(RmwOp::Sub, 0, one), "sub"),
+        (rmw(RmwOp::And, 0, one), "and"),
+        (rmw(RmwOp::Or, 0, one), "or"),
+        (rmw(RmwOp::Xor, 0, one), "xor"),
+        (compare_exchange(0, one, one), "compareExchange"),
+    ];
+    for (access, function) in accesses {
+        let call = Call::Access { view: 0, access };
+        expect(call.function() == function, function)?;
+    }
     expect(wait(0, 0, None).function() == "wait", "wait")?;
     expect(notify(0, 0, None).function() == "notify", "notify")
 }

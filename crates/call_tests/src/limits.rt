@@ -107,9 +107,9 @@ fn each_kind_of_move_is_made_wherever_the_room_ends(rt: HostRuntime) -> Result<(
     Ok(())
 }
 
-/// Whether a replay of an agent that has no calls is refused so.
-fn is_refused(alloc: Global, schedule: &[Move], fault: SimFault) -> Result<bool, Fail> {
-    Ok(replay(alloc, idle(alloc)?, schedule).err() == Some(fault))
+/// Why a replay of an agent that has no calls is refused.
+fn refusal_of(alloc: Global, schedule: &[Move]) -> Result<Option<SimFault>, Fail> {
+    Ok(replay(alloc, idle(alloc)?, schedule).err())
 }
 
 /// Whether a replay of an agent that has no calls makes each move of a schedule.
@@ -125,23 +125,24 @@ fn steps_and(alloc: Global, steps: usize, last: Move) -> Result<Vec<Move>, Alloc
     Ok(schedule)
 }
 
-/// Whether a replay of more steps than a journal has entries, and of this move then, is refused so.
-fn is_refused_at_last(alloc: Global, last: Move, fault: SimFault) -> Result<bool, Fail> {
-    is_refused(alloc, &steps_and(alloc, MOST, last)?, fault)
-}
-
 #[test]
 fn a_replay_makes_as_many_moves_as_a_journal_has_entries(rt: HostRuntime) -> Result<(), Fail> {
     let alloc = rt.alloc();
     let made = is_made(alloc, &steps_and(alloc, MOST - 1, Step(0))?)?;
     expect(made, "a replay that isn't made")?;
-    let is_full = is_refused_at_last(alloc, Step(0), SimFault::Full)?;
-    expect(is_full, "the journal isn't full")?;
-    let has_no_agent = is_refused_at_last(alloc, Step(1), SimFault::NoAgent)?;
-    expect(has_no_agent, "another refusal")?;
-    let early = [Step(0), Step(1), Step(0)];
-    let has_no_agent = is_refused(alloc, &early, SimFault::NoAgent)?;
-    expect(has_no_agent, "an early agent that isn't there")
+    let table = [
+        (MOST, Step(0), SimFault::Full),
+        (MOST, Step(1), SimFault::NoAgent),
+    ];
+    for (steps, last, fault) in table {
+        let refusal = refusal_of(alloc, &steps_and(alloc, steps, last)?)?;
+        expect(refusal == Some(fault), "another refusal")?;
+    }
+    let early = refusal_of(alloc, &[Step(0), Step(1), Step(0)])?;
+    expect(
+        early == Some(SimFault::NoAgent),
+        "an early agent that isn't there",
+    )
 }
 
 /// Whether a simulator refuses a move of another agent than its one, and goes on as if that move hadn't been.
@@ -266,14 +267,10 @@ fn marks(mut sim: Sim) -> bool {
     is_stepped && report.blocks.len() == 4 && report.blocks.iter().all(|block| is_marked(block))
 }
 
-/// Whether a simulator has a plan, and marks its four blocks.
-fn is_kept(alloc: Global, made: &Plan) -> Result<bool, AllocError> {
-    let sim = Sim::new(alloc, made.copy(alloc)?)?;
-    Ok(sim.plan() == made && marks(sim))
-}
-
 #[test]
 fn four_blocks_of_the_greatest_length_are_kept(rt: HostRuntime) -> Result<(), Fail> {
     let made = longest(rt.alloc())?;
-    expect(is_kept(rt.alloc(), &made)?, "another plan or other bytes")
+    let sim = Sim::new(rt.alloc(), made.copy(rt.alloc())?)?;
+    let is_kept = *sim.plan() == made;
+    expect(is_kept && marks(sim), "another plan or other bytes")
 }

@@ -97,14 +97,9 @@ fn is_full(plan: &Plan) -> bool {
     calls.eq([1_000; 16]) && plan.views().len() == 64
 }
 
-/// A plan of 64 views and 16 agents of 1,000 calls.
-fn full(alloc: Global) -> Result<Plan, Fail> {
-    Ok(sized(alloc, 64, 16, 1_000)?.ok().ok_or("no plan")?)
-}
-
 /// Whether a plan and its copy are equal, and another plan differs.
-fn is_copied(alloc: Global, plan: Plan, other: Plan) -> Result<bool, AllocError> {
-    Ok(plan.copy(alloc)? == plan && plan != other)
+fn is_copied(alloc: Global, plan: &Plan, other: &Plan) -> Result<bool, AllocError> {
+    Ok(plan.copy(alloc)? == *plan && plan != other)
 }
 
 /// A plan of a block of no bytes, and of these agents.
@@ -112,26 +107,16 @@ fn of_nothing(alloc: Global, agents: &[(bool, &[Call])]) -> Result<Plan, Fail> {
     plan(alloc, &[0], &[], agents)
 }
 
-/// A plan of a block of no bytes, and of an agent that has no calls.
-fn idle(alloc: Global) -> Result<Plan, Fail> {
-    of_nothing(alloc, &[(true, &[])])
-}
-
-/// Whether the copy of a plan at its limits is as large.
-fn is_full_copied(alloc: Global) -> Result<bool, Fail> {
-    Ok(is_full(&full(alloc)?.copy(alloc)?))
-}
-
 #[test]
 fn a_plan_at_its_limits_and_one_of_nothing_are_copied(rt: HostRuntime) -> Result<(), Fail> {
     let alloc = rt.alloc();
-    expect(is_full_copied(alloc)?, "another size")?;
-    let is_empty_copied = is_copied(alloc, of_nothing(alloc, &[])?, full(alloc)?)?;
-    expect(is_empty_copied, "another copy of nothing")?;
-    let is_full_copied = is_copied(alloc, full(alloc)?, idle(alloc)?)?;
-    expect(is_full_copied, "another copy of a plan at its limits")?;
-    let is_idle_copied = is_copied(alloc, idle(alloc)?, of_nothing(alloc, &[])?)?;
-    expect(is_idle_copied, "another copy of an agent without calls")
+    let full = sized(alloc, 64, 16, 1_000)?.ok().ok_or("no plan")?;
+    expect(is_full(&full.copy(alloc)?), "another size")?;
+    let empty = of_nothing(alloc, &[])?;
+    let is_empty_copied = is_copied(alloc, &empty, &full)?;
+    let idle = of_nothing(alloc, &[(true, &[])])?;
+    let are_copied = is_copied(alloc, &full, &idle)? && is_copied(alloc, &idle, &empty)?;
+    expect(is_empty_copied && are_copied, "another copy")
 }
 
 /// Whether a plan has these parts, and of its two agents the first can block.
@@ -152,26 +137,17 @@ fn is_script_copied(alloc: Global, plan: &Plan) -> Result<bool, AllocError> {
     }
 }
 
-/// Whether the copy of a plan, and of its first script, is as the plan was made.
-fn is_copied_with(
-    alloc: Global,
-    made: &Plan,
-    views: &[PlanView],
-    calls: &[Call],
-) -> Result<bool, AllocError> {
-    let copy = made.copy(alloc)?;
-    Ok(copy == *made && has_parts(&copy, &[4], views, calls) && is_script_copied(alloc, made)?)
-}
-
 #[test]
 fn a_plan_and_its_copy_have_its_parts(rt: HostRuntime) -> Result<(), Fail> {
     let alloc = rt.alloc();
     let views = [whole(Kind::Int32, 0, 4)?];
     let calls = [wait(0, 0, None), notify(0, 0, Some(1))];
     let made = plan(alloc, &[4], &views, &[(true, &calls), (false, &calls)])?;
-    let is_made = has_parts(&made, &[4], &views, &calls);
-    let is_copied = is_copied_with(alloc, &made, &views, &calls)?;
-    expect(is_made && is_copied, "other parts")
+    let copy = made.copy(alloc)?;
+    let have_parts = has_parts(&made, &[4], &views, &calls)
+        && has_parts(&copy, &[4], &views, &calls);
+    let is_copied = copy == made && is_script_copied(alloc, &made)?;
+    expect(have_parts && is_copied, "other parts")
 }
 
 /// Whether a plan of a word at which its agent waits differs from the plan of these parts.
@@ -186,24 +162,22 @@ fn differs(
     Ok(other != *plan_of_a_wait && *plan_of_a_wait != other)
 }
 
-/// Whether it differs from the plans of which one part is another one: a block more, another kind, an agent that can't
-/// block, and no calls.
-fn differs_from_each(alloc: Global, plan_of_a_wait: &Plan, calls: &[Call]) -> Result<bool, Fail> {
-    Ok(
-        differs(alloc, plan_of_a_wait, &[4, 4], Kind::Int32, (true, calls))?
-            && differs(alloc, plan_of_a_wait, &[4], Kind::Uint8, (true, calls))?
-            && differs(alloc, plan_of_a_wait, &[4], Kind::Int32, (false, calls))?
-            && differs(alloc, plan_of_a_wait, &[4], Kind::Int32, (true, &[]))?,
-    )
-}
-
 #[test]
 fn plans_of_other_parts_differ(rt: HostRuntime) -> Result<(), Fail> {
     let views = [whole(Kind::Int32, 0, 4)?];
     let calls = [wait(0, 0, None)];
     let made = plan(rt.alloc(), &[4], &views, &[(true, &calls)])?;
-    let is_other = differs_from_each(rt.alloc(), &made, &calls)?;
-    expect(is_other, "another plan is the same")
+    let others: [(&[u32], Kind, (bool, &[Call])); 4] = [
+        (&[4, 4], Kind::Int32, (true, &calls)),
+        (&[4], Kind::Uint8, (true, &calls)),
+        (&[4], Kind::Int32, (false, &calls)),
+        (&[4], Kind::Int32, (true, &[])),
+    ];
+    for (lens, kind, agent) in others {
+        let is_other = differs(rt.alloc(), &made, lens, kind, agent)?;
+        expect(is_other, "another plan is the same")?;
+    }
+    Ok(())
 }
 
 const PLAN_FAULTS: [(PlanFault, &str); 3] = [

@@ -48,24 +48,6 @@ fn has_added(report: &Report, counts: &[u32]) -> bool {
         })
 }
 
-/// The report of a race of agents that add so often.
-fn raced<R: Threads + Wait + Sync, H: Hold + 'static>(
-    rt: &R,
-    alloc: Global,
-    way: Way,
-    counts: &[u32],
-    watch: &Arc<Watch<H>>,
-) -> Result<Report, Fail> {
-    let plan = adders(alloc, counts)?;
-    Ok(way.race(rt, alloc, plan, 0, Arc::try_clone(watch)?)?)
-}
-
-/// Whether a gate was told of each move of such a race.
-fn saw_each<H: Hold>(alloc: Global, watch: &Watch<H>, counts: &[u32]) -> Result<bool, Fail> {
-    let moves = moves_of(alloc, counts)?;
-    Ok(watch.saw(&moves))
-}
-
 /// Races agents that add so often, and gives the report, and the gate.
 ///
 /// It fails where an addition is lost, where the gate isn't told of each move once before it and once after it, where a call
@@ -78,12 +60,11 @@ pub fn race_watched<R: Threads + Wait + Sync, H: Hold + 'static>(
     hold: H,
 ) -> Result<(Report, Arc<Watch<H>>), Fail> {
     let watch = Arc::new(alloc, Watch::new(hold))?;
-    let report = raced(rt, alloc, way, counts, &watch)?;
+    let plan = adders(alloc, counts)?;
+    let report = way.race(rt, alloc, plan, 0, Arc::try_clone(&watch)?)?;
     expect(has_added(&report, counts), "another sum")?;
-    expect(
-        saw_each(alloc, &watch, counts)?,
-        "a move that the gate wasn't told of",
-    )?;
+    let moves = moves_of(alloc, counts)?;
+    expect(watch.saw(&moves), "a move that the gate wasn't told of")?;
     Ok((report, watch))
 }
 
