@@ -102,6 +102,8 @@ class Reader:
             if self.text(at) in QUALIFIERS and self.leads_to_item(at):
                 at += 1
                 at = self.closing[at] + 1 if self.text(at) == "(" else at
+                # The literal behind `extern`.
+                at += at < end and not self.text(at)
                 continue
             at = self.read_item(begin, at, path, ALONE if is_in_cycle else way)
             begin, is_in_cycle = None, False

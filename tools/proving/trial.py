@@ -7,7 +7,7 @@ from .edits import Edit
 from .functions import IN_A_TWIN, IN_PLACE, Unreadable, calls_of, functions_of, source_files
 from .kit import rt, rtlib
 from .modules import unpack_modules
-from .twins import Twin, apart, tried_of, write_with
+from .twins import Twin, apart, placed_of, tried_of, wants_copy, write_with
 from .verdicts import Judge, Reading
 
 # The results that a try can have.
@@ -16,6 +16,8 @@ REFUSED, LOSES_A_NAME, NOT_REFUSED, BAD = "refused", "loses a name", "NOT REFUSE
 Result = namedtuple("Result", "kind said is_alone")
 # So many edits are tried together at most: each has a twin, which a check holds in memory.
 MOST_TOGETHER = 64
+# So many edits in place are worth a check of their own. Else each would want a copy of its function, which is proved.
+WORTH_A_CHECK = 5
 
 
 class Trial:
@@ -30,11 +32,28 @@ class Trial:
         self.proved = set()
 
     def make_batches(self):
-        """Returns the edits to try together each time. Those in place go with the first twins, as far as they can."""
-        twins = [edit for edit in self.edits if edit.way == IN_A_TWIN]
-        first, placed = twins[:MOST_TOGETHER], [edit for edit in self.edits if edit.way == IN_PLACE]
-        batches = [first + apart(placed, first, self.calls)]
-        return batches + [twins[at : at + MOST_TOGETHER] for at in range(MOST_TOGETHER, len(twins), MOST_TOGETHER)]
+        """Returns the edits to try together each time. Those in place go with the first twins, as far as they can, and
+        else with each other."""
+        twins, placed = ([edit for edit in self.edits if edit.way == way] for way in (IN_A_TWIN, IN_PLACE))
+        batches = [twins[at : at + MOST_TOGETHER] for at in range(0, len(twins), MOST_TOGETHER)] or [[]]
+        batches[0] += apart(placed, batches[0], self.calls)
+        left = [edit for edit in placed if edit not in batches[0]]
+        while left:
+            batches.append(apart(left, [], self.calls))
+            left = [edit for edit in left if edit not in batches[-1]]
+        for chosen in iter(lambda: self.better_placed(batches[0]), []):
+            batches[0] = [edit for edit in batches[0] if edit not in chosen]
+            batches.append(chosen)
+        return batches
+
+    def better_placed(self, batch):
+        """Returns edits of a batch that are better made in place, with each other: each is the only one of its
+        functions, and wants a copy beside its twin. None, if they are too few for a check of their own."""
+        functions, placed = [it for edit in batch for it in edit.changes], placed_of(self.crate, batch, self.calls)
+        is_only = lambda edit: all(functions.count(it) == 1 for it in edit.changes)
+        lone = [edit for edit in batch if edit not in placed and is_only(edit) and wants_copy(self.crate, edit)]
+        chosen = apart(lone, [], self.calls)
+        return chosen if len(chosen) >= WORTH_A_CHECK else []
 
     def results(self):
         """Tries all edits, and yields each one's name with its result."""
@@ -50,35 +69,50 @@ class Trial:
                     yield edit.name, self.try_alone(edit, kept)
 
     def try_batch(self, batch, kept):
-        """Tries edits together. Returns the results of those that are refused so; if a check decides nothing, each
-        half of them is tried."""
-        found, why = self.check_together(tried_of(self.crate, batch), kept) if batch else ({}, "")
+        """Tries edits together. Returns the results of those that are refused so. If a check decides nothing, it tries
+        the batch without the edits that can't be read, or each half of it."""
+        found, why, unread = self.check_together(batch, kept) if batch else ({}, "", ())
         if not why:
             return found
         self.report(f"{self.crate.name}: {len(batch)} edits together tell nothing: {why[:300]}")
-        half = len(batch) // 2
-        return {**self.try_batch(batch[:half], kept), **self.try_batch(batch[half:], kept)} if half else {}
+        half, rest = len(batch) // 2, [edit for edit in batch if edit not in unread]
+        parts = [rest] if len(rest) < len(batch) else [batch[:half], batch[half:]] if half else []
+        return {name: result for part in parts for name, result in self.try_batch(part, kept).items()}
 
-    def check_together(self, tried, kept):
-        """Checks functions with edits. Returns the results of the edits that are refused, and why it decides nothing,
-        or nothing."""
-        twins = [it for it in tried if isinstance(it, Twin)]
+    def check_together(self, batch, kept):
+        """Checks functions with edits. Returns the results of the edits that are refused, why it decides nothing, or
+        nothing, and the edits that can't be read."""
+        tried = tried_of(self.crate, batch, self.calls)
         with tempfile.TemporaryDirectory(prefix="sabsim-twins-") as room:
-            write_with(self.crate, tried, room)
-            try:
-                functions = functions_of(self.crate.name, room)
-            except Unreadable:
-                return {}, "the text can't be read"
-            if sorted(it.name for it in functions) != sorted(it.name for it in [*self.functions, *twins]):
-                return {}, "the text has other functions than it should"
+            functions = self.functions_with(tried, room)
+            if not functions:
+                return {}, "the text can't be read", [edit for edit in batch if not self.is_readable(edit)]
             only = [word for it in tried for word in ("--only", it.name.partition("::")[2])]
             ran = run_check(self.crate, room, [*self.flags, *only], kept)
             sources = {file: rtlib.text_of(f"{room}/{file}") for file in source_files(room)}
-            reading = Reading(ran.returncode, ran.stdout)
-            why = reading.why_no_verdict()
-        judge = None if why else Judge(reading, tried, functions, sources)
-        why = why or judge.why_spoiled()
-        return ({}, why) if why else (self.results_of(judge, tried), "")
+        reading = Reading(ran.returncode, ran.stdout)
+        judge, why = Judge(reading, tried, functions, sources), reading.why_no_verdict()
+        if why:
+            return {}, why, judge.unread_edits()
+        why = judge.why_spoiled()
+        return ({}, why, ()) if why else (self.results_of(judge, tried), "", ())
+
+    def functions_with(self, tried, room):
+        """Writes the crate with what is tried into a folder. Returns its functions; none, if it can't be read or has
+        others than it should."""
+        write_with(self.crate, tried, room)
+        try:
+            functions = functions_of(self.crate.name, room)
+        except Unreadable:
+            return []
+        twins = [it for it in tried if isinstance(it, Twin)]
+        names = sorted(it.name for it in [*self.functions, *twins])
+        return functions if sorted(it.name for it in functions) == names else []
+
+    def is_readable(self, edit):
+        """Returns whether the crate with this edit alone can be read, and has the functions that it should."""
+        with tempfile.TemporaryDirectory(prefix="sabsim-twins-") as room:
+            return bool(self.functions_with(tried_of(self.crate, [edit], self.calls), room))
 
     def results_of(self, judge, tried):
         """Returns the results of the edits that are refused: one is refused if a function is with it."""
@@ -95,10 +129,10 @@ class Trial:
         return found
 
     def try_alone(self, edit, kept):
-        """Tries an edit as rt does: over what is kept, and from nothing if it isn't refused so."""
+        """Tries an edit as rt does: over what is kept, and from nothing if it is read and isn't refused so."""
         if edit.name not in self.proved:
             result = result_of(rt.must_fail(self.crate, edit.file, self.flags, kept))
-            if result.kind in (REFUSED, LOSES_A_NAME):
+            if result.kind in (REFUSED, LOSES_A_NAME) or result.said.startswith(BAD):
                 return result
         return result_of(rt.must_fail(self.crate, edit.file, self.flags))
 

@@ -5,7 +5,8 @@ the function, with its own copy of the function's proof files. Nothing calls a t
 are. So no edit can hide another one, and what a twin rests on is the crate as it is.
 
 A method of a trait's impl has no room for a twin, and is edited in place, if neither a twin nor another function that is
-edited in place reaches it by calls. Then too, all that each one rests on is the crate as it is.
+edited in place reaches it by calls. Then too, all that each one rests on is the crate as it is. So is a function with one
+edit and proof files of its own: in place it needs no copy of these, and no twin that shows that copies serve.
 """
 import os
 import re
@@ -74,13 +75,30 @@ def has_proof_files(crate, function):
     return os.path.isdir(f"{crate.folder}/{proof_folder(function.name)}")
 
 
-def tried_of(crate, edits):
+def tried_of(crate, edits, calls):
     """Returns what tries edits together: twins, one with no edit for each function that has proof files of its own, which
     shows by its proof that copies of these files serve; and functions edited in place."""
-    pairs = [(function, edit) for edit in edits if edit.way == IN_A_TWIN for function in edit.changes]
+    placed = placed_of(crate, edits, calls)
+    pairs = [(function, edit) for edit in edits if edit not in placed for function in edit.changes]
     pairs += [(function, None) for function in dict.fromkeys(it for it, _ in pairs) if has_proof_files(crate, function)]
     twins = [Twin(function, edit, number) for number, (function, edit) in enumerate(pairs)]
-    return twins + [InPlace(function, edit) for edit in edits if edit.way == IN_PLACE for function in edit.changes]
+    return twins + [InPlace(function, edit) for edit in placed for function in edit.changes]
+
+
+def placed_of(crate, edits, calls):
+    """Returns those of some edits to make in place: those that can have no twin, and those whose twin wants a copy of
+    the function as it is beside it, if no other edit changes the function, and nothing that is tried reaches it by
+    calls."""
+    functions = [function for edit in edits for function in edit.changes]
+    reached = set().union(*(reached_by(function.name, calls) for function in functions))
+    is_free = lambda it: functions.count(it) == 1 and it.name not in reached
+    may_be = lambda edit: wants_copy(crate, edit) and all(map(is_free, edit.changes))
+    return [edit for edit in edits if edit.way == IN_PLACE or may_be(edit)]
+
+
+def wants_copy(crate, edit):
+    """Returns whether a twin for an edit wants a copy beside it: if a function that it changes has proof files."""
+    return any(has_proof_files(crate, it) for it in edit.changes)
 
 
 def apart(edits, twins, calls):

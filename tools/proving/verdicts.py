@@ -7,6 +7,8 @@ from .twins import proof_folder
 # A line about an item, and a line about a place in a file.
 ITEM = re.compile(r"(?:fn|struct|enum|impl|trait|closure|union|type|const|static|mod) (\S+): (.*)")
 PLACE = re.compile(r"(?:(note|warning|help): )?(?:\./)?((?:src|specs|proofs)/\S+?):(\d+):\d+: (.*)")
+# A line about a place that the front end refuses. No proof is tried then.
+FRONT_END = re.compile(r"(?:\./)?(src/\S+?):(\d+):\d+: error\[")
 # What says that a proof file names what went, and not that a goal is false.
 NAME_IS_GONE = re.compile(r"has no field|is not in scope|has no `|is no name|was not admitted")
 # What a line says of an item that isn't proved since another one isn't, or that wasn't tried.
@@ -25,6 +27,10 @@ class Reading:
                 self.items.setdefault(item[1], item[2])
             elif place and self.is_refusal(place[1], place[2], place[4]):
                 self.places.append((place[2], int(place[3]), line))
+
+    def unread_places(self):
+        """Returns the places that the front end refuses, each as a file and a line."""
+        return [(at[1], int(at[2])) for at in map(FRONT_END.match, self.lines) if at]
 
     @staticmethod
     def is_refusal(kind, file, said):
@@ -48,6 +54,12 @@ class Judge:
         self.reading, self.tried = reading, tried
         place = {function.name: function for function in functions}
         self.lines = {it: lines_of(place[it.name], sources) for it in tried}
+
+    def unread_edits(self):
+        """Returns the edits in whose functions the front end refuses a place."""
+        places = self.reading.unread_places()
+        is_in = lambda it, file, line: file == it.function.file and self.lines[it][0] <= line <= self.lines[it][1]
+        return {it.edit for it in self.tried if it.edit and any(is_in(it, *place) for place in places)}
 
     def is_about(self, it, name):
         """Returns whether an item is a function that is tried, or is inside it, as a closure is."""

@@ -5,11 +5,8 @@ use crate::racing::adders::race_adders;
 use crate::racing::turning::turn_until;
 use crate::racing::watching::{Hold, Watch};
 use crate::racing::way::Way;
-use crate::run::{Run, acted, began, load, number, plan, returned, store};
-use sab_block::{Access, Kind, View};
-use sab_sim::Answer::Value;
+use crate::scripts::{is_report, setup_of};
 use sab_sim::Move::{self, Step};
-use sab_sim::{Call, Entry, PlanView};
 use std::alloc::{AllocError, Global};
 use std::sync::atomic::{AtomicU32, Ordering};
 use std::sync::{Arc, Wait};
@@ -71,92 +68,91 @@ impl Hold for Order {
 }
 
 /// The order of these moves.
-fn order_of_moves(alloc: Global, moves: &[(Move, Entry)]) -> Result<Order, AllocError> {
+fn order_of_moves(alloc: Global, moves: &[Move]) -> Result<Order, AllocError> {
     let mut agents = Vec::new(alloc);
-    for (m, _) in moves {
+    for m in moves {
         agents.push(m.agent())?;
     }
     Ok(Order::new(agents))
 }
 
-/// Agent 0 stores 5 and loads and agent 1 loads, in the order of these moves, and this is what they do.
-fn check<R: Threads + Wait + Sync>(
-    rt: &R,
-    alloc: Global,
-    moves: &[(Move, Entry)],
-) -> Result<(), Fail> {
-    let view = View::new(Kind::Int32, 4, 0, Some(1))?;
-    let load = access(load(0));
-    let store = access(store(0, number(5)));
-    let run = Run {
-        lens: &[4],
-        views: &[PlanView { block: 0, view }],
-        agents: &[(false, &[store, load]), (false, &[load])],
-        moves,
-        blocks: &[&[5, 0, 0, 0]],
-        progress: &[(2, 2), (1, 1)],
-    };
-    for way in Way::FORCIBLE {
-        expect(is_raced(rt, alloc, way, &run)?, "another report")?;
-    }
-    Ok(())
-}
-
-/// Whether the race of a run with six and three moves is the run, where the order of its moves is forced on it.
+/// Whether the race of a script with six and three moves has this report, where the order of its schedule is forced on it.
 fn is_raced<R: Threads + Wait + Sync>(
     rt: &R,
     alloc: Global,
     way: Way,
-    run: &Run,
+    (script, text): (&str, &str),
 ) -> Result<bool, Fail> {
-    let order = order_of_moves(alloc, run.moves)?;
-    let watch = Arc::new(alloc, Watch::new(order))?;
-    let plan = plan(alloc, run.lens, run.views, run.agents)?;
+    let (plan, moves) = setup_of(alloc, script)?.into_parts();
+    let watch = Arc::new(alloc, Watch::new(order_of_moves(alloc, &moves)?))?;
     let report = way.race(rt, alloc, plan, 0, Arc::try_clone(&watch)?)?;
-    Ok(watch.saw(&[6, 3]) && run.is_of(&report))
+    Ok(watch.saw(&[6, 3]) && is_report(alloc, &report, &moves, text)?)
 }
 
-fn access(access: Access) -> Call {
-    Call::Access { view: 0, access }
+/// Agent 0 stores 5 and loads and agent 1 loads, in the order of the script's schedule, and this is what they do.
+fn check<R: Threads + Wait + Sync>(rt: &R, alloc: Global, run: (&str, &str)) -> Result<(), Fail> {
+    for way in Way::FORCIBLE {
+        expect(is_raced(rt, alloc, way, run)?, "another report")?;
+    }
+    Ok(())
 }
+
+/// They take turns.
+const IN_TURNS: (&str, &str) = (
+    r#"{"blocks":[4],
+  "views":[{"name":"a","kind":"Int32","offset":0,"length":1,"block":0}],
+  "agents":[{"block":false,"calls":[["store","a",0,5],["load","a",0]]},{"block":false,"calls":[["load","a",0]]}],
+  "schedule":[0,1,0,1,0,1,0,0,0]}"#,
+    "\
+0 0 0 begin
+1 1 0 begin
+2 0 0 act 5
+3 1 0 act 5
+4 0 0 return 5
+5 1 0 return 5
+6 0 1 begin
+7 0 1 act 5
+8 0 1 return 5
+block 0 05000000
+agent 0 2 of 2
+agent 1 1 of 1
+",
+);
 
 #[test]
 fn two_agents_take_turns_as_their_threads_do(rt: HostRuntime) -> Result<(), Fail> {
-    let five = Value(number(5));
-    let moves = [
-        (Step(0), began(0, 0)),
-        (Step(1), began(1, 0)),
-        (Step(0), acted(0, 0, five)),
-        (Step(1), acted(1, 0, five)),
-        (Step(0), returned(0, 0, five)),
-        (Step(1), returned(1, 0, five)),
-        (Step(0), began(0, 1)),
-        (Step(0), acted(0, 1, five)),
-        (Step(0), returned(0, 1, five)),
-    ];
-    check(&rt, rt.alloc(), &moves)
+    check(&rt, rt.alloc(), IN_TURNS)
 }
+
+/// Agent 1 comes first.
+const LAST_FIRST: (&str, &str) = (
+    r#"{"blocks":[4],
+  "views":[{"name":"a","kind":"Int32","offset":0,"length":1,"block":0}],
+  "agents":[{"block":false,"calls":[["store","a",0,5],["load","a",0]]},{"block":false,"calls":[["load","a",0]]}],
+  "schedule":[1,1,1,0,0,0,0,0,0]}"#,
+    "\
+0 1 0 begin
+1 1 0 act 0
+2 1 0 return 0
+3 0 0 begin
+4 0 0 act 5
+5 0 0 return 5
+6 0 1 begin
+7 0 1 act 5
+8 0 1 return 5
+block 0 05000000
+agent 0 2 of 2
+agent 1 1 of 1
+",
+);
 
 #[test]
 fn two_agents_come_last_agent_first(rt: HostRuntime) -> Result<(), Fail> {
-    let five = Value(number(5));
-    let zero = Value(number(0));
-    let moves = [
-        (Step(1), began(1, 0)),
-        (Step(1), acted(1, 0, zero)),
-        (Step(1), returned(1, 0, zero)),
-        (Step(0), began(0, 0)),
-        (Step(0), acted(0, 0, five)),
-        (Step(0), returned(0, 0, five)),
-        (Step(0), began(0, 1)),
-        (Step(0), acted(0, 1, five)),
-        (Step(0), returned(0, 1, five)),
-    ];
-    check(&rt, rt.alloc(), &moves)
+    check(&rt, rt.alloc(), LAST_FIRST)
 }
 
 /// In which direction sixteen agents come, and how many moves in a row each makes then.
-#[derive(Clone, Copy, Debug)]
+#[derive(Clone, Copy)]
 enum Pass {
     Up(usize),
     Down(usize),

@@ -7,7 +7,7 @@ use crate::racing::way::Way;
 use std::test::Fail;
 
 /// Turns so often before each move of one agent.
-#[derive(Clone, Copy, Debug)]
+#[derive(Clone, Copy)]
 pub struct Slow {
     /// The one that is slow, or none where each is.
     pub agent: Option<u32>,

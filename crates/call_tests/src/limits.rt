@@ -1,14 +1,11 @@
 //! Ends of limits, and refusals.
 
 use crate::expecting::expect;
-use crate::run::{
-    Run, acted, began, enlisted, left, load, notify, number, plan, returned, store, stuck, wait,
-    whole,
-};
+use crate::run::{is_same, load, number, plan, store, stuck, wait, whole};
+use crate::scripts::{plan_of, report_with};
 use sab_block::Kind;
-use sab_sim::Answer::{Count, TimedOut, Woken};
 use sab_sim::Move::{self, Step, TimeUp};
-use sab_sim::{Call, Plan, Progress, Sim, SimFault, Why, replay};
+use sab_sim::{Call, Plan, Progress, Report, Sim, SimFault, Why, replay};
 use std::alloc::{AllocError, Global};
 use std::test::Fail;
 
@@ -170,58 +167,73 @@ fn a_refused_move_leaves_the_simulator_as_it_was(rt: HostRuntime) -> Result<(), 
     expect(goes_on(sim), "a refused move changed something")
 }
 
-/// Whether the moves of a run, one by one, with so many reserved, make its report.
-fn makes(mut sim: Sim, run: &Run, reserved: u32) -> bool {
+/// Two agents wait, one wakes one of them, and one waits for a time; each kind of move is made.
+const STEPS: &str = r#"{"blocks":[4],
+  "views":[{"name":"a","kind":"Int32","offset":0,"length":null,"block":0}],
+  "agents":[
+    {"block":true,"calls":[["wait","a",0,0]]},
+    {"block":true,"calls":[["wait","a",0,0]]},
+    {"block":true,"calls":[["notify","a",0,1]]},
+    {"block":true,"calls":[["wait","a",0,0,5]]}],
+  "schedule":[0,0,1,1,2,2,0,1,2,0,3,3,{"timeout":3},{"timeout":1},{"timeout":2},2]}"#;
+
+/// The text of their report.
+const STEPPED: &str = "\
+0 0 0 begin
+1 0 0 wait
+2 1 0 begin
+3 1 0 wait
+4 2 0 begin
+5 2 0 act 1
+6 0 0 leave ok
+7 1 0 stuck waiting
+8 2 0 return 1
+9 0 0 return ok
+10 3 0 begin
+11 3 0 wait
+12 3 0 leave timed-out
+13 1 0 stuck endless
+14 2 1 stuck not-waiting
+15 2 1 stuck done
+block 0 00000000
+agent 0 1 of 1
+agent 1 0 of 1
+agent 2 1 of 1
+agent 3 0 of 1
+";
+
+/// Whether a simulator shows the moves, the entries and the one block of a report.
+fn shows(sim: &Sim, report: &Report) -> bool {
+    let is_block = match (sim.blocks(), report.blocks.as_slice()) {
+        ([block], [bytes]) => block.bytes() == bytes.as_slice(),
+        _ => false,
+    };
+    is_block
+        && sim.moves() == report.schedule.as_slice()
+        && sim.journal() == report.journal.as_slice()
+}
+
+/// Whether the moves of a report, one by one, with so many reserved, make the report.
+fn makes(mut sim: Sim, report: &Report, reserved: u32) -> bool {
     sim.reserve(reserved).is_ok()
-        && run.moves.iter().all(|(m, _)| sim.step(*m).is_ok())
-        && run.has_entries(sim.moves(), sim.journal())
-        && sim
-            .blocks()
-            .iter()
-            .map(|block| block.bytes())
-            .eq(run.blocks.iter().copied())
-        && run.is_of(&sim.finish())
+        && steps(&mut sim, &report.schedule)
+        && shows(&sim, report)
+        && is_same(&sim.finish(), report)
+}
+
+/// The same of a simulator of the script's plan.
+fn is_stepped(alloc: Global, report: &Report, reserved: u32) -> Result<bool, Fail> {
+    let sim = Sim::new(alloc, plan_of(alloc, STEPS)?)?;
+    Ok(makes(sim, report, reserved))
 }
 
 /// Moves of each kind, with some reserved, none, and more than a journal can have.
 #[test]
 fn steps_are_made_reserved_or_not(rt: HostRuntime) -> Result<(), Fail> {
-    let waits = [wait(0, 0, None)];
-    let timed = [wait(0, 0, Some(5))];
-    let run = Run {
-        lens: &[4],
-        views: &[whole(Kind::Int32, 0, 4)?],
-        agents: &[
-            (true, &waits),
-            (true, &waits),
-            (true, &[notify(0, 0, Some(1))]),
-            (true, &timed),
-        ],
-        moves: &[
-            (Step(0), began(0, 0)),
-            (Step(0), enlisted(0, 0)),
-            (Step(1), began(1, 0)),
-            (Step(1), enlisted(1, 0)),
-            (Step(2), began(2, 0)),
-            (Step(2), acted(2, 0, Count(1))),
-            (Step(0), left(0, 0, Woken)),
-            (Step(1), stuck(1, 0, Why::Waiting)),
-            (Step(2), returned(2, 0, Count(1))),
-            (Step(0), returned(0, 0, Woken)),
-            (Step(3), began(3, 0)),
-            (Step(3), enlisted(3, 0)),
-            (TimeUp(3), left(3, 0, TimedOut)),
-            (TimeUp(1), stuck(1, 0, Why::Endless)),
-            (TimeUp(2), stuck(2, 1, Why::NotWaiting)),
-            (Step(2), stuck(2, 1, Why::Done)),
-        ],
-        blocks: &[&[0; 4]],
-        progress: &[(1, 1), (0, 1), (1, 1), (0, 1)],
-    };
+    let report = report_with(rt.alloc(), STEPS, STEPPED)?;
     for reserved in [0, 3, 16, u32::MAX] {
-        let plan = plan(rt.alloc(), run.lens, run.views, run.agents)?;
-        let sim = Sim::new(rt.alloc(), plan)?;
-        expect(makes(sim, &run, reserved), "another report")?;
+        let is_stepped = is_stepped(rt.alloc(), &report, reserved)?;
+        expect(is_stepped, "another report")?;
     }
     Ok(())
 }

@@ -11,7 +11,7 @@ use std::test::Fail;
 use std::thread::Threads;
 
 /// Where agents meet: before a move, or after it.
-#[derive(Clone, Copy, Debug, PartialEq, Eq)]
+#[derive(Clone, Copy)]
 enum Side {
     Before,
     After,
@@ -57,11 +57,11 @@ impl Meeting {
 
 impl Hold for Meeting {
     fn before(&self, _agent: u32, k: u32) -> bool {
-        self.side == Side::After || self.meet(k)
+        matches!(self.side, Side::After) || self.meet(k)
     }
 
     fn applied(&self, _agent: u32, k: u32) -> bool {
-        self.side == Side::Before || self.meet(k)
+        matches!(self.side, Side::Before) || self.meet(k)
     }
 }
 

@@ -1,6 +1,6 @@
 use Rattle.std.proofs.Common.{◌≡◌, ◌+◌, ◌++◌, length}
 use Rattle.rtrb.specs.Ring.{received, known_items}
-use Rattle.sim_tests.proofs.racing.feeding.feed_through.Given as goal
+use Rattle.call_tests.proofs.racing.feeding.feed_through.Given as goal
 
 abbrev pub invariant-loop : goal.invariant-loop
 invariant-loop g l = record {

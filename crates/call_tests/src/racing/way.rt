@@ -12,7 +12,7 @@ use std::test::Fail;
 use std::thread::Threads;
 
 /// How the agents of a race share the simulator.
-#[derive(Clone, Copy, Debug)]
+#[derive(Clone, Copy)]
 pub enum Way {
     Lock,
     Rings { patience: u32 },

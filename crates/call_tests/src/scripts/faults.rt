@@ -1,6 +1,7 @@
 //! What faults of tools and scripts print.
 
 use crate::expecting::expect;
+use crate::values::prints;
 use sab_tool::{ReadFault, ToolFault};
 use std::alloc::{AllocError, Global};
 use std::test::Fail;
@@ -36,11 +37,6 @@ fn a_tool_fault_prints_its_name(rt: HostRuntime) -> Result<(), Fail> {
         expect(is_named(rt.alloc(), fault, number, name)?, name)?;
     }
     Ok(())
-}
-
-/// Whether a fault prints this.
-fn prints(alloc: Global, fault: ReadFault, text: &str) -> Result<bool, AllocError> {
-    Ok(fault.to_string(alloc)?.as_str() == text)
 }
 
 const READ_FAULTS: [(ReadFault, &str); 9] = [
@@ -82,7 +78,7 @@ const READ_FAULTS: [(ReadFault, &str); 9] = [
 #[test]
 fn a_read_fault_prints_what_is_wrong(rt: HostRuntime) -> Result<(), Fail> {
     for (fault, text) in READ_FAULTS {
-        expect(prints(rt.alloc(), fault, text)?, text)?;
+        expect(prints(rt.alloc(), &fault, text)?, text)?;
     }
     Ok(())
 }

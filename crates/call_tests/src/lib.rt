@@ -1,4 +1,5 @@
-//! Worked examples of blocks, plans, replays, races and traces, as tests.
+//! Worked examples of the libraries' calls, as tests: blocks, plans, replays, races, traces, scripts and reports. Those of
+//! scripts are no case of the program `check_scripts`, and the built program can't show them.
 #![tactic(auto)]
 
 #[cfg(test)]
@@ -17,6 +18,8 @@ mod plans;
 mod racing;
 #[cfg(test)]
 mod run;
+#[cfg(test)]
+mod scripts;
 #[cfg(test)]
 mod showing;
 #[cfg(test)]

@@ -1,7 +1,18 @@
 //! Scripts, and the reports that are expected of them.
 
-use sab_sim::{Report, replay};
-use sab_tool::{Setup, read_setup, replay_bytes};
+mod changed_bytes;
+mod devices;
+mod faults;
+mod flushing;
+mod keeping;
+mod limits;
+mod racing;
+mod reading;
+mod reports;
+
+use crate::expecting::expect;
+use sab_sim::{Move, Plan, Report, replay};
+use sab_tool::{Setup, ToolFault, read_setup, replay_bytes, write_report};
 use serde_json::Value;
 use std::alloc::Global;
 use std::test::Fail;
@@ -44,6 +55,32 @@ pub const TWO_BLOCKS: &str = r#"{"blocks":[4,4],
 pub fn setup_of(alloc: Global, script: &str) -> Result<Setup, Fail> {
     let tree: Value = serde_json::from_str(alloc, script)?;
     Ok(read_setup(alloc, &tree)?)
+}
+
+/// The plan of a script.
+pub fn plan_of(alloc: Global, script: &str) -> Result<Plan, Fail> {
+    let (plan, _) = setup_of(alloc, script)?.into_parts();
+    Ok(plan)
+}
+
+/// Whether a report has these moves and this text.
+pub fn is_report(
+    alloc: Global,
+    report: &Report,
+    moves: &[Move],
+    text: &str,
+) -> Result<bool, ToolFault> {
+    let mut written = Vec::new(alloc);
+    write_report(report, &mut written)?;
+    Ok(report.schedule.as_slice() == moves && written.as_slice() == text.as_bytes())
+}
+
+/// The report of a script. It fails if the report has other moves than the script, or another text than this.
+pub fn report_with(alloc: Global, script: &str, text: &str) -> Result<Report, Fail> {
+    let (plan, moves) = setup_of(alloc, script)?.into_parts();
+    let report = replay(alloc, plan, moves.as_slice())?;
+    expect(is_report(alloc, &report, &moves, text)?, "another report")?;
+    Ok(report)
 }
 
 /// The report of a script, before it is written.

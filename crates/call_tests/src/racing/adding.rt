@@ -4,21 +4,13 @@ use crate::expecting::expect;
 use crate::racing::adders::{adders, race_adders};
 use crate::racing::slow::Slow;
 use crate::racing::way::{Way, add_one, word};
-use crate::run::plan;
+use crate::run::{is_same, plan};
 use sab_race::NoGate;
 use sab_sim::{Call, Plan, Progress, Report, replay};
 use std::alloc::Global;
 use std::sync::{Arc, Wait};
 use std::test::Fail;
 use std::thread::Threads;
-
-/// Whether two reports are the same.
-fn is_same(one: &Report, other: &Report) -> bool {
-    one.schedule == other.schedule
-        && one.journal == other.journal
-        && one.blocks == other.blocks
-        && one.agents == other.agents
-}
 
 /// Whether the replay of four adders by a report's schedule gives that report.
 fn comes_back(alloc: Global, report: &Report) -> Result<bool, Fail> {

@@ -1,48 +1,9 @@
-//! A run, and what is expected of it.
+//! Plans, and the calls and entries that they are made of and come to.
 
 use sab_block::{Access, Kind, Operand, RmwOp, View};
-use sab_sim::{Answer, Call, Entry, Move, Plan, PlanFault, PlanView, Report, Script, What, Why};
+use sab_sim::{Answer, Call, Entry, Plan, PlanFault, PlanView, Report, Script, What, Why};
 use std::alloc::{AllocError, Global};
 use std::test::Fail;
-
-/// A plan, the moves that its agents make, and what is expected of them.
-#[derive(Drop)]
-pub struct Run<'a> {
-    /// The length of each block.
-    pub lens: &'a [u32],
-    pub views: &'a [PlanView],
-    /// For each agent whether it can block, and its calls.
-    pub agents: &'a [(bool, &'a [Call])],
-    /// Each move, and what it did.
-    pub moves: &'a [(Move, Entry)],
-    /// The bytes of each block at the end.
-    pub blocks: &'a [&'a [u8]],
-    /// For each agent how many of its calls returned, and how many it has.
-    pub progress: &'a [(u32, u32)],
-}
-
-impl Run<'_> {
-    /// Whether these are the moves, and this is what they did.
-    pub fn has_entries(&self, schedule: &[Move], journal: &[Entry]) -> bool {
-        let moves = schedule.iter().zip(journal).zip(self.moves);
-        schedule.len() == self.moves.len()
-            && journal.len() == self.moves.len()
-            && moves.into_iter().all(|((found, entry), (m, expected))| found == m
-                && entry == expected)
-    }
-
-    /// Whether a report is what is expected.
-    pub fn is_of(&self, report: &Report) -> bool {
-        let blocks = report.blocks.iter().map(|bytes| bytes.as_slice());
-        let progress = report
-            .agents
-            .iter()
-            .map(|agent| (agent.returned, agent.total));
-        self.has_entries(&report.schedule, &report.journal)
-            && blocks.eq(self.blocks.iter().copied())
-            && progress.eq(self.progress.iter().copied())
-    }
-}
 
 /// The scripts of agents: for each whether it can block, and its calls.
 fn scripts(alloc: Global, agents: &[(bool, &[Call])]) -> Result<Vec<Script>, AllocError> {
@@ -77,6 +38,14 @@ pub fn plan(
             .ok()
             .ok_or("no plan")?,
     )
+}
+
+/// Whether two reports are the same.
+pub fn is_same(one: &Report, other: &Report) -> bool {
+    one.schedule == other.schedule
+        && one.journal == other.journal
+        && one.blocks == other.blocks
+        && one.agents == other.agents
 }
 
 /// A view of a whole block.
@@ -124,24 +93,8 @@ pub fn notify(view: u32, index: i64, count: Option<i64>) -> Call {
     Call::Notify { view, index, count }
 }
 
-pub fn began(agent: u32, call: u32) -> Entry {
-    entry(agent, call, What::Began)
-}
-
-pub fn enlisted(agent: u32, call: u32) -> Entry {
-    entry(agent, call, What::Enlisted)
-}
-
 pub fn acted(agent: u32, call: u32, answer: Answer) -> Entry {
     entry(agent, call, What::Acted(answer))
-}
-
-pub fn left(agent: u32, call: u32, answer: Answer) -> Entry {
-    entry(agent, call, What::Left(answer))
-}
-
-pub fn returned(agent: u32, call: u32, answer: Answer) -> Entry {
-    entry(agent, call, What::Returned(answer))
 }
 
 pub fn stuck(agent: u32, call: u32, why: Why) -> Entry {

@@ -2,9 +2,9 @@
 
 use crate::expecting::expect;
 use crate::scripts::{STORE_AND_LOAD, setup_of};
+use crate::values::shows;
 use sab_block::Kind;
-use sab_sim::Move::{Step, TimeUp};
-use sab_sim::{Move, Plan};
+use sab_sim::Move::{self, Step, TimeUp};
 use sab_tool::{ReadFault, Setup, ViewSpec, read_setup};
 use serde_json::Value;
 use std::alloc::{AllocError, Global};
@@ -41,11 +41,6 @@ const ITS_PLAN: &str = concat!(
     "Script { can_block: false, calls: [Notify { view: 0, index: 0, count: Some(3) }] }, ",
     "Script { can_block: true, calls: [] }] }"
 );
-
-/// Whether a plan shows this.
-fn shows(alloc: Global, plan: &Plan, text: &str) -> Result<bool, AllocError> {
-    Ok(format!(in alloc; "{plan:?}")?.as_str() == text)
-}
 
 /// Whether a setup shows and hands over just the plan that shows this, and these moves.
 fn has_parts(alloc: Global, setup: Setup, plan: &str, moves: &[Move]) -> Result<bool, AllocError> {
