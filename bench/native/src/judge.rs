@@ -41,6 +41,8 @@ pub struct Judge {
     blocks: [Shadow; 4],
     races: Vec<Race>,
     more: usize,
+    /// How many of these are data races.
+    more_data_races: usize,
 }
 
 impl Judge {
@@ -53,6 +55,7 @@ impl Judge {
             blocks: [Shadow::new(), Shadow::new(), Shadow::new(), Shadow::new()],
             races: Vec::new(),
             more: 0,
+            more_data_races: 0,
         }
     }
 
@@ -115,11 +118,12 @@ impl Judge {
             if first < known || !earlier.conflicts(access) {
                 continue;
             }
+            let is_data_race = earlier.write && (access.write || written.contains(&first));
             if self.races.len() < TOLD {
-                let is_data_race = earlier.write && (access.write || written.contains(&first));
                 self.races.push(Race { first, second, is_data_race, known });
             } else {
                 self.more += 1;
+                self.more_data_races += usize::from(is_data_race);
             }
         }
     }
@@ -130,7 +134,8 @@ impl Judge {
             self.write_race(out, race)?;
         }
         if self.more > 0 {
-            writeln!(out, "{} more", self.more)?;
+            let what = if self.more_data_races == 1 { "a data race" } else { "data races" };
+            writeln!(out, "{} more, {} of them {what}", self.more, self.more_data_races)?;
         }
         if !self.has_races() {
             let accesses = self.events.iter().filter(|event| event.is_access());
