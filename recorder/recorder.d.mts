@@ -154,7 +154,7 @@ export interface Outcome {
   sources?: { file: string; text: string | null }[];
   /** Which agent moved with each draw, in order; told of the shortest run. */
   row?: number[];
-  /** Whether sabsim has replayed the run, judged whether it has unordered accesses, and said the same. */
+  /** Whether sabsim has replayed the run and, if it was watched, looked for unordered accesses, and says the same. */
   checked: boolean;
   /** Why it hasn't. */
   unchecked?: string;

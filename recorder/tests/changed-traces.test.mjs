@@ -9,6 +9,7 @@ import { slowJudge } from "./helpers/slow-judge.mjs";
 import { jsonText, statusOf } from "./helpers/verdict-texts.mjs";
 
 const ROWS = new URL("./judge-rows/", import.meta.url);
+const FORMATS = new URL("../../docs/FORMATS.md", import.meta.url);
 const LINE_FEED = 10;
 
 // What a byte is changed to: signs of JSON, digits, what ends a line, and a byte that no text in UTF-8 has alone.
@@ -46,6 +47,23 @@ function hasItsFlags(event) {
   const found = flagsOf(event);
   return flags.includes(found) || (isCall && found === "....");
 }
+
+/** The words of docs/FORMATS.md for sizes, and for whether an event writes. */
+const SIZE_WORDS = new Map([["1, 2, 4 or 8", OF_ELEMENT], ["4 or 8", OF_PLACE], ["1 to 65,536", OF_STRETCH]]);
+const WRITES = { true: [true], false: [false], "whether it exchanges": [false, true] };
+
+test("docs/FORMATS.md has this table of deeds", () => {
+  const [, table] = /\n\| `does` \|.*\n\|[-|]+\n((?:\|.*\n)+)/.exec(readFileSync(FORMATS, "utf8"));
+  const rows = table.trimEnd().split("\n").map((row) => row.split("|").slice(1, -1).map((cell) => cell.trim()));
+  assert.deepEqual(rows.pop(), ["a call that throws, `load` to `notify`", ...Array(4).fill("false"), "any"]);
+  const told = rows.flatMap(([deeds, read, write, atomic, waiters, size]) => {
+    const is = { read: read === "true", atomic: atomic === "true", waiters: waiters === "true" };
+    const flags = WRITES[write].map((it) => flagsOf({ ...is, write: it }));
+    return [...deeds.matchAll(/`([\w-]+)`/g)].map(([, does]) => [does, flags, SIZE_WORDS.get(size)]);
+  });
+  const here = Object.entries(DEEDS).map(([does, { flags, fits }]) => [does, flags, fits]);
+  assert.deepEqual(told.sort(), here.sort());
+});
 
 /** @param {unknown} value */
 const isWhole = (value) => Number.isSafeInteger(value) && !Object.is(value, -0);

@@ -1,4 +1,4 @@
-//! Judges a trace for data races, by vector clocks.
+//! Judges a trace for unordered accesses, by vector clocks.
 
 use std::collections::HashMap;
 use std::io::{self, Write};

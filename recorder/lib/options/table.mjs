@@ -62,8 +62,9 @@ export const OPTIONS = Object.freeze({
     + "unordered accesses are looked for), store (only what changed is found) or refuse (a byte that changed fails the "
     + "run) (watch)"]),
   races: word(["fail", "allow"],
-    ["HOW", "unordered accesses: two agents access a byte, one of them writes it, and nothing orders the two. fail: a "
-    + "run that has some fails, with the ending race; allow: they are reported only (fail)"]),
+    ["HOW", "unordered accesses: two agents access a byte, one of them writes it, not both by Atomics on the same "
+    + "bytes, and nothing orders the two. fail: a run that has some fails, with the ending race; allow: they are "
+    + "reported only (fail)"]),
   bounds: word(["fail", "allow"],
     ["HOW", "fail: a run that meets a bound, as a spin does, fails; allow: it is told only (fail)"]),
   clock: word(["run", "real"],

@@ -35,7 +35,7 @@ function lineOf(position, event, source) {
  * trace: that it finds no data race in it would say nothing of the run.
  */
 export const UNSEEN_LINE = `${JSON.stringify({
-  unseen: "ordinary accesses may be missing here, so these events don't show whether the run has races",
+  unseen: "ordinary accesses may be missing here, so these events don't show whether any are unordered",
 })}\n`;
 
 // So many lines are joined at once: a million strings of many parts each take long to join, and much memory.
