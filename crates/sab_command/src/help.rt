@@ -94,7 +94,7 @@ What the script is refused for:
   13 BadCall    no call of that name, or a wrong number of elements
   14 BadView    no kind of that name, or the view doesn't fit its block
   15 BadAgent   a move of an agent that isn't there
-  16 NotJson    the input isn't JSON in UTF-8
+  16 NotJson    the input can't be read as JSON in UTF-8
   18 TooLong    the input has more than 1,048,576 bytes
   20 NoBlock    no block at all, or a view on a block that isn't there"#;
 
@@ -156,8 +156,8 @@ With --format json each pair is an object on a line, and the last line has the c
 
 In a script all accesses are by Atomics. So only those are unordered that overlap and aren't on
 the same bytes, as a store to a word and a load of one of its bytes. A script with a view whose
-name begins with ordinary_ or init_ is of a run with ordinary accesses, which only the run's trace
-has: such a script is refused (21 OrdinaryData). Judge its trace with --trace.
+name begins with ordinary_ or init_ may not show all accesses of its run. Such a script is refused
+(21 OrdinaryData). Judge the run's trace with --trace.
 
 Example:
   echo '{"blocks":[4],"views":[{"name":"w","kind":"Int32","block":0,"offset":0,"length":null},

@@ -19,7 +19,7 @@ line_text (Some line) = codes ": line " ++ decimal line
 -- what can be done instead, as a line
 abbrev pub advice_text : ToolFault → List ℕ
 advice_text OrdinaryData =
-    codes "the script stands for a run with ordinary accesses, which only its trace has: "
+    codes "the script may not show all accesses of its run, so judge the run's trace: "
     ++ codes "sabsim judge --trace FILE.trace.jsonl\n"
 advice_text _ = []
 

@@ -51,7 +51,7 @@ fn advice_of(fault: ToolFault) -> &'static str
 {
     match fault {
         ToolFault::OrdinaryData => concat!(
-            "the script stands for a run with ordinary accesses, which only its trace has: ",
+            "the script may not show all accesses of its run, so judge the run's trace: ",
             "sabsim judge --trace FILE.trace.jsonl\n"
         ),
         _ => "",
