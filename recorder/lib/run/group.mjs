@@ -238,10 +238,9 @@ export class Group {
   }
 
   async #start() {
-    // Their modules are read while the workers begin.
+    this.#beginUpTo(FIRST_WORKERS);
     const referee = this.#thread();
     this.referee = referee;
-    this.#beginUpTo(FIRST_WORKERS);
     const told = await this.#load(0);
     needsRightNames(told.names);
     this.plan = planOf(this.options, told.setup);
@@ -283,6 +282,7 @@ export class Group {
   #beginUpTo(count) {
     const { module, args, ordinary, clock } = this.options;
     const begun = Array.from({ length: count - this.begun.length }, () => this.#thread());
+    // They are read while the workers begin.
     const modules = ownModules(AGENT_MODULE);
     for (const thread of begun) thread.post({ modules, module, args, ordinary, clock });
     this.begun.push(...begun);
