@@ -1,5 +1,8 @@
-// What a process of the recorder begins with: the module whose URL is its only word.
+// What the process of a job begins with: workers, and meanwhile the module whose URL is its only word.
 
 import { evaluated, ownModules } from "./own-modules.mjs";
+import * as thread from "./thread.mjs";
 
-evaluated(ownModules(new URL(process.argv[2])));
+thread.beginThreads(thread.FIRST_THREADS);
+// That module has these workers, so it gets the same module of threads.
+evaluated(ownModules(new URL(process.argv[2])), { [new URL("./thread.mjs", import.meta.url).href]: thread });

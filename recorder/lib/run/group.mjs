@@ -9,8 +9,9 @@ import { needsRightNames, planOf } from "../options/plan.mjs";
 import { Refused } from "../options/refused.mjs";
 import { defaultsOf } from "../options/table.mjs";
 import { ownModules } from "../processes/own-modules.mjs";
-import { Thread } from "../processes/thread.mjs";
+import { FIRST_THREADS, begunThread } from "../processes/thread.mjs";
 
+/** @typedef {import("../processes/thread.mjs").Thread} Thread */
 /** @typedef {"finished" | "deadlock" | "failed" | "check" | "race" | "bound"} Ending */
 
 /**
@@ -112,12 +113,11 @@ import { Thread } from "../processes/thread.mjs";
  */
 
 const DEFAULT_LOAD_SECONDS = 30;
-const WORKER = new URL("../processes/own-worker.mjs", import.meta.url);
 const AGENT_MODULE = new URL("../agent/worker.mjs", import.meta.url);
 const REFEREE_MODULE = new URL("./referee.mjs", import.meta.url);
 
-/** How many agents' workers are begun at once. Two agents need as many: two more of them load after the pilots. */
-const FIRST_WORKERS = 4;
+/** How many agents' workers begin at once: all first ones but that of the referee. */
+const FIRST_WORKERS = FIRST_THREADS - 1;
 
 /**
  * The answer of a promise, or that it took too long.
@@ -238,10 +238,9 @@ export class Group {
   }
 
   async #start() {
-    // Their modules are read while the workers begin.
+    this.#beginUpTo(FIRST_WORKERS);
     const referee = this.#thread();
     this.referee = referee;
-    this.#beginUpTo(FIRST_WORKERS);
     const told = await this.#load(0);
     needsRightNames(told.names);
     this.plan = planOf(this.options, told.setup);
@@ -274,7 +273,7 @@ export class Group {
 
   /** Begins a worker. */
   #thread() {
-    const thread = new Thread(WORKER, {}, { ownPort: true });
+    const thread = begunThread();
     this.threads.add(thread);
     return thread;
   }
@@ -283,6 +282,7 @@ export class Group {
   #beginUpTo(count) {
     const { module, args, ordinary, clock } = this.options;
     const begun = Array.from({ length: count - this.begun.length }, () => this.#thread());
+    // They are read while the workers begin.
     const modules = ownModules(AGENT_MODULE);
     for (const thread of begun) thread.post({ modules, module, args, ordinary, clock });
     this.begun.push(...begun);

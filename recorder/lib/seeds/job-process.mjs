@@ -29,6 +29,7 @@ async function answerTo(request) {
 }
 
 process.on("disconnect", () => endGroup(process.pid));
+if (!process.connected) endGroup(process.pid);
 process.on("message", async (request) => {
   try {
     send({ done: await answerTo(request) });
