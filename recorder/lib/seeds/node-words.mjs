@@ -8,10 +8,7 @@ const PROGRAM = /^(-[ep]+|--eval|--print|--input-type)$/;
 const DEBUGGING = /^--(inspect|debug-port)/;
 const PORT = /^--(inspect|debug)-port$/;
 
-/**
- * @param {string[]} words that this process got
- * @returns {string[]} those that the process of a job gets
- */
+/** @param {string[]} words that this process got @returns {string[]} those that the process of a job gets */
 export function jobWords(words) {
   const kept = [];
   for (let at = 0; at < words.length; at += 1) {
