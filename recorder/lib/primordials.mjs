@@ -57,6 +57,13 @@ export const weakGet = uncurried(WeakMap.prototype.get);
 export const weakSet = uncurried(WeakMap.prototype.set);
 export const weakHas = uncurried(WeakMap.prototype.has);
 
+/** @param {readonly unknown[]} list @param {unknown} item that it has @returns {number} its position */
+export function positionIn(list, item) {
+  let at = 0;
+  while (list[at] !== item) at += 1;
+  return at;
+}
+
 /**
  * Puts a property that stands for the engine's own in an object, as such are: not to be listed.
  * @param {object} owner

@@ -2,16 +2,17 @@
 // of how things are shown.
 
 import { isStandIn } from "../schedule/report.mjs";
-import { isOrdinary, sizeOf, valueAt } from "./model.mjs";
-import { callText, valueText } from "./words.mjs";
+import { sizeOf, valueAt } from "./elements.mjs";
+import { isOrdinary } from "./steps.mjs";
+import { callText, counted, valueText } from "./words.mjs";
 
 /** @typedef {import("../schedule/differences.mjs").Differences} Differences */
 /** @typedef {import("../schedule/report.mjs").Entry} Entry */
 /** @typedef {import("../schedule/report.mjs").Report} Report */
 /** @typedef {import("../schedule/turns.mjs").Script} Script */
-/** @typedef {import("./model.mjs").Event} Event */
+/** @typedef {import("./run-data.mjs").Event} Event */
 /** @typedef {import("./model.mjs").Run} Run */
-/** @typedef {import("./model.mjs").RunData} RunData */
+/** @typedef {import("./run-data.mjs").RunData} RunData */
 
 /** @typedef {{ agent?: number, call?: number, what: string, before: string, after: string }} Line of a table */
 
@@ -140,20 +141,13 @@ export function elementLines(before, after) {
   });
 }
 
-/** @param {number} count @param {string} one @param {string} several */
-const countedWord = (count, one, several) => `${count} ${count === 1 ? one : several}`;
-
-/**
- * What is different, in a sentence.
- * @param {Differences} differences
- * @returns {string}
- */
+/** @param {Differences} differences @returns {string} what is different, in a sentence */
 export function differenceText({ answers, woken, bytes }) {
   const count = bytes.reduce((sum, { before }) => sum + before.length / 2, 0);
   const parts = [
-    countedWord(answers.length, "call has another answer", "calls have another answer"),
-    countedWord(woken.length, "notify wakes other agents", "notifies wake other agents"),
-    countedWord(count, "byte differs at the end", "bytes differ at the end"),
+    counted(answers.length, "call has another answer", "calls have another answer"),
+    counted(woken.length, "notify wakes other agents", "notifies wake other agents"),
+    counted(count, "byte differs at the end", "bytes differ at the end"),
   ];
   const told = parts.filter((part) => !part.startsWith("0 "));
   if (told.length === 0) return "Every answer, every wake-up and every byte at the end is the same.";

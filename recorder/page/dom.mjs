@@ -16,17 +16,10 @@ export function made(name, className, ...children) {
   return element;
 }
 
-/**
- * An agent's number in its colour.
- * @param {number} agent
- * @param {string} [more] classes
- */
+/** @param {number} agent @param {string} [more] classes @returns {HTMLElement} an agent's number in its colour */
 export const badge = (agent, more = "") => made("span", `badge a${agent % 8} ${more}`, `${agent}`);
 
-/**
- * What only a reader of screens is told.
- * @param {string} text
- */
+/** @param {string} text @returns {HTMLElement} what only a reader of screens is told */
 export const spoken = (text) => made("span", "spoken", text);
 
 /**

@@ -1,7 +1,8 @@
 // What is in memory, and who waits there, in a browser.
 
 import { badge, by, made, spoken } from "./dom.mjs";
-import { placeKey, valueAt } from "./model.mjs";
+import { valueAt } from "./elements.mjs";
+import { placeKey } from "./model.mjs";
 import { valueText } from "./words.mjs";
 
 /** @typedef {import("./model.mjs").Run} Run */
@@ -41,7 +42,7 @@ export class Memory {
     return made("tr", "", head, values, made("td", "waiters", ...cells.flatMap((cell) => this.#waiters(cell, isWord))));
   }
 
-  /** @param {import("./model.mjs").Cell} cell @param {boolean} isWord */
+  /** @param {import("./elements.mjs").Cell} cell @param {boolean} isWord */
   #cell(cell, isWord) {
     const state = /** @type {State} */ (this.state);
     const size = Number(/\d+$/.exec(cell.view.kind)?.[0] ?? 8) / 8;
@@ -60,7 +61,7 @@ export class Memory {
     return span;
   }
 
-  /** @param {import("./model.mjs").Cell} cell @param {boolean} isWord */
+  /** @param {import("./elements.mjs").Cell} cell @param {boolean} isWord */
   #waiters({ block, byte, label }, isWord) {
     const line = this.state?.lines.get(placeKey(block, byte)) ?? [];
     if (line.length === 0) return [];

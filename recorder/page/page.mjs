@@ -7,7 +7,7 @@ import { by, made } from "./dom.mjs";
 import { Run } from "./model.mjs";
 import { simulateBy } from "./simulate.mjs";
 
-/** @typedef {import("./model.mjs").RunData} RunData */
+/** @typedef {import("./run-data.mjs").RunData} RunData */
 
 const SHORT_DETAIL_LINES = 2;
 

@@ -36,10 +36,7 @@ const LINES_SHOWN = 200;
  */
 
 export class SchedulePane {
-  /**
-   * @param {Editing} editing
-   * @param {Host} host
-   */
+  /** @param {Editing} editing @param {Host} host */
   constructor(editing, host) {
     this.editing = editing;
     this.host = host;

@@ -4,7 +4,7 @@ import { badge, by, made, spoken } from "./dom.mjs";
 import { valueText } from "./words.mjs";
 
 /** @typedef {import("./model.mjs").Run} Run */
-/** @typedef {import("./model.mjs").Step} Step */
+/** @typedef {import("./steps.mjs").Step} Step */
 
 // A row's height in pixels, as page.css has it; and how many rows there are at least, and are made, beyond those seen.
 const ROW_HEIGHT = 24;
@@ -13,10 +13,7 @@ const ROWS_AROUND = 120;
 
 /** The rows of steps, with a lane for each agent. Of many steps only those near the ones that are seen are there. */
 export class Timeline {
-  /**
-   * @param {Run} run
-   * @param {(index: number) => void} onChosen
-   */
+  /** @param {Run} run @param {(index: number) => void} onChosen */
   constructor(run, onChosen) {
     this.run = run;
     this.pane = by("timeline");
@@ -94,10 +91,7 @@ export class Timeline {
     return lanes;
   }
 
-  /**
-   * @param {Step} step
-   * @param {number} index
-   */
+  /** @param {Step} step @param {number} index */
   #row(step, index) {
     const { agent, entry, text, answer, changes, what, isSwitch } = step;
     const row = made("div", `row ${what}${isSwitch ? " switch" : ""}`);
@@ -147,11 +141,7 @@ export class Timeline {
   }
 }
 
-/**
- * The agents that wait while each step is made.
- * @param {Step[]} steps
- * @returns {Set<number>[]}
- */
+/** @param {Step[]} steps @returns {Set<number>[]} the agents that wait while each step is made */
 function waitingAt(steps) {
   /** @type {Set<number>} */
   let waiting = new Set();
@@ -177,7 +167,7 @@ function acrossAt(lane, least, most) {
   return lane === most ? ["across", "to-the-left"] : ["across"];
 }
 
-/** @param {import("./model.mjs").Change[]} changes */
+/** @param {import("./steps.mjs").Change[]} changes */
 function changesOf(changes) {
   const [first, ...rest] = changes;
   const text = made("span", "changes");

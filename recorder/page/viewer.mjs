@@ -7,7 +7,7 @@ import { Memory } from "./memory.mjs";
 import { Timeline } from "./timeline.mjs";
 
 /** @typedef {import("./model.mjs").Run} Run */
-/** @typedef {import("./model.mjs").Step} Step */
+/** @typedef {import("./steps.mjs").Step} Step */
 
 const PAGE_OF_STEPS = 10;
 
@@ -27,10 +27,7 @@ const KEEPS_KEYS = "#code, #memory-pane, textarea, select, .keeps-keys";
  */
 
 export class Viewer {
-  /**
-   * @param {Run} run
-   * @param {Host} host
-   */
+  /** @param {Run} run @param {Host} host */
   constructor(run, host) {
     this.run = run;
     this.host = host;

@@ -16,20 +16,14 @@
  */
 export const valueText = (value) => (typeof value === "string" && /^-?\d+$/.test(value) ? `${value}n` : `${value}`);
 
-/**
- * A call as JavaScript writes it.
- * @param {(string | number)[]} does
- */
+/** @param {(string | number)[]} does @returns {string} a call as JavaScript writes it */
 export const callText = ([name, view, ...others]) => `${name}(${[view, ...others.map(valueText)].join(", ")})`;
 
-/**
- * The element that a call names.
- * @param {(string | number)[]} does
- */
+/** @param {(string | number)[]} does @returns {string} the element that a call names */
 export const elementText = ([, view, index]) => `${view}[${index}]`;
 
 /** @param {number} count @param {string} one @param {string} several */
-const counted = (count, one, several) => `${count} ${count === 1 ? one : several}`;
+export const counted = (count, one, several) => `${count} ${count === 1 ? one : several}`;
 
 /**
  * Why a call throws, by the first check that fails.
@@ -68,11 +62,7 @@ function notifyText({ does, found = {} }, { waits }) {
   return left === 0 ? `wakes ${whom}` : `wakes ${whom}; ${counted(left, "still waits", "still wait")}`;
 }
 
-/**
- * What an act did.
- * @param {Entry} entry
- * @param {Known} known
- */
+/** @param {Entry} entry @param {Known} known @returns {string} what an act did */
 function actText(entry, known) {
   const { does, answer, found = {} } = entry;
   const element = elementText(does);

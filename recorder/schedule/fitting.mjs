@@ -46,11 +46,7 @@ function outcomeAt({ call, waits, isStuck }, calls, timeUp, guess) {
   return calls[call][0] === "wait" && guess === "joins" ? "joins" : "passes";
 }
 
-/**
- * @param {Entry} first of a turn
- * @param {Entry | undefined} second
- * @returns {Outcome}
- */
+/** @param {Entry} first of a turn @param {Entry | undefined} second @returns {Outcome} */
 function outcomeOf({ what }, second) {
   if (what === "leave") return "leaves";
   if (what === "stuck") return "stuck";
@@ -100,10 +96,7 @@ export function isWhole(script, { turns, moves, starts, report }) {
   return JSON.stringify(laidOut(script, turns, (turn) => outcomes[turn]).moves) === JSON.stringify(moves);
 }
 
-/**
- * The calls that join the line of waiters.
- * @param {Report} report
- */
+/** @param {Report} report @returns {Set<string>} the calls that join the line of waiters */
 const joinsOf = ({ entries }) =>
   new Set(entries.filter(({ what }) => what === "wait").map(({ agent, call }) => callKey(agent, call)));
 

@@ -26,12 +26,10 @@
  * @property {Progress[]} agents
  */
 
-const OF_STORES = /^(?:ordinary|init)_/;
+/** What the names of views begin with whose stores stand for something else. */
+export const OF_STORES = /^(?:ordinary|init)_/;
 
-/**
- * @param {string} text lines of JSON
- * @returns {Report}
- */
+/** @param {string} text lines of JSON @returns {Report} */
 export function readReport(text) {
   const lines = text.split("\n").filter((line) => line !== "").map((line) => JSON.parse(line));
   return {

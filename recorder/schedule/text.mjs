@@ -4,7 +4,8 @@ import { scheduleText } from "../script/text.mjs";
 
 /** @typedef {import("./turns.mjs").Move} Move */
 
-const TOKEN = /"(?:[^"\\]|\\.)*"|[[\]{},:]|[^\s"[\]{},:]+/g;
+/** A token of JSON. */
+export const TOKEN = /"(?:[^"\\]|\\.)*"|[[\]{},:]|[^\s"[\]{},:]+/g;
 
 /**
  * Where the schedule stands in the text of a script; of several members of this name the last one counts.

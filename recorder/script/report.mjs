@@ -39,11 +39,7 @@ function wordOf({ joined, answer }, step) {
   return joined && step === 2 ? `leave ${answer}` : `return ${answer}`;
 }
 
-/**
- * What each move did.
- * @param {import("./text.mjs").Transcript} transcript
- * @returns {Entry[]}
- */
+/** @param {import("./text.mjs").Transcript} transcript @returns {Entry[]} what each move did */
 function entriesOf(transcript) {
   const cursors = transcript.calls.map(() => ({ call: 0, step: 0 }));
   return transcript.moves.map(({ agent }) => {

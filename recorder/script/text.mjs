@@ -36,19 +36,13 @@ function viewText({ name, kind, block, offset, length }) {
   return `{"name": "${name}", "kind": "${kind}", "block": ${block}, "offset": ${offset}, "length": ${length}}`;
 }
 
-/**
- * @param {Done[]} calls
- * @param {boolean} canBlock
- */
+/** @param {Done[]} calls @param {boolean} canBlock */
 function agentText(calls, canBlock) {
   if (calls.length === 0) return `{"block": ${canBlock}, "calls": []}`;
   return `{"block": ${canBlock}, "calls": [\n      ${calls.map((call) => call.text).join(",\n      ")}\n    ]}`;
 }
 
-/**
- * The moves of a schedule, laid out over lines.
- * @param {Move[]} moves
- */
+/** @param {Move[]} moves @returns {string} the moves of a schedule, laid out over lines */
 export function scheduleText(moves) {
   const texts = moves.map((move) => (move.timeUp ? `{"timeout": ${move.agent}}` : String(move.agent)));
   const lines = [];
@@ -63,11 +57,7 @@ function listText(items) {
   return items.length === 0 ? "[]" : `[\n    ${items.join(",\n    ")}\n  ]`;
 }
 
-/**
- * The script of what was done.
- * @param {Transcript} transcript
- * @returns {string}
- */
+/** @param {Transcript} transcript @returns {string} the script of what was done */
 export function scriptText(transcript) {
   const views = transcript.views.map(viewText);
   const agents = transcript.calls.map((calls, agent) => agentText(calls, transcript.canBlock[agent]));

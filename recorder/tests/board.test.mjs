@@ -6,7 +6,7 @@ import { Board } from "../lib/board/board.mjs";
 import { STEP } from "../lib/board/clock.mjs";
 import { JOIN, LEAVE, MAKE, TIME_UP } from "../lib/board/journal.mjs";
 import { waysOf } from "../lib/board/strategy/ways.mjs";
-import { ORDER, PHASE } from "../lib/memory/layout.mjs";
+import { ORDER, PHASE, WORD } from "../lib/memory/layout.mjs";
 
 const RULES = { ways: waysOf("uniform", true), maxMoves: 100_000, timeouts: 0.05 };
 
@@ -29,7 +29,7 @@ function drawn(board, from, times) {
   let turn = from;
   for (let time = 0; time < times; time += 1) {
     board.pass(turn);
-    turn = board.strategy.lastMoved();
+    turn = board.words[WORD.LAST];
     turns.push(turn);
   }
   return turns;
@@ -58,7 +58,7 @@ test("places of equal bytes in different blocks, and of different bytes, have li
   board.line.join(1, 0, 8, false);
   assert.equal(board.line.notify(...HERE, undefined), 0);
   assert.equal(board.line.notify(0, 8, undefined), 1);
-  assert.deepEqual(board.line.waiting(), [0]);
+  assert.deepEqual(board.line.waiting(), [{ agent: 0, block: 1, byte: 4 }]);
 });
 
 test("agents move that ask, that were woken, or that wait with a timeout, and all of them in time", () => {

@@ -84,6 +84,38 @@ test("each folder imports only from lower rows", () => {
   assert.deepEqual(imports.flatMap(({ file, imported }) => faultsOf(file, imported)), []);
 });
 
+const COMMENTS = /\/\*\*[^]*?\*\/|\/\/.*|\bnew URL\(.*/g;
+
+/** The modules that a module imports: neither types nor files that workers begin with. @param {string} file */
+function neededBy(file) {
+  return importedBy(file, readFileSync(new URL(file, RECORDER), "utf8").replaceAll(COMMENTS, ""));
+}
+
+/**
+ * A circle of modules that need each other.
+ * @param {(file: string) => string[]} needed
+ * @param {string[]} files
+ * @returns {string[]} none: empty
+ */
+function circleIn(needed, files) {
+  const done = new Set();
+  /** @param {string} file @param {string[]} path that leads to it @returns {string[]} */
+  const circle = (file, path) => {
+    if (path.includes(file)) return [...path.slice(path.indexOf(file)), file];
+    if (done.has(file)) return [];
+    const found = needed(file).map((next) => circle(next, [...path, file])).find(({ length }) => length > 0);
+    done.add(file);
+    return found ?? [];
+  };
+  return files.map((file) => circle(file, [])).find(({ length }) => length > 0) ?? [];
+}
+
+test("no modules need each other in a circle", () => {
+  assert.deepEqual(circleIn(neededBy, CODE), []);
+  const circle = { a: ["b"], b: ["c", "d"], c: [], d: ["b"] };
+  assert.deepEqual(circleIn((file) => circle[file], ["a"]), ["b", "d", "b"]);
+});
+
 test("an import from a row above, or from the same row, is a fault that names both files", () => {
   const [run, seeds, keeping] = ["lib/run/group.mjs", "lib/seeds/runs.mjs", "lib/keeping/keep.mjs"];
   const [of, to] = [ROWS.get("lib/run"), ROWS.get("lib/seeds")];

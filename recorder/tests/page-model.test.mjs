@@ -9,7 +9,7 @@ import { fileURLToPath } from "node:url";
 import { test } from "node:test";
 import { pageData, pageOf } from "../lib/keeping/page.mjs";
 import { UNSEEN_LINE } from "../lib/run/trace.mjs";
-import { valueAt } from "../page/model.mjs";
+import { valueAt } from "../page/elements.mjs";
 import { entryText, standingText } from "../page/words.mjs";
 import { KINDS, SIZES } from "../script/kinds.mjs";
 import { EVENTS, FACTS, FILE, FLAG, OUTCOME, SCRIPT, lines, runOf, view } from "./helpers/page-run.mjs";

@@ -8,6 +8,7 @@ import { racesTold } from "../lib/run/findings.mjs";
 import { isRacy, racesOf } from "../lib/run/races.mjs";
 import { SourceNames } from "../lib/run/source-names.mjs";
 import { randomEvents } from "./helpers/events.mjs";
+import { logOf } from "./helpers/logs.mjs";
 import { slowRaces } from "./helpers/second-detector.mjs";
 
 // Events of the runs below. Bytes are of block 0 if no other is given.
@@ -39,7 +40,7 @@ const leave = (agent, byte, size = 4, block = 0) => event("leave", { waiters: tr
 /** What a judgement by clocks says, as pairs of indices. */
 function pairsByClocks(events) {
   const agents = 1 + Math.max(...events.map(({ agent }) => agent));
-  const log = Log.of(events.map((one, index) => ({ call: 0, ...one, source: index + 1 })));
+  const log = logOf(events.map((one, index) => ({ call: 0, ...one, source: index + 1 })));
   const told = racesOf(log, agents);
   assert.equal(isRacy(log, agents), told.length > 0);
   for (const { one, other, block, byte } of told) {
@@ -199,7 +200,7 @@ test("what one line of code does again and again is told once, and no pair of li
   for (let seed = 1; seed <= 500; seed += 1) {
     const events = randomEvents(seed).map((one, index) => ({ ...one, source: 1 + index % 3 }));
     const agents = 1 + Math.max(...events.map(({ agent }) => agent));
-    const told = racesOf(Log.of(events), agents).map(({ one, other }) => [one, other]);
+    const told = racesOf(logOf(events), agents).map(({ one, other }) => [one, other]);
     const racing = slowRaces(events);
     const racingPairs = new Set(racing.map(String));
     for (const pair of told) assert.ok(racingPairs.has(String(pair)), `seed ${seed}: ${pair} don't race`);
@@ -268,7 +269,7 @@ test("of the races of a run a thousand pairs of lines are told, and how many the
   // Agent 0 writes a byte on each of 40 lines, and agent 1 reads it on each of 40 others: 1,600 pairs.
   const access = (agent, source) => ({ ...(agent === 0 ? write : read)(agent, 0, 1), source });
   const numbers = Array.from({ length: LINES }, (_, line) => line + 1);
-  const log = Log.of([0, 1].flatMap((agent) => numbers.map((source) => access(agent, source))));
+  const log = logOf([0, 1].flatMap((agent) => numbers.map((source) => access(agent, source))));
   const sources = [0, 1].map((agent) => ["", ...numbers.map((line) => `file:///a/agents.mjs:${line}:${agent + 1}`)]);
   const run = { log, records: [{}, {}], lengths: [4], canBlock: [true, true] };
   const sourceNames = new SourceNames("file:///a/agents.mjs");

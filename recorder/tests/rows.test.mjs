@@ -7,7 +7,7 @@ import { describe, it, test } from "node:test";
 import { Board } from "../lib/board/board.mjs";
 import { waysOf } from "../lib/board/strategy/ways.mjs";
 import { checkedBy } from "../lib/check/check.mjs";
-import { PHASE } from "../lib/memory/layout.mjs";
+import { PHASE, WORD } from "../lib/memory/layout.mjs";
 import { keptScript } from "../lib/shorter/kept-script.mjs";
 import { shorten } from "../lib/shorter/shorten.mjs";
 import { simulatorAt } from "../lib/simulator/chosen.mjs";
@@ -35,7 +35,7 @@ function boardAt(phases, row) {
 
 /** Who gets the turn, if it is passed on so many times. */
 function drawn(board, times) {
-  for (let time = 0; time < times; time += 1) board.pass(board.strategy.lastMoved());
+  for (let time = 0; time < times; time += 1) board.pass(board.words[WORD.LAST]);
   return board.row.told();
 }
 

@@ -3,12 +3,14 @@
 import assert from "node:assert/strict";
 import { test } from "node:test";
 import { Board } from "../lib/board/board.mjs";
+import { STRATEGIES } from "../lib/board/strategy/table.mjs";
 import { waysOf } from "../lib/board/strategy/ways.mjs";
 import { KnownPlaces, placeNumber } from "../lib/memory/known-places.mjs";
 import { PHASE } from "../lib/memory/layout.mjs";
-import { FLAG, Log } from "../lib/memory/log.mjs";
+import { FLAG } from "../lib/memory/log.mjs";
 import { Pilots } from "../lib/run/pilots.mjs";
 import { Coverage } from "../lib/seeds/coverage.mjs";
+import { logOf } from "./helpers/logs.mjs";
 
 const { READS, WRITES, WAITERS } = FLAG;
 
@@ -164,6 +166,18 @@ test("an agent that makes private calls without an end lets the others move in t
   assert.ok(turns.slice(first).filter((agent) => agent === 1).length > 10);
 });
 
+test("each row of the table is a strategy by its word, and draws among the agents that can move", () => {
+  for (const [name, { hasLikelihood }] of Object.entries(STRATEGIES)) {
+    const [word, wrong] = hasLikelihood ? [`${name}:0.4`, name] : [name, `${name}:0.4`];
+    assert.deepEqual(waysOf(wrong, false), [], wrong);
+    const calls = [0, 1, 2].map(() => call(0, WRITES));
+    assert.deepEqual(new Set(row(asking(word, calls, { everywhere: true }), calls, 400)), new Set([0, 1, 2]), word);
+  }
+  for (const word of ["", "switch:", "switch:1.1", "switch:-1", "switch:.5", "toString", "mixed:1", "uniform "]) {
+    assert.deepEqual(waysOf(word, false), [], word);
+  }
+});
+
 test("of a mixed run the seed says how it is drawn, and each strategy has its share", () => {
   const ways = waysOf("mixed", false);
   const names = ways.map(({ name }) => name);
@@ -180,8 +194,8 @@ test("of a mixed run the seed says how it is drawn, and each strategy has its sh
 });
 
 /** A log of events by words: agent, what is done, the word, and whether it is ordinary. */
-function logOf(events) {
-  return Log.of(events.map(([agent, does, word, isOrdinary = false]) => ({
+function logByWords(events) {
+  return logOf(events.map(([agent, does, word, isOrdinary = false]) => ({
     agent, block: 0, byte: word * 4, size: 4, read: does === "read", write: does === "write",
     atomic: !isOrdinary && does !== "notify", waiters: does === "notify", source: 0,
   })));
@@ -190,7 +204,7 @@ function logOf(events) {
 /** What is known of the calls of agents after some pilots: whether each is the agent's own affair. */
 function known(pilots, calls) {
   const learnt = new Pilots(3);
-  for (const events of pilots) learnt.add(logOf(events));
+  for (const events of pilots) learnt.add(logByWords(events));
   const places = new KnownPlaces(KnownPlaces.memory());
   learnt.tell(places);
   return calls.map(([agent, does, word]) => {
@@ -216,7 +230,7 @@ test("a call beside an ordinary access to a shared place is one to draw at, befo
 });
 
 test("calls that threw show nothing of places, whatever their index was", () => {
-  const log = Log.of([
+  const log = logOf([
     { agent: 0, block: 0, byte: -400, size: 4, read: false, write: false, atomic: true, waiters: false, source: 0 },
     { agent: 0, block: 0, byte: 0, size: 4, read: true, write: false, atomic: true, waiters: false, source: 0 },
   ]);

@@ -29,9 +29,7 @@ declare namespace NodeJS {
 
   interface Input extends AsyncIterable<Uint8Array> {}
 
-  interface Timer {
-    unref(): this;
-  }
+  type Timer = { unref(): Timer };
 
   interface HighResolutionTime {
     (before?: [number, number]): [number, number];
@@ -68,9 +66,7 @@ declare interface ErrorConstructor {
   captureStackTrace(holder: object, from?: Function): void;
 }
 
-declare interface Error {
-  readonly code?: string;
-}
+declare interface Error { readonly code?: string }
 
 declare module "node:inspector" {
   const inspector: { url(): string | undefined };
@@ -90,9 +86,7 @@ declare class Buffer extends Uint8Array {
   write(text: string, encoding?: string): number;
 }
 
-interface URL {
-  readonly href: string;
-}
+interface URL { readonly href: string }
 
 declare var URL: { readonly prototype: URL; new (url: string, base?: string | URL): URL };
 
@@ -282,9 +276,7 @@ declare module "node:perf_hooks" {
   export default all;
 }
 
-declare module "node:process" {
-  export default process;
-}
+declare module "node:process" { export default process }
 
 declare module "node:stream" {
   type Done = (error?: Error | null) => void;
@@ -361,12 +353,7 @@ declare module "node:v8" {
 declare module "node:vm" {
   export function compileFunction(code: string, names: string[], options: { filename: string }): Function;
   export function runInNewContext(code: string): any;
-  const vm: {
-    runInContext(code: string, context: object, options?: unknown): any;
-    isContext(object: object): boolean;
-    createContext(object: object, options?: unknown): object;
-    Script: Function & { prototype: { runInContext: Function } };
-  };
+  const vm: { Script: Function };
   export default vm;
 }
 

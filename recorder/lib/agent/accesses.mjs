@@ -4,25 +4,18 @@
 import { WORD } from "../memory/layout.mjs";
 import { FLAG, NO_CALL, READ, WRITE } from "../memory/log.mjs";
 import { numberHere } from "./frames.mjs";
-import { Repeats } from "./repeats.mjs";
+import { REPEATED, Repeats } from "./repeats.mjs";
 
 // Where sources are told, each access is; but of one that is repeated no more than so many in a row.
 const MOST_TOLD_AGAIN = 100;
 
 /** @typedef {import("./ordinary/context.mjs").Place} Place */
 
+/** What comes of an access: it is noted, it is repeated without an end, the log has no room for it. */
+export const NOTED = Object.freeze({ YES: 0, SPINS: 1, FULL: 2 });
+
 export class Accesses {
-  /** What `note` answers: it is noted, it is repeated without an end, the log has no room for it. */
-  static NOTED = 0;
-
-  static SPINS = 1;
-
-  static FULL = 2;
-
-  /**
-   * @param {number} agent its number
-   * @param {import("./player.mjs").Table} table
-   */
+  /** @param {number} agent its number @param {import("./table.mjs").Table} table */
   constructor(agent, table) {
     this.agent = agent;
     this.table = table;
@@ -57,29 +50,29 @@ export class Accesses {
    * @param {number} to the byte behind its last one
    * @param {boolean} writes
    * @param {number} made how many calls the agent has made
-   * @returns {number} `NOTED`, or why the run ends
+   * @returns {number} one of `NOTED`
    */
   note(place, from, to, writes, made) {
     const { board, log } = this.table;
     this.count += 1;
     const tellsSources = board.words[WORD.TELLS_SOURCES] === 1;
     const repeats = this.repeats.note(place, from, to, writes);
-    const isNew = repeats === Repeats.NEW;
+    const isNew = repeats === REPEATED.NEW;
     if (!isNew) {
-      if (repeats === Repeats.SPINS) return Accesses.SPINS;
-      if (!tellsSources || this.repeats.again > MOST_TOLD_AGAIN) return Accesses.NOTED;
+      if (repeats === REPEATED.SPINS) return NOTED.SPINS;
+      if (!tellsSources || this.repeats.again > MOST_TOLD_AGAIN) return NOTED.YES;
     }
     const what = writes ? WRITE : READ;
     if (!tellsSources && log.extend(what, this.agent, place.block, from, to, place, this.since)) {
-      this.repeats.keep(place, from, to, writes);
-      return Accesses.NOTED;
+      this.repeats.add(place, from, to, writes);
+      return NOTED.YES;
     }
-    if (!log.hasRoom()) return tellsSources && !(writes && isNew) ? Accesses.NOTED : Accesses.FULL;
+    if (!log.hasRoom()) return tellsSources && !(writes && isNew) ? NOTED.YES : NOTED.FULL;
     const source = tellsSources ? numberHere(this.table.sources) : 0;
     const flags = (writes ? FLAG.WRITES : FLAG.READS) | (isNew ? 0 : FLAG.AGAIN);
     log.append(what, this.agent, NO_CALL, flags, made, place.block, from, to, place, source);
-    this.repeats.keep(place, from, to, writes);
-    return Accesses.NOTED;
+    this.repeats.add(place, from, to, writes);
+    return NOTED.YES;
   }
 
   /**
@@ -121,12 +114,7 @@ export class Accesses {
     this.#takeStretch(block, from, to, kind);
   }
 
-  /**
-   * @param {number} block
-   * @param {number} from
-   * @param {number} to
-   * @param {number} kind
-   */
+  /** @param {number} block @param {number} from @param {number} to @param {number} kind */
   #takeStretch(block, from, to, kind) {
     const { log, stores } = this.table;
     if (from < to) stores.takeWritten(this.agent, log.length, block, from, to, kind);

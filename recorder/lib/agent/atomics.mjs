@@ -22,11 +22,7 @@ const { isNaN } = Number;
  * @property {(why: string) => never} refuse ends the run, for a call that no script can have
  */
 
-/**
- * What a call's operands are named in a refusal.
- * @param {number} call
- * @param {number} place
- */
+/** @param {number} call @param {number} place @returns {string} what a call's operands are named in a refusal */
 function operandName(call, place) {
   if (call === COMPARE_EXCHANGE) return place === 0 ? "the expected value" : "the replacement";
   return "the value";
@@ -128,13 +124,13 @@ const HARMLESS = ["isLockFree", "pause"];
 export function recordedAtomics(engine, asking) {
   const own = /** @type {Functions} */ (/** @type {object} */ (engine));
   /** @type {Functions} */
-  const kept = {};
-  for (const name of Object.getOwnPropertyNames(own)) kept[name] = own[name];
+  const functions = {};
+  for (const name of Object.getOwnPropertyNames(own)) functions[name] = own[name];
   const made = /** @type {typeof Atomics} */ ({});
-  for (const name of Object.keys(kept)) {
-    let value = kept[name];
-    if (name in CALL_NUMBERS) value = likeEngine(recorded(kept, asking, CALL_NUMBERS[name]), value);
-    else if (!HARMLESS.includes(name)) value = likeEngine(outside(kept, asking, name), value);
+  for (const name of Object.keys(functions)) {
+    let value = functions[name];
+    if (name in CALL_NUMBERS) value = likeEngine(recorded(functions, asking, CALL_NUMBERS[name]), value);
+    else if (!HARMLESS.includes(name)) value = likeEngine(outside(functions, asking, name), value);
     put(made, name, value);
   }
   const tag = { value: "Atomics", configurable: true };

@@ -8,16 +8,10 @@ const { wait: WAIT, notify: NOTIFY, load: LOAD, store: STORE, compareExchange: C
 
 /** @typedef {import("../memory/records.mjs").Call} Call */
 
-/**
- * Whether a call's index is one of its view's.
- * @param {Call} call
- */
+/** @param {Call} call @returns {boolean} whether a call's index is one of its view's */
 export const isWithin = (call) => call.index >= 0 && call.index < call.length;
 
-/**
- * What a call may do, as flags, before it is done.
- * @param {Call} call
- */
+/** @param {Call} call @returns {number} what a call may do, as flags, before it is done */
 export function flagsAsked(call) {
   if (call.call === LOAD) return FLAG.READS;
   if (call.call === STORE) return FLAG.WRITES;

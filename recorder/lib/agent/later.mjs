@@ -61,21 +61,23 @@ function endOf(text) {
   return found < 0 ? text.length - 2 : found;
 }
 
-/** Whether a tick throws what a listener of an EventTarget has thrown. */
-function isListenersTick() {
+/**
+ * @param {(frame: NodeJS.CallSite) => boolean} test
+ * @returns {NodeJS.CallSite | undefined} the innermost frame of the code that runs now for which it holds
+ */
+function frameThat(test) {
   const frames = framesHere();
   for (let at = 0; at < frames.length; at += 1) {
-    if (frames[at].getFileName() !== LISTENERS.file) continue;
-    return frames[at].getFunctionName() === LISTENERS.throwing;
+    if (test(frames[at])) return frames[at];
   }
-  return false;
+  return undefined;
 }
 
-/**
- * What a function throws.
- * @param {Function} act
- * @returns {{ thrown?: unknown }}
- */
+/** @returns {boolean} whether a tick throws what a listener of an EventTarget has thrown */
+const isListenersTick = () =>
+  frameThat((frame) => frame.getFileName() === LISTENERS.file)?.getFunctionName() === LISTENERS.throwing;
+
+/** @param {Function} act @returns {{ thrown?: unknown }} what a function throws */
 function thrownBy(act) {
   try {
     act();
@@ -88,7 +90,7 @@ function thrownBy(act) {
 /** @param {string} type of node's resources @returns {string | undefined} what goes on later, in words */
 function wordFor(type) {
   if (type === "TickObject" && isHarmlessTick()) return undefined;
-  if (type === ZLIB.type) return isMadeForZlib() ? undefined : "a stream of zlib";
+  if (type === ZLIB.type) return frameThat(isZlibAtOnce) === undefined ? "a stream of zlib" : undefined;
   const word = WORDS[type];
   if (word !== undefined) return word;
   for (let at = 0; at < CALLBACKS.length; at += 1) {
@@ -97,23 +99,11 @@ function wordFor(type) {
   return undefined;
 }
 
-/**
- * Whether a frame is of what zlib does at once.
- * @param {NodeJS.CallSite} frame
- */
+/** @param {NodeJS.CallSite} frame @returns {boolean} whether a frame is of what zlib does at once */
 function isZlibAtOnce(frame) {
   if (frame.getFileName() !== ZLIB.file) return false;
   const name = frame.getFunctionName();
   return name === ZLIB.atOnce || name === ZLIB.making;
-}
-
-/** Whether a stream of zlib is made by zlib itself, for what it does at once. */
-function isMadeForZlib() {
-  const frames = framesHere();
-  for (let at = 0; at < frames.length; at += 1) {
-    if (isZlibAtOnce(frames[at])) return true;
-  }
-  return false;
 }
 
 /** Whether `process.nextTick` is called by one of node's own files that do no harm there. */
@@ -214,12 +204,12 @@ export class Later {
 
   /** Lets node load what it loads late, without a note of it. */
   #leaveLoading() {
-    for (let at = 0; at < LOADED_LATE.length; at += 1) {
-      const found = getOwnPropertyDescriptor(globalThis, LOADED_LATE[at]);
+    for (const name of LOADED_LATE) {
+      const found = getOwnPropertyDescriptor(globalThis, name);
       if (found?.get === undefined) continue;
       const { get } = found;
       found.get = () => this.#unwatched(() => apply(get, globalThis, []));
-      defineProperty(globalThis, LOADED_LATE[at], found);
+      defineProperty(globalThis, name, found);
     }
   }
 
@@ -239,10 +229,7 @@ export class Later {
     }
   }
 
-  /**
-   * @param {string} type of node's resource
-   * @param {any} resource of which node's own names are known
-   */
+  /** @param {string} type of node's resource @param {any} resource of which node's own names are known */
   #note(type, resource) {
     if (!this.isWatching || this.found !== undefined) return;
     const word = TIMERS[type];

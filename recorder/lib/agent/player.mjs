@@ -1,5 +1,5 @@
-// One agent's part in a run, in its own thread: it asks for each call, makes it with the engine's own Atomics when the
-// turn is its own, and writes down what came of it.
+// Plays an agent's part in a run, in the agent's own thread: asks for each call, makes it with the engine's own Atomics
+// when the agent has the turn, and logs it.
 
 import { CALL_NUMBERS, SIZES } from "../../script/kinds.mjs";
 import { SCRIPT_LIMITS } from "../../script/limits.mjs";
@@ -10,13 +10,13 @@ import { FLAG } from "../memory/log.mjs";
 import { byteOf } from "../memory/memory.mjs";
 import { callText, textRoom, viewKey, viewName } from "../memory/spelling.mjs";
 import { mapGet, mapSet, mapHas, uncurried } from "../primordials.mjs";
-import { Accesses } from "./accesses.mjs";
+import { NOTED } from "./accesses.mjs";
 import { foundBy, leftOpen } from "./answer.mjs";
 import { effectOf, flagsAsked, isWithin } from "./effects.mjs";
 import { engineCall } from "./engine.mjs";
-import { numberAbove, sourceHere } from "./frames.mjs";
-import { RunIsOver } from "./over.mjs";
-import { changeText, laterText, undone } from "./undone.mjs";
+import { numberAbove } from "./frames.mjs";
+import { Part, RunIsOver } from "./part.mjs";
+import { undone } from "./undone.mjs";
 
 const { wait: WAIT, notify: NOTIFY } = CALL_NUMBERS;
 const { RangeError: EngineRangeError, TypeError: EngineTypeError, Map: EngineMap } = globalThis;
@@ -24,45 +24,23 @@ const clearMap = uncurried(Map.prototype.clear);
 
 /** @typedef {import("../memory/records.mjs").Call} Call */
 /** @typedef {import("./ordinary/context.mjs").Place} Place */
-
-/**
- * What an agent plays with.
- * @typedef {object} Table
- * @property {import("../board/board.mjs").Board} board
- * @property {import("../memory/memory.mjs").Memory} memory
- * @property {import("../memory/log.mjs").Log} log
- * @property {import("../memory/stores.mjs").Stores} stores
- * @property {import("../memory/records.mjs").Records} records of its own calls
- * @property {import("../memory/sources.mjs").Sources} sources of its own code
- * @property {import("./later.mjs").Later} later
- * @property {import("./time.mjs").Chance} chance
- * @property {number[]} lengths of the buffers
- * @property {boolean} canBlock
- * @property {"watch" | "store" | "refuse"} ordinary
- */
+/** @typedef {import("./table.mjs").Table} Table */
 
 export class Player {
-  /**
-   * @param {number} agent its number
-   * @param {Table} table
-   */
+  /** @param {number} agent its number @param {Table} table */
   constructor(agent, table) {
     this.agent = agent;
     this.table = table;
     /** The run in which it began last. What a worker before it has begun isn't begun again. */
     this.started = table.board.turn.lastStart(agent);
-    this.made = 0;
-    /** Whether the agent has a part in a run now. */
-    this.isPlaying = false;
-    /** Whether that run is over for it. */
-    this.isOver = false;
-    /** Whether it is in a call of Atomics. It stays so where an exception ends the call amid its way. */
-    this.isInside = false;
-    /** @type {Call | undefined} the last call, for messages */
-    this.last = undefined;
     /** @type {Map<number, number>} the views that the script has, by their keys: the length of each one's name */
     this.views = new EngineMap();
-    this.accesses = new Accesses(agent, table);
+    this.part = new Part(agent, table);
+  }
+
+  /** Whether the agent has a part in a run now. */
+  get isPlaying() {
+    return this.part.isPlaying;
   }
 
   /**
@@ -92,7 +70,7 @@ export class Player {
   }
 
   /**
-   * Does something else than its part in a run: nothing of it is recorded. It tells what went wrong in it.
+   * Does something else than its part in a run. Nothing of it is recorded. It reports what went wrong.
    * @param {() => unknown} body
    * @param {(thrown: unknown) => string} described
    */
@@ -119,14 +97,14 @@ export class Player {
    * @returns {unknown} what it answers; what it throws, it throws
    */
   make(call, view, called) {
-    this.#enter();
+    this.part.enter();
     this.#stayWithin(call);
     const source = this.#source(called);
     this.#ask(call);
     this.#untilTurn();
     this.#stayInRow(call);
-    this.table.records.begin(this.made, call);
-    this.last = call;
+    this.table.records.begin(this.part.made, call);
+    this.part.last = call;
     if (call.call === WAIT) return this.#wait(call, view, source);
     if (call.call === NOTIFY) return this.#notify(call, view, source);
     return this.#access(call, view, source);
@@ -138,8 +116,8 @@ export class Player {
    * @returns {never}
    */
   refuse(text) {
-    this.#enter();
-    return this.#end("failed", `agent ${this.agent} ${text}`);
+    this.part.enter();
+    return this.part.end("failed", `agent ${this.agent} ${text}`);
   }
 
   /**
@@ -150,10 +128,11 @@ export class Player {
    * @param {boolean} writes
    */
   seen(place, from, to, writes) {
-    if (this.isOver || this.table.board.words[WORD.ENDED] !== 0) this.#interrupted();
-    const noted = this.accesses.note(place, from, to, writes, this.made);
-    if (noted === Accesses.SPINS) this.#spins("it reads the same bytes again and again without a call of Atomics");
-    if (noted === Accesses.FULL) this.#bound(`more than ${this.table.log.most} reads and writes were made that differ`);
+    const { part } = this;
+    if (part.isOver || this.table.board.words[WORD.ENDED] !== 0) part.interrupted();
+    const noted = part.accesses.note(place, from, to, writes, part.made);
+    if (noted === NOTED.SPINS) part.spins("it reads the same bytes again and again without a call of Atomics");
+    if (noted === NOTED.FULL) part.bound(`more than ${this.table.log.most} reads and writes were made that differ`);
   }
 
   /** @returns {boolean} whether what is done now is done to learn from alone */
@@ -163,36 +142,28 @@ export class Player {
 
   /** @returns {number} what time it is in the run */
   look() {
-    if (this.isOver || this.table.board.end.hasEnded()) this.#over();
+    this.part.needsRun();
     return this.table.board.clock.look();
   }
 
   /** @param {number} milliseconds for which the agent sleeps where nobody else can wake it */
   doze(milliseconds) {
-    if (this.isOver || this.table.board.end.hasEnded()) this.#over();
+    this.part.needsRun();
     this.table.board.clock.pass(milliseconds);
   }
 
   #begin() {
     const { board, stores, later, chance } = this.table;
-    this.made = 0;
-    this.isInside = false;
     clearMap(this.views);
-    this.accesses.begin();
+    this.part.begin();
     stores.join();
     chance.begin(board.clock.seed());
     later.begin();
-    this.isPlaying = true;
-    this.isOver = false;
     board.line.become(this.agent, PHASE.RUNS);
     board.turn.leave(this.agent);
   }
 
-  /**
-   * @param {Call} call
-   * @param {object} view
-   * @param {number} source
-   */
+  /** @param {Call} call @param {object} view @param {number} source */
   #access(call, view, source) {
     const value = this.#tried(call, source, () => {
       const from = byteOf(call);
@@ -200,7 +171,7 @@ export class Player {
       return engineCall(call, view);
     });
     const from = byteOf(call);
-    this.table.memory.keep(call.block, from, from + SIZES[call.kind]);
+    this.table.memory.takeOver(call.block, from, from + SIZES[call.kind]);
     this.#log(MAKE, call, FLAG.ATOMIC | effectOf(call, value), source);
     return this.#answer(value, MAKE);
   }
@@ -237,17 +208,16 @@ export class Player {
       this.#log(MAKE, call, flags, source);
       return this.#answer(word, MAKE);
     }
-    records.join(this.made);
+    records.join(this.part.made);
     this.#log(JOIN, call, flags, source);
     board.did(this.agent, JOIN);
     board.line.join(this.agent, call.block, byteOf(call), call.limit !== undefined);
     if (call.limit !== undefined) board.clock.setDeadline(this.agent, call.milliseconds ?? call.limit);
     this.#untilTurn();
     this.#stayInRow();
-    const isWoken = board.line.phase(this.agent) === PHASE.WOKEN;
-    if (!isWoken) board.clock.reachDeadline(this.agent);
-    this.#log(isWoken ? LEAVE : TIME_UP, call, FLAG.WAITERS, source);
-    return isWoken ? this.#answer("ok", LEAVE) : this.#answer("timed-out", TIME_UP);
+    const end = board.timesOut(this.agent) ? TIME_UP : LEAVE;
+    this.#log(end, call, FLAG.WAITERS, source);
+    return this.#answer(end === TIME_UP ? "timed-out" : "ok", end);
   }
 
   /**
@@ -264,23 +234,18 @@ export class Player {
     } catch (error) {
       const isRange = error instanceof EngineRangeError;
       // No index is to blame, so it is the stack that came to its end: no answer of the call.
-      if (isRange && isWithin(call)) this.#outOfStack();
+      if (isRange && isWithin(call)) this.part.outOfStack();
       this.#log(MAKE, call, 0, source);
       this.#answer(isRange ? "RangeError" : "TypeError", MAKE);
       throw error;
     }
   }
 
-  /**
-   * @param {number} event
-   * @param {Call} call
-   * @param {number} flags
-   * @param {number} source
-   */
+  /** @param {number} event @param {Call} call @param {number} flags @param {number} source */
   #log(event, call, flags, source) {
     const from = byteOf(call);
     this.table.log.append(
-      event, this.agent, call.call, flags, this.made, call.block, from, from + SIZES[call.kind], call, source,
+      event, this.agent, call.call, flags, this.part.made, call.block, from, from + SIZES[call.kind], call, source,
     );
   }
 
@@ -293,26 +258,13 @@ export class Player {
    */
   #answer(answer, event) {
     const { board, records } = this.table;
-    records.answer(this.made, answer);
-    this.made += 1;
+    records.answer(this.part.made, answer);
+    this.part.made += 1;
     board.did(this.agent, event);
     board.line.become(this.agent, PHASE.RUNS);
-    this.accesses.goOn();
-    this.isInside = false;
+    this.part.goOn();
     board.turn.leave(this.agent);
     return answer;
-  }
-
-  /** The agent's own code has made a call. What it changed by ordinary writes is taken here. */
-  #enter() {
-    const { board, later } = this.table;
-    if (this.isInside) this.#outOfStack();
-    if (!board.turn.enter(this.agent)) this.#over();
-    this.isInside = true;
-    this.accesses.renew();
-    this.#take();
-    const goesOn = later.told();
-    if (goesOn !== undefined) this.#end("failed", `agent ${this.agent} ${laterText(goesOn, "an agent")}`);
   }
 
   /** @param {Call} call that the agent asks for */
@@ -327,36 +279,30 @@ export class Player {
   #untilTurn() {
     const { board } = this.table;
     if (!board.pass(this.agent)) board.turn.sleep(this.agent);
-    if (board.end.isOver()) this.#over();
+    if (board.end.isOver()) this.part.over();
   }
 
   /** @param {string | undefined} problem why the agent's code ended, where it didn't come to its end */
   #finish(problem) {
     const { board, later } = this.table;
     later.end();
-    board.journal.countOrdinary(this.agent, this.accesses.count);
+    board.journal.countOrdinary(this.agent, this.part.accesses.count);
     let hasTurn = false;
     try {
-      if (this.isInside) this.#outOfStack();
+      if (this.part.isInside) this.part.outOfStack();
       hasTurn = board.turn.enter(this.agent);
-      if (hasTurn) this.#take();
+      if (hasTurn) this.part.take();
     } catch (over) {
       if (!(over instanceof RunIsOver)) throw over;
       hasTurn = false;
     }
-    this.isPlaying = false;
+    this.part.isPlaying = false;
     board.line.become(this.agent, PHASE.FINISHED);
     board.turn.goHome(this.agent);
     if (!hasTurn) return;
     const why = problem ?? undone(later, "an agent");
     if (why === undefined) board.pass(this.agent);
     else board.end.end("failed", `agent ${this.agent} ${why}`);
-  }
-
-  /** Takes what ordinary writes have changed since the agent's last call. */
-  #take() {
-    const change = this.accesses.take();
-    if (change !== undefined) this.#end("failed", changeText(change, this));
   }
 
   /**
@@ -366,14 +312,14 @@ export class Player {
   #stayWithin(call) {
     const { calls, views, text } = SCRIPT_LIMITS;
     const { board, lengths } = this.table;
-    if (this.made >= calls) this.#meetsCalls(calls);
+    if (this.part.made >= calls) this.part.meetsMostCalls();
     const key = viewKey(call);
     if (!mapHas(this.views, key)) {
-      if (!board.journal.registers(key)) this.#bound(`more than ${views} different typed arrays were used`);
+      if (!board.journal.registers(key)) this.part.bound(`more than ${views} different typed arrays were used`);
       mapSet(this.views, key, viewName(lengths, call).length);
     }
     if (!board.journal.takesText(textRoom(mapGet(this.views, key), call))) {
-      this.#bound(`the script would be longer than ${text} bytes`);
+      this.part.bound(`the script would be longer than ${text} bytes`);
     }
   }
 
@@ -384,58 +330,7 @@ export class Player {
   #stayInRow(call) {
     const { board, lengths } = this.table;
     if (board.row.allows(this.agent, call)) return;
-    this.#end("failed", call === undefined ? "" : callText(viewName(lengths, call), call));
-  }
-
-  /** @param {number} most */
-  #meetsCalls(most) {
-    if (this.table.records.endsAlike(this.made)) this.#spins(`it has made ${most} calls, and goes on`);
-    const source = sourceHere();
-    const where = source === undefined ? "" : ` at ${source}`;
-    this.#bound(`agent ${this.agent} has made ${most} calls, and goes on${where}`);
-  }
-
-  /** @param {string} what it does again and again @returns {never} */
-  #spins(what) {
-    const source = sourceHere();
-    const where = source === undefined ? "" : ` at ${source}`;
-    return this.#bound(`agent ${this.agent} spins${where}: ${what}`);
-  }
-
-  /** @param {string} detail @returns {never} */
-  #bound(detail) {
-    return this.#end("bound", detail);
-  }
-
-  /** The run has ended while this agent's code went on, or the referee asks where it is. */
-  #interrupted() {
-    const { board } = this.table;
-    if (!this.isOver && board.end.isAsked() && board.turn.enter(this.agent)) {
-      this.#spins("it has made no call for too long");
-    }
-    this.#over();
-  }
-
-  /** The stack came to its end amid a call: the agent can't go on as if it had been made. */
-  #outOfStack() {
-    const { board } = this.table;
-    if (!board.turn.isInCall(this.agent) && !board.end.hasEnded()) board.turn.sleep(this.agent);
-    if (board.end.hasEnded() || board.end.isOver()) this.#over();
-    this.#end("failed", `agent ${this.agent} ran out of stack in a call of Atomics`);
-  }
-
-  /** @param {import("../board/end.mjs").Ended} ending @param {string} detail @returns {never} */
-  #end(ending, detail) {
-    this.table.board.journal.countOrdinary(this.agent, this.accesses.count);
-    this.table.board.end.end(ending, detail);
-    return this.#over();
-  }
-
-  /** @returns {never} */
-  #over() {
-    this.isOver = true;
-    this.isInside = false;
-    throw new RunIsOver();
+    this.part.end("failed", call === undefined ? "" : callText(viewName(lengths, call), call));
   }
 
   /** @param {Function} called @returns {number} where the agent's code is, where sources are told */

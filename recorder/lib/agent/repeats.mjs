@@ -1,20 +1,20 @@
 // Which ordinary accesses an agent has made since its last call, so that the same one is noted once, and a spin is
 // found. Nobody else moves between two calls of an agent: what it repeats there tells nothing new.
 
+import { uncurried } from "../primordials.mjs";
+
 const { Int32Array } = globalThis;
+const fill = uncurried(Int32Array.prototype.fill);
 
 // So often is one access repeated before it is a spin: nothing that it reads can change meanwhile.
 const SPIN = 1_000_000;
 
 const MOST_EPOCHS = 2 ** 26;
 
+/** What an access is among those since the last call. */
+export const REPEATED = Object.freeze({ NEW: 0, KNOWN: 1, SPINS: 2 });
+
 export class Repeats {
-  static NEW = 0;
-
-  static KNOWN = 1;
-
-  static SPINS = 2;
-
   /** @param {number[]} lengths of the blocks */
   constructor(lengths) {
     /** For each byte, when an access began there last, and how long it was: of reads, and of writes. */
@@ -33,10 +33,8 @@ export class Repeats {
   begin() {
     if (this.epoch > MOST_EPOCHS / 2) {
       for (let block = 0; block < this.reads.length; block += 1) {
-        for (let byte = 0; byte < this.reads[block].length; byte += 1) {
-          this.reads[block][byte] = 0;
-          this.writes[block][byte] = 0;
-        }
+        fill(this.reads[block], 0);
+        fill(this.writes[block], 0);
       }
       this.epoch = 0;
     }
@@ -51,7 +49,7 @@ export class Repeats {
   }
 
   /**
-   * Whether the agent has made an access since its last call. One that is new is kept by `keep`, when it is in the log:
+   * Whether the agent has made an access since its last call. One that is new is added when it is in the log:
    * where the stack comes to its end between, the agent may make it again.
    * @param {{ block: number }} place
    * @param {number} from
@@ -61,16 +59,16 @@ export class Repeats {
    */
   note(place, from, to, writes) {
     const size = to - from;
-    if (size > 8) return Repeats.NEW;
+    if (size > 8) return REPEATED.NEW;
     const stamps = writes ? this.writes[place.block] : this.reads[place.block];
-    if (stamps[from] !== ((this.epoch << 4) | size)) return Repeats.NEW;
+    if (stamps[from] !== ((this.epoch << 4) | size)) return REPEATED.NEW;
     if (writes || this.last !== from) {
       this.last = writes ? -1 : from;
       this.again = 0;
-      return Repeats.KNOWN;
+      return REPEATED.KNOWN;
     }
     this.again += 1;
-    return this.again < SPIN ? Repeats.KNOWN : Repeats.SPINS;
+    return this.again < SPIN ? REPEATED.KNOWN : REPEATED.SPINS;
   }
 
   /**
@@ -80,7 +78,7 @@ export class Repeats {
    * @param {number} to
    * @param {boolean} writes
    */
-  keep(place, from, to, writes) {
+  add(place, from, to, writes) {
     const size = to - from;
     if (size > 8) return;
     const stamps = writes ? this.writes[place.block] : this.reads[place.block];

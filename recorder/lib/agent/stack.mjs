@@ -14,13 +14,13 @@ const OWN = new URL("../", import.meta.url).href;
  * @returns {string}
  */
 export function withoutOwn(stack) {
-  let kept = "";
+  let rest = "";
   for (let from = 0; from < stack.length;) {
     const found = indexOf(stack, "\n", from + 1);
     const to = found < 0 ? stack.length : found;
     const line = slice(stack, from, to);
-    if (!includes(line, OWN)) kept += line;
+    if (!includes(line, OWN)) rest += line;
     from = to;
   }
-  return kept;
+  return rest;
 }

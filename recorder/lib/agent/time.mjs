@@ -143,10 +143,7 @@ function simulateNodeChance(chance) {
   put(crypto, "randomInt", likeEngine(randomIntOf, randomInt));
 }
 
-/**
- * A version 4 UUID.
- * @param {Chance} chance
- */
+/** @param {Chance} chance @returns {string} a version 4 UUID */
 function uuidOf(chance) {
   const bytes = bytesFrom(16);
   chance.fill(bytes);

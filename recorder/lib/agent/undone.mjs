@@ -23,7 +23,8 @@ export function undone(later, who) {
 /**
  * A change of a byte that nothing stands for.
  * @param {import("../memory/memory.mjs").Change} change
- * @param {import("./player.mjs").Player} player of the agent that made it
+ * @param {{ agent: number, made: number, last: import("../memory/records.mjs").Call | undefined,
+ *   table: import("./table.mjs").Table }} part of the agent that made it
  */
 export function changeText({ block, byte, was, is }, { agent, made, last, table }) {
   const when = last === undefined || made === 0

@@ -7,7 +7,7 @@ import { ORDER, PHASE, WORD, wordsFor } from "../memory/layout.mjs";
 import { Random } from "../memory/random.mjs";
 import { Clock } from "./clock.mjs";
 import { End } from "./end.mjs";
-import { EVENTS, Journal } from "./journal.mjs";
+import { Journal, MOVES } from "./journal.mjs";
 import { Line } from "./line.mjs";
 import { Row, STRAYS } from "./row.mjs";
 import { NOBODY_MOVES, Strategy } from "./strategy.mjs";
@@ -45,10 +45,7 @@ export class Board {
     };
   }
 
-  /**
-   * @param {BoardMemory} memory
-   * @param {import("./strategy.mjs").Rules} rules
-   */
+  /** @param {BoardMemory} memory @param {import("./strategy.mjs").Rules} rules */
   constructor(memory, rules) {
     const { agents } = rules;
     this.rules = rules;
@@ -113,15 +110,26 @@ export class Board {
       turn.start(first);
       return false;
     }
-    if (!strategy.hasMoves() && this.#somebodyCan()) {
+    if (!strategy.hasMoves() && this.#anyAgent((each) => line.canMove(each))) {
       end.end("bound", `more than ${rules.maxMoves} moves would be made`);
       return false;
     }
     const next = strategy.next();
     if (next === STRAYS) end.end("failed", "");
-    else if (next === NOBODY_MOVES) end.end(this.#somebodyWaits(line) ? "deadlock" : "finished", "");
+    else if (next === NOBODY_MOVES) end.end(this.#anyAgent((each) => line.waits(each)) ? "deadlock" : "finished", "");
     else if (next !== agent) turn.give(next);
     return next === agent;
+  }
+
+  /**
+   * How a wait ends whose agent has the turn.
+   * @param {number} agent
+   * @returns {boolean} whether its time is up, which the clock then tells; else it was woken
+   */
+  timesOut(agent) {
+    const isUp = this.line.phase(agent) !== PHASE.WOKEN;
+    if (isUp) this.clock.reachDeadline(agent);
+    return isUp;
   }
 
   /**
@@ -131,7 +139,7 @@ export class Board {
    */
   did(agent, event) {
     this.journal.count(agent, event);
-    this.clock.advance(EVENTS[event].moves);
+    this.clock.advance(MOVES[event]);
   }
 
   /** @param {number} order */
@@ -143,18 +151,10 @@ export class Board {
     store(words, WORD.RUN, (load(words, WORD.RUN) + 1) | 0);
   }
 
-  #somebodyCan() {
+  /** @param {(agent: number) => boolean} holds @returns {boolean} whether it holds of any agent */
+  #anyAgent(holds) {
     for (let agent = 0; agent < this.rules.agents; agent += 1) {
-      const phase = this.line.phase(agent);
-      if (phase !== PHASE.WAITS && phase !== PHASE.FINISHED && phase !== PHASE.RUNS) return true;
-    }
-    return false;
-  }
-
-  /** @param {Line} line */
-  #somebodyWaits(line) {
-    for (let agent = 0; agent < this.rules.agents; agent += 1) {
-      if (line.waits(agent)) return true;
+      if (holds(agent)) return true;
     }
     return false;
   }

@@ -1,7 +1,7 @@
 // How a run ends, and that it has ended.
 
 import { NOBODY, WORD } from "../memory/layout.mjs";
-import { uncurried } from "../primordials.mjs";
+import { positionIn, uncurried } from "../primordials.mjs";
 
 // Agents get another Atomics, and may change what they find: the engine's own functions are kept here, before.
 const { load, store, compareExchange, wait, notify } = Atomics;
@@ -18,18 +18,8 @@ const GOES_ON = 0;
 const ENDED = 1;
 const ASKED = 2;
 
-/** @param {Ended} ending */
-const numberOf = (ending) => {
-  let number = 0;
-  while (ENDINGS[number] !== ending) number += 1;
-  return number;
-};
-
 export class End {
-  /**
-   * @param {Int32Array} words of the board
-   * @param {Buffer} text where the details are told
-   */
+  /** @param {Int32Array} words of the board @param {Buffer} text where the details are told */
   constructor(words, text) {
     this.words = words;
     this.text = text;
@@ -111,6 +101,6 @@ export class End {
   /** @param {Ended} ending @param {string} detail */
   #tell(ending, detail) {
     this.words[WORD.TEXT_LENGTH] = encode(encoder, detail, this.text).written;
-    this.words[WORD.ENDING] = numberOf(ending);
+    this.words[WORD.ENDING] = positionIn(ENDINGS, ending);
   }
 }

@@ -3,17 +3,12 @@
 import { SCRIPT_LIMITS } from "../../script/limits.mjs";
 import { AGENT_WORD, WORD, wordOf } from "../memory/layout.mjs";
 
-/** What is done at a time, and how many moves it takes. Its position is its number in the log. */
-export const EVENTS = Object.freeze([
-  Object.freeze({ name: "make", moves: 3 }),
-  Object.freeze({ name: "join", moves: 2 }),
-  Object.freeze({ name: "leave", moves: 2 }),
-  Object.freeze({ name: "timeUp", moves: 2 }),
-]);
+/** What is done at a time, by its number in the log; and how many moves each takes. */
 export const MAKE = 0;
 export const JOIN = 1;
 export const LEAVE = 2;
 export const TIME_UP = 3;
+export const MOVES = Object.freeze([3, 2, 2, 2]);
 export const MOST_MOVES = 3;
 
 // How much of a script's text there is besides its calls and moves, at most.
@@ -51,15 +46,12 @@ export class Journal {
    */
   count(agent, event) {
     const { words } = this;
-    words[WORD.MOVES] += EVENTS[event].moves;
+    words[WORD.MOVES] += MOVES[event];
     if (event === MAKE || event === JOIN) words[wordOf(agent, AGENT_WORD.CALLS)] += 1;
     if (event !== JOIN) words[wordOf(agent, AGENT_WORD.RETURNED)] += 1;
   }
 
-  /**
-   * @param {number} agent
-   * @param {number} accesses how many ordinary reads and writes it has made
-   */
+  /** @param {number} agent @param {number} accesses how many ordinary reads and writes it has made */
   countOrdinary(agent, accesses) {
     this.words[wordOf(agent, AGENT_WORD.ORDINARY)] = accesses;
   }

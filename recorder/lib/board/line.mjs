@@ -4,13 +4,8 @@ import { AGENT_WORD, PHASE, WORD, wordOf } from "../memory/layout.mjs";
 
 const { load } = Atomics;
 
-/** @typedef {{ block: number, byte: number }} Place */
-
 export class Line {
-  /**
-   * @param {Int32Array} words of the board
-   * @param {number} agents how many
-   */
+  /** @param {Int32Array} words of the board @param {number} agents how many */
   constructor(words, agents) {
     this.words = words;
     this.agents = agents;
@@ -27,10 +22,7 @@ export class Line {
     return load(this.words, wordOf(agent, AGENT_WORD.PHASE));
   }
 
-  /**
-   * @param {number} agent
-   * @param {number} phase one of `PHASE`
-   */
+  /** @param {number} agent @param {number} phase one of `PHASE` */
   become(agent, phase) {
     this.words[wordOf(agent, AGENT_WORD.PHASE)] = phase;
   }
@@ -69,19 +61,21 @@ export class Line {
     return woken;
   }
 
-  /** @param {number} agent that waits @returns {Place} */
-  placeOf(agent) {
+  /** @returns {{ agent: number, block: number, byte: number }[]} who waits where, in order of arrival */
+  waiting() {
     const { words } = this;
-    return {
+    const all = Array.from({ length: this.agents }, (_, agent) => agent).filter((agent) => this.waits(agent));
+    return all.sort((one, other) => this.#ticket(one) - this.#ticket(other)).map((agent) => ({
+      agent,
       block: words[wordOf(agent, AGENT_WORD.WHERE_BLOCK)],
       byte: words[wordOf(agent, AGENT_WORD.WHERE_BYTE)],
-    };
+    }));
   }
 
-  /** @returns {number[]} the agents that wait, the one that came first before the others */
-  waiting() {
-    const all = Array.from({ length: this.agents }, (_, agent) => agent);
-    return all.filter((agent) => this.waits(agent)).sort((one, other) => this.#ticket(one) - this.#ticket(other));
+  /** @param {number} agent @returns {boolean} whether there is a move for it: also the end of a wait's time */
+  canMove(agent) {
+    const phase = this.phase(agent);
+    return phase === PHASE.ASKS || phase === PHASE.WOKEN || phase === PHASE.WAITS_TIMED;
   }
 
   /** @param {number} agent */

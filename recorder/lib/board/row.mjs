@@ -10,7 +10,7 @@
 import { SCRIPT_LIMITS } from "../../script/limits.mjs";
 import { AGENT_WORD, NOBODY, PHASE, wordOf } from "../memory/layout.mjs";
 import { placedCallText } from "../memory/spelling.mjs";
-import { uncurried } from "../primordials.mjs";
+import { positionIn, uncurried } from "../primordials.mjs";
 
 // Agents may change what they find, so the engine's own functions are kept here, before.
 const { Int32Array, Uint8Array, SharedArrayBuffer } = globalThis;
@@ -51,13 +51,6 @@ const NO_CALL = 0;
 
 /** @type {readonly StrayReason[]} the word STRAY is a position here, from 1 on; with 0 the run hasn't strayed */
 const REASONS = Object.freeze(["call", "leaves", "waits", "ended", "goes on"]);
-
-/** @param {StrayReason} reason */
-const numberOf = (reason) => {
-  let number = 0;
-  while (REASONS[number] !== reason) number += 1;
-  return number + 1;
-};
 
 /**
  * @typedef {object} Stray how a run that was forced exactly has strayed from its row
@@ -106,11 +99,7 @@ export class Row {
     };
   }
 
-  /**
-   * @param {RowMemory} memory
-   * @param {Int32Array} words of the board
-   * @param {number} agents how many
-   */
+  /** @param {RowMemory} memory @param {Int32Array} words of the board @param {number} agents how many */
   constructor(memory, words, agents) {
     this.state = new Int32Array(memory.state);
     this.forced = new Uint8Array(memory.forced);
@@ -250,7 +239,7 @@ export class Row {
 
   /** @param {StrayReason} reason @param {number} agent */
   #stray(reason, agent) {
-    this.state[STRAY] = numberOf(reason);
+    this.state[STRAY] = positionIn(REASONS, reason) + 1;
     this.state[STRAY_AGENT] = agent;
     return STRAYS;
   }

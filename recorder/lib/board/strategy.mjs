@@ -6,9 +6,7 @@ import { AGENT_WORD, PHASE, WORD, wordOf } from "../memory/layout.mjs";
 import { MOST_MOVES } from "./journal.mjs";
 import { Able } from "./strategy/able.mjs";
 import { Asked } from "./strategy/asked.mjs";
-import { PartialOrder } from "./strategy/partial-order.mjs";
-import { Switching } from "./strategy/switching.mjs";
-import { Uniform } from "./strategy/uniform.mjs";
+import { STRATEGIES } from "./strategy/table.mjs";
 import { PILOT_WAYS } from "./strategy/ways.mjs";
 
 /**
@@ -20,10 +18,12 @@ import { PILOT_WAYS } from "./strategy/ways.mjs";
  */
 
 /** @typedef {import("./strategy/ways.mjs").Way} Way */
-/** @typedef {Uniform | Switching | PartialOrder} Drawing */
 
 /** What `next` answers where nobody moves any more. */
 export const NOBODY_MOVES = -1;
+
+// All that can move are drawn for: no call is its agent's own affair.
+const NOBODY_GOES_ON = -2;
 
 // A pilot that is long shows little more.
 const MOST_PILOT_MOVES = 10_000;
@@ -47,10 +47,7 @@ export class Strategy {
     this.pilotWays = this.#made(PILOT_WAYS);
   }
 
-  /**
-   * @param {number} seed
-   * @param {boolean} [isPilot]
-   */
+  /** @param {number} seed @param {boolean} [isPilot] */
   begin(seed, isPilot = false) {
     const { words } = this;
     words[WORD.LAST] = NOBODY_MOVES;
@@ -98,19 +95,14 @@ export class Strategy {
     return words[WORD.MOVES] + MOST_MOVES <= most;
   }
 
-  /** @returns {number} the agent that moved last, or -1 */
-  lastMoved() {
-    return this.words[WORD.LAST];
-  }
-
   /** @returns {number} who moves next by the seed, or `NOBODY_MOVES` */
   #drawn() {
     const { able } = this;
     const last = this.words[WORD.LAST];
     if (last >= 0 && this.#goesOn(last)) return last;
     const sure = this.#gather();
-    if (able.count === 0) return NOBODY_MOVES;
-    return sure >= 0 ? sure : this.#way().drawing.drawn(able, last);
+    if (sure !== NOBODY_GOES_ON) return sure;
+    return able.count === 0 ? NOBODY_MOVES : this.#way().drawing.drawn(able, last);
   }
 
   #way() {
@@ -120,21 +112,16 @@ export class Strategy {
 
   /**
    * @param {readonly Way[]} ways
-   * @returns {{ drawing: Drawing, everywhere: boolean }[]}
+   * @returns {{ drawing: import("./strategy/drawing.mjs").Drawing, everywhere: boolean }[]}
    */
   #made(ways) {
+    const { words, random, asked, rules: { agents } } = this;
     const made = [];
     for (let at = 0; at < ways.length; at += 1) {
-      made[at] = { drawing: this.#drawing(ways[at]), everywhere: ways[at].everywhere };
+      const { name, likelihood, everywhere } = ways[at];
+      made[at] = { drawing: new STRATEGIES[name].Kind({ words, random, asked, agents }, likelihood), everywhere };
     }
     return made;
-  }
-
-  /** @param {Way} way @returns {Drawing} */
-  #drawing({ name, likelihood }) {
-    if (name === "uniform") return new Uniform(this.random);
-    if (name === "switch") return new Switching(this.random, likelihood);
-    return new PartialOrder(this.words, this.random, this.asked, this.rules.agents);
   }
 
   /** @param {number} agent */
@@ -143,8 +130,8 @@ export class Strategy {
   }
 
   /**
-   * Gathers the agents that can move.
-   * @returns {number} one of them whose call is nobody else's affair, or -1
+   * Gathers the agents that can move. Here it is decided when the time of a wait may be up.
+   * @returns {number} one of them whose call is nobody else's affair, or `NOBODY_GOES_ON`
    */
   #gather() {
     const { able } = this;
@@ -157,10 +144,10 @@ export class Strategy {
       able.add(agent);
       if (this.#goesOn(agent)) return agent;
     }
-    if (timed === 0 || (able.count > 0 && this.random.fraction() >= this.rules.timeouts)) return NOBODY_MOVES;
+    if (timed === 0 || (able.count > 0 && this.random.fraction() >= this.rules.timeouts)) return NOBODY_GOES_ON;
     for (let agent = 0; agent < this.rules.agents; agent += 1) {
       if (this.words[wordOf(agent, AGENT_WORD.PHASE)] === PHASE.WAITS_TIMED) able.add(agent);
     }
-    return NOBODY_MOVES;
+    return NOBODY_GOES_ON;
   }
 }

@@ -20,7 +20,8 @@ function programWords() {
 
 /**
  * @param {Pick<import("./options.mjs").Options, "module" | "args" | (typeof NAMES)[number]>} options of the run
- * @returns {import("../../page/model.mjs").Command} to which `--replay FILE` is added, before what stands behind `--`
+ * @returns {import("../../page/run-data.mjs").Command} to which `--replay FILE` is added, before what
+ * stands behind `--`
  */
 export function replayCommand(options) {
   const { module, args } = options;

@@ -5,8 +5,8 @@
 import { builtSimulator, documentOf } from "./document.mjs";
 
 /** @typedef {import("../run/group.mjs").Outcome} Outcome */
-/** @typedef {import("../../page/model.mjs").Command} Command */
-/** @typedef {import("../../page/model.mjs").RunData} RunData */
+/** @typedef {import("../../page/run-data.mjs").Command} Command */
+/** @typedef {import("../../page/run-data.mjs").RunData} RunData */
 
 // Of a trace of more events the ordinary accesses are left out, but for those that race.
 const MOST_EVENTS = 20_000;

@@ -16,7 +16,7 @@ import { pageText } from "./page.mjs";
 /**
  * @typedef {object} How a run was made
  * @property {string} module the URL of the agents' module
- * @property {import("../../page/model.mjs").Command} [command] undefined: not by the command
+ * @property {import("../../page/run-data.mjs").Command} [command] undefined: not by the command
  */
 
 /** Why something isn't made of a script, in its message. */

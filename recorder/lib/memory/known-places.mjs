@@ -5,7 +5,7 @@ import { SCRIPT_LIMITS } from "../../script/limits.mjs";
 
 const { Uint8Array, SharedArrayBuffer } = globalThis;
 
-// What is known of a byte: nothing where it is 0; else a smaller number is that of the one agent that uses it, and one.
+// What is known of a byte. 0: nothing. 1 to 16: only agent n - 1 uses it.
 const READ_ALONE = 254;
 const SHARED = 255;
 

@@ -50,18 +50,10 @@ export const AGENT_WORD = Object.freeze({
 const AGENTS = 32;
 const AGENT_WORDS = 16;
 
-/**
- * The position of an agent's word.
- * @param {number} agent
- * @param {number} word one of `AGENT_WORD`
- * @returns {number}
- */
+/** @param {number} agent @param {number} word one of `AGENT_WORD` @returns {number} the position of an agent's word */
 export const wordOf = (agent, word) => AGENTS + AGENT_WORDS * agent + word;
 
-/**
- * How many words there are for so many agents.
- * @param {number} agents
- */
+/** @param {number} agents @returns {number} how many words there are for so many agents */
 export const wordsFor = (agents) => AGENTS + AGENT_WORDS * agents;
 
 /** What an agent is at. */

@@ -3,7 +3,7 @@
 
 const { Int32Array, SharedArrayBuffer } = globalThis;
 
-/** The first four are those of `EVENTS` of the board; then come ordinary reads and writes. */
+/** The first four are what the board counts (`journal.mjs`); then come ordinary reads and writes. */
 export const READ = 4;
 export const WRITE = 5;
 
@@ -190,10 +190,7 @@ export class Log {
     return this.events[event * EACH + SOURCE];
   }
 
-  /**
-   * @param {number} event its position
-   * @returns {LogEvent}
-   */
+  /** @param {number} event its position @returns {LogEvent} */
   at(event) {
     const { events } = this;
     const at = event * EACH;
@@ -219,30 +216,9 @@ export class Log {
     return this.events.slice(0, this.length * EACH);
   }
 
-  /**
-   * A log of events that were taken from one.
-   * @param {Int32Array} events
-   * @returns {Log}
-   */
+  /** @param {Int32Array} events @returns {Log} a log of events that were taken from one */
   static from(events) {
     // A message may bring them amid other memory.
     return new Log(events.slice().buffer, Int32Array.of(events.length / EACH), 0);
-  }
-
-  /**
-   * A log of events that are given as a trace spells them, with a number for each source.
-   * @param {{ agent: number, block: number, byte: number, size: number, read: boolean, write: boolean,
-   *   atomic: boolean, waiters: boolean, source: number, call?: number }[]} events
-   * @returns {Log}
-   */
-  static of(events) {
-    const log = new Log(Log.memory(events.length), new Int32Array(1), 0);
-    const view = { kind: 0, offset: 0, length: 0 };
-    for (const { agent, block, byte, size, read, write, atomic, waiters, source, call = 0 } of events) {
-      const flags = (read ? FLAG.READS : 0) | (write ? FLAG.WRITES : 0) | (atomic ? FLAG.ATOMIC : 0)
-        | (waiters ? FLAG.WAITERS : 0);
-      log.append(atomic || waiters ? 0 : READ, agent, NO_CALL, flags, call, block, byte, byte + size, view, source);
-    }
-    return log;
   }
 }

@@ -10,10 +10,7 @@ const areEqual = uncurried(Buffer.prototype.equals);
 /** @typedef {{ block: number, byte: number, was: number, is: number }} Change */
 
 export class Memory {
-  /**
-   * @param {SharedArrayBuffer[]} buffers
-   * @param {SharedArrayBuffer[]} copies as long as they are
-   */
+  /** @param {SharedArrayBuffer[]} buffers @param {SharedArrayBuffer[]} copies as long as they are */
   constructor(buffers, copies) {
     this.real = [];
     this.known = [];
@@ -39,24 +36,18 @@ export class Memory {
    * @param {number} from
    * @param {number} to
    */
-  keep(block, from, to) {
+  takeOver(block, from, to) {
     const real = this.real[block];
     const known = this.known[block];
     for (let byte = from; byte < to; byte += 1) known[byte] = real[byte];
   }
 
-  /**
-   * @param {number} block
-   * @returns {boolean} whether a byte of the block isn't as it is known
-   */
+  /** @param {number} block @returns {boolean} whether a byte of the block isn't as it is known */
   hasChanged(block) {
     return !areEqual(this.real[block], this.known[block]);
   }
 
-  /**
-   * The first byte that isn't as it is known.
-   * @returns {Change | undefined}
-   */
+  /** @returns {Change | undefined} the first byte that isn't as it is known */
   changed() {
     for (let block = 0; block < this.real.length; block += 1) {
       if (!this.hasChanged(block)) continue;

@@ -7,10 +7,7 @@ const { floor, imul } = Math;
 
 const WORD = 2 ** 32;
 
-/**
- * @param {number} start a whole number below 2^32
- * @returns {() => number} the next whole number below 2^32
- */
+/** @param {number} start a whole number below 2^32 @returns {() => number} the next whole number below 2^32 */
 function splitmix32(start) {
   let state = start >>> 0;
   return () => {
@@ -70,10 +67,7 @@ export class Random {
     return answer;
   }
 
-  /**
-   * @param {number} count a whole number from 1 to 2^16
-   * @returns {number} a whole number below the count
-   */
+  /** @param {number} count a whole number from 1 to 2^16 @returns {number} a whole number below the count */
   below(count) {
     return floor((this.next() * count) / WORD);
   }

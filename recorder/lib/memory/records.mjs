@@ -4,6 +4,7 @@
 import { CALLS, CALL_NUMBERS } from "../../script/kinds.mjs";
 import { SCRIPT_LIMITS } from "../../script/limits.mjs";
 import { answerText } from "../../script/report.mjs";
+import { positionIn } from "../primordials.mjs";
 
 // Agents may change what they find, so the engine's own functions are kept here, before.
 const { BigInt64Array, Float64Array, Int32Array, SharedArrayBuffer } = globalThis;
@@ -24,13 +25,6 @@ const { asIntN, asUintN } = BigInt;
 
 /** What a call can answer besides a value, as a report spells it. A word's position is its number in a record. */
 const WORDS = Object.freeze(["ok", "not-equal", "timed-out", "TypeError", "RangeError"]);
-
-/** @param {string} word */
-const numberOf = (word) => {
-  let number = 0;
-  while (WORDS[number] !== word) number += 1;
-  return number;
-};
 
 const { load: LOAD } = CALL_NUMBERS;
 
@@ -77,10 +71,7 @@ export class Records {
     this.words = new Int32Array(memory, this.bigs.byteLength + this.numbers.byteLength, room * WORDS_EACH);
   }
 
-  /**
-   * @param {number} position of the call among the agent's
-   * @param {Call} call that begins
-   */
+  /** @param {number} position of the call among the agent's @param {Call} call that begins */
   begin(position, call) {
     const { words, numbers } = this;
     const word = position * WORDS_EACH;
@@ -120,21 +111,15 @@ export class Records {
     this.words[position * WORDS_EACH + JOINED] = 1;
   }
 
-  /**
-   * @param {number} position
-   * @param {number | bigint | string} answer a value, or one of the words of a report
-   */
+  /** @param {number} position @param {number | bigint | string} answer a value, or one of the words of a report */
   answer(position, answer) {
     const tag = typeof answer === "string"
-      ? FIRST_WORD + numberOf(answer)
+      ? FIRST_WORD + positionIn(WORDS, answer)
       : this.#write(position, ANSWER_VALUE, answer);
     this.words[position * WORDS_EACH + ANSWER] = tag;
   }
 
-  /**
-   * @param {number} position
-   * @returns {Call}
-   */
+  /** @param {number} position @returns {Call} */
   callAt(position) {
     const { words, numbers } = this;
     const word = position * WORDS_EACH;
@@ -211,12 +196,7 @@ export class Records {
     return BIG;
   }
 
-  /**
-   * @param {number} position
-   * @param {number} at
-   * @param {number} tag
-   * @returns {number | bigint}
-   */
+  /** @param {number} position @param {number} at @param {number} tag @returns {number | bigint} */
   #read(position, at, tag) {
     if (tag === NUMBER) return this.numbers[position * NUMBERS_EACH + at];
     const big = position * BIGS_EACH + 2 * at;

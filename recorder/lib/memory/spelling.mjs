@@ -14,10 +14,7 @@ const TIME_UP_MOVE = 20;
 
 const { floor } = Math;
 
-/**
- * A number that no other view has.
- * @param {Range} view
- */
+/** @param {Range} view @returns {number} a number that no other view has */
 export function viewKey({ kind, block, offset, length }) {
   const places = SCRIPT_LIMITS.bytes + 1;
   return ((kind * SCRIPT_LIMITS.blocks + block) * places + offset) * places + length;
@@ -37,17 +34,10 @@ export function viewName(lengths, { kind, block, offset, length }) {
   return `${KINDS[kind]}${whichBlock}${where}${length < room ? `_x${length}` : ""}`;
 }
 
-/**
- * @param {number | bigint} operand
- * @returns {string} as JSON: a BigInt is a string of its digits
- */
+/** @param {number | bigint} operand @returns {string} as JSON: a BigInt is a string of its digits */
 const operandText = (operand) => (typeof operand === "bigint" ? `"${operand}"` : `${operand}`);
 
-/**
- * @param {string} view its name
- * @param {Call} call
- * @returns {string} the call as a script has it
- */
+/** @param {string} view its name @param {Call} call @returns {string} the call as a script has it */
 export function callText(view, call) {
   let text = `["${CALLS[call.call].name}", "${view}", ${call.index}`;
   for (let at = 0; at < call.operands.length; at += 1) text += `, ${operandText(call.operands[at])}`;

@@ -193,7 +193,7 @@ export class Stores {
     let at = byte;
     while (at < to && real[at] === known[at]) at += 1;
     if (at === to) return;
-    this.buffers.keep(block, byte, to);
+    this.buffers.takeOver(block, byte, to);
     if (this.words[WORD.STORES] === ROOM) this.#thin();
     if (this.words[WORD.IS_THINNED] !== ALL && !this.#isTouched(block, byte, to)) {
       this.#drop(agent, position, block, byte, to);
@@ -202,13 +202,7 @@ export class Stores {
     }
   }
 
-  /**
-   * @param {number} agent
-   * @param {number} position
-   * @param {number} block
-   * @param {number} byte
-   * @param {number} kind
-   */
+  /** @param {number} agent @param {number} position @param {number} block @param {number} byte @param {number} kind */
   #push(agent, position, block, byte, kind) {
     const { entries, bytes, words } = this;
     if (words[WORD.STORES] === ROOM) {
@@ -227,13 +221,7 @@ export class Stores {
     words[WORD.STORES] += 1;
   }
 
-  /**
-   * @param {number} agent
-   * @param {number} position
-   * @param {number} block
-   * @param {number} from
-   * @param {number} to
-   */
+  /** @param {number} agent @param {number} position @param {number} block @param {number} from @param {number} to */
   #drop(agent, position, block, from, to) {
     for (let byte = from; byte < to; byte += 1) this.dropped[this.firsts[block] + byte] = ((position << 4) | agent) + 1;
   }
@@ -260,11 +248,7 @@ export class Stores {
     words[WORD.STORES] = kept;
   }
 
-  /**
-   * @param {number} block
-   * @param {number} from
-   * @param {number} to
-   */
+  /** @param {number} block @param {number} from @param {number} to */
   #isTouched(block, from, to) {
     for (let byte = from; byte < to; byte += 1) {
       if (this.touched[this.firsts[block] + byte] === this.run) return true;

@@ -1,7 +1,7 @@
 // What an option may be. Each kind looks at a value, as the library is given it, and at a text of the command line.
 
 import { SCRIPT_LIMITS } from "../../script/limits.mjs";
-import { PLAIN } from "../board/strategy/ways.mjs";
+import { STRATEGY_WORDS, waysOf } from "../board/strategy/ways.mjs";
 import { checkedAgents, checkedBuffers, checkedNoBlock } from "./plan.mjs";
 import { Refused } from "./refused.mjs";
 
@@ -76,16 +76,13 @@ export const FUNCTION = that((value) => typeof value === "function", "a function
 export const SIGNAL = that((value) => value instanceof AbortSignal, "an AbortSignal");
 
 /** @param {readonly string[]} words */
-export const choice = (words) =>
-  that((value) => words.includes(value), `${words.slice(0, -1).join(", ")} or ${words.at(-1)}`);
+const wordsText = (words) => `${words.slice(0, -1).join(", ")} or ${words.at(-1)}`;
 
-/** @param {unknown} value */
-function isStrategy(value) {
-  if (typeof value !== "string") return false;
-  return PLAIN.includes(value) || Number(/^switch:([0-9]+(?:\.[0-9]+)?)$/.exec(value)?.[1] ?? NaN) <= 1;
-}
+/** @param {readonly string[]} words */
+export const choice = (words) => that((value) => words.includes(value), wordsText(words));
 
-export const STRATEGY = that(isStrategy, `${PLAIN.join(", ")} or switch:P, with P from 0 to 1`);
+export const STRATEGY = that((value) => typeof value === "string" && waysOf(value, false).length > 0,
+  `${wordsText(STRATEGY_WORDS)}, with P from 0 to 1`);
 
 /** @param {unknown} value */
 const areStrings = (value) => Array.isArray(value) && Array.from(value).every((each) => typeof each === "string");

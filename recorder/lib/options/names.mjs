@@ -34,8 +34,10 @@ const WHOLE = "whole";
 
 const EXAMPLE = '{ LOCK: 0, slots: ["Uint8", 1], first: ["Uint8", 1, 0] }';
 
-/** @param {unknown} value @param {number} most @returns {value is number} */
-const isUpTo = (value, most) => typeof value === "number" && Number.isInteger(value) && value >= 0 && value <= most;
+/** @type {(value: unknown, least: number, most: number) => value is number} */
+export const isWithin = (value, least, most) => {
+  return typeof value === "number" && Number.isInteger(value) && value >= least && value <= most;
+};
 
 /**
  * What a name is to mean, with the parts that are left out.
@@ -51,12 +53,7 @@ function partsOf(name, value) {
     `for a whole array, or an index alone, which is that of an Int32Array on buffer 0, as in ${EXAMPLE}`);
 }
 
-/**
- * @param {string} name
- * @param {unknown} value
- * @param {number[]} lengths of the blocks
- * @returns {Name}
- */
+/** @param {string} name @param {unknown} value @param {number[]} lengths of the blocks @returns {Name} */
 function checkedName(name, value, lengths) {
   const [kindName, block, index] = partsOf(name, value);
   const kind = KINDS.indexOf(/** @type {string} */ (kindName));
@@ -64,13 +61,13 @@ function checkedName(name, value, lengths) {
     const kinds = meant(`${kindName}`, [...KINDS]);
     throw new Refused(`\`names\` says of ${name} that its kind is ${kindName}: ${kinds}`);
   }
-  if (!isUpTo(block, lengths.length - 1)) {
+  if (!isWithin(block, 0, lengths.length - 1)) {
     const last = lengths.length - 1;
     throw new Refused(`\`names\` puts ${name} on buffer ${block}: there is no such buffer, but 0 to ${last}`);
   }
   const elements = Math.floor(lengths[block] / SIZES[kind]);
   if (index === WHOLE) return { name, isWord: false, kind, block, offset: 0, length: elements };
-  if (!isUpTo(index, elements - 1)) {
+  if (!isWithin(index, 0, elements - 1)) {
     throw new Refused(`\`names\` puts ${name} at index ${index}: buffer ${block} has ${elements} elements of kind ` +
       `${kindName}, counted from 0`);
   }
@@ -158,10 +155,7 @@ export class Names {
 /** What names nothing. */
 export const NO_NAMES = new Names([]);
 
-/**
- * How texts call an element that has a name.
- * @param {Named} named
- */
+/** @param {Named} named @returns {string} how texts call an element that has a name */
 export const nameText = ({ view, index }) => (view.isWord ? view.name : `${view.name}[${index}]`);
 
 /** @param {number} kind @param {number} block */

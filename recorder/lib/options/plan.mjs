@@ -2,7 +2,7 @@
 // leave something open from the export `setup` of the agents' module.
 
 import { SCRIPT_LIMITS } from "../../script/limits.mjs";
-import { checkedNames } from "./names.mjs";
+import { checkedNames, isWithin } from "./names.mjs";
 import { meant, slipOf } from "./nearest.mjs";
 import { Refused } from "./refused.mjs";
 
@@ -20,15 +20,7 @@ const EXPORTS = ["setup", "init", "check"];
  * @property {import("./names.mjs").Name[]} names of words and of whole arrays
  */
 
-/** @type {(value: unknown, least: number, most: number) => value is number} */
-const isWithin = (value, least, most) => {
-  return typeof value === "number" && Number.isInteger(value) && value >= least && value <= most;
-};
-
-/**
- * @param {unknown} agents
- * @returns {number}
- */
+/** @param {unknown} agents @returns {number} */
 export function checkedAgents(agents) {
   if (agents === undefined) {
     throw new Refused("the number of agents is missing: give `agents` (--agents), or `setup` in the module");
@@ -37,10 +29,7 @@ export function checkedAgents(agents) {
   throw new Refused(`the number of agents must be from 1 to ${SCRIPT_LIMITS.agents}`);
 }
 
-/**
- * @param {unknown} buffers
- * @returns {number[]}
- */
+/** @param {unknown} buffers @returns {number[]} */
 export function checkedBuffers(buffers) {
   if (buffers === undefined) {
     throw new Refused("the buffers' bytes are missing: give `buffers` (--buffers), or `setup` in the module");
@@ -54,10 +43,7 @@ export function checkedBuffers(buffers) {
   throw new Refused(`a buffer must have from 0 to ${bytes} bytes`);
 }
 
-/**
- * @param {unknown} noBlock
- * @returns {number[]}
- */
+/** @param {unknown} noBlock @returns {number[]} */
 export function checkedNoBlock(noBlock) {
   const most = SCRIPT_LIMITS.agents - 1;
   if (!Array.isArray(noBlock) || !Array.from(noBlock).every((agent) => isWithin(agent, 0, most))) {

@@ -4,7 +4,7 @@
 import { KINDS, SIZES } from "../../script/kinds.mjs";
 import { SCRIPT_LIMITS } from "../../script/limits.mjs";
 import { scriptText } from "../../script/text.mjs";
-import { EVENTS, LEAVE, MAKE, TIME_UP } from "../board/journal.mjs";
+import { LEAVE, MAKE, MOVES, TIME_UP } from "../board/journal.mjs";
 import { FLAG, READ } from "../memory/log.mjs";
 import { NO_NAMES } from "../options/names.mjs";
 import { UNSEEN, transcriptOf } from "./transcript.mjs";
@@ -45,11 +45,7 @@ function touchedBytes(log, lengths) {
   return touched;
 }
 
-/**
- * Whether a call touches a byte of a store.
- * @param {Uint8Array[]} touched
- * @param {Store} store
- */
+/** @param {Uint8Array[]} touched @param {Store} store @returns {boolean} whether a call touches a byte of a store */
 function isTouched(touched, store) {
   const marks = touched[store.block];
   for (let byte = store.byte; byte < endOf(store); byte += 1) {
@@ -78,7 +74,7 @@ function joined(stores) {
   return all;
 }
 
-/** What was last written to each byte of a block, while the stores of one group are joined. */
+/** What was last written to each byte of a block, while the stores of one group are joined: nothing outlives that. */
 const written = new Uint8Array(SCRIPT_LIMITS.bytes);
 
 /**
@@ -138,7 +134,7 @@ function countsOf(log, agents) {
   for (let event = 0; event < log.length; event += 1) {
     const what = log.whatAt(event);
     if (what >= READ) continue;
-    moves += EVENTS[what].moves;
+    moves += MOVES[what];
     if (what !== LEAVE && what !== TIME_UP) calls[log.agentAt(event)] += 1;
   }
   return { calls, moves };
@@ -155,7 +151,7 @@ function reasonAgainst(counts, stores) {
   for (const { agent } of stores) calls[agent] = (calls[agent] ?? 0) + 1;
   const full = calls.findIndex((count) => count > mostCalls);
   if (full >= 0) return `agent ${full} would have more than ${mostCalls} calls`;
-  const moves = counts.moves + stores.length * EVENTS[MAKE].moves;
+  const moves = counts.moves + stores.length * MOVES[MAKE];
   return moves > mostMoves ? `it would have more than ${mostMoves} moves` : undefined;
 }
 

@@ -22,7 +22,7 @@ export function initialStores(memory, agent) {
       if (bytes.some((value) => value !== 0)) stores.push({ position: 0, agent, block, byte, kind, bytes });
       byte += SIZES[kind];
     }
-    memory.keep(block, 0, real.length);
+    memory.takeOver(block, 0, real.length);
   });
   return stores;
 }

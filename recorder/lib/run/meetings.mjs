@@ -80,11 +80,7 @@ export class Meetings {
     }
   }
 
-  /**
-   * @param {number} earlier
-   * @param {number} later
-   * @param {string[]} found
-   */
+  /** @param {number} earlier @param {number} later @param {string[]} found */
   #pair(earlier, later, found) {
     const pair = earlier * POSITIONS + later;
     if (this.pairs.has(pair)) return;

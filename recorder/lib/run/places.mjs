@@ -23,10 +23,7 @@ export function elementName({ kind, block, offset, length }, byte, lengths, name
   return `${viewName(lengths, { kind, block, offset, length })}[${index}]`;
 }
 
-/**
- * What an access does, in words.
- * @param {LogEvent} event
- */
+/** @param {LogEvent} event @returns {string} what an access does, in words */
 export function deedOf({ flags, method }) {
   if (method !== NO_CALL) return CALLS[method].name;
   return flags & FLAG.WRITES ? "writes" : "reads";

@@ -122,12 +122,7 @@ export class Judge {
     }
   }
 
-  /**
-   * @param {Log} log
-   * @param {number} event
-   * @param {OnRace} onRace
-   * @returns {boolean} whether to go on
-   */
+  /** @param {Log} log @param {number} event @param {OnRace} onRace @returns {boolean} whether to go on */
   #step(log, event, onRace) {
     const flags = log.flagsAt(event);
     const agent = log.agentAt(event);
@@ -183,12 +178,7 @@ export class Judge {
     }
   }
 
-  /**
-   * @param {number} agent
-   * @param {number} flags
-   * @param {number} first
-   * @param {number} last
-   */
+  /** @param {number} agent @param {number} flags @param {number} first @param {number} last */
   #write(agent, flags, first, last) {
     const { written, sizes } = this;
     const clock = flags & FLAG.ATOMIC ? this.#leave(agent) : NONE;
@@ -276,6 +266,7 @@ function conflict(one, other) {
   return one >> 2 === 0 || other >> 2 === 0 || one >> 2 !== other >> 2;
 }
 
+// One for a thread, since its arrays are large; each judgement begins anew.
 const judge = new Judge();
 
 /**
@@ -294,12 +285,7 @@ function areAlike(log) {
   return true;
 }
 
-/**
- * Whether any two accesses of a run race.
- * @param {Log} log
- * @param {number} agents how many
- * @returns {boolean}
- */
+/** @param {Log} log @param {number} agents how many @returns {boolean} whether any two accesses of a run race */
 export function isRacy(log, agents) {
   if (areAlike(log)) return false;
   let found = false;

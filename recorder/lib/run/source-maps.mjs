@@ -20,10 +20,7 @@ import { SourceMap } from "node:module";
 // The last of them counts.
 const MENTION = /\/[/*][#@]\s*sourceMappingURL=([^\s*]+)/g;
 
-/**
- * The text that a `data:` URL has.
- * @param {string} url
- */
+/** @param {string} url @returns {string} the text that a `data:` URL has */
 function textOfData(url) {
   const comma = url.indexOf(",");
   const rest = url.slice(comma + 1);

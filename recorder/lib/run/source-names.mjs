@@ -34,10 +34,7 @@ export class SourceNames {
     return name;
   }
 
-  /**
-   * A text in which places of the code are named so.
-   * @param {string} text
-   */
+  /** @param {string} text @returns {string} a text in which places of the code are named so */
   withNames(text) {
     return text.replace(/(?:file:\/\/)?\/[^\s:]+:\d+:\d+/g, (source) => this.nameOf(source));
   }
@@ -63,10 +60,7 @@ export class SourceNames {
     return `${this.#fileName(place.file, place.file)}:${place.line}:${place.column}`;
   }
 
-  /**
-   * @param {string} url
-   * @param {string} other what it is called where it is no file of this machine
-   */
+  /** @param {string} url @param {string} other what it is called where it is no file of this machine */
   #fileName(url, other) {
     const isNear = url.startsWith("file:") && this.module.startsWith("file:");
     const name = isNear ? posix.relative(posix.dirname(fileURLToPath(this.module)), fileURLToPath(url)) : other;

@@ -5,10 +5,7 @@ import { CALLS } from "../../script/kinds.mjs";
 import { LEAVE, TIME_UP } from "../board/journal.mjs";
 import { FLAG, NO_CALL, WRITE } from "../memory/log.mjs";
 
-/**
- * What an event is called.
- * @param {import("../memory/log.mjs").LogEvent} event
- */
+/** @param {import("../memory/log.mjs").LogEvent} event @returns {string} what an event is called */
 function nameOf({ what, method }) {
   if (what === LEAVE) return "leave";
   if (what === TIME_UP) return "time-up";

@@ -4,7 +4,7 @@
 
 import { CONSTRUCTORS, KINDS, SIZES } from "../../script/kinds.mjs";
 import { answerText } from "../../script/report.mjs";
-import { EVENTS, LEAVE, TIME_UP } from "../board/journal.mjs";
+import { LEAVE, MAKE, MOVES, TIME_UP } from "../board/journal.mjs";
 import { READ } from "../memory/log.mjs";
 import { callText, viewName } from "../memory/spelling.mjs";
 import { NO_NAMES, nameText } from "../options/names.mjs";
@@ -38,7 +38,7 @@ function viewOf(name, { kind, block, offset, length }) {
   return { name, kind: KINDS[kind], block, offset, length };
 }
 
-// An element of each kind on the same bytes: what a store's bytes stand for.
+// An element of each kind on the same bytes: what a store's bytes stand for. Nothing outlives a look.
 const STORED = new Uint8Array(Math.max(...SIZES));
 const ELEMENTS = CONSTRUCTORS.map((Kind) => new Kind(STORED.buffer, 0, 1));
 
@@ -72,10 +72,7 @@ class Writer {
     for (let move = 0; move < count; move += 1) this.moves.push({ agent, timeUp: timeUp && move === 0 });
   }
 
-  /**
-   * @param {Store} store
-   * @param {string} whose what its view's name begins with
-   */
+  /** @param {Store} store @param {string} whose what its view's name begins with */
   addStore({ agent, block, byte, kind, bytes }, whose) {
     const named = this.names.at(kind, block, byte);
     const name = named === undefined ? this.#storeName(whose, kind, block) : `${whose}_${named.view.name}`;
@@ -86,7 +83,7 @@ class Writer {
     const index = named?.index ?? byte / SIZES[kind];
     const text = `["store", "${name}", ${index}, ${isBig ? `"${value}"` : value}]`;
     this.calls[agent].push({ text, joined: false, answer: answerText(value), isOwn: false });
-    this.addMoves(agent, EVENTS[0].moves, false);
+    this.addMoves(agent, MOVES[MAKE], false);
   }
 
   /**
@@ -120,7 +117,7 @@ class Writer {
       this.calls[agent].push({ text, ...done, isOwn: true, name: named && nameText(named) });
       this.own[agent] += 1;
     }
-    this.addMoves(agent, EVENTS[event].moves, event === TIME_UP);
+    this.addMoves(agent, MOVES[event], event === TIME_UP);
   }
 }
 

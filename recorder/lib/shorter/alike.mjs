@@ -17,10 +17,7 @@ function findingOf(detail) {
   return `${first.replaceAll(NUMBERS, "0")}${place}`;
 }
 
-/**
- * Which agents wait where.
- * @param {Aside} aside
- */
+/** @param {Aside} aside @returns {string} which agents wait where */
 const waitersOf = ({ waiting }) => waiting.map(({ agent, block, byte }) => `${agent} ${block} ${byte}`).sort().join();
 
 /** @param {string[]} lines */

@@ -25,11 +25,7 @@ class Byte {
   }
 }
 
-/**
- * Which draws must come before each draw.
- * @param {KeptScript} kept
- * @returns {number[][]}
- */
+/** @param {KeptScript} kept @returns {number[][]} which draws must come before each draw */
 function orderOf({ draws }) {
   /** @type {Map<string, Byte>} */
   const bytes = new Map();

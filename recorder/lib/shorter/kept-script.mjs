@@ -6,7 +6,7 @@
 
 import { CALLS, KINDS, SIZES } from "../../script/kinds.mjs";
 import { callNumber } from "../board/row.mjs";
-import { viewKey } from "../memory/spelling.mjs";
+import { callText, placedCallText } from "../memory/spelling.mjs";
 import { Refused } from "../options/refused.mjs";
 
 /**
@@ -83,27 +83,13 @@ function callOf(parts, views) {
   const view = views.get(name);
   need(view !== undefined, `its call ${JSON.stringify(parts)} has a view that it doesn't have`);
   const { kind, block, offset } = view;
-  const spelled = rest.map((value) => `, ${JSON.stringify(value)}`).join("");
+  const operands = rest.map((value) => (typeof value === "string" ? BigInt(value) : value));
+  const call = { ...view, call: METHODS.indexOf(method), index, operands, limit: undefined };
   const from = offset + index * SIZES[kind];
   return {
     isOwn: !OTHERS.test(name), view: name, waits: method === "wait", loads: method === "load",
-    text: `["${method}", "${name}", ${JSON.stringify(index)}${spelled}]`, key: keyOf(method, view, index, spelled),
-    block, from, to: from + SIZES[kind],
+    text: callText(name, call), key: placedCallText(call, call), block, from, to: from + SIZES[kind],
   };
-}
-
-/**
- * A call as `placedCallText` has it.
- * @param {string} method
- * @param {View} view
- * @param {number} index
- * @param {string} rest of the call
- */
-function keyOf(method, { kind, block, offset, length }, index, rest) {
-  const isInside = index >= 0 && index < length;
-  const element = { kind, block, offset: offset + index * SIZES[kind], length: 1 };
-  const [key, at] = isInside ? [viewKey(element), 0] : [viewKey({ kind, block, offset, length }), index];
-  return `["${method}", "${key}", ${at}${rest}]`;
 }
 
 class Reader {
@@ -168,10 +154,7 @@ class Reader {
     this.at[draw.agent].last = draw;
   }
 
-  /**
-   * @param {number} agent
-   * @param {Reader["at"][number]} at
-   */
+  /** @param {number} agent @param {Reader["at"][number]} at */
   #begin(agent, at) {
     const call = this.calls[agent][at.begun];
     need(call !== undefined, `its move ${this.position} is one of no call`);

@@ -50,17 +50,10 @@ const NOT_AGAIN = "it couldn't be made again in the same way: its agents do some
 
 /** @typedef {{ row: number[], changes: number, calls: number }} Measured */
 
-/**
- * How long a run is.
- * @param {Outcome} outcome whose row is told
- * @returns {Measured}
- */
+/** @param {Outcome} outcome whose row is told @returns {Measured} how long a run is */
 const measured = ({ row = [], calls }) => ({ row, changes: changesOf(row), calls });
 
-/**
- * @param {Measured} one
- * @param {Measured} other
- */
+/** @param {Measured} one @param {Measured} other */
 function isShorter(one, other) {
   if (one.changes !== other.changes) return one.changes < other.changes;
   if (one.calls !== other.calls) return one.calls < other.calls;

@@ -2,10 +2,7 @@
 
 /** @typedef {{ agent: number, draws: number }} Stretch */
 
-/**
- * @param {number[]} row
- * @returns {Stretch[]} no two neighbours of one agent
- */
+/** @param {number[]} row @returns {Stretch[]} no two neighbours of one agent */
 export function stretchesOf(row) {
   /** @type {Stretch[]} */
   const stretches = [];

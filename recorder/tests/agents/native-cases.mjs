@@ -139,23 +139,14 @@ const WORKING = {
     port1.postMessage({ a: [1, new Int32Array(2)], b: new SharedArrayBuffer(4) });
     port1.close();
   }, untouched],
-  "a vm context": [whole, (buffer) => vm.runInNewContext(
-    "const w = new Int32Array(buffer); w[1] = 5; new DataView(buffer).setInt8(0, 1); w[2] + Atomics.load(w, 3)",
-    { buffer },
-  ), { writes: [0, ...range(4, 8)] }],
-  "a vm context that is made": [whole, (buffer) => {
-    const context = vm.createContext({ buffer });
-    return [Object.keys(context), vm.runInContext("new Uint8Array(buffer)[3]", context),
-      new vm.Script("buffer.slice(0, 1).byteLength").runInContext(context),
-      new vm.Script("ArrayBuffer.isView(new Uint8Array(buffer))").runInNewContext({ buffer })];
-  }, { reads: [0, 3], writes: [] }],
-  "code that vm has compiled before": [whole, (buffer) => {
+  "code that vm runs here": [whole, (buffer) => {
     const cachedData = new vm.Script("7").createCachedData();
     class Own extends vm.Script {}
-    return [new Own("new Int8Array(buffer)[0]", "a.js").runInNewContext({ buffer }), new Own("1") instanceof vm.Script,
-      new vm.Script("7", { cachedData }).cachedDataRejected, vm.compileFunction("return 7")(),
-      vm.compileFunction("return a", ["a"], { cachedData: undefined })(5)];
-  }, { reads: [0], writes: [] }],
+    const first = new Own("(buffer) => new Int8Array(buffer)[0]", "a.js").runInThisContext();
+    return [first(buffer), vm.runInThisContext("(buffer) => new Uint8Array(buffer)[3]")(buffer),
+      new Own("1") instanceof vm.Script, new vm.Script("7", { cachedData }).cachedDataRejected,
+      vm.compileFunction("return 7")(), vm.compileFunction("return a", ["a"], { cachedData: undefined })(5)];
+  }, { reads: [0, 3], writes: [] }],
   "a buffer's slice": [whole, (buffer) => new Uint8Array(buffer.slice(3, -50)), { reads: range(3, 14), writes: [] }],
   "a buffer's slice of nothing": [whole, (buffer) => buffer.slice(9, 3), untouched],
 };
@@ -243,6 +234,9 @@ const REFUSED = {
   "zlib.deflate": [bytes, (array) => zlib.deflate(array, () => {})],
   "execFileSync's input": [bytes, (array) => childProcess.execFileSync("cat", { input: array })],
   "Response": [bytes, (array) => new Response(array)],
+  "vm.createContext": [whole, () => vm.createContext({})],
+  "vm.runInNewContext": [whole, (buffer) => vm.runInNewContext("new Int32Array(buffer)[1]", { buffer })],
+  "runInNewContext of a vm.Script": [whole, (buffer) => new vm.Script("buffer").runInNewContext({ buffer })],
   "cachedData of vm.Script": [bytes, (array) => new vm.Script("1", { cachedData: array })],
   "cachedData of vm.compileFunction": [view, (cachedData) => vm.compileFunction("1", [], { cachedData })],
   "fetch": [bytes, (array) => fetch("http://localhost", { method: "POST", body: array })],

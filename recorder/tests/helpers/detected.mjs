@@ -1,15 +1,15 @@
 // What the recorder's own detector says of the events of a trace, where each access has a line of code of its own, so
 // that it tells of every race; and what it must say.
 
-import { Log } from "../../lib/memory/log.mjs";
 import { isRacy, racesOf } from "../../lib/run/races.mjs";
+import { logOf } from "./logs.mjs";
 
 /** @typedef {{ isRacy: boolean, pairs: [number, number][] }} Detected by later events, and then by earlier ones */
 
 /** @param {import("./slow-judge.mjs").Event[]} events @returns {Detected} */
 export function detected(events) {
   const agents = 1 + Math.max(-1, ...events.map(({ agent }) => agent));
-  const log = Log.of(events.map((event, position) => ({ ...event, source: position + 1 })));
+  const log = logOf(events.map((event, position) => ({ ...event, source: position + 1 })));
   const pairs = racesOf(log, agents).map(({ one, other }) => [one, other]);
   pairs.sort(([one, other], [first, second]) => other - second || one - first);
   return { isRacy: isRacy(log, agents), pairs };

@@ -19,8 +19,8 @@ let module;
 /** @param {string[]} words @param {string | Uint8Array} input */
 function byModule(words, input) {
   module ??= new Simulator(new WebAssembly.Module(readFileSync(MODULE)));
-  const { complaint, ...ended } = module.command(words, () => Buffer.from(input));
-  return { ...ended, complaint: Buffer.from(complaint) };
+  const { status, output, complaint } = module.command(words, () => Buffer.from(input));
+  return { status, output: Buffer.from(output), complaint: Buffer.from(complaint) };
 }
 
 /** @type {import("../../schedule/editing.mjs").Simulate} */

@@ -38,15 +38,15 @@ export const ANSWERING = {
   filter(watched, self, callback, thisArgument) {
     needsFunction(callback);
     const { length } = watched;
-    const kept = new ENGINE[watched.kind](length);
+    const chosen = new ENGINE[watched.kind](length);
     let count = 0;
     for (let index = 0; index < length; index += 1) {
       const value = read(watched, index);
       if (!call(callback, thisArgument, value, index, self)) continue;
-      kept[count] = value;
+      chosen[count] = value;
       count += 1;
     }
-    return filled(answered(watched, self, count), kept, count);
+    return filled(answered(watched, self, count), chosen, count);
   },
   slice(watched, self, begin, end) {
     const { length } = watched;

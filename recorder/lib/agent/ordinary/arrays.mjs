@@ -11,7 +11,7 @@ import { blockNumber, refused } from "./context.mjs";
 import { lastAsked, wrapped } from "./elements.mjs";
 import { constructing, madePrivate } from "./guards.mjs";
 import { needsFunction } from "./numbers.mjs";
-import { forWatched, replace, replaceGetter } from "./patch.mjs";
+import { forWatched, methodOf, replace, replaceGetter } from "./patch.mjs";
 import { READING } from "./reading.mjs";
 import { arrayBy, standIns } from "./species.mjs";
 import { ENGINE, tellAll, watchedOf } from "./watched.mjs";
@@ -48,18 +48,11 @@ function madeOf(kind, first, second, third, target) {
   return construct(ENGINE[kind], [source.real], target);
 }
 
-/**
- * The constructor that agents get in place of an engine's one.
- * @param {number} kind
- */
+/** @param {number} kind @returns {Function} the constructor that agents get in place of an engine's one */
 function standInOf(kind) {
   const Engine = ENGINE[kind];
   const { name } = Engine;
-  /**
-   * @param {any} first
-   * @param {any} second
-   * @param {any} third
-   */
+  /** @param {any} first @param {any} second @param {any} third */
   const StandIn = function (first, second, third) {
     if (new.target === undefined) throw new EngineTypeError(`Constructor ${name} requires 'new'`);
     if ((typeof first === "object" && first !== null) || typeof first === "function") {
@@ -69,9 +62,7 @@ function standInOf(kind) {
   };
   likeEngine(StandIn, Engine);
   setPrototypeOf(StandIn, TypedArray);
-  const keys = ownKeys(Engine);
-  for (let at = 0; at < keys.length; at += 1) {
-    const key = keys[at];
+  for (const key of ownKeys(Engine)) {
     if (key !== "name" && key !== "length") copyProperty(StandIn, Engine, key);
   }
   return StandIn;
@@ -114,44 +105,35 @@ function withoutIterator(source) {
 }
 
 function replaceStatics() {
-  replace(TypedArray, "from", (engine) => ({
-    /**
-     * @param {unknown} source
-     * @param {unknown} mapper
-     * @param {unknown} thisArgument
-     */
-    method(source, mapper, thisArgument) {
-      if (isStandIn(this)) return call(engine, this, withoutIterator(source), mapper, thisArgument);
-      if (typeof this !== "function") return apply(engine, this, arguments);
-      if (mapper !== undefined) needsFunction(mapper);
-      return filledBy(this, call(arrayFrom, EngineArray, source), mapper, thisArgument);
-    },
-  }).method);
-  replace(TypedArray, "of", (engine) => ({
-    /** @param {any[]} values */
-    method(...values) {
-      if (isStandIn(this) || typeof this !== "function") return apply(engine, this, values);
-      return filledBy(this, values, undefined, undefined);
-    },
-  }).method);
+  replace(TypedArray, "from", (engine) => methodOf((self, given) => {
+    const mapper = given[1];
+    if (isStandIn(self)) return call(engine, self, withoutIterator(given[0]), mapper, given[2]);
+    if (typeof self !== "function") return apply(engine, self, given);
+    if (mapper !== undefined) needsFunction(mapper);
+    return filledBy(self, call(arrayFrom, EngineArray, given[0]), mapper, given[2]);
+  }));
+  replace(TypedArray, "of", (engine) => methodOf((self, values) => {
+    if (isStandIn(self) || typeof self !== "function") return apply(engine, self, values);
+    return filledBy(self, values, undefined, undefined);
+  }));
 }
 
 /**
  * The getter of what an array has. That of a private array must be fast, and throws for a watched one; the one that was
  * asked through its proxy just now is at hand.
  * @param {(real: object) => unknown} slot
- * @param {(watched: import("./watched.mjs").Watched) => unknown} kept
+ * @param {(watched: import("./watched.mjs").Watched) => unknown} known
  */
-const getterOf = (slot, kept) => () => ({
+const getterOf = (slot, known) => () => ({
   get asked() {
     const last = lastAsked(this);
-    if (last !== undefined) return kept(last);
+    if (last !== undefined) return known(last);
     try {
       return slot(this);
     } catch (error) {
       const watched = watchedOf(this);
       if (watched === undefined) throw error;
-      return kept(watched);
+      return known(watched);
     }
   },
 });
@@ -186,10 +168,8 @@ function replaceGetters() {
 
 /** @param {Record<string, import("./patch.mjs").WatchedMethod>} methods */
 function replaceAll(methods) {
-  const names = Object.keys(methods);
-  for (let at = 0; at < names.length; at += 1) {
-    const name = names[at];
-    replace(typedArrays, name, (engine) => forWatched(engine, methods[name]));
+  for (const [name, method] of Object.entries(methods)) {
+    replace(typedArrays, name, (engine) => forWatched(engine, method));
   }
 }
 
@@ -198,9 +178,7 @@ function replaceAll(methods) {
  * @param {object} owner
  */
 function refuseOthers(owner) {
-  const names = ownKeys(owner);
-  for (let at = 0; at < names.length; at += 1) {
-    const name = names[at];
+  for (const name of ownKeys(owner)) {
     const isKnown = name === "constructor" || name === "toString" || name === "set" || name === iterator
       || hasOwn(READING, name) || hasOwn(ANSWERING, name) || hasOwn(WRITING, name);
     if (isKnown) continue;
@@ -213,10 +191,7 @@ function replaceMethods() {
   replaceAll(ANSWERING);
   replaceAll(WRITING);
   replace(typedArrays, "set", (engine) => ({
-    /**
-     * @param {unknown} source
-     * @param {unknown} offset
-     */
+    /** @param {unknown} source @param {unknown} offset */
     method(source, offset) {
       if (watchedOf(this) === undefined && watchedOf(source) === undefined) return apply(engine, this, arguments);
       return setFrom(this, source, offset);
@@ -229,9 +204,7 @@ function replaceMethods() {
 /** The typed arrays that this engine has besides the eleven kinds: there is no script for them. */
 function refuseOtherKinds() {
   const realm = /** @type {Record<string, unknown>} */ (globalThis);
-  const names = ownKeys(realm);
-  for (let at = 0; at < names.length; at += 1) {
-    const name = names[at];
+  for (const name of ownKeys(realm)) {
     if (typeof name !== "string" || !/^[A-Z]\w*Array$/.test(name)) continue;
     const Engine = realm[name];
     if (typeof Engine !== "function" || getPrototypeOf(Engine) !== TypedArray || isStandIn(Engine)) continue;
@@ -246,15 +219,11 @@ function refuseOtherKinds() {
 
 /** The engine's own way to seal a typed array isn't what it asks of a proxy. */
 function replaceSeal() {
-  replace(Object, "seal", (engine) => ({
-    /** @param {unknown} value */
-    method(value) {
-      const watched = watchedOf(value);
-      if (watched === undefined) return engine(value);
-      engine(watched.real);
-      return value;
-    },
-  }).method);
+  replace(Object, "seal", (engine) => methodOf((_self, given) => {
+    const value = given[0];
+    engine(watchedOf(value)?.real ?? value);
+    return value;
+  }));
 }
 
 /** Patches the typed arrays of this realm. */

@@ -7,7 +7,7 @@ import { blockNumber, refused } from "./context.mjs";
 import { wrappedArray } from "./elements.mjs";
 import { constructing, copying, looking, madePrivate } from "./guards.mjs";
 import { wholeOf } from "./numbers.mjs";
-import { replace, replaceEach } from "./patch.mjs";
+import { methodOf, replace, replaceEach } from "./patch.mjs";
 import { privateView } from "./reach.mjs";
 import { standIns } from "./species.mjs";
 import { ENGINE, tell, tellAll, unwrapped, watchedOf } from "./watched.mjs";
@@ -20,6 +20,7 @@ const { trunc } = Math;
 const custom = Symbol.for("nodejs.util.inspect.custom");
 const setBytes = uncurried(EngineBytes.prototype.set);
 
+/** @typedef {import("./patch.mjs").Standing} Standing */
 /** @typedef {import("./watched.mjs").Watched} Watched */
 
 const WORDS = ["ascii", "base64", "base64url", "latin1", "hex", "ucs2", "utf8"];
@@ -27,11 +28,7 @@ const WORDS = ["ascii", "base64", "base64url", "latin1", "hex", "ucs2", "utf8"];
 /** @param {unknown} value */
 const whole = (value) => (value === undefined ? 0 : wholeOf(value));
 
-/**
- * A private Buffer of as many bytes, each zero.
- * @param {number} count
- * @returns {Buffer}
- */
+/** @param {number} count @returns {Buffer} a private Buffer of as many bytes, each zero */
 const zeros = (count) => apply(alloc, EngineBuffer, [count]);
 
 /**
@@ -71,15 +68,12 @@ function copied(watched, from, to) {
  * @param {BytesMethod} method
  * @param {Function} [otherwise] what is called where it isn't
  */
-const forBytes = (engine, method, otherwise = engine) => ({
-  /** @param {any[]} given */
-  method(...given) {
-    const watched = watchedOf(this);
-    if (watched === undefined) return apply(otherwise, this, given);
-    if (watched.size > 1) refused(`Buffer's ${engine.name} was called for an array of larger elements`);
-    return method(engine, watched, given, this);
-  },
-}).method;
+const forBytes = (engine, method, otherwise = engine) => methodOf((self, given) => {
+  const watched = watchedOf(self);
+  if (watched === undefined) return apply(otherwise, self, given);
+  if (watched.size > 1) refused(`Buffer's ${engine.name} was called for an array of larger elements`);
+  return method(engine, watched, given, self);
+});
 
 /**
  * Writes a stretch of a private Buffer into a watched one, at the same place; told as written.
@@ -136,10 +130,7 @@ function filled(engine, watched, given, self) {
   return self;
 }
 
-/**
- * An array as long as another one, to try in it what a method would do.
- * @param {unknown} value
- */
+/** @param {unknown} value @returns {any} an array as long as another one, to try in it what a method would do */
 const likeness = (value) => {
   const watched = watchedOf(value);
   if (watched === undefined) return tagOf(value) === "Uint8Array" ? new EngineBytes(lengthOf(value)) : value;
@@ -167,34 +158,22 @@ function copiedTo(engine, source, target, targetStart, sourceStart, sourceEnd) {
   return apply(engine, unwrapped(source), [unwrapped(target), to, from, end]);
 }
 
-/**
- * A method that only reads, of its receiver and of what it is given.
- * @param {Function} engine
- */
-const reading = (engine) => ({
-  /** @param {any[]} given */
-  method(...given) {
-    if (watchedOf(this) === undefined) return apply(engine, this, madePrivate(given));
-    /** @type {unknown[]} */
-    const all = [this];
-    for (let at = 0; at < given.length; at += 1) all[at + 1] = given[at];
-    const made = madePrivate(all);
-    for (let at = 0; at < given.length; at += 1) given[at] = made[at + 1];
-    return apply(engine, made[0], given);
-  },
-}).method;
+/** @type {Standing} a method that only reads, of its receiver and of what it is given */
+const reading = (engine) => methodOf((self, given) => {
+  if (watchedOf(self) === undefined) return apply(engine, self, madePrivate(given));
+  /** @type {unknown[]} */
+  const all = [self];
+  for (let at = 0; at < given.length; at += 1) all[at + 1] = given[at];
+  const made = madePrivate(all);
+  for (let at = 0; at < given.length; at += 1) given[at] = made[at + 1];
+  return apply(engine, made[0], given);
+});
 
-/**
- * A method that answers another Buffer on the same memory.
- * @param {Function} engine
- */
-const sharingSlice = (engine) => ({
-  /** @param {any[]} given */
-  method(...given) {
-    const answer = apply(engine, this, given);
-    return tagOf(answer) === undefined || watchedOf(this) === undefined ? answer : wrappedArray(answer);
-  },
-}).method;
+/** @type {Standing} a method that answers another Buffer on the same memory */
+const sharingSlice = (engine) => methodOf((self, given) => {
+  const answer = apply(engine, self, given);
+  return tagOf(answer) === undefined || watchedOf(self) === undefined ? answer : wrappedArray(answer);
+});
 
 /** @type {(size: number) => (engine: Function) => Function} */
 const swapping = (size) => (engine) => forBytes(engine, (_engine, watched, _given, self) => {
@@ -208,25 +187,19 @@ const swapping = (size) => (engine) => forBytes(engine, (_engine, watched, _give
 /** @type {BytesMethod} how node shows a Buffer: that of a private copy */
 const shown = (engine, watched, given) => apply(engine, privateView(watched), given);
 
-/** @param {Function} engine */
-const copyingTo = (engine) => ({
-  /** @param {any[]} given */
-  method(...given) {
-    if (watchedOf(this) === undefined && watchedOf(given[0]) === undefined) return apply(engine, this, given);
-    return copiedTo(engine, this, given[0], given[1], given[2], given[3]);
-  },
-}).method;
+/** @type {Standing} */
+const copyingTo = (engine) => methodOf((self, given) => {
+  if (watchedOf(self) === undefined && watchedOf(given[0]) === undefined) return apply(engine, self, given);
+  return copiedTo(engine, self, given[0], given[1], given[2], given[3]);
+});
 
-/**
- * `fill` of a private Buffer may be given a watched one.
- * @param {Function} engine
- */
+/** @type {Standing} `fill` of a private Buffer may be given a watched one */
 const filling = (engine) => forBytes(engine, filled, copying(engine));
 
 function replaceMethods() {
-  for (let at = 0; at < WORDS.length; at += 1) {
-    replace(buffers, `${WORDS[at]}Slice`, (engine) => forBytes(engine, textSlice));
-    replace(buffers, `${WORDS[at]}Write`, (engine) => forBytes(engine, textWrite));
+  for (const word of WORDS) {
+    replace(buffers, `${word}Slice`, (engine) => forBytes(engine, textSlice));
+    replace(buffers, `${word}Write`, (engine) => forBytes(engine, textWrite));
   }
   replace(buffers, "write", (engine) => forBytes(engine, textWrite));
   replace(buffers, "toString", (engine) => forBytes(engine, textOf));
@@ -243,13 +216,9 @@ function replaceMethods() {
 
 /** @param {typeof import("node:buffer").default} module */
 function replaceStatics(module) {
-  replace(EngineBuffer, "from", (engine) => ({
-    /** @param {any[]} given */
-    method(...given) {
-      const answer = apply(engine, this, blockNumber(given[0]) < 0 ? madePrivate(given) : given);
-      return wrappedArray(answer);
-    },
-  }).method);
+  replace(EngineBuffer, "from", (engine) => methodOf((self, given) => {
+    return wrappedArray(apply(engine, self, blockNumber(given[0]) < 0 ? madePrivate(given) : given));
+  }));
   replaceEach(EngineBuffer, ["alloc", "compare", "concat", "copyBytesFrom"], copying);
   replace(EngineBuffer, "byteLength", looking);
   replaceEach(module, ["transcode", "isUtf8", "isAscii"], copying);
@@ -263,9 +232,7 @@ function replaceStatics(module) {
 export function watchNodeBuffer(module) {
   replaceMethods();
   replaceStatics(module);
-  const Blobs = /** @type {const} */ (["Blob", "File"]);
-  for (let at = 0; at < Blobs.length; at += 1) {
-    const name = Blobs[at];
+  for (const name of /** @type {const} */ (["Blob", "File"])) {
     const Engine = module[name];
     if (typeof Engine !== "function") continue;
     const StandIn = constructing(Engine, madePrivate);

@@ -6,7 +6,7 @@ import { blockNumber, learn, originalOf, refused } from "./context.mjs";
 import { wrappedView } from "./data-view.mjs";
 import { wrapped } from "./elements.mjs";
 import { constructing, refusing, refusingGiven } from "./guards.mjs";
-import { replace, replaceNeeded } from "./patch.mjs";
+import { methodOf, replace, replaceNeeded } from "./patch.mjs";
 import { WHOLLY, isRecorded, reaches } from "./reach.mjs";
 import { anyWatchedOf } from "./watched.mjs";
 
@@ -27,24 +27,19 @@ function clonedMemory(engine, value, options) {
 }
 
 function watchClones() {
-  replaceNeeded(globalThis, "structuredClone", (engine) => ({
-    /** @param {any[]} given */
-    method(...given) {
-      const value = given[0];
-      if (isRecorded(value)) return clonedMemory(engine, value, given[1]);
-      if (reaches(value, WHOLLY, true)) refused("structuredClone was given an object that holds recorded memory");
-      return apply(engine, undefined, given);
-    },
-  }).method);
+  replaceNeeded(globalThis, "structuredClone", (engine) => methodOf((_self, given) => {
+    const value = given[0];
+    if (isRecorded(value)) return clonedMemory(engine, value, given[1]);
+    if (reaches(value, WHOLLY, true)) refused("structuredClone was given an object that holds recorded memory");
+    return apply(engine, undefined, given);
+  }));
 }
 
 /** @param {typeof import("node:worker_threads").default} threads */
 function watchMessages(threads) {
   /** @param {string} what */
   const message = (what) => refusing(what, WHOLLY, true);
-  const classes = /** @type {const} */ (["MessagePort", "BroadcastChannel", "Worker"]);
-  for (let at = 0; at < classes.length; at += 1) {
-    const name = classes[at];
+  for (const name of /** @type {const} */ (["MessagePort", "BroadcastChannel", "Worker"])) {
     replaceNeeded(threads[name].prototype, "postMessage", message(`postMessage of a ${name}`));
   }
   replaceNeeded(threads, "setEnvironmentData", message("setEnvironmentData"));

@@ -18,7 +18,7 @@ import { weakGet, weakSet } from "../../primordials.mjs";
  * @property {(why: string) => never} refuse ends the run
  */
 
-/** @type {Watching} */
+/** @type {Watching} the module's own: a realm is patched once, and its patches look here */
 export const watching = {
   blockOf: () => -1,
   seen: () => {},
@@ -35,18 +35,12 @@ export function begin(given) {
 /** Other buffer objects on the memory of a recorded one, as structuredClone makes them: the recorded one of each. */
 const others = new WeakMap();
 
-/**
- * @param {object} buffer another object on the memory of a recorded buffer
- * @param {object} recorded
- */
+/** @param {object} buffer another object on the memory of a recorded buffer @param {object} recorded */
 export function learn(buffer, recorded) {
   weakSet(others, buffer, originalOf(recorded));
 }
 
-/**
- * The recorded buffer whose memory a buffer has, or itself.
- * @param {object} buffer
- */
+/** @param {object} buffer @returns {any} the recorded buffer whose memory a buffer has, or itself */
 export const originalOf = (buffer) => weakGet(others, buffer) ?? buffer;
 
 /**

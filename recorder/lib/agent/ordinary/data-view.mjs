@@ -7,13 +7,12 @@ import {
 } from "../../primordials.mjs";
 import { blockNumber, refused } from "./context.mjs";
 import { byteIndexOf, elementOf } from "./numbers.mjs";
-import { replace, replaceGetter } from "./patch.mjs";
-import { keepView, tell, viewOn, watchedView } from "./watched.mjs";
+import { methodOf, replace, replaceGetter } from "./patch.mjs";
+import { registerView, tell, viewOn, watchedView } from "./watched.mjs";
 
 const { TypeError: EngineTypeError, RangeError: EngineRangeError } = globalThis;
 const EngineDataView = DataView;
 const { prototype: views } = EngineDataView;
-const startsWith = uncurried(String.prototype.startsWith);
 
 const OUTSIDE = "Offset is outside the bounds of the DataView";
 
@@ -31,7 +30,7 @@ export function wrappedView(real, block) {
   if (block < 0) return real;
   const watched = viewOn(real, block);
   const standIn = create(getPrototypeOf(real));
-  keepView(watched, standIn);
+  registerView(watched, standIn);
   return standIn;
 }
 
@@ -46,17 +45,11 @@ function placeOf({ length }, at, size) {
   return at;
 }
 
-/**
- * @param {Function} engine
- * @param {number} size
- */
+/** @param {Function} engine @param {number} size */
 const getterOf = (engine, size) => {
   const read = uncurried(engine);
   return {
-    /**
-     * @param {unknown} offset
-     * @param {unknown} isLittle
-     */
+    /** @param {unknown} offset @param {unknown} isLittle */
     method(offset, isLittle) {
       const watched = watchedView(this);
       if (watched === undefined) return read(this, offset, isLittle);
@@ -67,19 +60,11 @@ const getterOf = (engine, size) => {
   }.method;
 };
 
-/**
- * @param {Function} engine
- * @param {number} size
- * @param {boolean} big
- */
+/** @param {Function} engine @param {number} size @param {boolean} big */
 const setterOf = (engine, size, big) => {
   const write = uncurried(engine);
   return {
-    /**
-     * @param {unknown} offset
-     * @param {unknown} value
-     * @param {unknown} isLittle
-     */
+    /** @param {unknown} offset @param {unknown} value @param {unknown} isLittle */
     method(offset, value, isLittle) {
       const watched = watchedView(this);
       if (watched === undefined) return write(this, offset, value, isLittle);
@@ -93,23 +78,21 @@ const setterOf = (engine, size, big) => {
 };
 
 function replaceAccessors() {
-  const names = Object.keys(SIZES);
-  for (let at = 0; at < names.length; at += 1) {
-    const name = names[at];
-    replace(views, `get${name}`, (engine) => getterOf(engine, SIZES[name]));
-    replace(views, `set${name}`, (engine) => setterOf(engine, SIZES[name], startsWith(name, "Big")));
+  for (const [name, size] of Object.entries(SIZES)) {
+    replace(views, `get${name}`, (engine) => getterOf(engine, size));
+    replace(views, `set${name}`, (engine) => setterOf(engine, size, name.startsWith("Big")));
   }
 }
 
 /**
  * The getter of what a view has.
  * @param {(real: object) => unknown} slot
- * @param {"buffer" | "offset" | "length"} kept its name in what is known of a watched one
+ * @param {"buffer" | "offset" | "length"} member its name in what is known of a watched one
  */
-const slotGetter = (slot, kept) => () => ({
+const slotGetter = (slot, member) => () => ({
   get asked() {
     const watched = watchedView(this);
-    return watched === undefined ? slot(this) : watched[kept];
+    return watched === undefined ? slot(this) : watched[member];
   },
 });
 
@@ -121,17 +104,12 @@ function replaceSlots() {
 
 /** Accessors that this engine has besides. */
 function refuseOthers() {
-  const names = ownKeys(views);
-  for (let at = 0; at < names.length; at += 1) {
-    const name = names[at];
+  for (const name of ownKeys(views)) {
     if (typeof name !== "string" || !/^[gs]et/.test(name) || SIZES[name.slice(3)] !== undefined) continue;
-    replace(views, name, (engine) => ({
-      /** @param {any[]} given */
-      method(...given) {
-        if (watchedView(this) !== undefined) refused(`${engine.name} of a DataView was called`);
-        return apply(engine, this, given);
-      },
-    }).method);
+    replace(views, name, (engine) => methodOf((self, given) => {
+      if (watchedView(self) !== undefined) refused(`${engine.name} of a DataView was called`);
+      return apply(engine, self, given);
+    }));
   }
 }
 
@@ -140,11 +118,7 @@ export function watchDataView() {
   replaceAccessors();
   replaceSlots();
   refuseOthers();
-  /**
-   * @param {unknown} buffer
-   * @param {unknown} offset
-   * @param {unknown} length
-   */
+  /** @param {unknown} buffer @param {unknown} offset @param {unknown} length */
   const StandIn = function (buffer, offset, length) {
     if (new.target === undefined) throw new EngineTypeError("Constructor DataView requires 'new'");
     const target = new.target === StandIn ? EngineDataView : new.target;

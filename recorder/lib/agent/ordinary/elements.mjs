@@ -6,27 +6,19 @@ import {
 } from "../../primordials.mjs";
 import { blockNumber, watching } from "./context.mjs";
 import { elementOf, indexIn } from "./numbers.mjs";
-import { Watched, arrayOn, keepArray } from "./watched.mjs";
+import { Watched, arrayOn, registerArray } from "./watched.mjs";
 
 const EngineProxy = Proxy;
 
 // The traps of a watched array are what is known of it. They are short, since each access comes through them.
 class Elements extends Watched {
   // Without one that is written out the engine takes its arguments through the iterator of arrays.
-  /**
-   * @param {any} real
-   * @param {import("./context.mjs").Place} place
-   * @param {number} size
-   */
+  /** @param {any} real @param {import("./context.mjs").Place} place @param {number} size */
   constructor(real, place, size) {
     super(real, place, size);
   }
 
-  /**
-   * @param {any} target
-   * @param {string | symbol} key
-   * @param {unknown} receiver
-   */
+  /** @param {any} target @param {string | symbol} key @param {unknown} receiver */
   get(target, key, receiver) {
     if (typeof key === "string") {
       const index = indexIn(key, this.length);
@@ -40,12 +32,7 @@ class Elements extends Watched {
     return get(target, key, receiver);
   }
 
-  /**
-   * @param {any} target
-   * @param {string | symbol} key
-   * @param {any} value
-   * @param {unknown} receiver
-   */
+  /** @param {any} target @param {string | symbol} key @param {any} value @param {unknown} receiver */
   set(target, key, value, receiver) {
     if (typeof key !== "string") return set(target, key, value, receiver);
     const index = indexIn(key, this.length);
@@ -72,21 +59,14 @@ class Elements extends Watched {
     return set(target, key, value, receiver);
   }
 
-  /**
-   * @param {object} target
-   * @param {string | symbol} key
-   */
+  /** @param {object} target @param {string | symbol} key */
   getOwnPropertyDescriptor(target, key) {
     const index = typeof key === "string" ? indexIn(key, this.length) : -1;
     if (index >= 0) this.tellElement(index, false);
     return getOwnPropertyDescriptor(target, key);
   }
 
-  /**
-   * @param {object} target
-   * @param {string | symbol} key
-   * @param {PropertyDescriptor} descriptor
-   */
+  /** @param {object} target @param {string | symbol} key @param {PropertyDescriptor} descriptor */
   defineProperty(target, key, descriptor) {
     const index = typeof key === "string" ? indexIn(key, this.length) : -1;
     if (index >= 0 && hasOwn(descriptor, "value") && isOfElement(descriptor)) {
@@ -96,10 +76,7 @@ class Elements extends Watched {
     return defineProperty(target, key, descriptor);
   }
 
-  /**
-   * @param {number} index
-   * @param {boolean} writes
-   */
+  /** @param {number} index @param {boolean} writes */
   tellElement(index, writes) {
     const from = this.offset + index * this.size;
     watching.seen(this.place, from, from + this.size, writes);
@@ -108,7 +85,7 @@ class Elements extends Watched {
 // What agents add to Object.prototype is no trap.
 setPrototypeOf(Watched.prototype, null);
 
-/** @type {Watched} whose property was asked for last: the getters of what an array has look here first */
+/** @type {Watched} whose property was asked for last: the getters of this realm's arrays look here first */
 let last = new Watched({}, { block: -1, kind: -1, offset: 0, length: 0 }, 1);
 last.standIn = {};
 
@@ -142,14 +119,11 @@ export function wrapped(real, block) {
   if (block < 0) return real;
   const watched = arrayOn(real, block, Elements);
   const standIn = new EngineProxy(watched.real, watched);
-  keepArray(watched, standIn);
+  registerArray(watched, standIn);
   return standIn;
 }
 
-/**
- * What agents get for an array, whatever its buffer is.
- * @param {object} real
- */
+/** @param {object} real @returns {any} what agents get for an array, whatever its buffer is */
 export const wrappedArray = (real) => wrapped(real, blockNumber(bufferOf(real)));
 
 /**
@@ -162,10 +136,7 @@ class Listed {
     this.watched = watched;
   }
 
-  /**
-   * @param {any} target
-   * @param {string} key
-   */
+  /** @param {any} target @param {string} key */
   get(target, key) {
     const { watched } = this;
     if (key === "length") return watched.length;

@@ -2,8 +2,11 @@
 
 import { apply, construct, isArray, put, setPrototypeOf } from "../../primordials.mjs";
 import { refused } from "./context.mjs";
+import { methodOf } from "./patch.mjs";
 import { SHALLOW, WHOLLY, mirrored, reaches } from "./reach.mjs";
 import { anyWatchedOf, tellAll, unwrapped } from "./watched.mjs";
+
+/** @typedef {import("./patch.mjs").Standing} Standing */
 
 const EngineMap = Map;
 const EngineProxy = Proxy;
@@ -34,27 +37,11 @@ export function madePrivate(given, depth = WHOLLY) {
   return given;
 }
 
-/**
- * Private copies are given, which are told as reads.
- * @param {Function} engine
- */
-export const copying = (engine) => ({
-  /** @param {any[]} given */
-  method(...given) {
-    return apply(engine, this, madePrivate(given));
-  },
-}).method;
+/** @type {Standing} private copies are given, which are told as reads */
+export const copying = (engine) => methodOf((self, given) => apply(engine, self, madePrivate(given)));
 
-/**
- * Likewise of what is given itself, where that may be any object.
- * @param {Function} engine
- */
-export const copyingGiven = (engine) => ({
-  /** @param {any[]} given */
-  method(...given) {
-    return apply(engine, this, madePrivate(given, 0));
-  },
-}).method;
+/** @type {Standing} likewise of what is given itself, where that may be any object */
+export const copyingGiven = (engine) => methodOf((self, given) => apply(engine, self, madePrivate(given, 0)));
 
 /**
  * What a function writes: the engine's own array, told as written. A list has several.
@@ -74,53 +61,38 @@ function eachWritable(list) {
   return made;
 }
 
-/**
- * The engine's own array is given, which is told as written, or a list of such.
- * @param {Function} engine
- */
-export const writing = (engine) => ({
-  /** @param {any[]} given */
-  method(...given) {
-    if (!anyReaches(given, SHALLOW)) return apply(engine, this, given);
-    const reals = [];
-    for (let at = 0; at < given.length; at += 1) {
-      reals[at] = isArray(given[at]) ? eachWritable(given[at]) : writable(given[at]);
-    }
-    const answer = apply(engine, this, reals);
-    // Agents get back what they gave.
-    for (let at = 0; at < given.length; at += 1) {
-      if (answer === reals[at]) return given[at];
-    }
-    return answer;
-  },
-}).method;
+/** @type {Standing} the engine's own array is given, which is told as written, or a list of such */
+export const writing = (engine) => methodOf((self, given) => {
+  if (!anyReaches(given, SHALLOW)) return apply(engine, self, given);
+  const reals = [];
+  for (let at = 0; at < given.length; at += 1) {
+    reals[at] = isArray(given[at]) ? eachWritable(given[at]) : writable(given[at]);
+  }
+  const answer = apply(engine, self, reals);
+  // Agents get back what they gave.
+  for (let at = 0; at < given.length; at += 1) {
+    if (answer === reals[at]) return given[at];
+  }
+  return answer;
+});
 
-/**
- * The engine's own arrays are given, and nothing of them is read.
- * @param {Function} engine
- */
-export const looking = (engine) => ({
-  /** @param {any[]} given */
-  method(...given) {
-    for (let at = 0; at < given.length; at += 1) given[at] = unwrapped(given[at]);
-    return apply(engine, this, given);
-  },
-}).method;
+/** @type {Standing} the engine's own arrays are given, and nothing of them is read */
+export const looking = (engine) => methodOf((self, given) => {
+  for (let at = 0; at < given.length; at += 1) given[at] = unwrapped(given[at]);
+  return apply(engine, self, given);
+});
 
 /**
  * Ends the run where recorded memory is given.
  * @param {string} what the function is called
  * @param {number} [depth]
  * @param {boolean} [suspicious]
- * @returns {(engine: Function) => Function}
+ * @returns {Standing}
  */
-export const refusing = (what, depth = SHALLOW, suspicious = false) => (engine) => ({
-  /** @param {any[]} given */
-  method(...given) {
-    if (anyReaches(given, depth, suspicious)) refused(`${what} was given recorded memory`);
-    return apply(engine, this, given);
-  },
-}).method;
+export const refusing = (what, depth = SHALLOW, suspicious = false) => (engine) => methodOf((self, given) => {
+  if (anyReaches(given, depth, suspicious)) refused(`${what} was given recorded memory`);
+  return apply(engine, self, given);
+});
 
 /**
  * A class whose constructor is given something else, or nothing.

@@ -5,7 +5,7 @@ import util from "node:util";
 import { TypedArray, apply, getOwnPropertyDescriptor, put, uncurried } from "../../primordials.mjs";
 import { blockNumber } from "./context.mjs";
 import { copying, madePrivate } from "./guards.mjs";
-import { replace, replaceEach } from "./patch.mjs";
+import { methodOf, replace, replaceEach } from "./patch.mjs";
 import { privateBuffer, privateView } from "./reach.mjs";
 import { watchedOf, watchedView } from "./watched.mjs";
 
@@ -32,10 +32,7 @@ const includes = uncurried(String.prototype.includes);
 /** Node's options where nobody gives others. */
 const { get: defaults } = /** @type {{ get: Function }} */ (getOwnPropertyDescriptor(util.inspect, "defaultOptions"));
 
-/**
- * Whether options leave no way of a value's own, or look into proxies.
- * @param {any} options
- */
+/** @param {any} options @returns {boolean} whether options leave no way of a value's own, or look into proxies */
 const isPlain = (options) =>
   typeof options === "object" && options !== null && (options.customInspect === false || !!options.showProxy);
 
@@ -51,13 +48,10 @@ function looksThrough(given, place, format) {
   return typeof given[format] === "string" && includes(given[format], "%o");
 }
 
-/** @type {(place: number, format: number) => (engine: Function) => Function} */
-const showing = (place, format) => (engine) => ({
-  /** @param {any[]} given */
-  method(...given) {
-    return apply(engine, this, looksThrough(given, place, format) ? madePrivate(given) : given);
-  },
-}).method;
+/** @type {(place: number, format: number) => import("./patch.mjs").Standing} */
+const showing = (place, format) => (engine) => methodOf((self, given) => {
+  return apply(engine, self, looksThrough(given, place, format) ? madePrivate(given) : given);
+});
 
 const PRINTING = ["log", "info", "debug", "warn", "error", "trace", "group", "groupCollapsed"];
 

@@ -10,14 +10,18 @@ import stream from "node:stream";
 import stringDecoder from "node:string_decoder";
 import util from "node:util";
 import v8 from "node:v8";
+import vm from "node:vm";
 import zlib from "node:zlib";
 import { apply, is, ownKeys, put, tagOf, uncurried } from "../../primordials.mjs";
+import { refused } from "./context.mjs";
 import {
   constructing, copying, copyingGiven, looking, madePrivate, refusing, refusingGiven, writing,
 } from "./guards.mjs";
-import { replace, replaceEach, replaceNeeded } from "./patch.mjs";
+import { methodOf, replace, replaceEach, replaceNeeded } from "./patch.mjs";
 import { WHOLLY } from "./reach.mjs";
 import { tell, unwrapped, watchedOf } from "./watched.mjs";
+
+/** @typedef {import("./patch.mjs").Standing} Standing */
 
 const startsWith = uncurried(String.prototype.startsWith);
 const EngineBytes = Uint8Array;
@@ -49,33 +53,10 @@ const WRITING = {
   crypto: ["getRandomValues", "randomFillSync"],
 };
 
-/**
- * What a module has under names that begin with a small letter, and isn't named in a list.
- * @param {object} owner
- * @param {(string[] | undefined)[]} lists
- */
-function otherFunctions(owner, lists) {
-  /** @type {string[]} */
-  const names = [];
-  const keys = ownKeys(owner);
-  for (let at = 0; at < keys.length; at += 1) {
-    const key = keys[at];
-    if (typeof key !== "string" || !/^[a-z]/.test(key) || isIn(lists, key)) continue;
-    names[names.length] = key;
-  }
-  return names;
-}
-
-/**
- * @param {(string[] | undefined)[]} lists
- * @param {string} name
- */
-function isIn(lists, name) {
-  for (let at = 0; at < lists.length; at += 1) {
-    if (lists[at]?.includes(name)) return true;
-  }
-  return false;
-}
+/** @type {(owner: object, lists?: (string[] | undefined)[]) => string[]} its functions' names that no list has */
+const otherFunctions = (owner, lists = []) => /** @type {string[]} */ (ownKeys(owner).filter((key) => {
+  return typeof key === "string" && /^[a-z]/.test(key) && !lists.some((list) => list?.includes(key));
+}));
 
 /**
  * A module whose functions may go on after they have answered: those that aren't named end the run.
@@ -112,7 +93,7 @@ function watchCrypto() {
   replace(webcrypto, "getRandomValues", writing);
   replace(Object.getPrototypeOf(webcrypto), "getRandomValues", writing);
   const prototype = Object.getPrototypeOf(subtle);
-  replaceEach(prototype, otherFunctions(prototype, []), (engine, name) => refusing(`crypto.subtle.${name}`)(engine));
+  replaceEach(prototype, otherFunctions(prototype), (engine, name) => refusing(`crypto.subtle.${name}`)(engine));
 }
 
 function watchStreams() {
@@ -150,27 +131,20 @@ function watchAssertions() {
   }
 }
 
-/**
- * How many bytes a text takes is tried in a private array, so that those alone are told.
- * @param {Function} engine
- */
-const encodingInto = (engine) => ({
-  /**
-   * @param {unknown} text
-   * @param {unknown} target
-   */
-  method(text, target) {
-    const watched = watchedOf(target);
-    const isBytes = watched !== undefined && tagOf(watched.real) === "Uint8Array";
-    if (!isBytes) return apply(engine, this, [text, unwrapped(target)]);
-    const bytes = new EngineBytes(watched.length);
-    const answer = apply(engine, this, [text, bytes]);
-    const { written } = answer;
-    tell(watched, 0, written, true);
-    setBytes(watched.real, subarray(bytes, 0, written), 0);
-    return answer;
-  },
-}).method;
+/** @type {Standing} how many bytes a text takes is tried in a private array, so that those alone are told */
+const encodingInto = (engine) => methodOf((self, given) => {
+  const text = given[0];
+  const target = given[1];
+  const watched = watchedOf(target);
+  const isBytes = watched !== undefined && tagOf(watched.real) === "Uint8Array";
+  if (!isBytes) return apply(engine, self, [text, unwrapped(target)]);
+  const bytes = new EngineBytes(watched.length);
+  const answer = apply(engine, self, [text, bytes]);
+  const { written } = answer;
+  tell(watched, 0, written, true);
+  setBytes(watched.real, subarray(bytes, 0, written), 0);
+  return answer;
+});
 
 function watchTexts() {
   replaceNeeded(TextDecoder.prototype, "decode", copying);
@@ -189,6 +163,20 @@ function watchValues() {
   put(v8, "DefaultDeserializer", constructing(v8.DefaultDeserializer, madePrivate));
   replace(util, "isDeepStrictEqual", copying);
   replaceEach(util.types, ownKeys(util.types).filter((name) => startsWith(name, "is")), looking);
+}
+
+/** A context has typed arrays of its own. Code that was compiled before may lie in recorded memory. */
+function watchContexts() {
+  const { Script } = vm;
+  const makers = [
+    { owner: vm, name: "createContext" }, { owner: vm, name: "runInNewContext" },
+    { owner: Script.prototype, name: "runInNewContext" },
+  ];
+  for (const { owner, name } of makers) {
+    replaceNeeded(owner, name, () => () => refused(`vm.${name} makes a context with typed arrays of its own`));
+  }
+  put(vm, "Script", constructing(Script, refusingGiven("a vm.Script")));
+  replaceNeeded(vm, "compileFunction", refusing("vm.compileFunction"));
 }
 
 /** What marks a time may hold a clone of a value. */
@@ -221,7 +209,7 @@ function watchFetching() {
 /** Patches the functions of node's modules and of the engine. */
 export function watchNatives() {
   guardModule("fs", fs);
-  replaceEach(fs.promises, otherFunctions(fs.promises, []), (engine, name) => refusing(`fs.promises.${name}`)(engine));
+  replaceEach(fs.promises, otherFunctions(fs.promises), (engine, name) => refusing(`fs.promises.${name}`)(engine));
   guardModule("zlib", zlib);
   guardModule("child_process", childProcess);
   watchCrypto();
@@ -230,6 +218,7 @@ export function watchNatives() {
   watchTexts();
   watchWebAssembly();
   watchValues();
+  watchContexts();
   watchMarks();
   watchFetching();
 }

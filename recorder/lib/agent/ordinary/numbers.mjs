@@ -32,10 +32,7 @@ export function indexIn(key, length) {
   return index < length ? index : -1;
 }
 
-/**
- * @param {any} value
- * @returns {number} a whole number, or an infinite one
- */
+/** @param {any} value @returns {number} a whole number, or an infinite one */
 export function wholeOf(value) {
   const number = +value;
   return number !== number ? 0 : trunc(number) + 0;
@@ -60,11 +57,7 @@ export function positionOf(value, length, otherwise) {
  */
 export const elementOf = (big, value) => (big ? asIntN(64, value) : +value);
 
-/**
- * @param {any} value
- * @param {string} what is told where it is none
- * @returns {number} an index of bytes
- */
+/** @param {any} value @param {string} what is told where it is none @returns {number} an index of bytes */
 export function byteIndexOf(value, what) {
   const index = wholeOf(value);
   if (index < 0 || index > MOST) throw new EngineRangeError(what);
@@ -85,10 +78,7 @@ export function needsComparator(comparator) {
   throw new EngineTypeError("The comparison function must be either a function or undefined");
 }
 
-/**
- * @param {unknown} value
- * @returns {any} itself
- */
+/** @param {unknown} value @returns {any} itself */
 export function needsObject(value) {
   if (value === undefined || value === null) throw new EngineTypeError("Cannot convert undefined or null to object");
   return value;

@@ -71,6 +71,20 @@ export function replaceGetter(owner, name, make) {
   defineProperty(owner, name, found);
 }
 
+/** @typedef {(engine: Function) => Function} Standing what stands for a function of the engine */
+
+/**
+ * A method, which can't be constructed, as the engine's own can't.
+ * @param {(self: any, given: any[]) => unknown} body
+ * @returns {Function}
+ */
+export const methodOf = (body) => ({
+  /** @param {any[]} given */
+  method(...given) {
+    return body(this, given);
+  },
+}).method;
+
 /**
  * @callback WatchedMethod a method of typed arrays, for a watched one
  * @param {import("./watched.mjs").WatchedArray} watched
@@ -89,11 +103,7 @@ export function replaceGetter(owner, name, make) {
  */
 export function forWatched(engine, method) {
   return {
-    /**
-     * @param {any} first
-     * @param {any} second
-     * @param {any} third
-     */
+    /** @param {any} first @param {any} second @param {any} third */
     method(first, second, third) {
       const watched = watchedOf(this);
       if (watched === undefined) return apply(engine, this, arguments);

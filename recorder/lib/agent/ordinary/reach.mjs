@@ -26,16 +26,10 @@ export const WHOLLY = Infinity;
 /** @param {unknown} value @returns {value is object} */
 const isObject = (value) => (typeof value === "object" && value !== null) || typeof value === "function";
 
-/**
- * Whether a value is itself recorded memory.
- * @param {unknown} value
- */
+/** @param {unknown} value @returns {boolean} whether a value is itself recorded memory */
 export const isRecorded = (value) => anyWatchedOf(value) !== undefined || blockNumber(value) >= 0;
 
-/**
- * Whether a value has nothing in it that a function would look at.
- * @param {unknown} value
- */
+/** @param {unknown} value @returns {boolean} whether a value has nothing in it that a function would look at */
 const isLeaf = (value) => !isObject(value) || tagOf(value) !== undefined || isView(value);
 
 /**
@@ -182,21 +176,13 @@ function emptyLike(value) {
   return create(getPrototypeOf(value));
 }
 
-/**
- * @template {object} Copy
- * @param {Copy} copy
- * @param {object} value
- */
+/** @template {object} Copy @param {Copy} copy @param {object} value */
 function setPrototyped(copy, value) {
   setPrototypeOf(copy, getPrototypeOf(value));
   return copy;
 }
 
-/**
- * @param {object} value
- * @param {object} copy
- * @param {Map<object, object>} made
- */
+/** @param {object} value @param {object} copy @param {Map<object, object>} made */
 function fillMirror(value, copy, made) {
   if (value instanceof EngineMap) {
     /** @type {(inner: unknown, key: unknown) => void} */

@@ -3,7 +3,7 @@
 import { construct, sharedLengthOf, uncurried } from "../../primordials.mjs";
 import { blockNumber, watching } from "./context.mjs";
 import { positionOf } from "./numbers.mjs";
-import { replaceNeeded } from "./patch.mjs";
+import { methodOf, replaceNeeded } from "./patch.mjs";
 import { WHOLE_BUFFER, unwrapped } from "./watched.mjs";
 
 const { TypeError: EngineTypeError } = globalThis;
@@ -53,23 +53,16 @@ function tellBytes(buffer, from, to, writes) {
 
 /** Patches what there is of shared buffers in this realm. */
 export function watchBuffers() {
-  replaceNeeded(EngineShared.prototype, "slice", () => ({
-    /**
-     * @this {any}
-     * @param {unknown} begin
-     * @param {unknown} end
-     */
-    method(begin, end) {
-      const length = sharedLengthOf(this);
-      const from = positionOf(begin, length, 0);
-      const to = positionOf(end, length, length);
-      const count = from < to ? to - from : 0;
-      const made = answered(this, count);
-      tellBytes(this, from, to, false);
-      tellBytes(made, 0, count, true);
-      setElements(new EngineBytes(made), new EngineBytes(this, from, count));
-      return made;
-    },
-  }).method);
+  replaceNeeded(EngineShared.prototype, "slice", () => methodOf((self, given) => {
+    const length = sharedLengthOf(self);
+    const from = positionOf(given[0], length, 0);
+    const to = positionOf(given[1], length, length);
+    const count = from < to ? to - from : 0;
+    const made = answered(self, count);
+    tellBytes(self, from, to, false);
+    tellBytes(made, 0, count, true);
+    setElements(new EngineBytes(made), new EngineBytes(self, from, count));
+    return made;
+  }));
   replaceNeeded(ArrayBuffer, "isView", (engine) => (/** @type {unknown} */ value) => engine(unwrapped(value)));
 }

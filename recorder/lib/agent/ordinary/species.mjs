@@ -7,7 +7,7 @@ const { TypeError: EngineTypeError, Symbol: EngineSymbol } = globalThis;
 const { species } = EngineSymbol;
 const begins = uncurried(String.prototype.startsWith);
 
-/** The constructors that agents get, by their kind. */
+/** The constructors that agents get in this realm, by their kind. */
 export const standIns = /** @type {Function[]} */ ([]);
 
 /** @param {unknown} value */
@@ -69,11 +69,7 @@ export function partOf(watched, self, given) {
   return sameContents(watched, arrayBy(constructor, given));
 }
 
-/**
- * @template {object} Made
- * @param {import("./watched.mjs").Watched} watched
- * @param {Made} made
- */
+/** @template {object} Made @param {import("./watched.mjs").Watched} watched @param {Made} made */
 function sameContents(watched, made) {
   if (isBig(tagOf(unwrapped(made))) === watched.big) return made;
   throw new EngineTypeError("Content type of the species' array differs from the receiver's");

@@ -4,7 +4,6 @@
 import buffer from "node:buffer";
 import { syncBuiltinESMExports } from "node:module";
 import threads from "node:worker_threads";
-import vm from "node:vm";
 import { watchArrays } from "./arrays.mjs";
 import { watchNodeBuffer } from "./buffer.mjs";
 import { watchCloning } from "./clone.mjs";
@@ -12,7 +11,6 @@ import { begin } from "./context.mjs";
 import { watchDataView } from "./data-view.mjs";
 import { watchInspection } from "./inspect.mjs";
 import { watchNatives } from "./natives.mjs";
-import { watchRealms } from "./realms.mjs";
 import { watchBuffers } from "./shared.mjs";
 
 /**
@@ -27,7 +25,6 @@ export function watchOrdinary(watching) {
   watchNodeBuffer(buffer);
   watchCloning(threads);
   watchInspection();
-  watchRealms(vm);
   watchNatives();
   syncBuiltinESMExports();
 }

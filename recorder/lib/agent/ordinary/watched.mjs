@@ -26,10 +26,10 @@ const FIRST_BIG = kindNumbers.BigInt64Array;
 export const ENGINE = CONSTRUCTORS;
 const EngineView = DataView;
 
-/** What is known of an array, by what stands for it in the agents' code. */
+/** What is known of each array of this realm, by what stands for it in the agents' code. */
 const arrays = new WeakMap();
 
-/** Answers the object itself, so that what is made of it is that object with a field more. */
+/** A constructor that returns its argument, so that a subclass can add a private field to an existing object. */
 const Same = /** @type {{ new (object: object): object }} */ (/** @type {unknown} */ (
   /** @param {object} object */
   function (object) {
@@ -42,10 +42,7 @@ class Marked extends Same {
   /** @type {Watched} */
   #watched;
 
-  /**
-   * @param {object} object
-   * @param {Watched} watched
-   */
+  /** @param {object} object @param {Watched} watched */
   constructor(object, watched) {
     super(object);
     this.#watched = watched;
@@ -115,10 +112,7 @@ export function arrayOn(real, block, Kind) {
   return watched;
 }
 
-/**
- * @param {DataView} real
- * @param {number} block
- */
+/** @param {DataView} real @param {number} block */
 export function viewOn(real, block) {
   const place = { block, kind: DATA_VIEW, offset: viewOffsetOf(real), length: viewLengthOf(real) };
   const buffer = viewBufferOf(real);
@@ -127,20 +121,14 @@ export function viewOn(real, block) {
   return watched;
 }
 
-/**
- * @param {Watched} watched an array
- * @param {object} standIn
- */
-export function keepArray(watched, standIn) {
+/** @param {Watched} watched an array @param {object} standIn */
+export function registerArray(watched, standIn) {
   watched.standIn = standIn;
   weakSet(arrays, standIn, watched);
 }
 
-/**
- * @param {Watched} watched a DataView
- * @param {object} standIn
- */
-export function keepView(watched, standIn) {
+/** @param {Watched} watched a DataView @param {object} standIn */
+export function registerView(watched, standIn) {
   watched.standIn = standIn;
   new Marked(standIn, watched);
 }
@@ -165,10 +153,7 @@ export function anyWatchedOf(value) {
   return watchedView(value);
 }
 
-/**
- * The engine's array behind a watched one, or the value itself.
- * @param {any} value
- */
+/** @param {any} value @returns {any} the engine's array behind a watched one, or the value itself */
 export function unwrapped(value) {
   const watched = anyWatchedOf(value);
   return watched === undefined ? value : watched.real;

@@ -1,5 +1,5 @@
-// What agents ask for, before it is done: which bytes a call will touch, and how. So whoever draws knows which calls
-// get in each other's way, and which are nobody else's affair.
+// What agents ask for, before it is done: which bytes a call will touch, and how. So a strategy can tell which calls
+// conflict and which are private.
 
 import { AGENT_WORD, PHASE, wordOf } from "../../memory/layout.mjs";
 import { FLAG } from "../../memory/log.mjs";
@@ -12,10 +12,7 @@ const GOES_ON = 64;
 const MOST_IN_A_ROW = 128;
 
 export class Asked {
-  /**
-   * @param {Int32Array} words of the board
-   * @param {import("../../memory/known-places.mjs").KnownPlaces} places
-   */
+  /** @param {Int32Array} words of the board @param {import("../../memory/known-places.mjs").KnownPlaces} places */
   constructor(words, places) {
     this.words = words;
     this.places = places;

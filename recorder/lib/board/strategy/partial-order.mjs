@@ -12,13 +12,8 @@ const NONE = 0;
 const RENEWAL = 64;
 
 export class PartialOrder {
-  /**
-   * @param {Int32Array} words of the board
-   * @param {import("../../memory/random.mjs").Random} random
-   * @param {import("./asked.mjs").Asked} asked
-   * @param {number} agents how many
-   */
-  constructor(words, random, asked, agents) {
+  /** @param {import("./drawing.mjs").Parts} parts */
+  constructor({ words, random, asked, agents }) {
     this.words = words;
     this.random = random;
     this.asked = asked;
@@ -30,10 +25,7 @@ export class PartialOrder {
     for (let agent = 0; agent < this.agents; agent += 1) this.words[wordOf(agent, AGENT_WORD.PRIORITY)] = NONE;
   }
 
-  /**
-   * @param {import("./able.mjs").Able} able those that can move, of which there is one at least
-   * @returns {number} who moves next
-   */
+  /** @param {import("./able.mjs").Able} able @returns {number} who moves next */
   drawn(able) {
     if (this.random.below(RENEWAL) === 0) this.begin();
     let next = able.agents[0];

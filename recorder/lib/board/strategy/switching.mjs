@@ -1,11 +1,8 @@
 // Whoever moved last goes on as a rule; how likely it is that another one moves next is given.
 
 export class Switching {
-  /**
-   * @param {import("../../memory/random.mjs").Random} random
-   * @param {number} likelihood from 0 to 1
-   */
-  constructor(random, likelihood) {
+  /** @param {import("./drawing.mjs").Parts} parts @param {number} likelihood from 0 to 1 */
+  constructor({ random }, likelihood) {
     this.random = random;
     this.likelihood = likelihood;
   }

@@ -1,17 +1,14 @@
 // All that can move are alike.
 
 export class Uniform {
-  /** @param {import("../../memory/random.mjs").Random} random */
-  constructor(random) {
+  /** @param {import("./drawing.mjs").Parts} parts */
+  constructor({ random }) {
     this.random = random;
   }
 
   begin() {}
 
-  /**
-   * @param {import("./able.mjs").Able} able those that can move, of which there is one at least
-   * @returns {number} who moves next
-   */
+  /** @param {import("./able.mjs").Able} able @returns {number} who moves next */
   drawn(able) {
     return able.agents[this.random.below(able.count)];
   }

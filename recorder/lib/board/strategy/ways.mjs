@@ -1,9 +1,11 @@
-// The words that name a strategy, and what a mixed run takes: its seed says which.
+// What `--strategy` can say: one of the strategies, or `mixed`, by which a run's seed says which it takes.
+
+import { STRATEGIES } from "./table.mjs";
 
 /**
  * @typedef {object} Way how the agents of a run are drawn
- * @property {"uniform" | "switch" | "partial-order"} name
- * @property {number} likelihood that another agent moves next, where it is `switch`
+ * @property {string} name of its strategy
+ * @property {number} likelihood behind that name, where it has one
  * @property {boolean} everywhere whether a draw is made before each call, also where agents can't meet
  */
 
@@ -32,20 +34,20 @@ const MIXED = Object.freeze([
 /** Those of pilots: whatever the runs are to do, pilots look at all that the agents may do. */
 export const PILOT_WAYS = Object.freeze(MIXED.map(({ name, likelihood }) => way(name, likelihood, true)));
 
-/** The strategies that have no number. */
-export const PLAIN = Object.freeze(["mixed", "uniform", "partial-order"]);
-
-/** What stands before the number of the other one. */
-export const SWITCH = "switch:";
+/** What names a strategy: P is a likelihood. */
+export const STRATEGY_WORDS = Object.freeze(["mixed", ...Object.entries(STRATEGIES).map(([name, { hasLikelihood }]) => {
+  return hasLikelihood ? `${name}:P` : name;
+})]);
 
 /**
- * What runs take in turn.
- * @param {string} strategy as it was checked before: one of `PLAIN`, or `switch:` and a number
+ * @param {string} strategy
  * @param {boolean} everywhere
- * @returns {readonly Way[]}
+ * @returns {readonly Way[]} what runs take in turn; none if no strategy is named so
  */
 export function waysOf(strategy, everywhere) {
   if (strategy === "mixed") return everywhere ? PILOT_WAYS : MIXED;
-  if (strategy === "uniform" || strategy === "partial-order") return [way(strategy, 0, everywhere)];
-  return [way("switch", Number(strategy.slice(SWITCH.length)), everywhere)];
+  const [, name, likelihood] = /^([a-z-]+)(?::([0-9]+(?:\.[0-9]+)?))?$/.exec(strategy) ?? [];
+  if (!Object.hasOwn(STRATEGIES, name ?? "")) return [];
+  const isRight = STRATEGIES[name].hasLikelihood ? Number(likelihood) <= 1 : likelihood === undefined;
+  return isRight ? [way(name, Number(likelihood ?? 0), everywhere)] : [];
 }

@@ -1,0 +1,127 @@
+// An agent's part in a run: how far the agent has come, and how it ends the run.
+
+import { SCRIPT_LIMITS } from "../../script/limits.mjs";
+import { Accesses } from "./accesses.mjs";
+import { sourceHere } from "./frames.mjs";
+import { changeText, laterText } from "./undone.mjs";
+
+/** @typedef {import("../memory/records.mjs").Call} Call */
+
+const { Error: EngineError } = globalThis;
+
+/** Ends an agent whose run is over. Agents may catch it; their next call throws it again. */
+export class RunIsOver extends EngineError {
+  constructor() {
+    super("this run is over: the recorder ends the agent here");
+  }
+}
+
+/** @returns {string} where the agent's code is, to be added to what it does */
+function whereText() {
+  const source = sourceHere();
+  return source === undefined ? "" : ` at ${source}`;
+}
+
+export class Part {
+  /** @param {number} agent its number @param {import("./table.mjs").Table} table */
+  constructor(agent, table) {
+    this.agent = agent;
+    this.table = table;
+    /** How many calls it has made. */
+    this.made = 0;
+    /** Whether the agent has a part in a run now. */
+    this.isPlaying = false;
+    /** Whether that run is over for it. */
+    this.isOver = false;
+    /** Whether it is in a call of Atomics. It stays so if an exception ends the call amid its way. */
+    this.isInside = false;
+    /** @type {Call | undefined} the last call, for messages */
+    this.last = undefined;
+    this.accesses = new Accesses(agent, table);
+  }
+
+  begin() {
+    this.made = 0;
+    this.isInside = false;
+    this.accesses.begin();
+    this.isPlaying = true;
+    this.isOver = false;
+  }
+
+  /** The agent's own code has made a call. What it changed by ordinary writes is taken here. */
+  enter() {
+    const { board, later } = this.table;
+    if (this.isInside) this.outOfStack();
+    if (!board.turn.enter(this.agent)) this.over();
+    this.isInside = true;
+    this.accesses.renew();
+    this.take();
+    const goesOn = later.told();
+    if (goesOn !== undefined) this.end("failed", `agent ${this.agent} ${laterText(goesOn, "an agent")}`);
+  }
+
+  /** The call was made: the agent's own code goes on. */
+  goOn() {
+    this.accesses.goOn();
+    this.isInside = false;
+  }
+
+  /** Takes what ordinary writes have changed since the agent's last call. */
+  take() {
+    const change = this.accesses.take();
+    if (change !== undefined) this.end("failed", changeText(change, this));
+  }
+
+  /** Goes on only in a run that goes on. */
+  needsRun() {
+    if (this.isOver || this.table.board.end.hasEnded()) this.over();
+  }
+
+  /** @returns {never} */
+  meetsMostCalls() {
+    const { calls } = SCRIPT_LIMITS;
+    if (this.table.records.endsAlike(this.made)) this.spins(`it has made ${calls} calls, and goes on`);
+    return this.bound(`agent ${this.agent} has made ${calls} calls, and goes on${whereText()}`);
+  }
+
+  /** @param {string} what it does again and again @returns {never} */
+  spins(what) {
+    return this.bound(`agent ${this.agent} spins${whereText()}: ${what}`);
+  }
+
+  /** @param {string} detail @returns {never} */
+  bound(detail) {
+    return this.end("bound", detail);
+  }
+
+  /** The run has ended while this agent's code went on, or the referee asks where it is. */
+  interrupted() {
+    const { board } = this.table;
+    if (!this.isOver && board.end.isAsked() && board.turn.enter(this.agent)) {
+      this.spins("it has made no call for too long");
+    }
+    this.over();
+  }
+
+  /** The stack came to its end amid a call: the agent can't go on as if it had been made. */
+  outOfStack() {
+    const { board } = this.table;
+    if (!board.turn.isInCall(this.agent) && !board.end.hasEnded()) board.turn.sleep(this.agent);
+    if (board.end.hasEnded() || board.end.isOver()) this.over();
+    this.end("failed", `agent ${this.agent} ran out of stack in a call of Atomics`);
+  }
+
+  /** @param {import("../board/end.mjs").Ended} ending @param {string} detail @returns {never} */
+  end(ending, detail) {
+    this.table.board.journal.countOrdinary(this.agent, this.accesses.count);
+    this.table.board.end.end(ending, detail);
+    return this.over();
+  }
+
+  /** @returns {never} */
+  over() {
+    this.isOver = true;
+    this.isInside = false;
+    throw new RunIsOver();
+  }
+}

@@ -1,0 +1,17 @@
+/**
+ * What an agent plays with.
+ * @typedef {object} Table
+ * @property {import("../board/board.mjs").Board} board
+ * @property {import("../memory/memory.mjs").Memory} memory
+ * @property {import("../memory/log.mjs").Log} log
+ * @property {import("../memory/stores.mjs").Stores} stores
+ * @property {import("../memory/records.mjs").Records} records of its own calls
+ * @property {import("../memory/sources.mjs").Sources} sources of its own code
+ * @property {import("./later.mjs").Later} later
+ * @property {import("./time.mjs").Chance} chance
+ * @property {number[]} lengths of the buffers
+ * @property {boolean} canBlock
+ * @property {"watch" | "store" | "refuse"} ordinary
+ */
+
+export {};

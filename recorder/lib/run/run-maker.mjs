@@ -1,0 +1,199 @@
+// Makes the runs of a group, by a seed or by a row. It clears what an earlier run left, has `init` called, waits for
+// the end, looks for unordered accesses, and has `check` called.
+
+import { Board } from "../board/board.mjs";
+import { strayText } from "../board/row.mjs";
+import { ORDER, WORD } from "../memory/layout.mjs";
+import { Log } from "../memory/log.mjs";
+import { Memory } from "../memory/memory.mjs";
+import { Stores } from "../memory/stores.mjs";
+import { initialStores } from "./initial.mjs";
+import { PILOT_SECONDS } from "./pilots.mjs";
+import { isRacy } from "./races.mjs";
+
+/** @typedef {import("./group.mjs").Wanted} Wanted */
+
+/**
+ * @typedef {object} Made how a run ended
+ * @property {import("./group.mjs").Ending} ending
+ * @property {string} detail
+ * @property {string[]} bytes of each block, in hexadecimal digits
+ * @property {number[]} gone agents that can't run again
+ * @property {boolean} racy
+ * @property {import("../memory/stores.mjs").Store[]} initial what filled the buffers at first
+ * @property {{ agent: number, block: number, byte: number }[]} waiting who waits where, in order of arrival
+ * @property {import("../board/row.mjs").Stray} [stray] how it has strayed from the row that it was to go by
+ */
+
+/**
+ * @typedef {object} RefereeOptions
+ * @property {string} module the URL of the agents' module
+ * @property {number} seconds for how long an agent may make no call
+ * @property {boolean} fresh
+ * @property {boolean} trace
+ * @property {boolean} [tellsMeetings]
+ * @property {"watch" | "store" | "refuse"} ordinary
+ * @property {"fail" | "allow"} races
+ * @property {"fail" | "allow"} bounds
+ * @property {"library" | "module" | undefined} init whose it is, if there is one
+ * @property {"library" | "module" | undefined} check likewise
+ */
+
+/**
+ * @typedef {object} Given what the referee's thread is started with
+ * @property {import("node:worker_threads").MessagePort} port
+ * @property {ReturnType<typeof import("../board/group-memory.mjs").memoryOf>} memory
+ * @property {import("../options/plan.mjs").Plan} plan
+ * @property {import("../board/strategy.mjs").Rules} rules
+ * @property {RefereeOptions} options
+ */
+
+// How long an agent has to come back after its run has ended, before its worker is started anew.
+const GRACE_MILLISECONDS = 200;
+const ENDLESS = "didn't come to its end";
+
+const NOTHING_TRIED = "no agent has made a call of Atomics on the recorded buffers: nothing was tried";
+
+export class RunMaker {
+  /** @param {Given} given @param {import("./source-names.mjs").SourceNames} sourceNames */
+  constructor({ port, memory, plan, rules, options }, sourceNames) {
+    this.port = port;
+    this.plan = plan;
+    this.options = options;
+    this.sourceNames = sourceNames;
+    this.board = new Board(memory.board, rules);
+    this.memory = new Memory(memory.buffers, memory.copies);
+    this.log = new Log(memory.log, this.board.words, WORD.EVENTS);
+    this.stores = new Stores(memory.stores, this.board.words, this.memory);
+    this.agents = plan.canBlock.map((_, agent) => agent);
+  }
+
+  /**
+   * One run, by a seed, or by a row.
+   * @param {Wanted} wanted
+   * @param {boolean} tellsSources whether each access notes its line of code
+   * @returns {Promise<Made>}
+   */
+  async made(wanted, tellsSources) {
+    const { board, memory, plan, options, sourceNames } = this;
+    this.#clear(wanted);
+    const problem = options.init === undefined ? "" : await this.#asked("init");
+    const initial = options.init === undefined ? [] : initialStores(memory, plan.agents);
+    if (problem !== "") {
+      const nothing = { bytes: memory.hex(), gone: [], racy: false, initial, waiting: [] };
+      return { ending: "failed", detail: `init ${problem}`, ...nothing };
+    }
+    board.words[WORD.TELLS_SOURCES] = tellsSources ? 1 : 0;
+    board.begin(wanted.seed);
+    board.turn.awaitEnd(options.seconds);
+    const told = board.end.told();
+    const stray = board.row.strayed();
+    const bytes = memory.hex();
+    const waiting = told.ending === "deadlock" ? board.line.waiting() : [];
+    const gone = this.#sentHome();
+    const racy = options.ordinary === "watch" && isRacy(this.log, plan.agents);
+    const named = told.ending === "bound" ? sourceNames.withNames(told.detail) : told.detail;
+    const detail = stray === undefined ? named : strayText(stray, named);
+    return { ending: told.ending, detail, bytes, gone, racy, initial, waiting, stray };
+  }
+
+  /** @param {Made} found @returns {Promise<Made>} how a run ends, with what is known when its agents are home */
+  async judged(found) {
+    const { check, races } = this.options;
+    if (found.ending !== "finished") return found;
+    if (this.callCount() === 0) return { ...found, ending: "failed", detail: NOTHING_TRIED };
+    const problem = check === undefined ? "" : await this.#asked("check");
+    if (problem !== "") return { ...found, ending: "check", detail: `check ${problem}` };
+    return found.racy && races === "fail" ? { ...found, ending: "race" } : found;
+  }
+
+  /**
+   * How a run ends that was made once more. A check that didn't come to its end before isn't called again, since it
+   * would take as long again.
+   * @param {Made} again
+   * @param {Made} found the run as it was made before
+   * @returns {Promise<Made>}
+   */
+  async judgedAgain(again, { ending, detail }) {
+    const isEndless = ending === "check" && detail.startsWith(`check ${ENDLESS}`);
+    return isEndless && again.ending === "finished" ? { ...again, ending, detail } : this.judged(again);
+  }
+
+  /**
+   * Makes a pilot, a run without an outcome.
+   * @param {number} seed
+   * @returns {Promise<boolean>} whether everything that the agents did was seen
+   */
+  async pilot(seed) {
+    const { board, options } = this;
+    this.#clear({ seed, whole: false });
+    board.words[WORD.IS_PILOT] = 1;
+    if (options.init !== undefined && (await this.#asked("init")) !== "") return false;
+    board.words[WORD.TELLS_SOURCES] = 0;
+    board.begin(seed, true);
+    const isSilent = board.turn.awaitEnd(Math.min(options.seconds, PILOT_SECONDS));
+    await this.replace(this.#sentHome());
+    // If ordinary reads aren't seen, nobody knows what an agent does between its calls.
+    const isHidden = options.ordinary !== "watch" && board.words[WORD.STORES] > 0;
+    return !isSilent && !isHidden;
+  }
+
+  /**
+   * Has workers started anew, and waits until they are there.
+   * @param {number[]} gone
+   */
+  async replace(gone) {
+    if (gone.length > 0) await this.#answered({ replace: gone });
+  }
+
+  /** How many calls of Atomics were begun. */
+  callCount() {
+    return this.agents.reduce((sum, agent) => sum + this.board.journal.progress(agent).calls, 0);
+  }
+
+  /** How many ordinary reads and writes were seen. */
+  accessCount() {
+    return this.agents.reduce((sum, agent) => sum + this.board.journal.ordinary(agent), 0);
+  }
+
+  /**
+   * Leaves nothing of an earlier run.
+   * @param {Wanted} wanted
+   */
+  #clear(wanted) {
+    this.memory.reset();
+    this.board.row.begin(wanted);
+    this.log.begin();
+    this.stores.begin();
+    this.board.journal.begin();
+  }
+
+  /**
+   * Has the module's `init` or `check` run, or the library's.
+   * @param {"init" | "check"} name
+   * @returns {Promise<string>} what went wrong in it, as "threw ..", or nothing
+   */
+  async #asked(name) {
+    const { board, options } = this;
+    if (options[name] === "library") return (await this.#answered({ ask: name })).problem;
+    board.order(name === "init" ? ORDER.INIT : ORDER.CHECK);
+    board.turn.awaitEnd(options.seconds);
+    const { ending, detail } = board.end.told();
+    if (!board.turn.isBack(0, GRACE_MILLISECONDS)) await this.replace([0]);
+    return ending === "finished" ? detail : `${ENDLESS}: ${detail}`;
+  }
+
+  /** Sends the agents home. @returns {number[]} those that can't run again */
+  #sentHome() {
+    this.board.dismiss();
+    return this.agents.filter((agent) => !this.board.turn.isBack(agent, GRACE_MILLISECONDS));
+  }
+
+  /** @param {object} message @returns {Promise<any>} what another thread answers to a message */
+  #answered(message) {
+    return new Promise((done) => {
+      this.port.once("message", done);
+      this.port.postMessage(message);
+    });
+  }
+}

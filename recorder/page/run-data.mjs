@@ -1,0 +1,46 @@
+// What the page of a run is made from.
+
+/** @typedef {import("../schedule/report.mjs").Entry} Entry */
+/** @typedef {import("./words.mjs").View} View */
+
+/**
+ * @typedef {object} Event of the trace
+ * @property {number} agent
+ * @property {number} call
+ * @property {string} does
+ * @property {number} block
+ * @property {number} byte
+ * @property {number} size
+ * @property {boolean} read
+ * @property {boolean} write
+ * @property {number} place its position among the places of the code, or -1
+ */
+
+/**
+ * @typedef {object} RunData what the page of a run is made from
+ * @property {number} seed
+ * @property {string} module the name of its file
+ * @property {string} ending
+ * @property {string} detail
+ * @property {number} agents how many, without that of `init`
+ * @property {number[]} blocks their lengths
+ * @property {View[]} views
+ * @property {Entry[]} entries those that act, wait, leave and are stuck
+ * @property {Record<string, any>[]} standings of agents that haven't come to the end of their calls
+ * @property {Event[]} events of the trace; none where it isn't known
+ * @property {boolean} isWhole whether all are there; else those that are ordinary and don't race aren't
+ * @property {string[]} places of the code: file, line and column
+ * @property {{ file: string, text: string | null }[]} files
+ * @property {[number, number][]} races the two events of each, the most telling first
+ * @property {"all" | "touched"} holds which ordinary writes the script has
+ * @property {string} [script] its text, in a page that can change the schedule
+ * @property {Command} [command] that has made the run; undefined: it was made without one
+ */
+
+/**
+ * @typedef {object} Command words of a shell
+ * @property {string} options the program, the module and the options that the run depends on
+ * @property {string} args what stands behind the options, for the agents
+ */
+
+export {};

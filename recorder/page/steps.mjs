@@ -1,0 +1,220 @@
+// The steps of a run, from the entries of its report and the events of its trace.
+
+import { isStandIn } from "../schedule/report.mjs";
+import { labelOf, sizeOf } from "./elements.mjs";
+import { callText, entryText, standingText, valueText } from "./words.mjs";
+
+/** @typedef {import("../schedule/report.mjs").Entry} Entry */
+/** @typedef {import("./elements.mjs").Views} Views */
+/** @typedef {import("./run-data.mjs").Event} Event */
+/** @typedef {import("./run-data.mjs").RunData} RunData */
+/** @typedef {import("./words.mjs").View} View */
+
+/**
+ * @typedef {object} Change of an element
+ * @property {number} block
+ * @property {number} byte
+ * @property {string} kind
+ * @property {number | string} before
+ * @property {number | string} after
+ * @property {string} name of the element
+ */
+
+/** @typedef {{ block: number, byte: number, size: number, writes: boolean }} Access */
+
+/**
+ * @typedef {object} Step
+ * @property {"start" | "call" | "wait" | "leave" | "stuck" | "ordinary" | "store" | "end"} what
+ * @property {number} [agent]
+ * @property {number} [entry] its position in the report
+ * @property {number} [event] its position in the trace
+ * @property {string} text what is done, in short
+ * @property {string} answer what came of it, in short
+ * @property {string} sentence the fact
+ * @property {number} place of the code, or -1
+ * @property {Access[]} accesses
+ * @property {Change[]} changes
+ * @property {boolean} isSwitch whether another agent has made the step before
+ * @property {Entry} [fact]
+ */
+
+export class Stepper {
+  /** @param {RunData} data @param {Views} views */
+  constructor(data, views) {
+    this.data = data;
+    this.views = views;
+    /** @type {Step[]} */
+    this.steps = [];
+    /** @type {(number | undefined)[]} */
+    this.waits = [];
+    /** @type {Step[][]} the ordinary writes of each agent since its last call */
+    this.pending = Array.from({ length: data.agents }, () => []);
+    this.known = { views: views.byName, waits: this.waits };
+    this.entries = data.entries.filter(({ agent }) => agent < data.agents);
+    this.next = 0;
+  }
+
+  /** @returns {Step[]} */
+  all() {
+    this.#start();
+    const events = this.#isTraced() ? this.data.events : [];
+    events.forEach((event, position) => this.#event(event, position));
+    while (this.next < this.entries.length) this.#entry(-1, undefined);
+    this.#end();
+    this.steps.forEach((step, at) => {
+      const before = this.steps[at - 1]?.agent;
+      step.isSwitch = before !== undefined && step.agent !== undefined && step.agent !== before;
+    });
+    return this.steps;
+  }
+
+  /** Whether the calls of the trace are those of the report. */
+  #isTraced() {
+    const own = this.entries.filter((entry) => !isNoCall(entry));
+    const calls = this.data.events.filter((event) => !isOrdinary(event));
+    return own.length === calls.length && own.every(({ agent, what, does }, at) => {
+      const isLeave = calls[at].does === "leave" || calls[at].does === "time-up";
+      return agent === calls[at].agent && (what === "leave" ? isLeave : does[0] === calls[at].does);
+    });
+  }
+
+  /** @param {Partial<Step> & { what: Step["what"] }} parts */
+  #add(parts) {
+    const plain = { text: "", answer: "", sentence: "", place: -1, accesses: [], changes: [], isSwitch: false };
+    this.steps.push({ ...plain, ...parts });
+  }
+
+  #start() {
+    const first = this.data.entries.filter(({ agent }) => agent >= this.data.agents);
+    const how = first.length === 0 ? "every byte is zero" : "the bytes are as `init` left them";
+    this.#add({ what: "start", text: "the start", sentence: `The run begins: ${how}.`,
+      changes: first.flatMap((entry) => this.#changesOf(entry)) });
+  }
+
+  #end() {
+    const { ending, standings } = this.data;
+    const stands = standings.map(({ agent, standing }) => `Agent ${agent} ${standingText(standing)}.`);
+    this.#add({ what: "end", text: `the end: ${ending}`, sentence: [`The run ends: ${ending}.`, ...stands].join(" ") });
+  }
+
+  /** @param {Event} event @param {number} position */
+  #event(event, position) {
+    if (isOrdinary(event)) {
+      this.#ordinary(event, position);
+      return;
+    }
+    while (this.next < this.entries.length && isNoCall(this.entries[this.next])) this.#entry(-1, undefined);
+    this.#entry(event.place, position);
+  }
+
+  /** @param {Event} event @param {number} position */
+  #ordinary(event, position) {
+    const { agent, block, byte, size, write: writes, place } = event;
+    const text = `${writes ? "writes" : "reads"} ${this.#bytesText(event)}`;
+    this.#add({ what: "ordinary", agent, event: position, text, sentence: `${text}, without Atomics`, place,
+      accesses: [{ block, byte, size, writes }] });
+    if (writes) this.pending[agent].push(this.steps[this.steps.length - 1]);
+  }
+
+  /** @param {Event} event */
+  #bytesText({ block, byte, size }) {
+    const view = this.views.best(block, byte, size);
+    const last = byte + size - sizeOf(view);
+    return last === byte ? labelOf(view, byte) : `${labelOf(view, byte)} to ${labelOf(view, last)}`;
+  }
+
+  /**
+   * The next entry of the report becomes a step, or a part of one.
+   * @param {number} place
+   * @param {number | undefined} event
+   */
+  #entry(place, event) {
+    const entry = this.entries[this.next];
+    this.next += 1;
+    const sentence = entryText(entry, this.known);
+    if (entry.what === "stuck") this.#stuck(entry, sentence);
+    else if (isStandIn(entry.does)) this.#store(entry, sentence);
+    else this.#call(entry, sentence, place, event);
+  }
+
+  /** @param {Entry} entry @param {string} sentence */
+  #store(entry, sentence) {
+    const changes = this.#changesOf(entry);
+    const { block, byte, size } = this.#accessOf(entry, true);
+    const writes = this.pending[entry.agent].filter(({ accesses: [access] }) => {
+      return access.block === block && access.byte < byte + size && byte < access.byte + access.size;
+    });
+    const step = writes[writes.length - 1];
+    if (step === undefined) {
+      const { agent, entry: number } = entry;
+      const text = `writes ${labelOf(this.#viewOf(entry), byte)}`;
+      this.#add({ what: "store", agent, entry: number, text, sentence: `${text}, without Atomics: ${sentence}`,
+        accesses: [{ block, byte, size, writes: true }], changes });
+      return;
+    }
+    step.sentence += `${step.entry === undefined ? ":" : ";"} ${sentence}`;
+    step.entry ??= entry.entry;
+    step.changes.push(...changes);
+  }
+
+  /** @param {Entry} entry @param {string} sentence @param {number} place @param {number | undefined} event */
+  #call(entry, sentence, place, event) {
+    const { agent, what, entry: number, does, place: at } = entry;
+    this.pending[agent] = [];
+    if (what === "wait") this.waits[agent] = number;
+    const [name] = does;
+    const touches = at !== undefined && what !== "leave";
+    const access = touches ? [this.#accessOf(entry, !["load", "wait", "notify"].includes(`${name}`))] : [];
+    this.#add({
+      what: what === "act" ? "call" : /** @type {"wait" | "leave"} */ (what),
+      agent, entry: number, event, place, sentence, text: callText(does), answer: answerText(entry),
+      accesses: access, changes: this.#changesOf(entry), fact: entry,
+    });
+  }
+
+  /** @param {Entry} entry @param {string} sentence */
+  #stuck(entry, sentence) {
+    const { agent, entry: number, does } = entry;
+    const text = does.length === 0 ? "no call" : callText(does);
+    this.#add({ what: "stuck", agent, entry: number, sentence, text, answer: "can't move", fact: entry });
+  }
+
+  /** @param {Entry} entry @returns {View} */
+  #viewOf({ does: [, name] }) {
+    return /** @type {View} */ (this.views.byName.get(`${name}`));
+  }
+
+  /** @param {Entry} entry that has a place @param {boolean} writes @returns {Access} */
+  #accessOf(entry, writes) {
+    const { block, byte } = /** @type {import("../schedule/report.mjs").Place} */ (entry.place);
+    return { block, byte, size: sizeOf(this.#viewOf(entry)), writes };
+  }
+
+  /** @param {Entry} entry @returns {Change[]} */
+  #changesOf(entry) {
+    const { found = {}, place, what } = entry;
+    if (what !== "act" || place === undefined || found.after === undefined || found.after === found.before) return [];
+    const view = this.#viewOf(entry);
+    const { before, after } = found;
+    return [{ ...place, kind: view.kind, before, after, name: labelOf(view, place.byte) }];
+  }
+}
+
+/**
+ * Whether an entry is none of a call that its agent made: it stands for an ordinary write, or is stuck.
+ * @param {Entry} entry
+ */
+const isNoCall = ({ what, does }) => what === "stuck" || isStandIn(does);
+
+/** @param {Event} event */
+export const isOrdinary = ({ does }) => does === "read" || does === "write";
+
+/** @param {Entry} entry @returns {string} what came of a call, in short */
+function answerText({ what, does: [name], answer, found = {} }) {
+  if (what === "wait") return "waits";
+  if (what === "leave") return answer === "ok" ? "goes on" : "its time is up";
+  if (/Error$/.test(`${answer}`)) return `throws ${answer}`;
+  if (name === "store") return "";
+  if (name !== "notify") return `= ${valueText(answer)}`;
+  return found.woken.length === 0 ? "wakes nobody" : `wakes ${found.woken.join(", ")}`;
+}
