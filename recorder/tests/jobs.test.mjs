@@ -109,7 +109,8 @@ test("further jobs are taken while processors are idle, and the outcomes are tho
     Object.assign(os, { availableParallelism: parallelism, cpus });
     syncBuiltinESMExports();
   });
-  Object.assign(os, { availableParallelism: () => 3, cpus: () => [{ times: { idle: 2 * performance.now() } }] });
+  const idle = () => 2 * performance.now();
+  Object.assign(os, { availableParallelism: () => 3, cpus: () => [{ times: { idle: idle() } }] });
   syncBuiltinESMExports();
   const taken = async (options) => {
     const all = { module, args: [], agents: 2, buffers: [4], maxMoves: 100, seconds: 10, fresh: false, checkEvery: 0 };
