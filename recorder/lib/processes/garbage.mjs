@@ -10,6 +10,9 @@ const OFTEN_ENOUGH = 4_096;
 
 /** What shows all code the engine's own way to collect. */
 const FLAG = "--expose-gc";
+
+/** The room for young objects grows no more, until a worker begins. By itself it grows to 16 MB twice. */
+const NO_GROWTH = "--semi-space-growth-factor=1";
 const ASKED = /--expose[-_]gc/;
 
 /** @type {{ gc?: () => void }} */
@@ -25,6 +28,7 @@ if (collect !== undefined && !isAsked) realm.gc = undefined;
 /** This process is the recorder's own: its garbage is collected, also in the threads that it starts from now on. */
 export function collectGarbage() {
   setFlagsFromString(FLAG);
+  setFlagsFromString(NO_GROWTH);
   collect = runInNewContext("globalThis.gc");
 }
 
