@@ -40,10 +40,7 @@ function complain(problem) {
   process.stderr.write(`merge: ${toldOf(problem)}\n`);
 }
 
-/**
- * @param {string[]} words of the command line
- * @returns {Promise<number>} the status
- */
+/** @param {string[]} words of the command line @returns {Promise<number>} the status */
 async function run(words) {
   const { values, positionals: files } = wordsOf(words);
   if (values.help) {

@@ -2,10 +2,10 @@
 // The recorder's command line: runs agents under many seeds, and keeps the first run that fails. `--help` shows more.
 // The process of the first job begins before anything else is loaded.
 
-import { evaluated, ownModules } from "./lib/processes/own-modules.mjs";
 import { startJob } from "./lib/seeds/start-job.mjs";
 
 const words = process.argv.slice(2);
 const child = words.some((word) => /^--(help|replay)/.test(word)) ? undefined : startJob();
+const { evaluated, ownModules } = await import("./lib/processes/own-modules.mjs");
 const { main } = evaluated(ownModules(new URL("./lib/command/main.mjs", import.meta.url)));
 process.exitCode = await main(words, child);

@@ -256,7 +256,7 @@ test("a delivery hands out in order, and tells how far runs may go", async () =>
   });
   await sleep(1);
   assert.equal(isTaken, false);
-  const next = delivery.taking.promise;
+  const next = delivery.taking.next();
   delivery.add({ seed: 5, checked: true });
   assert.deepEqual(await first, { seed: 5, checked: true });
   await next;

@@ -3,6 +3,7 @@
 import assert from "node:assert/strict";
 import { spawnSync } from "node:child_process";
 import { test } from "node:test";
+import { fileURLToPath } from "node:url";
 import { RECORD, agentsOf, temporaryFolder } from "./helpers/common.mjs";
 
 const GARBAGE = new URL("../lib/processes/garbage.mjs", import.meta.url).href;
@@ -38,6 +39,13 @@ test("a process that asks for it collects its garbage once in 4,096 times, and s
   `;
   assert.equal(printed(`collectGarbage();\n${starting}`), "true false\n");
   assert.equal(printed(starting), "true true\n");
+});
+
+test("the process of a job collects garbage in the workers that it begins before it has loaded its module", () => {
+  const fileOf = (path) => fileURLToPath(new URL(path, import.meta.url));
+  const words = [fileOf("../lib/processes/own-process.mjs"), new URL("./helpers/begun-thread.mjs", import.meta.url).href];
+  const { stdout, stderr } = spawnSync(process.execPath, words, { encoding: "utf8" });
+  assert.deepEqual([stdout, stderr], ["function\n", ""]);
 });
 
 test("agents find the engine's own way to collect only where node was started with it", (context) => {

@@ -10,7 +10,7 @@ import { test } from "node:test";
 import { setTimeout as sleep } from "node:timers/promises";
 import { Delivery } from "../lib/seeds/delivery.mjs";
 import { isWorthIt } from "../lib/seeds/more-jobs.mjs";
-import { jobWords } from "../lib/seeds/node-words.mjs";
+import { jobWords } from "../lib/seeds/start-job.mjs";
 import { RECORD, agentsOf, agentsPath, temporaryFolder } from "./helpers/common.mjs";
 import { CHECKING, onLinux } from "./helpers/needs.mjs";
 

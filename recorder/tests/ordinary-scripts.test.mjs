@@ -39,7 +39,7 @@ function demandFilled(outcome, ordinary) {
   for (const [name, view] of stores) assert.match(`${name} ${view}`, /^store ordinary_(BigUint64|Uint32|Int32)$/);
   const told = "1 script holds only the ordinary writes of bytes that calls touch, since all don't fit; its other " +
     "bytes weren't compared";
-  assert.ok(summaryLines([outcome], { ordinary, checks: true }).includes(told));
+  assert.ok(summaryLines([outcome], { ordinary, checkedBy: "module 1" }).includes(told));
 }
 
 describe("ordinary writes that don't all fit into a script", { concurrency: 2 }, () => {
@@ -65,7 +65,8 @@ describe("ordinary writes that don't all fit into a script", { concurrency: 2 },
     const { ending, fails, script, scriptHolds, noScript, bytes } = seen;
     assert.deepEqual([ending, fails, script, scriptHolds], ["finished", false, undefined, undefined]);
     assert.equal(noScript, WHY_NOT);
-    assert.ok(summaryLines([seen], { checks: true }).includes(`1 run has no script, and wasn't checked: ${WHY_NOT}`));
+    const told = summaryLines([seen], { checkedBy: "module 1" });
+    assert.ok(told.includes(`1 run has no script, and wasn't checked: ${WHY_NOT}`), told.join("\n"));
     assert.equal(bytes[0].slice(0, 8), "07000000");
   });
 

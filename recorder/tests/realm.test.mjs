@@ -307,6 +307,18 @@ describe("arrays of the program's own", () => {
   });
 });
 
+test("a context of node's vm is refused by name and line, and passes where nothing is watched", async (context) => {
+  const text = (top, body) => `import vm from "node:vm";\n${top}\nexport default function agent({ buffers }) {\n${body}
+    Atomics.add(new Int32Array(buffers[0]), 0, 1);\n}\n`;
+  const inAgent = text("", '  vm.runInNewContext("1 + 1");');
+  const { ending, detail } = await recordText(context, inAgent);
+  assert.equal(ending, "failed");
+  assert.match(detail, /vm\.runInNewContext makes a context [^]*--ordinary store lets it pass\n.*agents\.mjs:4:6\b/);
+  const whileLoaded = recordText(context, text("export const made = vm.createContext({});", ""));
+  await assert.rejects(whileLoaded, /vm\.createContext makes a context [^]*agents\.mjs:2:\d+/);
+  assert.equal((await recordText(context, inAgent, { ordinary: "store" })).ending, "finished");
+});
+
 test("a module that breaks while it is loaded is refused with its own error, at once", async (context) => {
   const cases = [
     ["throw new Error('mine');", /Error: mine/],

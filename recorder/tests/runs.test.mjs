@@ -235,7 +235,7 @@ test("a missing sabsim is told of before anything is run", async () => {
   const options = { sabsim: "/nowhere/sabsim" };
   await assert.rejects(recordCase("nothing", options), (error) => {
     assert.ok(error instanceof NoSabsim);
-    assert.match(error.message, /isn't at \/nowhere\/sabsim: `\.\/build`, in the root of the repository, builds /);
+    assert.equal(error.message, "there is no program sabsim at /nowhere/sabsim");
     return true;
   });
 });

@@ -157,7 +157,8 @@ test("a run that can't be made again stays as it was found", async (context) => 
   const why = "it couldn't be made again in the same way: its agents do something else when they run once more";
   assert.ok(stdout.includes(`\nnot shortened: ${why}, in 1 run\n`), stdout);
   // Nor can it be made again for its trace.
-  assert.deepEqual(readdirSync(out).sort(), ["seed-3.json", "seed-3.report"]);
+  const endings = ["explained", "html", "json", "report", "svg"];
+  assert.deepEqual(readdirSync(out).sort(), endings.map((ending) => `seed-3.${ending}`));
 });
 
 /** Runs the command line on the program `bell` with an own folder, and tells what is kept there. */

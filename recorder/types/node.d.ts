@@ -56,6 +56,7 @@ declare namespace NodeJS {
     kill(id: number, signal: Signals): true;
     /** Only the process of a job, and others that were forked, have it. */
     send?(message: unknown): boolean;
+    readonly connected?: boolean;
   }
 }
 

@@ -353,6 +353,7 @@ const nextMessage = () => new Promise((done) => {
 export async function main(load) {
   const numbered = nextMessage();
   const later = furnish();
+  port.postMessage({ begun: true });
   self.agent = (await numbered).agent;
   chance.agent = self.agent;
   chance.begin(0);

@@ -32,10 +32,7 @@ export function askedOf(options, url, preloads) {
   return { module, digest: digestOf(module, url), seeds: [asked], shard, options: written };
 }
 
-/**
- * @param {string} module as the command line names it
- * @param {string} url
- */
+/** @param {string} module as the command line names it @param {string} url */
 function digestOf(module, url) {
   try {
     return createHash("sha256").update(readFileSync(fileURLToPath(url))).digest("hex");

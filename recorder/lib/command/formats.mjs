@@ -10,9 +10,5 @@ const FORMATS = {
   json: (summary) => `${JSON.stringify(summary)}\n`,
 };
 
-/**
- * @param {WholeSummary} summary
- * @param {string} format
- * @returns {string}
- */
+/** @param {WholeSummary} summary @param {string} format @returns {string} */
 export const formatted = (summary, format) => FORMATS[format](summary);

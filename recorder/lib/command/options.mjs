@@ -129,11 +129,7 @@ function replayOf({ replay: file, seeds, out }) {
  * & { ordinary: "watch" | "store" | "refuse", races: "fail" | "allow" }} Options
  */
 
-/**
- * What a command line asks for.
- * @param {string[]} words after the program's name
- * @returns {Options | { help: true }}
- */
+/** @param {string[]} words after the program's name @returns {Options | { help: true }} what a command line asks for */
 export function optionsOf(words) {
   const end = words.indexOf("--");
   const { values, positionals } = parsed(end < 0 ? words : words.slice(0, end));

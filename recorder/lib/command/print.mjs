@@ -3,10 +3,7 @@
 /** Standard output can't be written. */
 export class NotPrinted extends Error {}
 
-/**
- * @param {string} text
- * @returns {Promise<void>} when it is written
- */
+/** @param {string} text @returns {Promise<void>} when it is written */
 export function print(text) {
   return new Promise((done, fail) => {
     /** @param {Error} error */

@@ -19,10 +19,7 @@ export class Progress {
     process.stderr.write(`\r${digits(runs)} of ${digits(this.runs)} runs, ${digits(failed)} failed`);
   }
 
-  /**
-   * @param {number} seed whose run is shortened
-   * @param {import("../shorter/shorten.mjs").Tried} tried
-   */
+  /** @param {number} seed whose run is shortened @param {import("../shorter/shorten.mjs").Tried} tried */
   showShortening(seed, { runs, changes }) {
     const now = performance.now();
     if (now - this.shown < BETWEEN_LINES_MILLISECONDS) return;

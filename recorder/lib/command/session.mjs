@@ -141,10 +141,7 @@ export class Session {
     }
   }
 
-  /**
-   * @param {unknown} stopped why not all runs were made, if so
-   * @param {unknown[]} problems all that went wrong
-   */
+  /** @param {unknown} stopped why not all runs were made, if so @param {unknown[]} problems all that went wrong */
   async #tell(stopped, problems) {
     const interrupted = stopped instanceof Interrupted;
     if (stopped !== undefined && !interrupted && this.summary.runs === 0) return;

@@ -28,10 +28,7 @@ export function shorteningOf({ shortest, shortened }, failing) {
   return { runs, changes, calls, stopped, unchanged, checked, detail: lines };
 }
 
-/**
- * @param {Shortening | null} shortening
- * @returns {string[]} lines; the first one isn't indented
- */
+/** @param {Shortening | null} shortening @returns {string[]} lines; the first one isn't indented */
 export function shortenedLines(shortening) {
   if (shortening === null) return [];
   const { runs, changes, calls, stopped, unchanged, checked, detail } = shortening;

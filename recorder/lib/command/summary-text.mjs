@@ -6,17 +6,11 @@ import { shortenedLines } from "./shortened.mjs";
 
 /** @typedef {import("./summary.mjs").SummaryData} SummaryData */
 
-/**
- * @template T
- * @typedef {import("./summary.mjs").Listed<T>} Listed
- */
+/** @template T @typedef {import("./summary.mjs").Listed<T>} Listed */
 
 const MOST_LISTED = 8;
 
-/**
- * @param {SummaryData} summary
- * @returns {string} lines, each with its end
- */
+/** @param {SummaryData} summary @returns {string} lines, each with its end */
 export function summaryText(summary) {
   const { stopped, missing, runs, unseen, kept, notKept } = summary;
   const lines = missing.map(missingText);
@@ -30,10 +24,7 @@ export function summaryText(summary) {
   return [...lines, ...notKept].map((line) => `${line}\n`).join("");
 }
 
-/**
- * @param {import("../seeds/ranges.mjs").Range} range of seeds of which nothing is known
- * @returns {string}
- */
+/** @param {import("../seeds/ranges.mjs").Range} range of seeds of which nothing is known @returns {string} */
 export const missingText = (range) => `no summary has the ${rangeText(range)}`;
 
 /** @param {SummaryData} summary */

@@ -200,10 +200,7 @@ export class Summary {
     };
   }
 
-  /**
-   * @param {Stop} [stopped] where not all runs were made
-   * @returns {string} lines, each with its end
-   */
+  /** @param {Stop} [stopped] where not all runs were made @returns {string} lines, each with its end */
   text(stopped) {
     return summaryText(this.told({ stopped }));
   }
@@ -267,10 +264,7 @@ const listedOf = (tally, parts) => ({
 /** @param {Tally<{ ending: string, shown: string[] }>} tally */
 const statesTold = (tally) => listedOf(tally, (hash, { ending, shown }) => ({ ending, hash, shown }));
 
-/**
- * @param {string[]} order
- * @param {Tally<unknown>} tally
- */
+/** @param {string[]} order @param {Tally<unknown>} tally */
 function endingsTold(order, tally) {
   const entries = listedOf(tally, (ending) => ({ ending })).listed;
   return entries.sort((one, other) => order.indexOf(one.ending) - order.indexOf(other.ending));

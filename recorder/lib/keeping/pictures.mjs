@@ -29,11 +29,7 @@ export const PICTURES = Object.freeze([
   { ending: "html", format: "json", made: pageMade },
 ]);
 
-/**
- * @param {string} facts
- * @param {Outcome} outcome
- * @param {How} how
- */
+/** @param {string} facts @param {Outcome} outcome @param {How} how */
 function pageMade(facts, outcome, { module, command }) {
   try {
     return pageText(outcome, facts, module, command);
@@ -58,11 +54,7 @@ export function pictureOf(simulator, { format, made }, outcome, how) {
   return made(output, outcome, how);
 }
 
-/**
- * @param {Simulator} simulator
- * @param {Picture["format"]} format
- * @param {string} script
- */
+/** @param {Simulator} simulator @param {Picture["format"]} format @param {string} script */
 function replayed(simulator, format, script) {
   try {
     return simulator.run({ job: "replay", format }, script);

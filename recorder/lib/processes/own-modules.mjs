@@ -65,13 +65,12 @@ export function ownModules(url) {
 /**
  * Evaluates modules in their order.
  * @param {OwnModule[]} list
+ * @param {Record<string, Record<string, any>>} modules what some of them export, which are there already
  * @returns {Record<string, any>} what the last one exports
  */
-export function evaluated(list) {
-  /** @type {Record<string, Record<string, any>>} */
-  const modules = {};
+export function evaluated(list, modules = {}) {
   for (const { url, code } of list) {
-    modules[url] = compileFunction(code, ["modules", "require"], { filename: url })(modules, builtin);
+    modules[url] ??= compileFunction(code, ["modules", "require"], { filename: url })(modules, builtin);
   }
   return modules[list[list.length - 1].url];
 }

@@ -1,5 +1,11 @@
-// What a process of the recorder begins with: the module whose URL is its only word.
+// What the process of a job begins with: workers, and meanwhile the module whose URL is its only word.
 
-import { evaluated, ownModules } from "./own-modules.mjs";
+import * as garbage from "./garbage.mjs";
+import * as thread from "./thread.mjs";
 
-evaluated(ownModules(new URL(process.argv[2])));
+garbage.collectGarbage();
+thread.beginThreads(thread.FIRST_THREADS);
+const { evaluated, ownModules } = await import("./own-modules.mjs");
+const urlOf = (/** @type {string} */ name) => new URL(name, import.meta.url).href;
+// That module has these workers, and this garbage. So it gets these two modules as they are.
+evaluated(ownModules(new URL(process.argv[2])), { [urlOf("./garbage.mjs")]: garbage, [urlOf("./thread.mjs")]: thread });

@@ -116,3 +116,25 @@ export class Thread {
     done(item);
   }
 }
+
+/**
+ * How many workers a group of agents begins at once: one for its referee, and two for each of two agents, since others
+ * of theirs load after the pilots.
+ */
+export const FIRST_THREADS = 5;
+
+const OWN_WORKER = new URL("./own-worker.mjs", import.meta.url);
+
+/** @type {Thread[]} those that a process has begun while it loads its modules */
+const begun = [];
+
+/** @param {number} count how many workers begin now, for those that will need one */
+export function beginThreads(count) {
+  for (let each = 0; each < count; each += 1) begun.push(new Thread(OWN_WORKER, {}, { ownPort: true }));
+}
+
+/** @returns {Thread} one that awaits its data, with the recorder's modules that it is to evaluate */
+export function begunThread() {
+  if (begun.length === 0) beginThreads(1);
+  return /** @type {Thread} */ (begun.shift());
+}

@@ -9,8 +9,9 @@ import { needsRightNames, planOf } from "../options/plan.mjs";
 import { Refused } from "../options/refused.mjs";
 import { defaultsOf } from "../options/table.mjs";
 import { ownModules } from "../processes/own-modules.mjs";
-import { Thread } from "../processes/thread.mjs";
+import { FIRST_THREADS, begunThread } from "../processes/thread.mjs";
 
+/** @typedef {import("../processes/thread.mjs").Thread} Thread */
 /** @typedef {"finished" | "deadlock" | "failed" | "check" | "race" | "bound"} Ending */
 
 /**
@@ -112,12 +113,11 @@ import { Thread } from "../processes/thread.mjs";
  */
 
 const DEFAULT_LOAD_SECONDS = 30;
-const WORKER = new URL("../processes/own-worker.mjs", import.meta.url);
 const AGENT_MODULE = new URL("../agent/worker.mjs", import.meta.url);
 const REFEREE_MODULE = new URL("./referee.mjs", import.meta.url);
 
-/** How many agents' workers are begun at once. Two agents need as many: two more of them load after the pilots. */
-const FIRST_WORKERS = 4;
+/** How many agents' workers begin at once: all first ones but that of the referee. */
+const FIRST_WORKERS = FIRST_THREADS - 1;
 
 /**
  * The answer of a promise, or that it took too long.
@@ -174,7 +174,7 @@ export class Group {
     this.threads = new Set();
     /** @type {Thread[]} */
     this.agents = [];
-    /** @type {Thread[]} agents' workers that have begun, and don't know yet which agent's they are */
+    /** @type {Promise<Thread>[]} agents' workers that don't know yet which agent's they are, as they come */
     this.begun = [];
     /** @type {Promise<Loaded>[]} for some agents the worker that will replace the one that they have */
     this.next = [];
@@ -238,10 +238,10 @@ export class Group {
   }
 
   async #start() {
-    // Their modules are read while the workers begin.
+    this.#beginUpTo(FIRST_WORKERS);
     const referee = this.#thread();
     this.referee = referee;
-    this.#beginUpTo(FIRST_WORKERS);
+    const modules = ownModules(REFEREE_MODULE);
     const told = await this.#load(0);
     needsRightNames(told.names);
     this.plan = planOf(this.options, told.setup);
@@ -254,7 +254,7 @@ export class Group {
     this.memory = memoryOf(this.plan, this.options.logEvents);
     this.board = new Board(this.memory.board, this.rules);
     const { memory, plan, rules } = this;
-    referee.post({ modules: ownModules(REFEREE_MODULE), memory, plan, rules, options });
+    referee.post({ modules, memory, plan, rules, options });
     const others = Array.from({ length: this.plan.agents - 1 }, (_, other) => other + 1);
     // A single agent meets nobody.
     const learns = !everywhere && others.length > 0;
@@ -274,7 +274,7 @@ export class Group {
 
   /** Begins a worker. */
   #thread() {
-    const thread = new Thread(WORKER, {}, { ownPort: true });
+    const thread = begunThread();
     this.threads.add(thread);
     return thread;
   }
@@ -283,9 +283,15 @@ export class Group {
   #beginUpTo(count) {
     const { module, args, ordinary, clock } = this.options;
     const begun = Array.from({ length: count - this.begun.length }, () => this.#thread());
+    // They are read while the workers begin.
     const modules = ownModules(AGENT_MODULE);
-    for (const thread of begun) thread.post({ modules, module, args, ordinary, clock });
-    this.begun.push(...begun);
+    /** @type {((thread: Thread) => void)[]} */
+    const awaited = [];
+    for (const thread of begun) {
+      thread.post({ modules, module, args, ordinary, clock });
+      this.begun.push(new Promise((done) => awaited.push(done)));
+      void thread.next().then(() => awaited.shift()?.(thread));
+    }
   }
 
   /**
@@ -349,9 +355,9 @@ export class Group {
   async #loaded(agent) {
     const { module } = this.options;
     this.#beginUpTo(1);
-    const thread = /** @type {Thread} */ (this.begun.shift());
+    const thread = await this.#inTime(/** @type {Promise<Thread>} */ (this.begun.shift()));
     thread.post({ agent });
-    const { message, ended } = await this.#told(thread);
+    const { message, ended } = await this.#inTime(thread.next());
     if (ended !== undefined) throw new Refused(`${module} can't be loaded: its worker ended (${ended})`);
     if (message.failed !== undefined) throw new Refused(`${module} can't be loaded: ${message.failed}`);
     return { thread, has: message };
@@ -363,14 +369,18 @@ export class Group {
     const { memory, plan, rules } = this;
     thread.onEnd = (why) => started(this.board).turn.die(agent, why);
     thread.post({ memory, plan, rules });
-    const { ended } = await this.#told(thread);
+    const { ended } = await this.#inTime(thread.next());
     if (ended !== undefined) throw new Refused(`${this.options.module} can't be loaded: its worker ended (${ended})`);
   }
 
-  /** @param {Thread} thread whose next message is awaited, but not for ever */
-  async #told(thread) {
+  /**
+   * @template T
+   * @param {Promise<T>} promise that is awaited, but not for ever
+   * @returns {Promise<T>}
+   */
+  async #inTime(promise) {
     const { loadSeconds: seconds } = this.options;
-    const told = await within(thread.next(), seconds);
+    const told = await within(promise, seconds);
     if (told === undefined) throw new Refused(`${this.options.module} wasn't loaded within ${seconds} s`);
     return told;
   }

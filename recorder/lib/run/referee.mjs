@@ -95,11 +95,7 @@ class Referee {
     return { outcome, judgement, aside: asideOf(found) };
   }
 
-  /**
-   * A run that is made only to see how it ends.
-   * @param {Wanted} wanted
-   * @returns {Promise<One>}
-   */
+  /** @param {Wanted} wanted @returns {Promise<One>} a run that is made only to see how it ends */
   async #tried(wanted) {
     const { maker, reporter } = this;
     const { tellsLines = false } = wanted;

@@ -2,18 +2,19 @@
 
 /** @typedef {import("./job.mjs").Checked} Outcome */
 
-/**
- * A promise that is settled from outside.
- * @template T
- */
-class Later {
-  constructor() {
-    /** @type {(value: T) => void} */
-    this.settle = () => {};
-    /** @type {Promise<T>} */
-    this.promise = new Promise((done) => {
-      this.settle = done;
-    });
+/** Something that changes again and again. */
+class Change {
+  /** @type {(() => void)[]} */
+  #waiting = [];
+
+  /** @returns {Promise<void>} settled when it changes next */
+  next() {
+    return new Promise((done) => this.#waiting.push(done));
+  }
+
+  /** It has changed. */
+  tell() {
+    for (const done of this.#waiting.splice(0)) done();
   }
 }
 
@@ -26,34 +27,34 @@ export class Delivery {
     /** @type {{ failure: unknown } | undefined} why no more will come */
     this.failed = undefined;
     this.isOver = false;
-    /** @type {Later<void>} settled when something has changed for the one that takes */
-    this.change = new Later();
-    /** @type {Later<void>} settled when one was taken */
-    this.taking = new Later();
+    /** For the one that takes. */
+    this.arrival = new Change();
+    /** For those that make the runs: one was taken. */
+    this.taking = new Change();
   }
 
   /** @param {Outcome} outcome */
   add(outcome) {
     this.arrived.set(outcome.seed, outcome);
-    this.#changed();
+    this.arrival.tell();
   }
 
   /** @param {number} seed whose outcome will never come */
   lose(seed) {
     this.arrived.set(seed, undefined);
-    this.#changed();
+    this.arrival.tell();
   }
 
   /** @param {unknown} failure the first one is reported */
   fail(failure) {
     this.failed ??= { failure };
-    this.#changed();
+    this.arrival.tell();
   }
 
   /** All have come. */
   finish() {
     this.isOver = true;
-    this.#changed();
+    this.arrival.tell();
   }
 
   /**
@@ -67,7 +68,7 @@ export class Delivery {
         const outcome = this.#taken();
         if (outcome !== undefined) return outcome;
       } else if (this.isOver) return undefined;
-      else await this.change.promise;
+      else await this.arrival.next();
     }
   }
 
@@ -81,15 +82,7 @@ export class Delivery {
     const outcome = this.arrived.get(this.next);
     this.arrived.delete(this.next);
     this.next += 1;
-    const { taking } = this;
-    this.taking = new Later();
-    taking.settle();
+    this.taking.tell();
     return outcome;
-  }
-
-  #changed() {
-    const { change } = this;
-    this.change = new Later();
-    change.settle();
   }
 }

@@ -1,11 +1,9 @@
 // The process of a job. It ends with the process that has started it, however that one ends.
 
-import { collectGarbage, onceMore } from "../processes/garbage.mjs";
+import { onceMore } from "../processes/garbage.mjs";
 import { endGroup } from "../processes/group-end.mjs";
 import { Job } from "./job.mjs";
 import { packed } from "./remote-job.mjs";
-
-collectGarbage();
 
 /** @param {import("./remote-job.mjs").Message} message */
 function send(message) {
@@ -29,6 +27,7 @@ async function answerTo(request) {
 }
 
 process.on("disconnect", () => endGroup(process.pid));
+if (!process.connected) endGroup(process.pid);
 process.on("message", async (request) => {
   try {
     send({ done: await answerTo(request) });

@@ -108,7 +108,7 @@ export class Runs {
   /** No job begins another run. */
   #stopTaking() {
     this.queue.stop();
-    this.delivery.taking.settle();
+    this.delivery.taking.tell();
   }
 
   /** Ends all at once, though nobody may ask for more. */
@@ -179,7 +179,7 @@ export class Runs {
     try {
       await opened;
       for (;;) {
-        while (queue.left > 0 && queue.next - delivery.next >= ahead) await delivery.taking.promise;
+        while (queue.left > 0 && queue.next - delivery.next >= ahead) await delivery.taking.next();
         const seeds = queue.take();
         if (seeds.length === 0) return;
         await this.#run(job, seeds);

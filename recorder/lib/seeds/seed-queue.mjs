@@ -6,9 +6,7 @@
 export const BATCH = 16;
 
 export class SeedQueue {
-  /**
-   * @param {import("./runs.mjs").RunsOptions} options
-   */
+  /** @param {import("./runs.mjs").RunsOptions} options */
   constructor({ first, last, jobs = 1, checkEvery, origin = first, trials = false, failFast = false, wanted }) {
     this.next = first;
     this.last = last;

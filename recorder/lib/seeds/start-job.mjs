@@ -2,13 +2,35 @@
 
 import { fork } from "node:child_process";
 import { fileURLToPath } from "node:url";
-import { jobWords } from "./node-words.mjs";
 
 const PROGRAM = fileURLToPath(new URL("../processes/own-process.mjs", import.meta.url));
 const MODULE = new URL("./job-process.mjs", import.meta.url).href;
 
 // By itself the engine lets the room for each thread's young objects grow to 16 MB twice, in some thousand seeds.
 const MEMORY = "--max-semi-space-size=2";
+
+// A program that stands in the words of node's command line itself, and what it is.
+const EVALUATED = /^(-[ep]+|--eval|--print|--input-type)$/;
+
+// How this one process is debugged.
+const DEBUGGING = /^--(inspect|debug-port)/;
+const PORT = /^--(inspect|debug)-port$/;
+
+/**
+ * The words of node's own command line that the process of a job gets too: what they load before the program, as by
+ * --require or --import, is there for agents of each job then.
+ * @param {string[]} words that this process got
+ * @returns {string[]} those that the process of a job gets
+ */
+export function jobWords(words) {
+  const kept = [];
+  for (let at = 0; at < words.length; at += 1) {
+    const [name, value] = words[at].split("=", 2);
+    if (!EVALUATED.test(name) && !DEBUGGING.test(name)) kept.push(words[at]);
+    else if (value === undefined && (EVALUATED.test(name) || PORT.test(name))) at += 1;
+  }
+  return kept;
+}
 
 /** @returns {import("node:child_process").ChildProcess} which leads a group of processes */
 export function startJob() {

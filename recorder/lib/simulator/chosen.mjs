@@ -16,9 +16,6 @@ export function chosenProgram(option) {
   return path === "" ? undefined : programAt(path);
 }
 
-/**
- * @param {string} [program] the path of the native program; undefined: the module
- * @returns {Simulator}
- */
+/** @param {string} [program] the path of the native program; undefined: the module @returns {Simulator} */
 export const simulatorAt = (program) =>
   program === undefined ? new ModuleSimulator() : new NativeSimulator(program);

@@ -17,6 +17,14 @@ const FOLDER = new URL("../../wasm/", import.meta.url);
 // Of the digest of the module's file.
 const DIGITS_SHOWN = 12;
 
+/** One agent stores, and another waits in vain. */
+const SMALL_SCRIPT = JSON.stringify({
+  blocks: [4],
+  views: [{ name: "v", kind: "Int32", block: 0, offset: 0, length: 1 }],
+  agents: [{ block: true, calls: [["store", "v", 0, 1]] }, { block: true, calls: [["wait", "v", 0, 1]] }],
+  schedule: [0, 0, 1, 1],
+});
+
 const [encoder, decoder] = [new TextEncoder(), new TextDecoder()];
 
 export class ModuleSimulator {
@@ -34,12 +42,12 @@ export class ModuleSimulator {
     return `module ${module.slice(0, DIGITS_SHOWN)}`;
   }
 
-  /** Compiles the module while nothing else is to be done. If that can't be, it is an error when it is asked. */
+  /** Has the engine compile what a check needs, while nothing else is to be done. */
   prepare() {
     try {
-      this.#asked();
+      for (const job of /** @type {const} */ (["replay", "judge"])) this.run({ job }, SMALL_SCRIPT);
     } catch {
-      // It is reported then.
+      // If it can't be compiled, it is an error when it is asked.
     }
   }
 

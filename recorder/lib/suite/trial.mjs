@@ -25,10 +25,7 @@ import { failureText } from "./failure.mjs";
 
 /** A run of agents has failed: the message says all of it. */
 class AgentsFailed extends AssertionError {
-  /**
-   * @param {string} message
-   * @param {string | undefined} place where the trial is asked for
-   */
+  /** @param {string} message @param {string | undefined} place where the trial is asked for */
   constructor(message, place) {
     super({ message });
     // There are no two values that differ, and where the recorder has thrown this is nobody's affair.
