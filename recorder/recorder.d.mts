@@ -7,7 +7,7 @@ type ModuleUrl = typeof globalThis extends { URL: new (...given: never[]) => inf
 type StopSignal = typeof globalThis extends { AbortSignal: { prototype: infer Signal } } ? Signal : never;
 
 /**
- * Runs the agents of a module once, under the schedule of one seed. The proved simulator checks the run, unless
+ * Runs the agents of a module once, under the schedule of one seed. The simulator checks the run, unless
  * `sabsim` is false. Fails with `Refused` for options or a module that can't be, with a `Difference` if the simulator
  * says something else, and with `NoSabsim` if the native program is chosen and isn't there.
  */
@@ -16,7 +16,7 @@ export function record(options: RecordOptions): Promise<Outcome>;
 /**
  * Runs the agents of a module under the schedules of many seeds, by workers that are kept from seed to seed. The
  * outcomes come in the order of the seeds. Runs that fail, and one in `checkEvery` of the others, are told whole, and
- * checked by the proved simulator. Runs are made only so far ahead of who takes their outcomes; and when no more is
+ * checked by the simulator. Runs are made only so far ahead of who takes their outcomes; and when no more is
  * asked for, as after a `break`, all workers and processes are ended. Throws `Refused` for options that can't be, and
  * `NoSabsim`; fails with `Refused` for a module that can't be, with a `Difference`, with `LostJob`, and with its
  * signal's reason.

@@ -11,7 +11,7 @@ import { counted, digits } from "../lib/keeping/words.mjs";
 
 const SEEN = { ordinary: "watch", races: "fail", checkedBy: "module 123" };
 /** What it says about checks of so many runs. */
-const checkedLine = (which) => `${which} replayed and judged by the proved simulator (module): it says the same`;
+const checkedLine = (which) => `${which} replayed and judged by sabsim (module): it says the same`;
 
 /**
  * An outcome, of which a test says what matters to it.
@@ -291,16 +291,16 @@ test("the checks of summaries that are joined are told together, with each kind 
   parts.forEach((summary, at) => summary.add(outcome(at, { checked: at < 2 })));
   const joined = new Summary({ ...SEEN, checkedBy: undefined });
   for (const summary of parts.slice(0, 2)) joined.join(summary.told());
-  assert.ok(joined.text().includes("\nevery run was replayed and judged by the proved simulator (module and program)"));
+  assert.ok(joined.text().includes("\nevery run was replayed and judged by sabsim (module and program)"));
   joined.join(parts[2].told());
-  assert.ok(joined.text().includes("\n2 of 3 runs were replayed and judged by the proved simulator (module and program)"));
+  assert.ok(joined.text().includes("\n2 of 3 runs were replayed and judged by sabsim (module and program)"));
   const versions = ["module 123", "program sabsim 0.1.0"];
   assert.deepEqual(joined.told().sabsim, { asked: true, versions, checked: 2, judges: true });
 });
 
 test("of runs whose ordinary accesses aren't watched it isn't said that they were judged", () => {
   const lines = linesOf(seeds(1, 2), { ordinary: "store", checked: 2 });
-  assert.ok(lines.includes("every run was replayed by the proved simulator (module): it says the same"));
+  assert.ok(lines.includes("every run was replayed by sabsim (module): it says the same"));
 });
 
 /** A tally of keys, with three seeds for each. @param {number[]} keys @param {number} most */

@@ -86,7 +86,7 @@ function checkLines({ runs, sabsim: { checked, judges, versions } }) {
   const some = `${digits(checked)} of ${counted(runs, "run")} ${checked === 1 ? "was" : "were"}`;
   const which = checked === runs ? "every run was" : some;
   const kinds = [...new Set(versions.map((version) => version.split(" ", 1)[0]))].join(" and ");
-  return [`${which} replayed ${judges ? "and judged " : ""}by the proved simulator (${kinds}): it says the same`];
+  return [`${which} replayed ${judges ? "and judged " : ""}by sabsim (${kinds}): it says the same`];
 }
 
 /** @param {SummaryData} summary */
