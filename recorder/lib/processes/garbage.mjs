@@ -10,6 +10,9 @@ const OFTEN_ENOUGH = 4_096;
 
 /** What shows all code the engine's own way to collect. */
 const FLAG = "--expose-gc";
+
+/** The room for young objects grows no more, until a worker begins. By itself it grows to 16 MB twice. */
+const NO_GROWTH = "--semi-space-growth-factor=1";
 const ASKED = /--expose[-_]gc/;
 
 /** @type {{ gc?: () => void }} */
@@ -22,10 +25,13 @@ let collect = realm.gc;
 const isAsked = ASKED.test(`${process.execArgv.join(" ")} ${process.env.NODE_OPTIONS ?? ""}`);
 if (collect !== undefined && !isAsked) realm.gc = undefined;
 
+let isOwn = false;
+
 /** This process is the recorder's own: its garbage is collected, also in the threads that it starts from now on. */
 export function collectGarbage() {
   setFlagsFromString(FLAG);
-  collect = runInNewContext("globalThis.gc");
+  setFlagsFromString(NO_GROWTH);
+  isOwn = true;
 }
 
 let times = 0;
@@ -33,5 +39,7 @@ let times = 0;
 /** Takes note that something was done once more: each time leaves some garbage. */
 export function onceMore() {
   times += 1;
-  if (times % OFTEN_ENOUGH === 0) collect?.();
+  if (times % OFTEN_ENOUGH !== 0) return;
+  if (isOwn) collect ??= runInNewContext("globalThis.gc");
+  collect?.();
 }
