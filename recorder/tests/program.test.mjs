@@ -150,8 +150,8 @@ test("what the command line leaves out has its default", () => {
   const { first, last, jobs, maxMoves, seconds, fresh, args, noBlock, strategy, out } = optionsOf(["m.mjs"]);
   assert.deepEqual([first, last, jobs, maxMoves, seconds], [1, 100, undefined, 100_000, 10]);
   assert.deepEqual([fresh, args, noBlock, strategy, out], [false, [], undefined, "mixed", undefined]);
-  const { sabsim: path, checkEvery, isSabsimAsked } = optionsOf(["m.mjs"]);
-  assert.deepEqual([path, checkEvery, isSabsimAsked], [undefined, 10, false]);
+  const { sabsim: path, checkEvery } = optionsOf(["m.mjs"]);
+  assert.deepEqual([path, checkEvery], [undefined, 1]);
   const { ordinary, races, bounds, clock, timeouts, failFast, everywhere, untilCovered } = optionsOf(["m.mjs"]);
   assert.deepEqual([ordinary, races, bounds, clock], ["watch", "fail", "fail", "run"]);
   assert.deepEqual([timeouts, failFast, everywhere, untilCovered], [0.05, false, false, false]);
