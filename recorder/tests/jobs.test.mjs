@@ -4,11 +4,14 @@ import assert from "node:assert/strict";
 import { spawn, spawnSync } from "node:child_process";
 import { readFileSync, readdirSync, writeFileSync } from "node:fs";
 import { randomUUID } from "node:crypto";
-import { availableParallelism } from "node:os";
+import { syncBuiltinESMExports } from "node:module";
+import os, { availableParallelism } from "node:os";
 import { join } from "node:path";
 import { test } from "node:test";
 import { setTimeout as sleep } from "node:timers/promises";
+import { pathToFileURL } from "node:url";
 import { Delivery } from "../lib/seeds/delivery.mjs";
+import { Runs, outcomesOf } from "../lib/seeds/runs.mjs";
 import { isWorthIt } from "../lib/seeds/more-jobs.mjs";
 import { jobWords } from "../lib/seeds/start-job.mjs";
 import { RECORD, agentsOf, agentsPath, temporaryFolder } from "./helpers/common.mjs";
@@ -75,7 +78,7 @@ test("one job and several tell the same", () => {
 });
 
 test("without --jobs a command that goes on takes further jobs, and tells the same as one", onLinux, async () => {
-  const words = [RECORD, agentsPath("naive-mutex"), "--seeds", "1..4000", ...CHECKING];
+  const words = [RECORD, agentsPath("naive-mutex"), "--seeds", "1..1500", ...CHECKING];
   const mark = randomUUID();
   const child = spawn(process.execPath, words, { env: { ...process.env, RECORDER_TEST: mark } });
   let [stdout, most] = ["", 0];
@@ -93,6 +96,35 @@ test("without --jobs a command that goes on takes further jobs, and tells the sa
   // Besides the command itself there is a process for each job. Whether one is added depends on what else is running.
   assert.ok(most >= 2 && most <= 1 + availableParallelism(), `${most} processes`);
   assert.deepEqual(processesWith(mark), []);
+});
+
+test("further jobs are taken while processors are idle, and the outcomes are those of one job", async (context) => {
+  // Runs of some milliseconds each, on a machine of three processors that nobody else uses.
+  const module = pathToFileURL(agentsOf(temporaryFolder(context), `
+    for (let step = 0; step < 3_000_000; step += 1);
+    Atomics.add(new Int32Array(buffers[0]), 0, agent + Math.floor(Math.random() * 100));
+  `)).href;
+  const { availableParallelism: parallelism, cpus } = os;
+  context.after(() => {
+    Object.assign(os, { availableParallelism: parallelism, cpus });
+    syncBuiltinESMExports();
+  });
+  const idle = () => 2 * performance.now();
+  Object.assign(os, { availableParallelism: () => 3, cpus: () => [{ times: { idle: idle() } }] });
+  syncBuiltinESMExports();
+  const taken = async (options) => {
+    const all = { module, args: [], agents: 2, buffers: [4], maxMoves: 100, seconds: 10, fresh: false, checkEvery: 0 };
+    const runs = new Runs({ ...all, first: 1, ...options });
+    const outcomes = [];
+    for await (const outcome of outcomesOf(runs)) outcomes.push(outcome);
+    return { outcomes, jobs: runs.jobs.length };
+  };
+  const one = await taken({ jobs: 1, last: 100 });
+  assert.equal(one.jobs, 1);
+  const { jobs, outcomes } = await taken({ last: 1_500 });
+  assert.ok(jobs > 1 && jobs <= 3, `${jobs} jobs`);
+  assert.deepEqual(outcomes.map(({ seed }) => seed), Array.from({ length: 1_500 }, (_, at) => at + 1));
+  assert.deepEqual(outcomes.slice(0, 100), one.outcomes);
 });
 
 test("a further job is worth it if a processor is idle, and the runs would go on for longer than it takes", () => {

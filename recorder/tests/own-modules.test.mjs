@@ -47,10 +47,14 @@ for (const root of ROOTS) {
 
 test("a module is evaluated once, behind those that it imports, in strict mode, and knows its URL", (context) => {
   const folder = temporaryFolder(context);
-  writeFileSync(join(folder, "one.mjs"), "export const counted = { times: 0 };\nexport const { a, b } = { a: 1, b: 2 };\n");
-  writeFileSync(join(folder, "two.mjs"), 'import { counted } from "./one.mjs";\ncounted.times += 1;\nexport function f() {}\n');
+  const files = {
+    "one.mjs": "export const counted = { times: 0 };\nexport const { a, b } = { a: 1, b: 2 };\n",
+    "two.mjs": 'import { counted } from "./one.mjs";\ncounted.times += 1;\nexport function f() {}\n',
+  };
+  for (const [name, code] of Object.entries(files)) writeFileSync(join(folder, name), code);
   const text = [
-    'import fs from "node:fs";', 'import { join as joined } from "node:path";', "import {", "  a, b,", '} from "./one.mjs";',
+    'import fs from "node:fs";', 'import { join as joined } from "node:path";',
+    "import {", "  a, b,", '} from "./one.mjs";',
     'import { counted } from "./one.mjs";', 'import { f } from "./two.mjs";',
     "export class Told {}", "export async function later() {}",
     "export const told = [typeof fs.readFileSync, typeof joined, a, b, counted.times, typeof f];",
@@ -62,11 +66,15 @@ test("a module is evaluated once, behind those that it imports, in strict mode, 
   assert.deepEqual(list.map((each) => each.url.split("/").at(-1)), ["one.mjs", "two.mjs", "root.mjs"]);
   const exported = evaluated(list);
   assert.deepEqual(Object.keys(exported), ["Told", "later", "told", "self", "url"]);
-  assert.deepEqual([exported.told, exported.self, exported.url], [["function", "function", 1, 2, 1, "function"], undefined, url.href]);
+  const { told, self, url: itsUrl } = exported;
+  assert.deepEqual([told, self, itsUrl], [["function", "function", 1, 2, 1, "function"], undefined, url.href]);
 });
 
 test("a module that imports or exports in another form is refused, with its line", (context) => {
-  for (const line of ["export let count = 0;", "export default 5;", 'import * as all from "node:fs";', 'export * from "node:fs";']) {
+  const wrong = [
+    "export let count = 0;", "export default 5;", 'import * as all from "node:fs";', 'export * from "node:fs";',
+  ];
+  for (const line of wrong) {
     const url = written(context, `export const a = 1;\n${line}\n`);
     assert.throws(() => ownModules(url), (error) => error.message === `${url} can't be a function's body: ${line}`);
   }

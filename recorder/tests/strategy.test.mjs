@@ -1,6 +1,7 @@
 // Who moves next: how each strategy draws, where it draws at all, and what pilots show of places.
 
 import assert from "node:assert/strict";
+import { readFileSync } from "node:fs";
 import { test } from "node:test";
 import { Board } from "../lib/board/board.mjs";
 import { STRATEGIES } from "../lib/board/strategy/table.mjs";
@@ -8,6 +9,7 @@ import { waysOf } from "../lib/board/strategy/ways.mjs";
 import { KnownPlaces, placeNumber } from "../lib/memory/known-places.mjs";
 import { PHASE } from "../lib/memory/layout.mjs";
 import { FLAG } from "../lib/memory/log.mjs";
+import { OPTIONS } from "../lib/options/table.mjs";
 import { Pilots } from "../lib/run/pilots.mjs";
 import { Coverage } from "../lib/seeds/coverage.mjs";
 import { logOf } from "./helpers/logs.mjs";
@@ -175,6 +177,18 @@ test("each row of the table is a strategy by its word, and draws among the agent
   }
   for (const word of ["", "switch:", "switch:1.1", "switch:-1", "switch:.5", "toString", "mixed:1", "uniform "]) {
     assert.deepEqual(waysOf(word, false), [], word);
+  }
+});
+
+test("each row of the table is named in the help, in the README and in the declared types", () => {
+  const [readme, types] = ["README.md", "recorder.d.mts"].map((name) => {
+    return readFileSync(new URL(`../${name}`, import.meta.url), "utf8");
+  });
+  for (const [name, { hasLikelihood }] of Object.entries(STRATEGIES)) {
+    const word = hasLikelihood ? `${name}:P` : name;
+    assert.ok(OPTIONS.strategy.help[1].includes(word), word);
+    assert.ok(readme.includes(`\n| \`${word}\` |`), word);
+    assert.ok(types.includes(hasLikelihood ? `\`${name}:\${number}\`` : `"${name}"`), word);
   }
 });
 

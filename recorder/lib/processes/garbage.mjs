@@ -25,11 +25,13 @@ let collect = realm.gc;
 const isAsked = ASKED.test(`${process.execArgv.join(" ")} ${process.env.NODE_OPTIONS ?? ""}`);
 if (collect !== undefined && !isAsked) realm.gc = undefined;
 
+let isOwn = false;
+
 /** This process is the recorder's own: its garbage is collected, also in the threads that it starts from now on. */
 export function collectGarbage() {
   setFlagsFromString(FLAG);
   setFlagsFromString(NO_GROWTH);
-  collect = runInNewContext("globalThis.gc");
+  isOwn = true;
 }
 
 let times = 0;
@@ -37,5 +39,7 @@ let times = 0;
 /** Takes note that something was done once more: each time leaves some garbage. */
 export function onceMore() {
   times += 1;
-  if (times % OFTEN_ENOUGH === 0) collect?.();
+  if (times % OFTEN_ENOUGH !== 0) return;
+  if (isOwn) collect ??= runInNewContext("globalThis.gc");
+  collect?.();
 }

@@ -1,5 +1,5 @@
-// The recorder's own modules as its workers and its further processes get them: as functions. They are read once for all
-// workers of a process. Node's loader would open each file anew for each worker, and would take its time for each.
+// The recorder's own modules as its workers and the processes of its command line get them: as functions. They are read
+// once for all workers of a process. Node's loader would open each file anew for each worker, one after the other.
 
 import { readFileSync } from "node:fs";
 import { createRequire } from "node:module";
