@@ -191,7 +191,11 @@ test("a job's process that dies is told of, with status 3, and the summary of th
     const words = new Int32Array(buffers[0]);
     globalThis.seeds = (globalThis.seeds ?? 0) + 1;
     Atomics.add(words, 0, 1);
-    if (globalThis.seeds === 5 && agent === 1) process.kill(process.pid, "SIGKILL");
+    if (globalThis.seeds === 5 && agent === 1) {
+      // Meanwhile the fourth run is handed on.
+      for (let count = 0; count < 1e9; count += 1);
+      process.kill(process.pid, "SIGKILL");
+    }
   `);
   // Pilots would end it before.
   const { status, stdout, stderr } = run([...words, "--seeds", "1..10", "--everywhere"]);
@@ -201,6 +205,18 @@ test("a job's process that dies is told of, with status 3, and the summary of th
   assert.equal(
     stderr, "record: a job's process ended by itself (SIGKILL), and nothing is told of the seeds 5 to 10\n",
   );
+});
+
+test("a run that failed is told of, also if the next one ends the job's process at once", (context) => {
+  const words = small(temporaryFolder(context), `
+    globalThis.times = (globalThis.times ?? 0) + 1;
+    if (globalThis.times === 8) process.kill(process.pid, "SIGKILL");
+    new Int32Array(buffers[0])[0] = agent;
+  `);
+  const { status, stdout } = run([...words, "--seeds", "1..10", "--everywhere"]);
+  assert.equal(status, 3);
+  // The first one is made twice, for the lines of its accesses.
+  assert.match(stdout, /^stopped after 6 of 10 runs\n6 of 6 runs failed: 6 failed\n/);
 });
 
 test("where one job of several is killed, the others go on", onLinux, async (context) => {

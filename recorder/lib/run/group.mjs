@@ -217,6 +217,7 @@ export class Group {
       if (ended !== undefined) throw new Error(`the referee's worker failed: ${ended}`);
       if (message.finished) return;
       if (message.outcome) onOutcome(message.outcome, message.judgement, message.aside);
+      if (message.outcome?.fails) referee.post({ taken: true });
       if (message.replace) {
         await Promise.all(message.replace.map((/** @type {number} */ agent) => this.#replace(agent)));
         referee.post({ replaced: true });

@@ -40,11 +40,22 @@ class Referee {
     if (learns) await this.#learn();
     for (const wanted of seeds) {
       if (wanted.isFresh) await maker.replace(maker.agents);
-      port.postMessage(await (wanted.isTrial ? this.#tried(wanted) : this.#one(wanted)));
+      await this.#send(await (wanted.isTrial ? this.#tried(wanted) : this.#one(wanted)));
       onceMore();
     }
     this.awaitWork();
     port.postMessage({ finished: true });
+  }
+
+  /**
+   * Sends what came of a run. If it failed, it is handed on before the next run, whose agents may end the process.
+   * @param {One} run
+   */
+  async #send(run) {
+    const { port } = this;
+    const taken = run.outcome.fails ? new Promise((done) => port.once("message", done)) : undefined;
+    port.postMessage(run);
+    await taken;
   }
 
   awaitWork() {
