@@ -19,7 +19,7 @@ function existing(module) {
   try {
     if (statSync(fileURLToPath(url)).isFile()) return url;
   } catch {
-    // It is told of below.
+    // It is reported below.
   }
   throw new Refused(`there is no file ${module}`);
 }

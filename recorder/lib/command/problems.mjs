@@ -1,4 +1,4 @@
-// What went wrong, as it is told.
+// What went wrong, as it is printed.
 
 import { Difference } from "../check/check.mjs";
 import { NotKept } from "../keeping/keep.mjs";

@@ -8,8 +8,8 @@ import { Refused } from "./refused.mjs";
 /**
  * @typedef {object} Kind
  * @property {(value: any, name: string) => any} value what is taken of a value; fails with Refused if it can't be
- * @property {(text: any, name: string) => any} [text] likewise of a text, or of several if `multiple` is true; without
- * it the command line has the option's name alone
+ * @property {(text: any, name: string) => any} [text] what is taken of a text, or of several if `multiple` is true;
+ * without it the command line has the option's name alone
  * @property {boolean} [multiple] whether the command line may give it more than once
  */
 

@@ -66,7 +66,7 @@ export const OPTIONS = Object.freeze({
     + "bytes, and nothing orders the two. fail: a run that has some fails, with the ending race; allow: they are "
     + "reported only (fail)"]),
   bounds: word(["fail", "allow"],
-    ["HOW", "fail: a run that meets a bound, as a spin does, fails; allow: it is told only (fail)"]),
+    ["HOW", "fail: a run that meets a bound, as a spin does, fails; allow: it is only reported (fail)"]),
   clock: word(["run", "real"],
     ["WHICH", "the time that clocks tell agents: run (the run's own, which comes from the seed) or real (run)"]),
   maxMoves: rule(whole(1, SCRIPT_LIMITS.moves), SCRIPT_LIMITS.moves,
@@ -87,7 +87,7 @@ export const OPTIONS = Object.freeze({
   jobs: { kind: whole(1, MOST_JOBS), of: OF_MANY, help: ["N", "how many groups of workers run side by side (one, and "
     + "after a second as many more as there are idle processors)"] },
   format: { kind: choice(["plain", "json"]), of: COMMAND, ifNone: "plain",
-    help: ["FORM", "how the summary is told: plain, or json, which is one line (plain)"] },
+    help: ["FORM", "how the summary is printed: plain, or json, which is one line (plain)"] },
   out: { kind: named("the name of a folder"), of: COMMAND,
     help: ["DIR", "where the first failing run's script and report are kept; nothing is written without it"] },
   noShorten: { kind: FLAG, of: COMMAND, ifNone: false, help: ["", "keeps that run as its seed makes it; else the "

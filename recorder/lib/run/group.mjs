@@ -268,7 +268,7 @@ export class Group {
   /** Has the pilots made. Meanwhile the workers load the module that the agents have afterwards. */
   async #learn() {
     this.next = this.agents.map((_, agent) => this.#loaded(agent));
-    // One that can't load it is told of when it is needed.
+    // If one can't load it, that is reported when it is needed.
     for (const loading of this.next) loading.catch(() => {});
     await this.#work({ learns: true }, () => {});
   }

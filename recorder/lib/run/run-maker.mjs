@@ -36,7 +36,7 @@ import { isRacy } from "./races.mjs";
  * @property {"fail" | "allow"} races
  * @property {"fail" | "allow"} bounds
  * @property {"library" | "module" | undefined} init whose it is, if there is one
- * @property {"library" | "module" | undefined} check likewise
+ * @property {"library" | "module" | undefined} check whose it is, if there is one
  */
 
 /**

@@ -12,10 +12,10 @@ import { simulatorAt } from "../simulator/chosen.mjs";
 
 /**
  * @typedef {object} CheckOptions
- * @property {number} checkEvery one in how many of the runs that don't fail is told whole, and checked
- * @property {boolean} checks whether runs that are told whole are checked
+ * @property {number} checkEvery one in how many of the runs that don't fail is checked, and has a script
+ * @property {boolean} checks whether runs that have a script are checked
  * @property {string} [sabsim] the path of the native program that checks them; undefined: the module does
- * @property {boolean} [isBrief] whether the long texts are told of the first failing run alone
+ * @property {boolean} [isBrief] whether only the outcome of the first failing run has its long texts
  */
 
 /**
@@ -82,7 +82,7 @@ export class Job {
 
   /**
    * Looks for the shortest run that fails as one that was found, and checks it.
-   * @param {import("../run/same.mjs").RunSummary} told of that run
+   * @param {import("../run/same.mjs").RunSummary} told the summary of that run
    * @param {(tried: import("../shorter/shorten.mjs").Tried) => void} onTry
    * @returns {Promise<ShortenedByJob>} fails if the check has failed
    */

@@ -94,7 +94,7 @@ export class RemoteJob {
   }
 
   /**
-   * @param {import("../run/same.mjs").RunSummary} told of a run that was found
+   * @param {import("../run/same.mjs").RunSummary} told the summary of a run that was found
    * @param {(tried: import("../shorter/shorten.mjs").Tried) => void} onTry
    * @returns {Promise<import("./job.mjs").ShortenedByJob>}
    */
@@ -103,7 +103,7 @@ export class RemoteJob {
     return this.#ask({ shorten: told });
   }
 
-  /** Ends the process, and all that it has started. Nothing more is told of it. */
+  /** Ends the process, and all that it has started. Nothing more is reported about it. */
   async close() {
     this.onMessage = undefined;
     this.onTry = () => {};
@@ -127,7 +127,7 @@ export class RemoteJob {
       else lose(message);
     });
     this.child.on("error", (error) => {
-      // One that has started, but that nothing can be sent to, is told of by its exit.
+      // If one has started, but nothing can be sent to it, its exit says so.
       if (this.child.pid === undefined) lose(`a job's process can't be started: ${error.message}`);
     });
   }

@@ -17,12 +17,12 @@ import { SeedQueue } from "./seed-queue.mjs";
  * and further ones while processors are idle
  * @property {number} checkEvery every run that fails is checked, and one in so many of the others; 0: none at all
  * @property {string | false} [sabsim] the path of the native program that checks; undefined: the module does; false:
- * nothing is checked, and the runs are told all the same as if they were
+ * nothing is checked, and the outcomes are the same as if they were
  * @property {number} [origin] the seed from which one in so many is counted; the first if it isn't given
  * @property {boolean} [failFast] whether the first failing run is the last
- * @property {boolean} [trials] whether only their endings are wanted, which takes less time: no script is told
+ * @property {boolean} [trials] whether only their endings are wanted, which takes less time: outcomes have no script
  * @property {Omit<import("../run/group.mjs").Wanted, "seed" | "whole">} [wanted] what else is wanted of each run
- * @property {boolean} [isBrief] whether the long texts are told of the first failing run alone
+ * @property {boolean} [isBrief] whether only the outcome of the first failing run has its long texts
  * @property {number} [ahead] how far a seed that is begun may be from the next one to be taken; as far as it likes, if
  * it isn't given
  * @property {boolean} [goesOn] whether the other jobs go on when the process of one has ended; and what has come by a
@@ -83,7 +83,7 @@ export class Runs {
   /**
    * Looks for the shortest run that fails as one that was found, in the first job.
    * @param {Outcome} found
-   * @param {(tried: import("../shorter/shorten.mjs").Tried) => void} [onTry] is told of each run that this takes
+   * @param {(tried: import("../shorter/shorten.mjs").Tried) => void} [onTry] is called with each run that this takes
    * @returns {Promise<import("./job.mjs").ShortenedByJob>}
    */
   async shorten(found, onTry = () => {}) {

@@ -35,7 +35,7 @@ import { changesOf, joinedFrom, rowOf, shortenedAt, stretchesOf, without } from 
  * @typedef {object} Limits
  * @property {number} [most] how many runs are made at most
  * @property {number} [milliseconds] how long it may take
- * @property {(tried: Tried) => void} [onTry] is told of each run that was made
+ * @property {(tried: Tried) => void} [onTry] is called with each run that was made
  * @property {boolean} [isFresh] whether the agents' workers are started anew before
  */
 
@@ -50,7 +50,7 @@ const NOT_AGAIN = "it couldn't be made again in the same way: its agents do some
 
 /** @typedef {{ row: number[], changes: number, calls: number }} Measured */
 
-/** @param {Outcome} outcome whose row is told @returns {Measured} how long a run is */
+/** @param {Outcome} outcome that has its row @returns {Measured} how long a run is */
 const measured = ({ row = [], calls }) => ({ row, changes: changesOf(row), calls });
 
 /** @param {Measured} one @param {Measured} other */
