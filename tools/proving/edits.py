@@ -53,6 +53,24 @@ def changes_between(old, new):
     return changes
 
 
+def functions_touched(texts, folder, functions):
+    """Returns the functions of edited texts that have a line which isn't in the files of a folder, and a name of their own."""
+    names, found = [function.name for function in functions], []
+    for file, text in texts.items():
+        with open(f"{folder}/{file}", encoding="utf-8") as it:
+            old, new = it.read().split("\n"), text.split("\n")
+        lines = [at for at, (one, other) in enumerate(zip(old, new), 1) if one != other]
+        for function in (it for it in functions if it.file == file and names.count(it.name) == 1):
+            first, last = lines_of(function, text)
+            found += [function] * any(first <= line <= last for line in lines)
+    return found
+
+
+def lines_of(function, text):
+    """Returns the numbers of the first and the last line of a function, from the text of its file."""
+    return text.count("\n", 0, function.begin) + 1, text.count("\n", 0, function.end) + 1
+
+
 def changed(text, changes):
     """Returns a text with changes made in it, which don't overlap."""
     for begin, end, new in sorted(changes, reverse=True):

@@ -1,13 +1,15 @@
 """Tries the must-fail edits of a crate: those of functions' bodies together, all others alone, as rt tries them."""
+import shutil
 import subprocess
 import tempfile
 from collections import namedtuple
+from contextlib import contextmanager
 
-from .edits import Edit
+from .edits import Edit, functions_touched
 from .functions import IN_A_TWIN, IN_PLACE, Unreadable, calls_of, functions_of, source_files
 from .kit import rt, rtlib
 from .modules import unpack_modules
-from .twins import Twin, apart, placed_of, tried_of, wants_copy, write_with
+from .twins import InPlace, Twin, apart, placed_of, tried_of, wants_copy, write_texts, write_with
 from .verdicts import Judge, Reading
 
 # The results that a try can have.
@@ -30,6 +32,8 @@ class Trial:
         self.batches = [] if alone else self.make_batches()
         # The edits with which the crate is surely still proved over what is kept.
         self.proved = set()
+        # The edits whose changed functions no check has tried, and that aren't to be tried as rt tries them.
+        self.untried = set() if alone else {edit.name for edit in self.edits} - {edit.name for batch in self.batches for edit in batch}
 
     def make_batches(self):
         """Returns the edits to try together each time. Those in place go with the first twins, as far as they can, and
@@ -87,15 +91,22 @@ class Trial:
             functions = self.functions_with(tried, room)
             if not functions:
                 return {}, "the text can't be read", [edit for edit in batch if not self.is_readable(edit)]
-            only = [word for it in tried for word in ("--only", it.name.partition("::")[2])]
-            ran = run_check(self.crate, room, [*self.flags, *only], kept)
-            sources = {file: rtlib.text_of(f"{room}/{file}") for file in source_files(room)}
-        reading = Reading(ran.returncode, ran.stdout)
-        judge, why = Judge(reading, tried, functions, sources), reading.why_no_verdict()
+            with copy_of(kept) as own:
+                judge, why, unread = self.judge(tried, functions, room, own)
         if why:
-            return {}, why, judge.unread_edits()
+            return {}, why, unread
         why = judge.why_spoiled()
         return ({}, why, ()) if why else (self.results_of(judge, tried), "", ())
+
+    def judge(self, tried, functions, room, kept):
+        """Checks what is tried in the copy of the crate in a folder, which has these functions. Returns a judge of what the
+        check said, why it has no verdict, or nothing, and the edits that can't be read then."""
+        only = [word for it in tried for word in ("--only", it.name.partition("::")[2])]
+        ran = run_check(self.crate, room, [*self.flags, *only], kept)
+        sources = {file: rtlib.text_of(f"{room}/{file}") for file in source_files(room)}
+        reading = Reading(ran.returncode, ran.stdout)
+        judge, why = Judge(reading, tried, functions, sources), reading.why_no_verdict()
+        return judge, why, judge.unread_edits() if why else ()
 
     def functions_with(self, tried, room):
         """Writes the crate with what is tried into a folder. Returns its functions; none, if it can't be read or has
@@ -129,12 +140,39 @@ class Trial:
         return found
 
     def try_alone(self, edit, kept):
-        """Tries an edit as rt does: over what is kept, and from nothing if it is read and isn't refused so."""
+        """Tries an edit alone: the functions that it changes, if no check has tried them, and then the crate as rt does:
+        over what is kept, and from nothing if it is read and isn't refused so."""
+        result = self.try_touched(edit, kept) if edit.name in self.untried else None
+        if result:
+            return result
         if edit.name not in self.proved:
-            result = result_of(rt.must_fail(self.crate, edit.file, self.flags, kept))
+            with copy_of(kept) as own:
+                result = result_of(rt.must_fail(self.crate, edit.file, self.flags, own))
             if result.kind in (REFUSED, LOSES_A_NAME) or result.said.startswith(BAD):
                 return result
         return result_of(rt.must_fail(self.crate, edit.file, self.flags))
+
+    def try_touched(self, edit, kept):
+        """Tries the functions that an edit changes or adds, and nothing else of the crate. Returns the edit's result if
+        one of them is refused for a reason of its own. Else this decides nothing, and it returns None."""
+        texts, why = rt.read_edit(edit.file, self.crate.folder)
+        with tempfile.TemporaryDirectory(prefix="sabsim-edit-") as room:
+            functions = [] if why else self.functions_of_texts(texts, room)
+            tried = [InPlace(it, edit) for it in functions_touched(texts or {}, self.crate.folder, functions)]
+            if not tried:
+                return None
+            with copy_of(kept) as own:
+                judge, why, _ = self.judge(tried, functions, room, own)
+        line = "" if why else next((line for line, _ in map(judge.verdict, tried) if line), "")
+        return Result(REFUSED, line, True) if line else None
+
+    def functions_of_texts(self, texts, room):
+        """Writes the crate with some texts of its files into a folder. Returns its functions; none, if it can't be read."""
+        write_texts(self.crate, texts, room)
+        try:
+            return functions_of(self.crate.name, room)
+        except Unreadable:
+            return []
 
 
 def result_of(answer):
@@ -145,6 +183,15 @@ def result_of(answer):
     else:
         kind = NOT_REFUSED if said.startswith("NOT REFUSED") else BAD
     return Result(kind, said, True)
+
+
+@contextmanager
+def copy_of(kept):
+    """Yields a copy of a folder of modules. A check keeps there what it checks of functions with edits, in place of what
+    the crate's own proof has checked, and the next check would check that again."""
+    with tempfile.TemporaryDirectory(prefix="sabsim-kept-") as own:
+        shutil.copytree(kept, own, dirs_exist_ok=True)
+        yield own
 
 
 def run_check(crate, room, flags, kept):

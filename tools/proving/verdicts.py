@@ -1,8 +1,9 @@
 """Reads what a check of a crate with edits says, and decides which functions were refused for a reason of their own."""
 import re
 
+from .copies import Names
+from .edits import lines_of
 from .kit import rt, rtlib
-from .twins import proof_folder
 
 # A line about an item, and a line about a place in a file.
 ITEM = re.compile(r"(?:fn|struct|enum|impl|trait|closure|union|type|const|static|mod) (\S+): (.*)")
@@ -11,6 +12,8 @@ PLACE = re.compile(r"(?:(note|warning|help): )?(?:\./)?((?:src|specs|proofs)/\S+
 FRONT_END = re.compile(r"(?:\./)?(src/\S+?):(\d+):\d+: error\[")
 # What says that a proof file names what went, and not that a goal is false.
 NAME_IS_GONE = re.compile(r"has no field|is not in scope|has no `|is no name|was not admitted")
+# What the line of a function says, if the function has a loop without a measure, and nothing else is known of its proof.
+LACKS_A_MEASURE = re.compile(r"no proof: expected a measure in (?:\./)?(proofs/\S+)/Invariants\.antt")
 # What a line says of an item that isn't proved since another one isn't, or that wasn't tried.
 IS_ABOUT_OTHERS = re.compile(r"waits? for|has not tried")
 
@@ -53,7 +56,7 @@ class Judge:
     def __init__(self, reading, tried, functions, sources):
         self.reading, self.tried = reading, tried
         place = {function.name: function for function in functions}
-        self.lines = {it: lines_of(place[it.name], sources) for it in tried}
+        self.lines = {it: lines_of(place[it.name], sources[it.function.file]) for it in tried}
 
     def unread_edits(self):
         """Returns the edits in whose functions the front end refuses a place."""
@@ -68,7 +71,7 @@ class Judge:
     def refusals(self, it):
         """Returns the lines about places in a function, or in its own proof files."""
         first, last = self.lines[it]
-        folder = f"{proof_folder(it.name)}/"
+        folder = f"{Names(it.name).folder}/"
         is_own = lambda file, line: file == it.function.file and first <= line <= last or file.startswith(folder)
         return [said for file, line, said in self.reading.places if is_own(file, line)]
 
@@ -90,7 +93,9 @@ class Judge:
         if IS_ABOUT_OTHERS.search(said) or not all(self.is_about(it, name) for name in named):
             return "", f"another one isn't proved: {said}"
         if not refusals:
-            return "", f"nothing in it is refused: {said}"
+            measure = LACKS_A_MEASURE.fullmatch(said)
+            is_own = measure and measure[1] == Names(it.name).folder
+            return (f"{it.name}: {said}", "") if is_own else ("", f"nothing in it is refused: {said}")
         if any("not admitted" in line for line in refusals):
             return "", f"it rests on what isn't admitted: {refusals[0]}"
         line = next((line for line in refusals if not NAME_IS_GONE.search(line)), "")
@@ -98,9 +103,3 @@ class Judge:
 
     def is_proved(self, it):
         return self.reading.items.get(it.name, "").startswith("proved")
-
-
-def lines_of(function, sources):
-    """Returns the numbers of the first and the last line of a function."""
-    text = sources[function.file]
-    return text.count("\n", 0, function.begin) + 1, text.count("\n", 0, function.end) + 1
