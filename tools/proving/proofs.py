@@ -14,7 +14,7 @@ from .store import Sums, sum_of, sum_of_scripts
 from .trial import BAD, REFUSED, Result, Trial
 
 # The scripts that decide whether an edit is refused. If one of them has changed, all edits are tried anew.
-DECIDING = "copies edits functions kit modules trial twins verdicts"
+DECIDING = "edits functions kit modules trial twins verdicts"
 # The scripts that make the code of a static library, and try its edits.
 OF_STATIC = "static_library"
 # A proof takes at most this part of the memory that rt foresees; one of a program, or of tests, can take all of it.

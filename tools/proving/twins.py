@@ -6,12 +6,12 @@ are. So no edit can hide another one, and what a twin rests on is the crate as i
 
 A method of a trait's impl has no room for a twin, and is edited in place, if neither a twin nor another function that is
 edited in place reaches it by calls. Then too, all that each one rests on is the crate as it is. So is a function with one
-edit and proof files whose copies may not serve: in place it needs no copy, and no twin that shows that copies serve.
+edit and proof files of its own: in place it needs no copy of these, and no twin that shows that copies serve.
 """
 import os
+import re
 import shutil
 
-from .copies import Names, copies_serve
 from .edits import Change, changed
 from .functions import IN_A_TWIN, IN_PLACE, reached_by
 from .kit import rtlib
@@ -38,12 +38,15 @@ class Twin:
 
     def proof_files(self, crate):
         """Returns the twin's proof files, as texts by their paths: copies of the function's that name the twin's modules."""
-        own, copy, found = Names(self.function.name), Names(self.name), {}
-        for at, _, names in os.walk(f"{crate.folder}/{own.folder}"):
+        own, copy, found = proof_folder(self.function.name), proof_folder(self.name), {}
+        path = re.escape(".".join(self.function.name.split("::")[1:]))
+        module = re.compile(rf"(?<![\w.])(Rattle\.{crate.name}\.(?:proofs|specs\.contracts)\.){path}(?=[.\s{{])")
+        twin = ".".join(self.name.split("::")[1:])
+        for at, _, names in os.walk(f"{crate.folder}/{own}"):
             for name in names:
                 with open(f"{at}/{name}", encoding="utf-8") as it:
-                    inside = os.path.relpath(f"{at}/{name}", f"{crate.folder}/{own.folder}")
-                    found[f"{copy.folder}/{inside}"] = own.renamed(it.read(), copy)
+                    inside = os.path.relpath(f"{at}/{name}", f"{crate.folder}/{own}")
+                    found[f"{copy}/{inside}"] = module.sub(lambda at: at[1] + twin, it.read())
         return found
 
 
@@ -63,12 +66,21 @@ class InPlace:
         return {}
 
 
+def proof_folder(name):
+    """Returns where the proof files of a function's own are, in its crate's folder."""
+    return "/".join(["proofs", *name.split("::")[1:]])
+
+
+def has_proof_files(crate, function):
+    return os.path.isdir(f"{crate.folder}/{proof_folder(function.name)}")
+
+
 def tried_of(crate, edits, calls):
-    """Returns what tries edits together: twins, one with no edit for each function of which it isn't sure that copies of
-    its proof files serve, which shows by its proof that they do; and functions edited in place."""
+    """Returns what tries edits together: twins, one with no edit for each function that has proof files of its own, which
+    shows by its proof that copies of these files serve; and functions edited in place."""
     placed = placed_of(crate, edits, calls)
     pairs = [(function, edit) for edit in edits if edit not in placed for function in edit.changes]
-    pairs += [(function, None) for function in dict.fromkeys(it for it, _ in pairs) if not is_sure(crate, function)]
+    pairs += [(function, None) for function in dict.fromkeys(it for it, _ in pairs) if has_proof_files(crate, function)]
     twins = [Twin(function, edit, number) for number, (function, edit) in enumerate(pairs)]
     return twins + [InPlace(function, edit) for edit in placed for function in edit.changes]
 
@@ -85,14 +97,8 @@ def placed_of(crate, edits, calls):
 
 
 def wants_copy(crate, edit):
-    """Returns whether a twin for an edit wants a copy beside it, for a function that it changes."""
-    return not all(is_sure(crate, it) for it in edit.changes)
-
-
-def is_sure(crate, function):
-    """Returns whether a twin of a function is sure to be proved if it has no edit: the function has no proof files of its
-    own, or copies of them serve."""
-    return not os.path.isdir(f"{crate.folder}/{Names(function.name).folder}") or copies_serve(crate, function)
+    """Returns whether a twin for an edit wants a copy beside it: if a function that it changes has proof files."""
+    return any(has_proof_files(crate, it) for it in edit.changes)
 
 
 def apart(edits, twins, calls):

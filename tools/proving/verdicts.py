@@ -1,9 +1,9 @@
 """Reads what a check of a crate with edits says, and decides which functions were refused for a reason of their own."""
 import re
 
-from .copies import Names
 from .edits import lines_of
 from .kit import rt, rtlib
+from .twins import proof_folder
 
 # A line about an item, and a line about a place in a file.
 ITEM = re.compile(r"(?:fn|struct|enum|impl|trait|closure|union|type|const|static|mod) (\S+): (.*)")
@@ -71,7 +71,7 @@ class Judge:
     def refusals(self, it):
         """Returns the lines about places in a function, or in its own proof files."""
         first, last = self.lines[it]
-        folder = f"{Names(it.name).folder}/"
+        folder = f"{proof_folder(it.name)}/"
         is_own = lambda file, line: file == it.function.file and first <= line <= last or file.startswith(folder)
         return [said for file, line, said in self.reading.places if is_own(file, line)]
 
@@ -94,7 +94,7 @@ class Judge:
             return "", f"another one isn't proved: {said}"
         if not refusals:
             measure = LACKS_A_MEASURE.fullmatch(said)
-            is_own = measure and measure[1] == Names(it.name).folder
+            is_own = measure and measure[1] == proof_folder(it.name)
             return (f"{it.name}: {said}", "") if is_own else ("", f"nothing in it is refused: {said}")
         if any("not admitted" in line for line in refusals):
             return "", f"it rests on what isn't admitted: {refusals[0]}"
