@@ -68,7 +68,7 @@ module _ (ok : List ℕ → Bool) where
   -- ---- between tokens
 
   -- whatever a step leads to, it leads between tokens
-  abbrev Between : Step → Type 0
+  abbrev pub Between : Step → Type 0
   Between (Err slip) = Unit {0}
   Between (Ok r) = r.inside ≡ I.Nothing
 
@@ -262,7 +262,7 @@ module _ (ok : List ℕ → Bool) where
 
   -- which bytes they are
 
-  white_cases : (Q : ℕ → Type 0) → Q 32 → Q 9 → Q 10 → Q 13 → (b : ℕ) → is_white b ≡ true → Q b
+  pub white_cases : (Q : ℕ → Type 0) → Q 32 → Q 9 → Q 10 → Q 13 → (b : ℕ) → is_white b ≡ true → Q b
   white_cases Q a c d e b h = go (or_cases _ _ h)
     where
       at : (k : ℕ) → (b == k) ≡ true → Q k → Q b
@@ -277,7 +277,7 @@ module _ (ok : List ℕ → Bool) where
       go : ((b == 32 || b == 9 || b == 10) ≡ true) ⊎ ((b == 13) ≡ true) → Q b
       go o = ⊎_elim third (λ x. at 13 x e) o
 
-  operator_cases : (Q : ℕ → Type 0) → Q 123 → Q 125 → Q 91 → Q 93 → Q 58 → Q 44 → (b : ℕ) → is_operator b ≡ true → Q b
+  pub operator_cases : (Q : ℕ → Type 0) → Q 123 → Q 125 → Q 91 → Q 93 → Q 58 → Q 44 → (b : ℕ) → is_operator b ≡ true → Q b
   operator_cases Q a c d e f g b h = go (or_cases _ _ h)
     where
       at : (k : ℕ) → (b == k) ≡ true → Q k → Q b
@@ -343,7 +343,7 @@ module _ (ok : List ℕ → Bool) where
       ap (λ i. rest_in i r.next r.brackets (token_after (is_between r.inside) t b) xs) h
       ∙ ap (λ i. rest_in i r.next r.brackets (token_after (is_between r.inside) u b) xs) (sym h)
 
-  between_operator : (next : Next) (st : List Bracket) (b : ℕ) → Between (by_operator (reader I.Nothing next st) b)
+  pub between_operator : (next : Next) (st : List Bracket) (b : ℕ) → Between (by_operator (reader I.Nothing next st) b)
   between_operator next st b =
       between_cond (b == 91) _ _ (between_open next st Array) (between_cond (b == 123) _ _ (between_open next st Object)
       (between_cond (b == 93) _ _ (between_close next st Array) (between_cond (b == 125) _ _
@@ -351,7 +351,7 @@ module _ (ok : List ℕ → Bool) where
       (between_cond (b == 44) _ _ (between_going next st (behind_comma next (innermost st))) (between_going next st
       (behind_colon next))))))
 
-  between_begin : (st : List Bracket) (b : ℕ) → Between (begin_in (reader I.Nothing After st) b)
+  pub between_begin : (st : List Bracket) (b : ℕ) → Between (begin_in (reader I.Nothing After st) b)
   between_begin st b =
       between_cond (is_white b) (Ok (reader I.Nothing After st)) _ refl
       (between_cond (b == 34) (begin_string (reader I.Nothing After st)) _ tt
