@@ -1,6 +1,6 @@
 -- What a byte does beside an edge: it ends a word, or a line feed ends the text there.
 use Rattle.std.proofs.Common.{◌≡◌, ℕ, zero, suc, ◌<◌, ◌≤◌, Bool, true, false, cond, ◌&&◌, ◌||◌, nat_lt, nat_le, List, [], ◌∷◌, length, drop, Option, Some, None, Ok, Err, is_ok, inl, inr, ◌⊎◌, ⊎_elim, refl, sym, ap, ◌∙◌, subst, arith}
-use Rattle.std.proofs.lemmas.Bool.{false≢true, true≢false, cases_Bool, and_parts, or_parts, or_from, or_left, or_right, or_cases, eqb-true, leb-true}
+use Rattle.std.proofs.lemmas.Bool.{false≢true, true≢false, cases_Bool, and_parts, or_parts, or_from, or_left, or_right, or_cases, eqb-true, ne_eqb, leb-true, le-ltb}
 use Rattle.std.specs.Prelude.{◌==◌, ⊤, slice_get}
 use Rattle.std.specs.Char.{is_ascii_digit, is_ascii_alphabetic}
 use Rattle.sab_syntax.specs.declared.brackets.Bracket.{Bracket}
@@ -347,6 +347,100 @@ taken_low (I.Number part) next st t b s =
     (λ e. by_test (Low b) (is_complete part) _ _ (λ c. by_test (Low b) (is_in_range t) _ _
     (λ g. low_begin next st b) (λ g. tt)) (λ c. tt))
     (λ e. low_part part next st (part_behind part b) b (part_low part b))
+
+-- ---- a byte that isn't ASCII is in a string's text
+
+abbrev pub Plainly : Step → Type 0
+Plainly (Err slip) = ⊤
+Plainly (Ok r) = r.inside ≡ I.String P.Plain
+
+abbrev PlainTo : Behind → Type 0
+PlainTo (Err fault) = ⊤
+PlainTo (Ok None) = ⊥
+PlainTo (Ok (Some part)) = part ≡ P.Plain
+
+plain_by : (c : Bool) (s u : Behind) → (c ≡ true → PlainTo s) → (c ≡ false → PlainTo u) → PlainTo (cond c s u)
+plain_by true s u p q = p refl
+plain_by false s u p q = q refl
+
+letter_low : (b lo hi : ℕ) → hi < 128 → (nat_le lo b && nat_le b hi) ≡ true → b < 128
+letter_low b lo hi h e = omega (arith, h, leb-true b hi (and_parts (nat_le lo b) (nat_le b hi) e).1)
+
+hex_low : (b : ℕ) → is_hex b ≡ true → b < 128
+hex_low b e =
+    ⊎_elim (λ h. ⊎_elim (λ d. digit_low b d) (λ l. letter_low b 97 102 (omega arith) l) (or_cases _ _ h))
+    (λ l. letter_low b 65 70 (omega arith) l) (or_cases _ _ e)
+
+from_c_low : (b : ℕ) → is_from_c b ≡ true → b < 128
+from_c_low b e =
+    ⊎_elim (λ l. letter_low b 99 102 (omega arith) l) (λ l. letter_low b 67 70 (omega arith) l) (or_cases _ _ e)
+
+plain_never : (b : ℕ) (part : StringPart) (fault : Fault) (c : Bool) → (c ≡ true → b < 128) → 128 ≤ b
+    → PlainTo (cond c (Ok (Some part)) (Err fault))
+plain_never b part fault c low high =
+    plain_by c (Ok (Some part)) (Err fault) (λ e. absurd (omega (arith, low e, high))) (λ e. tt)
+
+plain_second : (b : ℕ) (part : StringPart) (c h : Bool) → (c ≡ true → b < 128) → 128 ≤ b
+    → PlainTo (cond c (Ok (Some part)) (cond h (Err F.Surrogate) (Err F.Escape)))
+plain_second b part c h low high =
+    plain_by c (Ok (Some part)) (cond h (Err F.Surrogate) (Err F.Escape)) (λ e. absurd (omega (arith, low e, high)))
+    (λ e. plain_by h (Err F.Surrogate) (Err F.Escape) (λ i. tt) (λ i. tt))
+
+plain_hex : (b : ℕ) (part : StringPart) → 128 ≤ b → PlainTo (cond (is_hex b) (Ok (Some part)) (Err F.Escape))
+plain_hex b part high = plain_never b part F.Escape (is_hex b) (hex_low b) high
+
+string_plain : (part : StringPart) (b : ℕ) → 128 ≤ b → PlainTo (string_behind part b)
+string_plain P.Plain b h =
+    plain_by (b == 34) _ _ (λ q. absurd (omega (arith, h, same_low b 34 (omega arith) q)))
+    (λ q. plain_by (b == 92) _ _ (λ e. absurd (omega (arith, h, same_low b 92 (omega arith) e))) (λ e. plain_by
+    (nat_lt b 32) _ _ (λ c. tt) (λ c. refl)))
+string_plain P.Escape b h =
+    plain_by (b == 117) _ _ (λ e. absurd (omega (arith, h, same_low b 117 (omega arith) e))) (λ e. plain_by
+    (is_escape b) _ _ (λ f. refl) (λ f. tt))
+string_plain P.First b h = plain_hex b (P.Second (is_d b)) h
+string_plain (P.Second false) b h = plain_hex b (P.Third false) h
+string_plain (P.Second true) b h =
+    plain_by (is_from_c b) _ _ (λ e. tt) (λ e. plain_hex b (P.Third (nat_le 56 b)) h)
+string_plain (P.Third f) b h = plain_hex b (P.Fourth f) h
+string_plain (P.Fourth false) b h = plain_hex b P.Plain h
+string_plain (P.Fourth true) b h = plain_hex b P.Pair h
+string_plain P.Pair b h = plain_never b P.PairEscape F.Surrogate (b == 92) (same_low b 92 (omega arith)) h
+string_plain P.PairEscape b h = plain_never b P.PairFirst F.Surrogate (b == 117) (same_low b 117 (omega arith)) h
+string_plain P.PairFirst b h =
+    plain_second b P.PairSecond (is_d b) (is_hex b) (either_low b 100 68 (omega arith) (omega arith)) h
+string_plain P.PairSecond b h = plain_second b P.PairThird (is_from_c b) (is_hex b) (from_c_low b) h
+string_plain P.PairThird b h = plain_hex b P.PairFourth h
+string_plain P.PairFourth b h = plain_hex b P.Plain h
+
+plain_in : (r : Reader) (o : Behind) → PlainTo o → Plainly (string_by r o)
+plain_in r (Err fault) h = tt
+plain_in r (Ok None) h = absurd h
+plain_in r (Ok (Some part)) h = ap I.String h
+
+never_low : (b : ℕ) (s : Step) → 128 ≤ b → Low b s → Plainly s
+never_low b (Err slip) h l = tt
+never_low b (Ok r) h l = absurd (omega (arith, h, l))
+
+pub high_plain : (i : Inside) (next : Next) (st : List Bracket) (t : List ℕ) (b : ℕ) → 128 ≤ b
+    → Plainly (step_in is_in_range i (reader i next st) t b)
+high_plain I.Nothing next st t b h =
+    never_low b (step_in is_in_range I.Nothing (reader I.Nothing next st) t b) h (taken_low I.Nothing next st t b refl)
+high_plain (I.String part) next st t b h =
+    plain_in (reader (I.String part) next st) (string_behind part b) (string_plain part b h)
+high_plain (I.Literal l) next st t b h =
+    never_low b (step_in is_in_range (I.Literal l) (reader (I.Literal l) next st) t b) h
+    (taken_low (I.Literal l) next st t b refl)
+high_plain (I.Number part) next st t b h =
+    never_low b (step_in is_in_range (I.Number part) (reader (I.Number part) next st) t b) h
+    (taken_low (I.Number part) next st t b refl)
+
+-- and a string goes on behind it
+pub plain_on : (next : Next) (st : List Bracket) (t : List ℕ) (b : ℕ) → 128 ≤ b
+    → step_in is_in_range (I.String P.Plain) (reader (I.String P.Plain) next st) t b
+    ≡ Ok (reader (I.String P.Plain) next st)
+plain_on next st t b h =
+    rw (ne_eqb b 34 (λ e. omega (arith, e, h)), ne_eqb b 92 (λ e. omega (arith, e, h)), le-ltb b 32 (omega (arith, h)))
+    refl
 
 -- ---- which slips there are
 

@@ -1,11 +1,12 @@
 -- Where a text can be cut that may have bytes of no character.
-use Rattle.std.proofs.Common.{◌≡◌, ℕ, zero, suc, ◌+◌, ◌-◌, ◌<◌, ◌≤◌, Bool, true, false, cond, ◌||◌, List, [], ◌∷◌, ◌++◌, length, take, drop, get_or, slice_index, IsUtf8, Option, Some, None, is_some, inl, inr, ◌⊎◌, ⊎_elim, refl, sym, ap, ◌∙◌, subst, arith, add-one, unwrap_or, IsCharBoundary}
+use Rattle.std.proofs.Common.{◌≡◌, ℕ, zero, suc, ◌+◌, ◌-◌, ◌*◌, ◌<◌, ◌≤◌, Bool, true, false, cond, ◌||◌, List, [], ◌∷◌, ◌++◌, length, take, drop, get_or, slice_index, IsUtf8, Option, Some, None, is_some, inl, inr, ◌⊎◌, ⊎_elim, refl, sym, ap, ◌∙◌, subst, arith, add-one, unwrap_or, IsCharBoundary}
 use lib.ListN.{drop_of_length-le}
+use lib.Seq.{take-add}
 use Rattle.std.proofs.lemmas.Bool.{false≢true, true≢false, and_parts, and_from, lt-ltb, or_cases, cases_eq, cases_lt, eqb-true, eq-eqb, ne_eqb, le-ltb, leb-true}
 use Rattle.std.proofs.lemmas.List.{take_more, take-take, length-take-le, length-drop, get_or-take, get_or-drop}
 use Rattle.std.proofs.lemmas.Str.{IsUtf8-append, IsUtf8-nil, IsUtf8-take, IsUtf8-from_is_utf8, is_utf8-from_IsUtf8, utf8_valid_len_le, IsCharBoundary-before_ascii, IsCharBoundary-after_ascii}
-use Rattle.std.specs.Prelude.{◌==◌, nat_le, nat_lt}
-use Rattle.std.specs.Char.{is_ascii_digit}
+use Rattle.std.specs.Prelude.{◌==◌, ⊤, nat_le, nat_lt}
+use Rattle.std.proofs.str.Valid.{of_two, of_three, of_four}
 use Rattle.std.specs.Str.{is_utf8}
 use Rattle.std.specs.Str.Lossy.{valid_len_up_to, utf8_valid_len, utf8_error_len, second_byte_min, second_byte_max}
 use Rattle.std.specs.Int.{is_in_range}
@@ -89,6 +90,9 @@ then_none false o n e = absurd (true≢false (ap is_some e))
 at_least : (lo hi b : ℕ) → is_in_range lo hi b ≡ true → lo ≤ b
 at_least lo hi b e = leb-true lo b (and_parts (nat_le lo b) (nat_le b hi) e).0
 
+at_most : (lo hi b : ℕ) → is_in_range lo hi b ≡ true → b ≤ hi
+at_most lo hi b e = leb-true b hi (and_parts (nat_le lo b) (nat_le b hi) e).1
+
 second_high : (x : ℕ) (e f : Bool) → 128 ≤ cond e 160 (cond f 144 128)
 second_high x true f = omega arith
 second_high x false true = omega arith
@@ -148,6 +152,193 @@ cut_high (x ∷ y ∷ z ∷ w ∷ bs) e i lt =
     absurd (long_none (length (x ∷ y ∷ z ∷ w ∷ bs)) (is_in_range 194 244 x) (is_in_range (second_byte_min x)
     (second_byte_max x) y) (is_in_range 128 191 z) (omega arith) e)
 
+-- ---- more bytes end the character
+
+abbrev pub AreHigh : List ℕ → Type 0
+AreHigh [] = ⊤
+AreHigh (x ∷ xs) = (128 ≤ x) × AreHigh xs
+
+pub record Finish (bs : List ℕ) : Type 0 where
+  pub rest : List ℕ
+  pub high : AreHigh rest
+  pub utf8 : IsUtf8 (bs ++ rest)
+
+two : (x y : ℕ) → 194 ≤ x → x < 224 → 128 ≤ y → y < 192 → IsUtf8 (x ∷ y ∷ [])
+two x y a b c d = of_two (x ∷ y ∷ []) 0 (omega arith) (a, b) (c, d)
+
+abbrev Second : ℕ → ℕ → Type 0
+Second x y = (128 ≤ y) × ((y < 192) × ((x ≡ 224 → 160 ≤ y) × ((x ≡ 237 → y < 160) × ((x ≡ 240 → 144 ≤ y)
+    × (x ≡ 244 → y < 144)))))
+
+three : (x y z : ℕ) → 224 ≤ x → x < 240 → Second x y → 128 ≤ z → z < 192 → IsUtf8 (x ∷ y ∷ z ∷ [])
+three x y z a b s c d = go (cases_eq x 224) (cases_eq x 237)
+  where
+    go : (x ≡ 224) ⊎ (x ≡ 224 → ⊥) → (x ≡ 237) ⊎ (x ≡ 237 → ⊥) → IsUtf8 (x ∷ y ∷ z ∷ [])
+    go (inl e) (inl f) = absurd (omega (arith, e, f))
+    go (inl e) (inr f) =
+        of_three (x ∷ y ∷ z ∷ []) 0 (omega arith) (a, b) (s.0, s.1.0) (c, d) (omega (arith, e, s.1.1.0 e, s.0)) (inl
+        (omega (arith, e, s.1.0)))
+    go (inr e) (inl f) =
+        of_three (x ∷ y ∷ z ∷ []) 0 (omega arith) (a, b) (s.0, s.1.0) (c, d) (omega (arith, f, s.0)) (inl (omega
+        (arith, f, s.1.1.1.0 f)))
+    go (inr e) (inr f) = by (cases_lt x 237)
+      where
+        by : (x < 237) ⊎ (237 ≤ x) → IsUtf8 (x ∷ y ∷ z ∷ [])
+        by (inl l) = of_three (x ∷ y ∷ z ∷ []) 0 (omega arith) (a, b) (s.0, s.1.0) (c, d) (omega (arith, e, s.0)) (inl
+            (omega (arith, l, s.1.0)))
+        by (inr l) = of_three (x ∷ y ∷ z ∷ []) 0 (omega arith) (a, b) (s.0, s.1.0) (c, d) (omega (arith, e, s.0)) (inr
+            (omega (arith, l, f, s.0)))
+
+four : (x y z w : ℕ) → 240 ≤ x → x < 245 → Second x y → 128 ≤ z → z < 192 → 128 ≤ w → w < 192
+    → IsUtf8 (x ∷ y ∷ z ∷ w ∷ [])
+four x y z w a b s c d f g = go (cases_eq x 240) (cases_eq x 244)
+  where
+    go : (x ≡ 240) ⊎ (x ≡ 240 → ⊥) → (x ≡ 244) ⊎ (x ≡ 244 → ⊥) → IsUtf8 (x ∷ y ∷ z ∷ w ∷ [])
+    go (inl e) (inl h) = absurd (omega (arith, e, h))
+    go (inl e) (inr h) =
+        of_four (x ∷ y ∷ z ∷ w ∷ []) 0 (omega arith) a (s.0, s.1.0) (c, d) (f, g) (omega (arith, e, s.1.1.1.1.0 e,
+        s.0), omega (arith, e, s.1.0))
+    go (inr e) (inl h) =
+        of_four (x ∷ y ∷ z ∷ w ∷ []) 0 (omega arith) a (s.0, s.1.0) (c, d) (f, g) (omega (arith, h, s.0), omega
+        (arith, h, s.1.1.1.1.1 h))
+    go (inr e) (inr h) =
+        of_four (x ∷ y ∷ z ∷ w ∷ []) 0 (omega arith) a (s.0, s.1.0) (c, d) (f, g) (omega (arith, e, s.0), omega
+        (arith, h, b, s.1.0))
+
+-- a byte that can come second
+a_second : (x : ℕ) → Second x 128 ⊎ (Second x 144 ⊎ Second x 160)
+a_second x = go (cases_eq x 224) (cases_eq x 240)
+  where
+    go : (x ≡ 224) ⊎ (x ≡ 224 → ⊥) → (x ≡ 240) ⊎ (x ≡ 240 → ⊥) → Second x 128 ⊎ (Second x 144 ⊎ Second x 160)
+    go (inl e) q =
+        inr (inr (omega arith, (omega arith, (λ h. omega arith, (λ h. absurd (omega (arith, e, h)), (λ h. omega arith,
+        λ h. absurd (omega (arith, e, h))))))))
+    go (inr e) (inl f) =
+        inr (inl (omega arith, (omega arith, (λ h. absurd (e h), (λ h. omega arith, (λ h. omega arith, λ h. absurd
+        (omega (arith, f, h))))))))
+    go (inr e) (inr f) =
+        inl (omega arith, (omega arith, (λ h. absurd (e h), (λ h. omega arith, (λ h. absurd (f h), λ h. omega arith)))))
+
+finish_three : (x y : ℕ) → 224 ≤ x → x < 240 → Second x y → Finish (x ∷ [])
+finish_three x y a b s = record {
+  rest = y ∷ 128 ∷ [];
+  high = (s.0, (omega arith, tt));
+  utf8 = three x y 128 a b s (omega arith) (omega arith);
+}
+
+finish_four : (x y : ℕ) → 240 ≤ x → x < 245 → Second x y → Finish (x ∷ [])
+finish_four x y a b s = record {
+  rest = y ∷ 128 ∷ 128 ∷ [];
+  high = (s.0, (omega arith, (omega arith, tt)));
+  utf8 = four x y 128 128 a b s (omega arith) (omega arith) (omega arith) (omega arith);
+}
+
+finish_one : (x : ℕ) → 194 ≤ x → x < 245 → Finish (x ∷ [])
+finish_one x a b = go (cases_lt x 224) (cases_lt x 240)
+  where
+    go : (x < 224) ⊎ (224 ≤ x) → (x < 240) ⊎ (240 ≤ x) → Finish (x ∷ [])
+    go (inl l) q = record { rest = 128 ∷ []; high = (omega arith, tt); utf8 = two x 128 a l (omega arith) (omega arith) }
+    go (inr l) (inl m) =
+        ⊎_elim (finish_three x 128 l m) (λ o. ⊎_elim (finish_three x 144 l m) (finish_three x 160 l m) o) (a_second x)
+    go (inr l) (inr m) =
+        ⊎_elim (finish_four x 128 m b) (λ o. ⊎_elim (finish_four x 144 m b) (finish_four x 160 m b) o) (a_second x)
+
+-- no front of the bytes is UTF-8
+abbrev pub NoFront : List ℕ → Type 0
+NoFront bs = (k : ℕ) → 0 < k → k ≤ length bs → IsUtf8 (take k bs) → ⊥
+
+finish_two : (x y : ℕ) → 194 ≤ x → x < 245 → Second x y → NoFront (x ∷ y ∷ []) → Finish (x ∷ y ∷ [])
+finish_two x y a b s none = go (cases_lt x 224) (cases_lt x 240)
+  where
+    go : (x < 224) ⊎ (224 ≤ x) → (x < 240) ⊎ (240 ≤ x) → Finish (x ∷ y ∷ [])
+    go (inl l) q = absurd (none 2 (omega arith) (omega arith) (two x y a l s.0 s.1.0))
+    go (inr l) (inl m) = record {
+      rest = 128 ∷ [];
+      high = (omega arith, tt);
+      utf8 = three x y 128 l m s (omega arith) (omega arith);
+    }
+    go (inr l) (inr m) = record {
+      rest = 128 ∷ 128 ∷ [];
+      high = (omega arith, (omega arith, tt));
+      utf8 = four x y 128 128 m b s (omega arith) (omega arith) (omega arith) (omega arith);
+    }
+
+finish_last : (x y z : ℕ) → 194 ≤ x → x < 245 → Second x y → 128 ≤ z → z < 192 → NoFront (x ∷ y ∷ z ∷ [])
+    → Finish (x ∷ y ∷ z ∷ [])
+finish_last x y z a b s c d none = go (cases_lt x 224) (cases_lt x 240)
+  where
+    go : (x < 224) ⊎ (224 ≤ x) → (x < 240) ⊎ (240 ≤ x) → Finish (x ∷ y ∷ z ∷ [])
+    go (inl l) q = absurd (none 2 (omega arith) (omega arith) (two x y a l s.0 s.1.0))
+    go (inr l) (inl m) = absurd (none 3 (omega arith) (omega arith) (three x y z l m s c d))
+    go (inr l) (inr m) = record {
+      rest = 128 ∷ [];
+      high = (omega arith, tt);
+      utf8 = four x y z 128 m b s c d (omega arith) (omega arith);
+    }
+
+most_second : (u v : Bool) → cond u 159 (cond v 143 191) < 192
+most_second true v = omega arith
+most_second false true = omega arith
+most_second false false = omega arith
+
+mid_second : (u : Bool) → 144 ≤ cond u 160 144
+mid_second true = omega arith
+mid_second false = omega arith
+
+not_first : (x y : ℕ) → (x ≡ 237 → ⊥) → (u : Bool) → (x == 237) ≡ u → y ≤ cond u 159 143 → y < 144
+not_first x y never true f l = absurd (never (eqb-true x 237 f))
+not_first x y never false f l = omega arith
+
+second_of : (x y : ℕ) → is_in_range (second_byte_min x) (second_byte_max x) y ≡ true → Second x y
+second_of x y e = go (x == 224) (x == 240) (x == 237) (x == 244) refl refl refl refl e
+  where
+    go : (a b c d : Bool) → (x == 224) ≡ a → (x == 240) ≡ b → (x == 237) ≡ c → (x == 244) ≡ d
+        → is_in_range (cond a 160 (cond b 144 128)) (cond c 159 (cond d 143 191)) y ≡ true → Second x y
+    go a b c d ea eb ec ed h =
+        let lo = at_least (cond a 160 (cond b 144 128)) (cond c 159 (cond d 143 191)) y h in
+        let hi = at_most (cond a 160 (cond b 144 128)) (cond c 159 (cond d 143 191)) y h in
+        (
+          omega (arith, lo, second_high x a b),
+          (
+            omega (arith, hi, most_second c d),
+            (
+              λ q. subst (λ t. cond t 160 (cond b 144 128) ≤ y) (sym ea ∙ eq-eqb x 224 q) lo,
+              (
+                λ q. omega (arith, subst (λ t. y ≤ cond t 159 (cond d 143 191)) (sym ec ∙ eq-eqb x 237 q) hi),
+                (
+                  λ q. omega (arith, subst (λ t. cond a 160 (cond t 144 128) ≤ y) (sym eb ∙ eq-eqb x 240 q) lo, mid_second a),
+                  λ q. not_first x y (λ r. omega (arith, q, r)) c ec (subst (λ t. y ≤ cond c 159 (cond t 143 191)) (sym ed
+                  ∙ eq-eqb x 244 q) hi),
+                ),
+              ),
+            ),
+          ),
+        )
+
+first_range : (x : ℕ) → is_in_range 194 244 x ≡ true → (194 ≤ x) × (x < 245)
+first_range x e = (at_least 194 244 x e, omega (arith, at_most 194 244 x e))
+
+-- where the bytes of a character are cut, some more make it whole
+pub finish : (bs : List ℕ) → utf8_error_len bs ≡ None → 0 < length bs → NoFront bs → Finish bs
+unfolding utf8_error_len
+finish [] e lt none = absurd (omega arith)
+finish (x ∷ []) e lt none =
+    let r = first_range x (then_none (is_in_range 194 244 x) None 1 e).0 in finish_one x r.0 r.1
+finish (x ∷ y ∷ []) e lt none =
+    let p = then_none (is_in_range 194 244 x) _ 1 e in
+    let q = then_none (is_in_range (second_byte_min x) (second_byte_max x) y) None 1 p.1 in
+    let r = first_range x p.0 in
+    finish_two x y r.0 r.1 (second_of x y q.0) none
+finish (x ∷ y ∷ z ∷ []) e lt none =
+    let p = then_none (is_in_range 194 244 x) _ 1 e in
+    let q = then_none (is_in_range (second_byte_min x) (second_byte_max x) y) _ 1 p.1 in
+    let l = then_none (is_in_range 128 191 z) None 2 q.1 in
+    let r = first_range x p.0 in
+    finish_last x y z r.0 r.1 (second_of x y q.0) (at_least 128 191 z l.0) (omega (arith, at_most 128 191 z l.0)) none
+finish (x ∷ y ∷ z ∷ w ∷ bs) e lt none =
+    absurd (long_none (length (x ∷ y ∷ z ∷ w ∷ bs)) (is_in_range 194 244 x) (is_in_range (second_byte_min x)
+    (second_byte_max x) y) (is_in_range 128 191 z) (omega arith) e)
+
 -- ---- bytes of no character
 
 -- no byte of no character is at a place before this one: outside of strings such a byte is refused anyway
@@ -178,7 +369,7 @@ unplaced None v e = refl
 unplaced (Some k) v e = absurd (true≢false (sym (eq-eqb v v refl) ∙ e))
 
 -- where a text isn't UTF-8 and has no such byte, it ends within a character
-cut_from : (text : List ℕ) (n : ℕ) → n ≤ length text → IsClean text n → utf8_valid_len text < n
+pub cut_from : (text : List ℕ) (n : ℕ) → n ≤ length text → IsClean text n → utf8_valid_len text < n
     → utf8_error_len (drop (utf8_valid_len text) text) ≡ None
 cut_from text n le clean lt =
     let v = utf8_valid_len text in
@@ -208,6 +399,14 @@ unbroken text clean = go (cases_lt (utf8_valid_len text) (length text))
     go (inr le) =
         let all : drop v text ≡ [] = drop_of_length-le text le in
         ap (λ o. broken_by o v) (ap utf8_error_len all ∙ error_nil)
+
+-- where a text is cut within a character, no front of the cut bytes is UTF-8
+pub no_front : (text : List ℕ) → NoFront (drop (utf8_valid_len text) text)
+no_front text k lt le u =
+    let v = utf8_valid_len text in
+    let more : IsUtf8 (take (v + k) text) =
+    subst IsUtf8 (sym (take-add v k text)) (IsUtf8-append (take v text) (take k (drop v text)) (valid_front text) u) in
+    omega (arith, valid_longest text (v + k) (omega (arith, length-drop v text, utf8_valid_len_le text)) more)
 
 -- before an edge a text is UTF-8
 pub utf8_before : (text : List ℕ) (n : ℕ) → n < length text → IsEdge text n → IsClean text n → IsUtf8 (take n text)

@@ -1,7 +1,7 @@
 -- A reader's walk stops where no text that is read goes on.
 use Rattle.std.proofs.Common.{◌≡◌, ℕ, suc, ◌+◌, ◌-◌, ◌<◌, ◌≤◌, Bool, true, false, cond, ◌&&◌, List, [], ◌∷◌, ◌++◌, length, take, drop, get_or, slice_index, IsUtf8, Option, Some, None, Ok, Err, is_some, option_and_then, inl, inr, ◌⊎◌, refl, sym, ap, ◌∙◌, subst, arith, add-one, append_assoc, append-nil, take_at, length-append}
 use Rattle.std.proofs.lemmas.Bool.{false≢true, true≢false, and_parts, and_cases, cases_eq, cases_lt}
-use Rattle.std.proofs.lemmas.List.{take-take, take-append-drop, length-take-le, get_or_at}
+use Rattle.std.proofs.lemmas.List.{take-take, take_all, take-append-drop, length-drop, length-take-le, get_or_at}
 use Rattle.std.proofs.Math.Seq.{drop-length}
 use Rattle.std.proofs.lemmas.Str.{IsUtf8-append, IsUtf8-nil, IsUtf8-take, IsCharBoundary-before_ascii, utf8_valid_len-IsUtf8}
 use Rattle.std.specs.Str.Lossy.{utf8_valid_len, utf8_error_len}
@@ -14,6 +14,7 @@ use Rattle.sab_syntax.specs.declared.fault.Fault.TheVariants.{NotUtf8}
 use Rattle.sab_syntax.specs.declared.fault.Fault.TheVariants as F
 use Rattle.sab_syntax.specs.declared.brackets.Bracket.{Bracket}
 use Rattle.sab_syntax.specs.declared.string_part.StringPart.{StringPart}
+use Rattle.sab_syntax.specs.declared.string_part.StringPart.TheVariants as P
 use Rattle.sab_syntax.specs.declared.reader.Next.{Next}
 use Rattle.sab_syntax.specs.declared.reader.Next.TheVariants.{Value}
 use Rattle.sab_syntax.specs.declared.reader.Inside.{Inside}
@@ -31,8 +32,8 @@ use Rattle.sab_syntax.proofs.Steps.{rest_of, rest_by, rest-step, WordFits}
 use Rattle.sab_syntax.proofs.Readings.{any_number, read-rest, form-rest}
 use Rattle.sab_syntax.proofs.Fits.{Fits, InFits, Keeps, keeps_step}
 use Rattle.sab_syntax.proofs.Endings.{Ending, ending, end_between, end_string}
-use Rattle.sab_syntax.proofs.Utf8.{IsClean, utf8_before, broken_is, broken_behind, unbroken}
-use Rattle.sab_syntax.proofs.Edges.{is_word, GoesTo, Goes, goes, between_to, word_to, in_word_to, NoString, no_string, Low, taken_low, between_token, Stuck, string_stuck, word_stuck, Free, between_free, Before, AtByte, before, any_slip, no_token_is}
+use Rattle.sab_syntax.proofs.Utf8.{IsClean, utf8_before, broken_is, broken_behind, valid_front, AreHigh, Finish, finish, cut_from, high_from, no_front}
+use Rattle.sab_syntax.proofs.Edges.{is_word, GoesTo, Goes, goes, between_to, word_to, in_word_to, NoString, no_string, Low, taken_low, between_token, Stuck, string_stuck, word_stuck, Free, between_free, Before, AtByte, before, any_slip, no_token_is, Plainly, high_plain, plain_on}
 
 some_value : {A : Type 0} (o : Option A) → is_some o ≡ true → (a : A) × (o ≡ Some a)
 some_value None e = absurd (false≢true e)
@@ -162,6 +163,23 @@ live_behind front b (I.String part) next st t reached to e u = live_string front
 live_behind front b (I.Literal l) next st t reached to e u = absurd (true≢false (sym e ∙ to))
 live_behind front b (I.Number part) next st t reached to e u = absurd (true≢false (sym e ∙ to))
 
+-- a string goes on behind bytes that aren't ASCII
+high_on : (rest front : List ℕ) (next : Next) (st : List Bracket) (t : List ℕ)
+    → Reached front (reader (I.String P.Plain) next st) t → AreHigh rest
+    → (t' : List ℕ) × Reached (front ++ rest) (reader (I.String P.Plain) next st) t'
+high_on [] front next st t reached high = (
+  t,
+  subst (λ l. Reached l (reader (I.String P.Plain) next st) t) (sym (append-nil front)) reached,
+)
+high_on (b ∷ rest) front next st t reached high =
+    let more = reach front (reader (I.String P.Plain) next st) t b (reader (I.String P.Plain) next st) reached (plain_on
+    next st t b high.0) in
+    let end = high_on rest (front ++ b ∷ []) next st (t ++ b ∷ []) more high.1 in
+    (
+      end.0,
+      subst (λ l. Reached l (reader (I.String P.Plain) next st) end.0) (append_assoc front (b ∷ []) rest) end.1,
+    )
+
 -- what a line feed can follow is whole
 free_whole : (front : List ℕ) (i : Inside) (next : Next) (st : List Bracket) (t : List ℕ)
     → Reached front (reader i next st) t → Free i next st t → IsUtf8 front → AreWhole front
@@ -195,6 +213,7 @@ record Walked (text : List ℕ) (r : Reader) (start at : ℕ) : Type 0 where
   whole : IsUtf8 (take start text) → AreWhole (take start text)
   inner : (k : ℕ) → start < k → k < at → IsEdge text k → AreWhole (take k text) → ⊥
   word : is_word r.inside ≡ true → ends_word (slice_index text (at - 1)) ≡ false
+  high : 0 < at → 128 ≤ slice_index text (at - 1) → r.inside ≡ I.String P.Plain
 
 module _ (text front bs : List ℕ) (b at start : ℕ) (i : Inside) (next : Next) (st : List Bracket) (t : List ℕ)
     (e : text ≡ front ++ b ∷ bs) (n : at ≡ length front) (reached : Reached front (reader i next st) t)
@@ -376,6 +395,9 @@ module _ (text front bs : List ℕ) (b at start : ℕ) (i : Inside) (next : Next
     word_here : is_word i' ≡ true → ends_word (slice_index text (at + 1 - 1)) ≡ false
     word_here w = ap ends_word last_byte ∙ in_word_to b i' w to
 
+    high_here : 0 < at + 1 → 128 ≤ slice_index text (at + 1 - 1) → i' ≡ I.String P.Plain
+    high_here lt h = subst Plainly did (high_plain i next st t b (omega (arith, h, last_byte)))
+
     -- within the token there is no whole edge
     inner_here : is_between i' ≡ false → (k : ℕ) → start < k → k < at + 1 → IsEdge text k → AreWhole (take k text) → ⊥
     inner_here f k lt less edge whole = go (cases_eq k at)
@@ -406,6 +428,7 @@ module _ (text front bs : List ℕ) (b at start : ℕ) (i : Inside) (next : Next
           (between_free i' next' st' (token_after (is_between i') t b) f) (subst IsUtf8 is u));
       inner = λ k lt less edge whole. absurd (omega arith);
       word = word_here;
+      high = high_here;
     }
     moved false f = record {
       begun = begun_here;
@@ -417,9 +440,41 @@ module _ (text front bs : List ℕ) (b at start : ℕ) (i : Inside) (next : Next
       whole = walked.whole;
       inner = inner_here f;
       word = word_here;
+      high = high_here;
     }
 
 -- ---- the walk
+
+-- some text of JSON begins with what is read to its end
+ending_text : (text : List ℕ) (i : Inside) (next : Next) (st : List Bracket) (t : List ℕ)
+    → Reached text (reader i next st) t → IsClean text (length text)
+    → (0 < length text → 128 ≤ slice_index text (length text - 1) → i ≡ I.String P.Plain) → BeginsFormed text
+ending_text text i next st t reached clean high = go (cases_lt v (length text))
+  where
+    v : ℕ
+    v = utf8_valid_len text
+
+    cut : List ℕ
+    cut = drop v text
+
+    go : (v < length text) ⊎ (length text ≤ v) → BeginsFormed text
+    go (inr le) =
+        let same : take v text ≡ text = take_all v text le in
+        live text (reader i next st) t reached (subst IsUtf8 same (valid_front text))
+    go (inl lt) =
+        let fin = finish cut (cut_from text (length text) (omega arith) clean lt) (omega (arith, lt, length-drop v text))
+        (no_front text) in
+        let last : 128 ≤ slice_index text (length text - 1) = high_from text (length text) (length text - 1)
+        (omega arith) clean lt (omega (arith, lt)) (omega (arith, lt)) in
+        let at : Reached text (reader (I.String P.Plain) next st) t =
+        subst (λ j. Reached text (reader j next st) t) (high (omega (arith, lt)) last) reached in
+        let end = high_on fin.rest text next st t at fin.high in
+        let parts : take v text ++ (cut ++ fin.rest) ≡ text ++ fin.rest =
+        sym (append_assoc (take v text) cut fin.rest) ∙ ap (λ l. l ++ fin.rest) (take-append-drop v text) in
+        let u : IsUtf8 (text ++ fin.rest) =
+        subst IsUtf8 parts (IsUtf8-append (take v text) (cut ++ fin.rest) (valid_front text) fin.utf8) in
+        let begun = live (text ++ fin.rest) (reader (I.String P.Plain) next st) end.0 end.1 u in
+        (fin.rest ++ begun.0, subst IsFormed (append_assoc text fin.rest begun.0) begun.1)
 
 module _ (text : List ℕ) (unless : (at : ℕ) → is_place (broken_of text) at ≡ true → IsUtf8 text → ⊥) where
   -- by the step of a byte
@@ -458,10 +513,12 @@ module _ (text : List ℕ) (unless : (at : ℕ) → is_place (broken_of text) at
   unfolding walk
   walked_on [] front start at r t e n reached walked =
       let size : at ≡ length text = omega (arith, n, ap length (e ∙ append-nil front)) in
+      let all : text ≡ front = e ∙ append-nil front in
       (
-        subst (λ k. AreBegun text (k + 1)) size (begun_more text front [] at r t e n reached walked.begun),
+        ending_text text r.inside r.next r.brackets t (subst (λ l. Reached l r t) (sym all) reached)
+        (subst (IsClean text) size walked.clean) (λ lt h. walked.high (omega (arith, size, lt)) (subst (λ j. 128 ≤
+        slice_index text (j - 1)) (sym size) h)),
         subst (AreEnded text) size walked.ended,
-        unbroken text (subst (IsClean text) size walked.clean),
       )
   walked_on (b ∷ bs) front start at r t e n reached walked =
       let next : suc at ≡ length (front ++ b ∷ []) = omega (arith, n, length-append front (b ∷ [])) in
@@ -497,6 +554,7 @@ module _ (text : List ℕ) (unless : (at : ℕ) → is_place (broken_of text) at
         whole = λ u. free_whole [] I.Nothing Value [] [] opened refl IsUtf8-nil;
         inner = λ k lt less e w. absurd (omega arith);
         word = λ w. absurd (false≢true w);
+        high = λ lt h. absurd (omega arith);
       })
 
 -- what is UTF-8 has no such bytes

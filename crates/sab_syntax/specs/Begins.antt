@@ -1,5 +1,5 @@
 -- What the texts that are read begin with.
-use Rattle.std.specs.Prelude.{◌≡◌, ◌⊎◌, ℕ, ◌+◌, ◌-◌, ◌<◌, ◌≤◌, true, List, [], ◌∷◌, ◌++◌, length, take, slice_index, Option, None, Some, IsUtf8, option_and_then}
+use Rattle.std.specs.Prelude.{◌≡◌, ◌⊎◌, ℕ, ◌+◌, ◌-◌, ◌<◌, ◌≤◌, true, List, [], ◌∷◌, ◌++◌, length, take, slice_index, Option, Some, IsUtf8, option_and_then}
 use Rattle.json.specs.Json as json
 use Rattle.json.specs.Lex.{tokens}
 use Rattle.serde_json.specs.Data.{Data}
@@ -73,4 +73,4 @@ IsNotUtf8 text = ((n : ℕ) × (broken_of text ≡ Some n)) × (IsUtf8 text → 
 abbrev pub StopsAt : List ℕ → Stop → Type 0
 StopsAt text (Token at fault) =
     IsFirstBroken text at × (((n : ℕ) × StopsBehind text at n) ⊎ ((fault ≡ NotUtf8) × IsNotUtf8 text))
-StopsAt text End = AreBegun text (length text + 1) × AreEnded text (length text) × (broken_of text ≡ None)
+StopsAt text End = BeginsFormed text × AreEnded text (length text)
