@@ -1,6 +1,6 @@
 -- What a byte does beside an edge: it ends a word, or a line feed ends the text there.
-use Rattle.std.proofs.Common.{◌≡◌, ℕ, zero, suc, ◌<◌, ◌≤◌, Bool, true, false, cond, ◌&&◌, ◌||◌, nat_lt, nat_le, List, [], ◌∷◌, length, drop, Option, Some, None, Ok, Err, is_ok, inl, inr, ◌⊎◌, ⊎_elim, refl, sym, ap, ◌∙◌, subst, arith}
-use Rattle.std.proofs.lemmas.Bool.{false≢true, true≢false, cases_Bool, and_parts, or_parts, or_from, or_left, or_right, or_cases, eqb-true, ne_eqb, leb-true, le-ltb}
+use Rattle.std.proofs.Common.{◌≡◌, ℕ, zero, suc, ◌<◌, ◌≤◌, Bool, true, false, cond, ◌&&◌, ◌||◌, nat_lt, nat_le, List, length, Option, Some, None, Ok, Err, inl, inr, ◌⊎◌, ⊎_elim, refl, sym, ap, ◌∙◌, subst, arith}
+use Rattle.std.proofs.lemmas.Bool.{false≢true, true≢false, cases_Bool, and_parts, or_from, or_left, or_right, or_cases, eqb-true, ne_eqb, leb-true, le-ltb}
 use Rattle.std.specs.Prelude.{◌==◌, ⊤, slice_get}
 use Rattle.std.specs.Char.{is_ascii_digit, is_ascii_alphabetic}
 use Rattle.sab_syntax.specs.declared.brackets.Bracket.{Bracket}
@@ -13,7 +13,7 @@ use Rattle.sab_syntax.specs.declared.number_part.NumberPart.TheVariants as N
 use Rattle.sab_syntax.specs.declared.string_part.StringPart.{StringPart}
 use Rattle.sab_syntax.specs.declared.string_part.StringPart.TheVariants as P
 use Rattle.sab_syntax.specs.declared.reader.Next.{Next}
-use Rattle.sab_syntax.specs.declared.reader.Next.TheVariants.{First, Value, Name, Colon, After}
+use Rattle.sab_syntax.specs.declared.reader.Next.TheVariants.{After}
 use Rattle.sab_syntax.specs.declared.reader.Inside.{Inside}
 use Rattle.sab_syntax.specs.declared.reader.Inside.TheVariants as I
 use Rattle.sab_syntax.specs.declared.reader.Reader.{Reader}
@@ -23,8 +23,8 @@ use Rattle.sab_syntax.specs.Brackets.{innermost}
 use Rattle.sab_syntax.specs.Literal.{letters_of, literal_at}
 use Rattle.sab_syntax.specs.Number.{first_part, part_behind, is_complete, is_in_range}
 use Rattle.sab_syntax.specs.String.{Behind, string_behind, is_hex, is_from_c, is_d, is_escape}
-use Rattle.sab_syntax.specs.Reader.{Step, reader, expected_of, is_between, is_in_string, takes_value, takes_name, behind_comma, behind_colon, going_on, open_bracket, close_bracket, pass_comma, pass_colon, may_close, closes, by_operator, is_operator, is_white, begin, begin_in, begin_string, begin_word, begin_inside, inside_by, inside_at, string_by, literal_by, number_by, number_end, step, step_in, ends_word}
-use Rattle.sab_syntax.proofs.Steps.{Between, between_operator, between_begin, white_cases, operator_cases, WordFits}
+use Rattle.sab_syntax.specs.Reader.{Step, reader, expected_of, is_between, is_in_string, takes_value, takes_name, behind_comma, behind_colon, going_on, open_bracket, close_bracket, may_close, closes, by_operator, is_operator, is_white, begin_in, begin_string, begin_inside, inside_by, inside_at, string_by, literal_by, number_by, number_end, step_in, ends_word}
+use Rattle.sab_syntax.proofs.Steps.{Between, between_operator, between_begin, WordFits}
 use Rattle.sab_syntax.proofs.Readings.{any_number}
 use Rattle.sab_syntax.proofs.Utf8.{ends_ascii}
 

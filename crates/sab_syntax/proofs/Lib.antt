@@ -13,3 +13,4 @@ pub mod Endings
 pub mod Utf8
 pub mod Edges
 pub mod Walking
+pub mod Once

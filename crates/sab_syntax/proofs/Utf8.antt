@@ -1,6 +1,5 @@
 -- Where a text can be cut that may have bytes of no character.
-use Rattle.std.proofs.Common.{◌≡◌, ℕ, zero, suc, ◌+◌, ◌-◌, ◌*◌, ◌<◌, ◌≤◌, Bool, true, false, cond, ◌||◌, List, [], ◌∷◌, ◌++◌, length, take, drop, get_or, slice_index, IsUtf8, Option, Some, None, is_some, inl, inr, ◌⊎◌, ⊎_elim, refl, sym, ap, ◌∙◌, subst, arith, add-one, unwrap_or, IsCharBoundary}
-use lib.ListN.{drop_of_length-le}
+use Rattle.std.proofs.Common.{◌≡◌, ℕ, zero, suc, ◌+◌, ◌-◌, ◌<◌, ◌≤◌, Bool, true, false, cond, ◌||◌, List, [], ◌∷◌, ◌++◌, length, take, drop, get_or, slice_index, IsUtf8, Option, Some, None, is_some, inl, inr, ◌⊎◌, ⊎_elim, refl, sym, ap, ◌∙◌, subst, arith, add-one, unwrap_or, IsCharBoundary}
 use lib.Seq.{take-add}
 use Rattle.std.proofs.lemmas.Bool.{false≢true, true≢false, and_parts, and_from, lt-ltb, or_cases, cases_eq, cases_lt, eqb-true, eq-eqb, ne_eqb, le-ltb, leb-true}
 use Rattle.std.proofs.lemmas.List.{take_more, take-take, length-take-le, length-drop, get_or-take, get_or-drop}
@@ -10,7 +9,7 @@ use Rattle.std.proofs.str.Valid.{of_two, of_three, of_four}
 use Rattle.std.specs.Str.{is_utf8}
 use Rattle.std.specs.Str.Lossy.{valid_len_up_to, utf8_valid_len, utf8_error_len, second_byte_min, second_byte_max}
 use Rattle.std.specs.Int.{is_in_range}
-use Rattle.json.proofs.Printed.Utf8.{IsUtf8-are_ascii, are_ascii}
+use Rattle.json.proofs.Printed.Utf8.{IsUtf8-are_ascii}
 use Rattle.sab_syntax.specs.Reader.{is_operator, is_white, ends_word}
 use Rattle.sab_syntax.specs.Stop.{is_place, broken_by, broken_of}
 use Rattle.sab_syntax.specs.Begins.{IsEdge}
@@ -102,8 +101,12 @@ first_is : (x : ℕ) → is_in_range 194 244 x ≡ true → 128 ≤ x
 first_is x e = omega (arith, at_least 194 244 x e)
 
 second_is : (x y : ℕ) → is_in_range (second_byte_min x) (second_byte_max x) y ≡ true → 128 ≤ y
-second_is x y e = omega (arith, at_least (second_byte_min x) (second_byte_max x) y e, second_high x (x == 224)
-    (x == 240))
+second_is x y e = omega (
+  arith,
+  at_least (second_byte_min x) (second_byte_max x) y e,
+  second_high x (x == 224)
+      (x == 240),
+)
 
 third_is : (z : ℕ) → is_in_range 128 191 z ≡ true → 128 ≤ z
 third_is z e = at_least 128 191 z e
@@ -125,8 +128,13 @@ fault_of n a b c =
 
 long_none : (n : ℕ) (a b c : Bool) → 4 ≤ n → fault_of n a b c ≡ None → ⊥
 long_none n a b c le e =
-    fault_some a b c (rw (ne_eqb n 0 (λ q. omega arith), le-ltb n 2 (omega arith), le-ltb n 3 (omega arith), le-ltb n 4
-    (omega arith)) at e)
+    fault_some a b c (rw (
+      ne_eqb n 0 (λ q. omega arith),
+      le-ltb n 2 (omega arith),
+      le-ltb n 3 (omega arith),
+      le-ltb n 4
+          (omega arith),
+    ) at e)
 
 -- none of them is ASCII
 pub cut_high : (bs : List ℕ) → utf8_error_len bs ≡ None → (i : ℕ) → i < length bs → 128 ≤ slice_index bs i
@@ -196,14 +204,27 @@ four x y z w a b s c d f g = go (cases_eq x 240) (cases_eq x 244)
     go : (x ≡ 240) ⊎ (x ≡ 240 → ⊥) → (x ≡ 244) ⊎ (x ≡ 244 → ⊥) → IsUtf8 (x ∷ y ∷ z ∷ w ∷ [])
     go (inl e) (inl h) = absurd (omega (arith, e, h))
     go (inl e) (inr h) =
-        of_four (x ∷ y ∷ z ∷ w ∷ []) 0 (omega arith) a (s.0, s.1.0) (c, d) (f, g) (omega (arith, e, s.1.1.1.1.0 e,
-        s.0), omega (arith, e, s.1.0))
+        of_four (x ∷ y ∷ z ∷ w ∷ []) 0 (omega arith) a (s.0, s.1.0) (c, d) (f, g) (
+          omega (
+            arith,
+            e,
+            s.1.1.1.1.0 e,
+            s.0,
+          ),
+          omega (arith, e, s.1.0),
+        )
     go (inr e) (inl h) =
-        of_four (x ∷ y ∷ z ∷ w ∷ []) 0 (omega arith) a (s.0, s.1.0) (c, d) (f, g) (omega (arith, h, s.0), omega
-        (arith, h, s.1.1.1.1.1 h))
+        of_four (x ∷ y ∷ z ∷ w ∷ []) 0 (omega arith) a (s.0, s.1.0) (c, d) (f, g) (
+          omega (arith, h, s.0),
+          omega
+              (arith, h, s.1.1.1.1.1 h),
+        )
     go (inr e) (inr h) =
-        of_four (x ∷ y ∷ z ∷ w ∷ []) 0 (omega arith) a (s.0, s.1.0) (c, d) (f, g) (omega (arith, e, s.0), omega
-        (arith, h, b, s.1.0))
+        of_four (x ∷ y ∷ z ∷ w ∷ []) 0 (omega arith) a (s.0, s.1.0) (c, d) (f, g) (
+          omega (arith, e, s.0),
+          omega
+              (arith, h, b, s.1.0),
+        )
 
 -- a byte that can come second
 a_second : (x : ℕ) → Second x 128 ⊎ (Second x 144 ⊎ Second x 160)
@@ -211,11 +232,40 @@ a_second x = go (cases_eq x 224) (cases_eq x 240)
   where
     go : (x ≡ 224) ⊎ (x ≡ 224 → ⊥) → (x ≡ 240) ⊎ (x ≡ 240 → ⊥) → Second x 128 ⊎ (Second x 144 ⊎ Second x 160)
     go (inl e) q =
-        inr (inr (omega arith, (omega arith, (λ h. omega arith, (λ h. absurd (omega (arith, e, h)), (λ h. omega arith,
-        λ h. absurd (omega (arith, e, h))))))))
+        inr (inr (
+          omega arith,
+          (
+            omega arith,
+            (
+              λ h. omega arith,
+              (
+                λ h. absurd (omega (arith, e, h)),
+                (
+                  λ h. omega arith,
+                  λ h. absurd (omega (arith, e, h)),
+                ),
+              ),
+            ),
+          ),
+        ))
     go (inr e) (inl f) =
-        inr (inl (omega arith, (omega arith, (λ h. absurd (e h), (λ h. omega arith, (λ h. omega arith, λ h. absurd
-        (omega (arith, f, h))))))))
+        inr (inl (
+          omega arith,
+          (
+            omega arith,
+            (
+              λ h. absurd (e h),
+              (
+                λ h. omega arith,
+                (
+                  λ h. omega arith,
+                  λ h. absurd
+                      (omega (arith, f, h)),
+                ),
+              ),
+            ),
+          ),
+        ))
     go (inr e) (inr f) =
         inl (omega arith, (omega arith, (λ h. absurd (e h), (λ h. omega arith, (λ h. absurd (f h), λ h. omega arith)))))
 
@@ -296,8 +346,7 @@ second_of x y e = go (x == 224) (x == 240) (x == 237) (x == 244) refl refl refl 
         → is_in_range (cond a 160 (cond b 144 128)) (cond c 159 (cond d 143 191)) y ≡ true → Second x y
     go a b c d ea eb ec ed h =
         let lo = at_least (cond a 160 (cond b 144 128)) (cond c 159 (cond d 143 191)) y h in
-        let hi = at_most (cond a 160 (cond b 144 128)) (cond c 159 (cond d 143 191)) y h in
-        (
+        let hi = at_most (cond a 160 (cond b 144 128)) (cond c 159 (cond d 143 191)) y h in (
           omega (arith, lo, second_high x a b),
           (
             omega (arith, hi, most_second c d),
@@ -308,7 +357,7 @@ second_of x y e = go (x == 224) (x == 240) (x == 237) (x == 244) refl refl refl 
                 (
                   λ q. omega (arith, subst (λ t. cond a 160 (cond t 144 128) ≤ y) (sym eb ∙ eq-eqb x 240 q) lo, mid_second a),
                   λ q. not_first x y (λ r. omega (arith, q, r)) c ec (subst (λ t. y ≤ cond c 159 (cond t 143 191)) (sym ed
-                  ∙ eq-eqb x 244 q) hi),
+                      ∙ eq-eqb x 244 q) hi),
                 ),
               ),
             ),
@@ -383,23 +432,6 @@ high_from text n i le clean lt from below =
     get_or-drop v text (i - v) 0 ∙ ap (λ j. get_or text j 0) (omega arith) in
     omega (arith, here, cut_high (drop v text) (cut_from text n le clean lt) (i - v) (omega (arith, length-drop v text)))
 
-error_nil : utf8_error_len [] ≡ None
-unfolding utf8_error_len
-error_nil = refl
-
--- no such byte is in a text that is read to its end
-pub unbroken : (text : List ℕ) → IsClean text (length text) → broken_of text ≡ None
-unbroken text clean = go (cases_lt (utf8_valid_len text) (length text))
-  where
-    v : ℕ
-    v = utf8_valid_len text
-
-    go : (v < length text) ⊎ (length text ≤ v) → broken_of text ≡ None
-    go (inl lt) = ap (λ o. broken_by o v) (cut_from text (length text) (omega arith) clean lt)
-    go (inr le) =
-        let all : drop v text ≡ [] = drop_of_length-le text le in
-        ap (λ o. broken_by o v) (ap utf8_error_len all ∙ error_nil)
-
 -- where a text is cut within a character, no front of the cut bytes is UTF-8
 pub no_front : (text : List ℕ) → NoFront (drop (utf8_valid_len text) text)
 no_front text k lt le u =
@@ -422,8 +454,12 @@ utf8_before text n lt edge clean = go (cases_lt v n)
     none less (inl zero_is) = absurd (omega arith)
     none less (inr (inl end_is)) = absurd (omega arith)
     none less (inr (inr (inl e))) = absurd (omega (arith, ends_ascii (get_or text n 0) e, high less n (omega arith) lt))
-    none less (inr (inr (inr e))) = absurd (omega (arith, ends_ascii (get_or text (n - 1) 0) e, high less (n - 1)
-        (omega arith) (omega arith)))
+    none less (inr (inr (inr e))) = absurd (omega (
+      arith,
+      ends_ascii (get_or text (n - 1) 0) e,
+      high less (n - 1)
+          (omega arith) (omega arith),
+    ))
 
     size : n < v → length (take v text) ≡ v
     size less = length-take-le v text (utf8_valid_len_le text)
@@ -435,8 +471,12 @@ utf8_before text n lt edge clean = go (cases_lt v n)
     within less (inl zero_is) = subst (λ k. IsUtf8 (take k text)) (sym zero_is) IsUtf8-nil
     within less (inr (inl end_is)) = absurd (omega arith)
     within less (inr (inr (inl e))) = cut less (IsUtf8-take (take v text) n (valid_front text)
-        (IsCharBoundary-before_ascii (take v text) n (omega (arith, size less)) (omega (arith, ends_ascii
-        (get_or text n 0) e, get_or-take v text n 0 less))))
+        (IsCharBoundary-before_ascii (take v text) n (omega (arith, size less)) (omega (
+          arith,
+          ends_ascii
+              (get_or text n 0) e,
+          get_or-take v text n 0 less,
+        ))))
     within less (inr (inr (inr e))) = before n less e
       where
         before : (m : ℕ) → m < v → ends_word (slice_index text (m - 1)) ≡ true → IsUtf8 (take m text)
@@ -446,8 +486,11 @@ utf8_before text n lt edge clean = go (cases_lt v n)
             let less_one : suc m - 1 ≡ m = omega arith in
             let low : get_or text m 0 < 128 = ends_ascii (get_or text m 0) (ap (λ j. ends_word (get_or text j 0)) (sym
             less_one) ∙ f) in
-            let b = IsCharBoundary-after_ascii (take v text) m (valid_front text) (omega (arith, length-take-le v text
-            (utf8_valid_len_le text))) (omega arith) in
+            let b = IsCharBoundary-after_ascii (take v text) m (valid_front text) (omega (
+              arith,
+              length-take-le v text
+                  (utf8_valid_len_le text),
+            )) (omega arith) in
             subst IsUtf8 (take-take (suc m) v text (omega arith)) (IsUtf8-take (take v text) (suc m) (valid_front text)
             (subst (IsCharBoundary (take v text)) (add-one m) b))
 

@@ -1,14 +1,12 @@
 -- A reader's walk stops where no text that is read goes on.
-use Rattle.std.proofs.Common.{◌≡◌, ℕ, suc, ◌+◌, ◌-◌, ◌<◌, ◌≤◌, Bool, true, false, cond, ◌&&◌, List, [], ◌∷◌, ◌++◌, length, take, drop, get_or, slice_index, IsUtf8, Option, Some, None, Ok, Err, is_some, option_and_then, inl, inr, ◌⊎◌, refl, sym, ap, ◌∙◌, subst, arith, add-one, append_assoc, append-nil, take_at, length-append}
+use Rattle.std.proofs.Common.{◌≡◌, ℕ, suc, ◌+◌, ◌-◌, ◌<◌, ◌≤◌, Bool, true, false, cond, ◌&&◌, List, [], ◌∷◌, ◌++◌, length, take, drop, get_or, slice_index, IsUtf8, Option, Some, None, Ok, Err, is_some, inl, inr, ◌⊎◌, refl, sym, ap, ◌∙◌, subst, arith, add-one, append_assoc, append-nil, take_at, length-append}
 use Rattle.std.proofs.lemmas.Bool.{false≢true, true≢false, and_parts, and_cases, cases_eq, cases_lt}
 use Rattle.std.proofs.lemmas.List.{take-take, take_all, take-append-drop, length-drop, length-take-le, get_or_at}
 use Rattle.std.proofs.Math.Seq.{drop-length}
 use Rattle.std.proofs.lemmas.Str.{IsUtf8-append, IsUtf8-nil, IsUtf8-take, IsCharBoundary-before_ascii, utf8_valid_len-IsUtf8}
 use Rattle.std.specs.Str.Lossy.{utf8_valid_len, utf8_error_len}
-use Rattle.json.specs.Json as json
-use Rattle.json.specs.Lex.{tokens}
 use Rattle.json.proofs.Printed.Utf8.{IsUtf8-are_ascii}
-use Rattle.serde_json.specs.Read.{read, max_depth}
+use Rattle.serde_json.specs.Read.{read}
 use Rattle.sab_syntax.specs.declared.fault.Fault.{Fault}
 use Rattle.sab_syntax.specs.declared.fault.Fault.TheVariants.{NotUtf8}
 use Rattle.sab_syntax.specs.declared.fault.Fault.TheVariants as F
@@ -23,15 +21,15 @@ use Rattle.sab_syntax.specs.declared.reader.Reader.{Reader}
 use Rattle.sab_syntax.specs.declared.reader.Slip.{Slip}
 use Rattle.sab_syntax.specs.declared.reader.Slip.TheVariants as S
 use Rattle.sab_syntax.specs.declared.stop.Stop.{Stop}
-use Rattle.sab_syntax.specs.declared.stop.Stop.TheVariants.{Token, End}
+use Rattle.sab_syntax.specs.declared.stop.Stop.TheVariants.{Token}
 use Rattle.sab_syntax.specs.Number.{is_in_range, part_behind, is_complete}
 use Rattle.sab_syntax.specs.Reader.{Step, reader, opening, step, step_in, begin, number_by, ends_word, is_between, is_in_string}
-use Rattle.sab_syntax.specs.Stop.{is_place, broken_by, broken_of, stop_at, start_after, token_after, stop_by, walk, stop_of}
+use Rattle.sab_syntax.specs.Stop.{is_place, broken_by, broken_of, start_after, token_after, stop_by, walk, stop_of}
 use Rattle.sab_syntax.specs.Begins.{IsRead, form, IsFormed, BeginsRead, BeginsFormed, AreBegun, AreEnded, AreWhole, IsEdge, IsFirstBroken, StopsBehind, StopsAt}
 use Rattle.sab_syntax.proofs.Steps.{rest_of, rest_by, rest-step, WordFits}
 use Rattle.sab_syntax.proofs.Readings.{any_number, read-rest, form-rest}
 use Rattle.sab_syntax.proofs.Fits.{Fits, InFits, Keeps, keeps_step}
-use Rattle.sab_syntax.proofs.Endings.{Ending, ending, end_between, end_string}
+use Rattle.sab_syntax.proofs.Endings.{ending, end_between, end_string}
 use Rattle.sab_syntax.proofs.Utf8.{IsClean, utf8_before, broken_is, broken_behind, valid_front, AreHigh, Finish, finish, cut_from, high_from, no_front}
 use Rattle.sab_syntax.proofs.Edges.{is_word, GoesTo, Goes, goes, between_to, word_to, in_word_to, NoString, no_string, Low, taken_low, between_token, Stuck, string_stuck, word_stuck, Free, between_free, Before, AtByte, before, any_slip, no_token_is, Plainly, high_plain, plain_on}
 
@@ -174,8 +172,7 @@ high_on [] front next st t reached high = (
 high_on (b ∷ rest) front next st t reached high =
     let more = reach front (reader (I.String P.Plain) next st) t b (reader (I.String P.Plain) next st) reached (plain_on
     next st t b high.0) in
-    let end = high_on rest (front ++ b ∷ []) next st (t ++ b ∷ []) more high.1 in
-    (
+    let end = high_on rest (front ++ b ∷ []) next st (t ++ b ∷ []) more high.1 in (
       end.0,
       subst (λ l. Reached l (reader (I.String P.Plain) next st) end.0) (append_assoc front (b ∷ []) rest) end.1,
     )
@@ -192,12 +189,11 @@ begins_less : (text more : List ℕ) (n k : ℕ) → n ≤ k → BeginsRead (tak
 begins_less text more n k le begins =
     let parts : take k text ≡ take n text ++ drop n (take k text) =
     sym (take-append-drop n (take k text)) ∙ ap (λ l. l ++ drop n (take k text)) (take-take n k text le) in
-    let rest = (drop n (take k text) ++ more) ++ begins.0 in
-    (
+    let rest = (drop n (take k text) ++ more) ++ begins.0 in (
       rest,
       subst IsRead (ap (λ l. (l ++ more) ++ begins.0) parts
-      ∙ ap (λ l. l ++ begins.0) (append_assoc (take n text) (drop n (take k text)) more)
-      ∙ append_assoc (take n text) (drop n (take k text) ++ more) begins.0) begins.1,
+          ∙ ap (λ l. l ++ begins.0) (append_assoc (take n text) (drop n (take k text)) more)
+          ∙ append_assoc (take n text) (drop n (take k text) ++ more) begins.0) begins.1,
     )
 
 -- ---- one byte of the walk
@@ -228,8 +224,11 @@ module _ (text front bs : List ℕ) (b at start : ℕ) (i : Inside) (next : Next
   size = omega (arith, ap length e, length-append front (b ∷ bs), n)
 
   longer : take (at + 1) text ≡ front ++ b ∷ []
-  longer = front_is text (front ++ b ∷ []) bs (at + 1) (e ∙ sym (append_assoc front (b ∷ []) bs)) (omega (arith, n,
-      length-append front (b ∷ [])))
+  longer = front_is text (front ++ b ∷ []) bs (at + 1) (e ∙ sym (append_assoc front (b ∷ []) bs)) (omega (
+    arith,
+    n,
+    length-append front (b ∷ []),
+  ))
 
   stuck_here : Stuck i next st t → AreWhole (take at text) → ⊥
   stuck_here stuck whole =
@@ -333,8 +332,12 @@ module _ (text front bs : List ℕ) (b at start : ℕ) (i : Inside) (next : Next
           let long : length (take k text) ≡ k = length-take-le k text le in
           let feed : get_or (take k text ++ 10 ∷ whole.0) k 0 ≡ 10 = get_or_at (take k text) 10 whole.0 0 k long in
           subst IsUtf8 (take_at (take k text) (10 ∷ whole.0) k long) (IsUtf8-take (take k text ++ 10 ∷ whole.0) k u
-          (IsCharBoundary-before_ascii (take k text ++ 10 ∷ whole.0) k (omega (arith, long, length-append
-          (take k text) (10 ∷ whole.0))) (omega (arith, feed))))
+          (IsCharBoundary-before_ascii (take k text ++ 10 ∷ whole.0) k (omega (
+            arith,
+            long,
+            length-append
+                (take k text) (10 ∷ whole.0),
+          )) (omega (arith, feed))))
 
       go : (k : ℕ) → start < k → k ≤ length text → IsEdge text k → AreWhole (take k text) → (at < k) ⊎ (k ≤ at) → ⊥
       go k lt le edge whole (inl more) =
@@ -445,7 +448,19 @@ module _ (text front bs : List ℕ) (b at start : ℕ) (i : Inside) (next : Next
 
 -- ---- the walk
 
--- some text of JSON begins with what is read to its end
+-- some text of JSON begins with what is read to its end, where it ends within a character too
+ending_cut : (text : List ℕ) (next : Next) (st : List Bracket) (t : List ℕ)
+    → Reached text (reader (I.String P.Plain) next st) t → Finish (drop (utf8_valid_len text) text) → BeginsFormed text
+ending_cut text next st t reached fin =
+    let v = utf8_valid_len text in
+    let end = high_on fin.rest text next st t reached fin.high in
+    let parts : take v text ++ (drop v text ++ fin.rest) ≡ text ++ fin.rest =
+    sym (append_assoc (take v text) (drop v text) fin.rest) ∙ ap (λ l. l ++ fin.rest) (take-append-drop v text) in
+    let u : IsUtf8 (text ++ fin.rest) =
+    subst IsUtf8 parts (IsUtf8-append (take v text) (drop v text ++ fin.rest) (valid_front text) fin.utf8) in
+    let begun = live (text ++ fin.rest) (reader (I.String P.Plain) next st) end.0 end.1 u in
+    (fin.rest ++ begun.0, subst IsFormed (append_assoc text fin.rest begun.0) begun.1)
+
 ending_text : (text : List ℕ) (i : Inside) (next : Next) (st : List Bracket) (t : List ℕ)
     → Reached text (reader i next st) t → IsClean text (length text)
     → (0 < length text → 128 ≤ slice_index text (length text - 1) → i ≡ I.String P.Plain) → BeginsFormed text
@@ -466,15 +481,8 @@ ending_text text i next st t reached clean high = go (cases_lt v (length text))
         (no_front text) in
         let last : 128 ≤ slice_index text (length text - 1) = high_from text (length text) (length text - 1)
         (omega arith) clean lt (omega (arith, lt)) (omega (arith, lt)) in
-        let at : Reached text (reader (I.String P.Plain) next st) t =
-        subst (λ j. Reached text (reader j next st) t) (high (omega (arith, lt)) last) reached in
-        let end = high_on fin.rest text next st t at fin.high in
-        let parts : take v text ++ (cut ++ fin.rest) ≡ text ++ fin.rest =
-        sym (append_assoc (take v text) cut fin.rest) ∙ ap (λ l. l ++ fin.rest) (take-append-drop v text) in
-        let u : IsUtf8 (text ++ fin.rest) =
-        subst IsUtf8 parts (IsUtf8-append (take v text) (cut ++ fin.rest) (valid_front text) fin.utf8) in
-        let begun = live (text ++ fin.rest) (reader (I.String P.Plain) next st) end.0 end.1 u in
-        (fin.rest ++ begun.0, subst IsFormed (append_assoc text fin.rest begun.0) begun.1)
+        ending_cut text next st t (subst (λ j. Reached text (reader j next st) t) (high (omega (arith, lt)) last) reached)
+        fin
 
 module _ (text : List ℕ) (unless : (at : ℕ) → is_place (broken_of text) at ≡ true → IsUtf8 text → ⊥) where
   -- by the step of a byte
@@ -488,20 +496,25 @@ module _ (text : List ℕ) (unless : (at : ℕ) → is_place (broken_of text) at
       → StopsAt text (go r' (start_after (is_between r'.inside) start at) (token_after (is_between r'.inside) t b)))
       → StopsAt text (cond c (Token start NotUtf8) (stop_by go did start t at b))
   stops_by go front bs b start at r t true did e n reached walked test is ih =
-      let both = and_parts (is_place (broken_of text) at) (is_in_string r.inside) test in
-      (
+      let both = and_parts (is_place (broken_of text) at) (is_in_string r.inside) test in (
         string_broken text front bs b at start r.inside r.next r.brackets t e n reached walked both.0 both.1,
         inr (refl, ((at, broken_is (broken_of text) at both.0), unless at both.0)),
       )
   stops_by go front bs b start at r t false (Err (S.Token fault)) e n reached walked test is ih = (
     token_broken text front bs b at start r.inside r.next r.brackets t e n reached walked fault is,
-    inl (at + 1, stopped text front bs b at start r.inside r.next r.brackets t e n reached walked start (S.Token fault)
-    walked.within is),
+    inl (
+      at + 1,
+      stopped text front bs b at start r.inside r.next r.brackets t e n reached walked start (S.Token fault)
+          walked.within is,
+    ),
   )
   stops_by go front bs b start at r t false (Err (S.Byte fault)) e n reached walked test is ih = (
     byte_broken text front bs b at start r.inside r.next r.brackets t e n reached walked fault is,
-    inl (at + 1, stopped text front bs b at start r.inside r.next r.brackets t e n reached walked at (S.Byte fault)
-    (omega arith) is),
+    inl (
+      at + 1,
+      stopped text front bs b at start r.inside r.next r.brackets t e n reached walked at (S.Byte fault)
+          (omega arith) is,
+    ),
   )
   stops_by go front bs b start at r t false (Ok r') e n reached walked test is ih =
       ih r' (reach front r t b r' reached is)
@@ -513,11 +526,10 @@ module _ (text : List ℕ) (unless : (at : ℕ) → is_place (broken_of text) at
   unfolding walk
   walked_on [] front start at r t e n reached walked =
       let size : at ≡ length text = omega (arith, n, ap length (e ∙ append-nil front)) in
-      let all : text ≡ front = e ∙ append-nil front in
-      (
+      let all : text ≡ front = e ∙ append-nil front in (
         ending_text text r.inside r.next r.brackets t (subst (λ l. Reached l r t) (sym all) reached)
-        (subst (IsClean text) size walked.clean) (λ lt h. walked.high (omega (arith, size, lt)) (subst (λ j. 128 ≤
-        slice_index text (j - 1)) (sym size) h)),
+            (subst (IsClean text) size walked.clean) (λ lt h. walked.high (omega (arith, size, lt)) (subst (λ j. 128 ≤
+            slice_index text (j - 1)) (sym size) h)),
         subst (AreEnded text) size walked.ended,
       )
   walked_on (b ∷ bs) front start at r t e n reached walked =

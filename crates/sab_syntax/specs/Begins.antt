@@ -42,7 +42,7 @@ pub record StopsBehind (text : List ℕ) (at n : ℕ) : Type 0 where
   -- if only the size of a number is wrong, the last byte has ended the number
   pub judged : (BeginsFormed (take n text) → ⊥) ⊎ (ends_word (slice_index text (n - 1)) ≡ true)
 
--- a token can begin or end behind so many bytes
+-- where a token can begin or end: at an end of the text, or beside a byte that ends words
 abbrev pub IsEdge : List ℕ → ℕ → Type 0
 IsEdge text k =
     (k ≡ 0) ⊎ ((k ≡ length text)
@@ -52,14 +52,14 @@ IsEdge text k =
 abbrev pub AreWhole : List ℕ → Type 0
 AreWhole bytes = BeginsRead (bytes ++ 10 ∷ [])
 
--- it is the first byte of the first token that is broken: everything before it is whole, and nothing longer is, up to
--- an edge. No edge within a string is taken, since a line feed closes no string.
+-- The first byte of the first broken token: everything before it is whole, and nothing longer is whole up to an edge.
+-- An edge within a string is never whole, since no string goes on behind a line feed.
 pub record IsFirstBroken (text : List ℕ) (at : ℕ) : Type 0 where
   pub edge : IsEdge text at
   pub whole : AreWhole (take at text)
   pub last : (k : ℕ) → at < k → k ≤ length text → IsEdge text k → AreWhole (take k text) → ⊥
 
--- each beginning that ends with a byte that ends words, if it is UTF-8, begins a text that is read
+-- each beginning with such a byte as its last, if it is UTF-8, begins a text that is read
 abbrev pub AreEnded : List ℕ → ℕ → Type 0
 AreEnded text n = (k : ℕ) → k < n → ends_word (slice_index text k) ≡ true → IsUtf8 (take (k + 1) text)
     → BeginsRead (take (k + 1) text)
@@ -68,8 +68,8 @@ AreEnded text n = (k : ℕ) → k < n → ends_word (slice_index text k) ≡ tru
 abbrev pub IsNotUtf8 : List ℕ → Type 0
 IsNotUtf8 text = ((n : ℕ) × (broken_of text ≡ Some n)) × (IsUtf8 text → ⊥)
 
--- a text stops being JSON at the first byte of its first broken token: by its first so many bytes, or as it isn't UTF-8;
--- or it is cut
+-- A text stops being JSON at the first byte of its first broken token, by its first so many bytes or as it isn't UTF-8.
+-- Or it ends too early: some text of JSON, with numbers of any size, begins with it, and each token that ended is whole.
 abbrev pub StopsAt : List ℕ → Stop → Type 0
 StopsAt text (Token at fault) =
     IsFirstBroken text at × (((n : ℕ) × StopsBehind text at n) ⊎ ((fault ≡ NotUtf8) × IsNotUtf8 text))
