@@ -39,7 +39,7 @@ pub record StopsBehind (text : List ℕ) (at n : ℕ) : Type 0 where
   pub within : n ≤ length text
   pub none : BeginsRead (take n text) → ⊥
   pub begun : AreBegun text n
-  -- if only the size of a number is wrong, the last byte has ended the number
+  -- if only the size of a number is wrong, the last of the bytes has ended it
   pub judged : (BeginsFormed (take n text) → ⊥) ⊎ (ends_word (slice_index text (n - 1)) ≡ true)
 
 -- where a token can begin or end: at an end of the text, or beside a byte that ends words
@@ -59,7 +59,7 @@ pub record IsFirstBroken (text : List ℕ) (at : ℕ) : Type 0 where
   pub whole : AreWhole (take at text)
   pub last : (k : ℕ) → at < k → k ≤ length text → IsEdge text k → AreWhole (take k text) → ⊥
 
--- each beginning with such a byte as its last, if it is UTF-8, begins a text that is read
+-- each beginning whose last byte ends words, if it is UTF-8, begins a text that is read
 abbrev pub AreEnded : List ℕ → ℕ → Type 0
 AreEnded text n = (k : ℕ) → k < n → ends_word (slice_index text k) ≡ true → IsUtf8 (take (k + 1) text)
     → BeginsRead (take (k + 1) text)
