@@ -1,4 +1,4 @@
--- Where in a script a value stands.
+-- Where in a script a value is.
 use Rattle.std.specs.Prelude.{ℕ, List, ◌++◌, codes, decimal}
 use Rattle.sab_refusal.specs.declared.location.Location.{Location}
 use Rattle.sab_refusal.specs.declared.location.Location.TheVariants as at
@@ -20,13 +20,13 @@ member_name M.Schedule = codes "schedule"
 member_name M.Timeout = codes "timeout"
 member_name M.Views = codes "views"
 
--- the member of the object that stands there
+-- the member of the object that is there
 abbrev pub member_at : Location → Member → Location
 member_at at.Script m = at.Member m
 member_at (at.Item list i) m = at.Part list i m
 member_at location m = location
 
--- the item of the array that stands there
+-- the item of the array that is there
 abbrev pub item_at : Location → ℕ → Location
 item_at (at.Member list) i = at.Item list i
 item_at (at.Part list i part) j = at.Call list i part j

@@ -1,4 +1,4 @@
-//! What is wrong with a script, and where: the faults, what a value should have been, and the place that it stands at.
+//! What is wrong with a script, and where: the faults, what a value should have been, and the place where it is.
 #![tactic(auto)]
 
 mod excerpt;

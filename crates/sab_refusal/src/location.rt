@@ -1,9 +1,9 @@
-//! Where in a script a value stands.
+//! Where in a script a value is.
 
 use crate::member::Member;
 use std::fmt;
 
-/// Where in a script a value stands, by the members and indices that lead to it.
+/// Where in a script a value is, by the members and indices that lead to it.
 #[derive(Clone, Copy, Debug)]
 pub enum Location {
     /// It is the script.
@@ -24,7 +24,7 @@ impl Location {
     ghost use Rattle.std.specs.Prelude.{◌≡◌};
     ghost use Rattle.sab_refusal.specs.Location.{member_at, item_at};
 
-    /// The member of the object that stands here; where no object of a script can stand, the same location.
+    /// The member of the object that is here; where no object of a script can be, the same location.
     pub fn member(self, member: Member) -> Location
         ensures { result ≡ member_at self member }
     {
@@ -35,7 +35,7 @@ impl Location {
         }
     }
 
-    /// The item of the array that stands here; where no array of a script can stand, the same location.
+    /// The item of the array that is here; where no array of a script can be, the same location.
     pub fn item(self, index: usize) -> Location
         ensures { result ≡ item_at self index }
     {

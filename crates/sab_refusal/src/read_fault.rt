@@ -33,7 +33,7 @@ impl ReadFault {
     ghost use Rattle.std.specs.Prelude.{◌≡◌};
     ghost use Rattle.sab_refusal.specs.ReadFault.{number_of, name_of};
 
-    /// The number that it is told by.
+    /// The number that it is reported by.
     pub fn number(self) -> u32
         ensures { result ≡ number_of self }
     {

@@ -44,7 +44,7 @@ pub enum Unit {
     Moves,
 }
 
-/// What is told by its position.
+/// What is named by its position.
 #[derive(Clone, Copy, Debug)]
 pub enum Counted {
     /// An agent.

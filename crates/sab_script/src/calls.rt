@@ -159,7 +159,7 @@ fn short_call(at: Location, count: usize, name: &str) -> Located
     }
 }
 
-/// A refusal of a call that ends before its index, by what stands first in it.
+/// A refusal of a call that ends before its index, by what is first in it.
 fn cut_short(at: Location, count: usize, name_tree: &Value) -> Located
     requires { count < 3 }
     ensures fault { (fault_of result.why ≡ ReadFault.BadShape) ⊎ (fault_of result.why ≡ ReadFault.BadCall) }

@@ -20,10 +20,10 @@ pub(crate) trait Reader {
     /// What it is to spell an element.
     ghost Spells: { Self → Data → Self.Element → Type 0 };
 
-    /// What has to be known of the script where an element stands.
+    /// What has to be known of the script where an element is.
     ghost Knows: { Self → Data → Place → Type 0 };
 
-    /// The element that a value spells, which stands there.
+    /// The element that a value there spells.
     fn read(&self, at: Location, tree: &Value) -> Result<Self::Element, Located>
         ensures found { Finds (λ x. x) (Spells self.now (view tree.now)) result }
         ensures told { IfErr result (IsTrueWhere at (view tree.now) (λ root. Knows self.now root at)) };

@@ -2,12 +2,12 @@
 
 use sab_refusal::Member;
 
-/// How a script tells of its blocks.
+/// How a script gives its blocks.
 #[derive(Clone, Copy, Debug, PartialEq, Eq)]
 pub(crate) enum Form {
     /// `bytes` is the length of the one block, and all views are on it.
     Bytes,
-    /// `blocks` has the length of each block, and each view tells its block by position.
+    /// `blocks` has the length of each block, and each view has its block's position.
     Blocks,
 }
 
@@ -17,7 +17,7 @@ impl Form {
     ghost use Rattle.sab_refusal.specs.Location.{member_name};
     ghost use Rattle.sab_script.specs.Places.{lens_member, view_members};
 
-    /// The member of a script that tells of its blocks.
+    /// The member of a script that gives its blocks.
     pub(crate) fn lens_member(self) -> Member
         ensures member { result ≡ lens_member self }
         ensures name { member_name result ≡ lens_name self }

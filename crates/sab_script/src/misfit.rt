@@ -10,8 +10,7 @@ ghost use Rattle.sab_script.specs.ViewPlaces.{HasView};
 use crate::view_spec::ViewSpec;
 use sab_refusal::{Located, Location, Member, Misfit, ReadFault, Reason};
 
-/// The refusal of a view, which stands there, that can't be made on its block of so many bytes: of its offset or of its
-/// length.
+/// The refusal of a view there that can't be made on its block of so many bytes: of its offset or of its length.
 pub(crate) fn misfit(at: Location, block_len: u32, spec: ViewSpec) -> Located
     ensures fault { fault_of result.why ≡ ReadFault.BadView }
     ensures told { count spec.kind block_len spec.offset spec.length ≡ None → (root : Data) (i : ℕ)

@@ -1,4 +1,4 @@
-//! Operands, and what else stands behind the index of a call.
+//! Operands, and what else is behind the index of a call.
 
 ghost use Rattle.std.specs.Prelude.{◌≡◌, ◌+◌, ◌^◌, ◌<◌, ◌≤◌, ℕ, ℤ, List, [], ◌∷◌, length, IfErr};
 ghost use Rattle.serde_json.specs.Data.{Data, Items, string};
@@ -20,7 +20,7 @@ use sab_block::Operand;
 use sab_refusal::{Excerpt, Located, Location, ReadFault, Reason, Wanted};
 use serde_json::Value;
 
-/// Where in a call what stands behind its index begins.
+/// Where in a call what is behind its index begins.
 const FIRST: usize = 3;
 
 /// A refusal of a string that isn't the one spelling of a BigInt.

@@ -171,7 +171,7 @@ pub(crate) fn setup_by_parts(
 
 /// The one setup that a JSON value spells, in either form of a script; or where it isn't one, and why.
 ///
-/// A fault other than OutOfMemory is answered only where the value spells none.
+/// A fault other than OutOfMemory is returned only where the value spells none.
 pub fn locate_setup(alloc: Global, tree: &Value) -> Result<Setup, Located>
     ensures spelled { Finds (λ setup. setup) (Spells (view tree.now)) result }
     ensures only { IfOk result (IsOnlySetup (view tree.now)) }
@@ -190,7 +190,7 @@ pub fn locate_setup(alloc: Global, tree: &Value) -> Result<Setup, Located>
 
 /// The one setup that a JSON value spells, in either form of a script.
 ///
-/// A fault other than OutOfMemory is answered only where the value spells none.
+/// A fault other than OutOfMemory is returned only where the value spells none.
 pub fn read_setup(alloc: Global, tree: &Value) -> Result<Setup, ReadFault>
     ensures spelled { Reads (λ setup. setup) (Spells (view tree.now)) result }
     ensures only { IfOk result (IsOnlySetup (view tree.now)) }

@@ -24,7 +24,7 @@ use sab_refusal::{Counted, Excerpt, Located, Location, Member, Reason, Unit, Wan
 use serde_json::Value;
 use std::alloc::Global;
 
-/// The block that the members of a view tell first; or the first of all, where none is told.
+/// The block that the first of a view's members names; or the first of all, where no member names one.
 fn read_block(at: Location, form: Form, blocks: u32, rest: &mut Members<'_>) -> Result<u32, Located>
     requires { 0 < blocks }
     ensures parts { IfOk result (λ block. members_view rest.old ≡ with_block form block (members_view rest.new)) }

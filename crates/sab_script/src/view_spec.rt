@@ -2,7 +2,7 @@
 
 use sab_block::Kind;
 
-/// What a script says of a view, but for its name.
+/// What a script says of a view, except its name.
 #[derive(Clone, Copy, Debug, PartialEq, Eq)]
 pub struct ViewSpec {
     /// The kind of its elements.

@@ -10,4 +10,7 @@ pub mod Steps
 pub mod Readings
 pub mod Fits
 pub mod Endings
+pub mod Utf8
+pub mod Edges
 pub mod Walking
+pub mod Once

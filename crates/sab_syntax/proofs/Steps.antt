@@ -1,27 +1,26 @@
 -- What the rest of a text has to be, by how far a reader is, and that a step keeps it.
-use Rattle.std.proofs.Common.{◌≡◌, ℕ, zero, suc, ◌+◌, ◌-◌, ◌<◌, ◌≤◌, Bool, true, false, cond, ◌&&◌, ◌||◌, not, List, [], ◌∷◌, ◌++◌, length, take, drop, Option, Some, None, Ok, Err, is_some, option_and_then, refl, sym, ap, ap₂, ◌∙◌, subst, arith, ◌⊎◌, ⊎_elim, inl, inr, append_assoc, length-append, take_at}
-use Rattle.std.proofs.lemmas.Bool.{false≢true, true≢false, cases_Bool, eqb-true, ne_eqb, or_cases, or_parts, eq-eqb}
+use Rattle.std.proofs.Common.{◌≡◌, ℕ, zero, suc, ◌-◌, ◌≤◌, Bool, true, false, cond, ◌&&◌, ◌||◌, List, [], ◌∷◌, ◌++◌, length, take, drop, Option, Some, None, Ok, Err, is_some, refl, sym, ap, ◌∙◌, subst, arith, ◌⊎◌, ⊎_elim, inl, inr, append_assoc, length-append, take_at}
+use Rattle.std.proofs.lemmas.Bool.{false≢true, true≢false, eqb-true, or_cases, or_parts}
 use Rattle.std.specs.Prelude.{◌==◌, nat_eq, slice_get}
 use Rattle.std.proofs.Math.Seq.{drop-nil}
 use lib.Pointwise.{pointwise}
 use Rattle.std.specs.Char.{is_ascii_digit}
 use Rattle.json.specs.Token.{Token}
-use Rattle.json.specs.Word.{is_space, head, ends_word as ends, literal, number_before, after_number, word}
+use Rattle.json.specs.Word.{is_space, ends_word as ends, literal, number_before, after_number, word}
 use Rattle.json.specs.Ascii as ascii
 use Rattle.json.specs.Text.{plain, content}
-use Rattle.json.specs.Lex.{Lexeme, token, comma, colon, Class, quote, backslash, operator, space, other, class, Mode, between, in_word, in_string, operator_lexeme, lex_byte, lex, string_token}
+use Rattle.json.specs.Lex.{Lexeme, token, quote, backslash, operator, space, other, class, between, in_word, in_string, lex_byte, lex, string_token}
 use Rattle.json.proofs.Printed.Numbers.{in_word-ended}
 use Rattle.sab_syntax.specs.declared.brackets.Bracket.{Bracket}
 use Rattle.sab_syntax.specs.declared.brackets.Bracket.TheVariants.{Array, Object}
 use Rattle.sab_syntax.specs.declared.literal.Literal.{Literal}
 use Rattle.sab_syntax.specs.declared.literal.Literal.TheVariants.{True, False, Null}
 use Rattle.sab_syntax.specs.declared.number_part.NumberPart.{NumberPart}
-use Rattle.sab_syntax.specs.declared.number_part.NumberPart.TheVariants as N
 use Rattle.sab_syntax.specs.declared.string_part.StringPart.{StringPart}
 use Rattle.sab_syntax.specs.declared.string_part.StringPart.TheVariants.{Plain}
 use Rattle.sab_syntax.specs.declared.fault.Fault.TheVariants as F
 use Rattle.sab_syntax.specs.declared.reader.Next.{Next}
-use Rattle.sab_syntax.specs.declared.reader.Next.TheVariants.{First, Value, Name, Colon, After}
+use Rattle.sab_syntax.specs.declared.reader.Next.TheVariants.{First, Colon, After}
 use Rattle.sab_syntax.specs.declared.reader.Inside.{Inside}
 use Rattle.sab_syntax.specs.declared.reader.Inside.TheVariants as I
 use Rattle.sab_syntax.specs.declared.reader.Slip.{Slip}
@@ -30,7 +29,7 @@ use Rattle.sab_syntax.specs.declared.reader.Reader.{Reader}
 use Rattle.sab_syntax.specs.Literal.{letters_of, literal_at}
 use Rattle.sab_syntax.specs.Number.{first_part, part_behind, is_complete}
 use Rattle.sab_syntax.specs.String.{Behind, string_behind}
-use Rattle.sab_syntax.specs.Reader.{Step, reader, takes_value, takes_name, begin, begin_in, begin_string, begin_word, begin_inside, inside_by, inside_at, by_operator, open_bracket, close_bracket, pass_comma, pass_colon, going_on, behind_comma, behind_colon, may_close, closes, expected_of, unexpected, is_operator, is_white, ends_word, string_by, in_string as step_in_string, literal_by, in_literal, number_by, number_end, in_number, step, step_in, is_between}
+use Rattle.sab_syntax.specs.Reader.{Step, reader, takes_value, takes_name, begin_in, begin_string, begin_word, begin_inside, inside_by, inside_at, by_operator, open_bracket, close_bracket, pass_comma, pass_colon, going_on, behind_comma, behind_colon, may_close, closes, expected_of, is_operator, is_white, ends_word, string_by, in_string as step_in_string, literal_by, in_literal, number_by, number_end, in_number, step, step_in, is_between}
 use Rattle.sab_syntax.specs.Stop.{token_after}
 use Rattle.sab_syntax.specs.Brackets.{innermost}
 use Rattle.sab_syntax.proofs.Tails.{IsLeaf, tail, tail_by, tail-open, tail-close, tail-comma, tail-colon, tail-string, tail-bad, tail-leaf, leaf-number, leaf-boolean, leaf-null}
@@ -68,7 +67,7 @@ module _ (ok : List ℕ → Bool) where
   -- ---- between tokens
 
   -- whatever a step leads to, it leads between tokens
-  abbrev Between : Step → Type 0
+  abbrev pub Between : Step → Type 0
   Between (Err slip) = Unit {0}
   Between (Ok r) = r.inside ≡ I.Nothing
 
@@ -262,7 +261,7 @@ module _ (ok : List ℕ → Bool) where
 
   -- which bytes they are
 
-  white_cases : (Q : ℕ → Type 0) → Q 32 → Q 9 → Q 10 → Q 13 → (b : ℕ) → is_white b ≡ true → Q b
+  pub white_cases : (Q : ℕ → Type 0) → Q 32 → Q 9 → Q 10 → Q 13 → (b : ℕ) → is_white b ≡ true → Q b
   white_cases Q a c d e b h = go (or_cases _ _ h)
     where
       at : (k : ℕ) → (b == k) ≡ true → Q k → Q b
@@ -277,7 +276,7 @@ module _ (ok : List ℕ → Bool) where
       go : ((b == 32 || b == 9 || b == 10) ≡ true) ⊎ ((b == 13) ≡ true) → Q b
       go o = ⊎_elim third (λ x. at 13 x e) o
 
-  operator_cases : (Q : ℕ → Type 0) → Q 123 → Q 125 → Q 91 → Q 93 → Q 58 → Q 44 → (b : ℕ) → is_operator b ≡ true → Q b
+  pub operator_cases : (Q : ℕ → Type 0) → Q 123 → Q 125 → Q 91 → Q 93 → Q 58 → Q 44 → (b : ℕ) → is_operator b ≡ true → Q b
   operator_cases Q a c d e f g b h = go (or_cases _ _ h)
     where
       at : (k : ℕ) → (b == k) ≡ true → Q k → Q b
@@ -343,7 +342,7 @@ module _ (ok : List ℕ → Bool) where
       ap (λ i. rest_in i r.next r.brackets (token_after (is_between r.inside) t b) xs) h
       ∙ ap (λ i. rest_in i r.next r.brackets (token_after (is_between r.inside) u b) xs) (sym h)
 
-  between_operator : (next : Next) (st : List Bracket) (b : ℕ) → Between (by_operator (reader I.Nothing next st) b)
+  pub between_operator : (next : Next) (st : List Bracket) (b : ℕ) → Between (by_operator (reader I.Nothing next st) b)
   between_operator next st b =
       between_cond (b == 91) _ _ (between_open next st Array) (between_cond (b == 123) _ _ (between_open next st Object)
       (between_cond (b == 93) _ _ (between_close next st Array) (between_cond (b == 125) _ _
@@ -351,7 +350,7 @@ module _ (ok : List ℕ → Bool) where
       (between_cond (b == 44) _ _ (between_going next st (behind_comma next (innermost st))) (between_going next st
       (behind_colon next))))))
 
-  between_begin : (st : List Bracket) (b : ℕ) → Between (begin_in (reader I.Nothing After st) b)
+  pub between_begin : (st : List Bracket) (b : ℕ) → Between (begin_in (reader I.Nothing After st) b)
   between_begin st b =
       between_cond (is_white b) (Ok (reader I.Nothing After st)) _ refl
       (between_cond (b == 34) (begin_string (reader I.Nothing After st)) _ tt

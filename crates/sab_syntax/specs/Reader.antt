@@ -160,7 +160,7 @@ begin_string r =
     if takes_value r.next r.brackets then Ok (reader (I.String Plain) After r.brackets)
     else if takes_name r.next r.brackets then Ok (reader (I.String Plain) Colon r.brackets) else unexpected r
 
--- what a word or a number stands in, by what its first byte begins
+-- what the bytes of a word or a number are in, by what its first byte begins
 abbrev pub inside_by : Option Literal → Option NumberPart → Option Inside
 inside_by None None = None
 inside_by None (Some part) = Some (I.Number part)
@@ -191,7 +191,7 @@ is_white b = b == 32 || b == 9 || b == 10 || b == 13
 abbrev pub ends_word : ℕ → Bool
 ends_word b = is_operator b || is_white b || b == 34
 
--- a byte that stands in no token, or begins one
+-- a byte that is in no token, or begins one
 abbrev pub begin_in : Reader → ℕ → Step
 begin_in r b =
     if is_white b then Ok r else if b == 34 then begin_string r else if is_operator b then by_operator r b else
@@ -240,7 +240,7 @@ step_in ok (I.String part) r token b = in_string r part b
 step_in ok (I.Literal literal) r token b = in_literal r literal token b
 step_in ok (I.Number part) r token b = in_number ok r part token b
 
--- the next byte, where these bytes are before it of the token that it stands in
+-- the next byte, where these bytes are before it of the token that it is in
 abbrev pub step : NumberTest → Reader → List ℕ → ℕ → Step
 step ok r token b = step_in ok r.inside r token b
 

@@ -27,7 +27,7 @@ pub(crate) enum Next {
     After,
 }
 
-/// What the next byte stands in.
+/// What the next byte is in.
 #[derive(Clone, Copy)]
 pub(crate) enum Inside {
     /// In no token.
@@ -43,7 +43,7 @@ pub(crate) enum Inside {
 impl Inside {
     ghost use Rattle.sab_syntax.specs.Reader.{inside_at};
 
-    /// What a word or a number stands in that begins with a byte, if one does.
+    /// What the bytes of a word or a number are in that begins with a byte, if one does.
     fn at(byte: u8) -> Option<Inside>
         ensures { result ≡ inside_at byte }
     {
@@ -60,7 +60,7 @@ impl Inside {
 /// What is wrong, and with which token.
 #[derive(Clone, Copy)]
 pub(crate) enum Slip {
-    /// With the token that the byte stands in, or that it ends.
+    /// With the token that the byte is in, or that it ends.
     Token(Fault),
     /// With the token that it begins.
     Byte(Fault),
@@ -69,7 +69,7 @@ pub(crate) enum Slip {
 /// How far a text has been read.
 #[derive(Drop)]
 pub(crate) struct Reader {
-    /// What the next byte stands in.
+    /// What the next byte is in.
     pub inside: Inside,
     /// What can come behind that.
     pub next: Next,
@@ -92,21 +92,21 @@ impl Reader {
         }
     }
 
-    /// Whether the next byte stands in no token.
+    /// Whether the next byte is in no token.
     pub fn is_between(&self) -> bool
         ensures { result ≡ is_between self.now.inside }
     {
         matches!(self.inside, Inside::Nothing)
     }
 
-    /// Whether the next byte stands in a string.
+    /// Whether the next byte is in a string.
     pub fn is_in_string(&self) -> bool
         ensures { result ≡ is_in_string self.now.inside }
     {
         matches!(self.inside, Inside::String(_))
     }
 
-    /// Takes the next byte of a text. `token` has the bytes before it of the token that it stands in.
+    /// Takes the next byte of a text. `token` has the bytes before it of the token that it is in.
     pub fn take(&mut self, token: &[u8], byte: u8) -> Result<(), Slip>
         ensures { Steps (step is_in_range self.old token.now byte) result self.new }
     {
@@ -163,7 +163,7 @@ impl Reader {
         self.begin(byte)
     }
 
-    /// Takes a byte that stands in no token, or begins one.
+    /// Takes a byte that is in no token, or begins one.
     fn begin(&mut self, byte: u8) -> Result<(), Slip>
         ensures { Steps (begin self.old byte) result self.new }
     {

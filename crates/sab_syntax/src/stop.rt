@@ -24,8 +24,9 @@ pub enum Stop {
 
 /// Where a text stops being JSON.
 ///
-/// No text that is read begins with the bytes up to some byte of the token, or behind it; and some text of JSON begins
-/// with each shorter part.
+/// It is at the first token that is broken: no text that is read begins with everything up to the token's end. A word or
+/// a number with a byte behind it is judged as a whole, and a string from its first quote on. A word or a number at the
+/// end of the text is judged by what it can become. If no token is broken, the text ends too early.
 #[tactic(auto, using(crate::proofs::Walking::stop_stops))]
 pub fn stop_of(text: &[u8]) -> Stop
     ensures place { result ≡ stop_of text.now }
@@ -92,6 +93,8 @@ fn is_place(place: Option<usize>, at: usize) -> bool
 }
 
 /// How many bytes are before those of which no character begins, if there are such.
+///
+/// The string that has them is broken, so its first quote is the place.
 fn broken_at(text: &[u8]) -> Option<usize>
     ensures { result ≡ broken_of text.now }
 {

@@ -1,4 +1,4 @@
-//! Operands, and what else stands behind the index of a call, from their tokens.
+//! Operands, and what else is behind the index of a call, from their tokens.
 
 ghost use Rattle.std.specs.Prelude.{◌≡◌, [], ◌∷◌, IfSome, OnSome};
 ghost use Rattle.serde_json.specs.Data.{no_items, string};

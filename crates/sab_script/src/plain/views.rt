@@ -62,8 +62,8 @@ fn view_on(lens: &[u32], spec: ViewSpec) -> Option<PlanView>
     plan_view(Location::Script, lens, spec).ok()
 }
 
-/// The position of a view's block, of so many blocks: the first, if a view of this form tells none; `None` if the
-/// value tells no such position.
+/// The position of a view's block, of so many blocks: the first, if a view of this form has none; `None` if the
+/// value is no such position.
 fn scan_block(form: Form, blocks: u32, element: &Element<'_, '_>) -> Option<u32>
     requires { 0 < blocks }
     ensures told { IfSome result (TellsBlock form element.now) }
