@@ -3,7 +3,7 @@
 ghost use Rattle.std.specs.Prelude.{◌≡◌, All, IfOk, IfErr, IfSome, OnOk};
 ghost use Rattle.std.specs.Io.KnownBytes.{Appends, IsAtEnd};
 ghost use Rattle.sab_judge.specs.Verdict.{IsTold};
-ghost use Rattle.sab_verdict.specs.Json.{access_side};
+ghost use Rattle.sab_verdict.specs.Json.{access_side, judged_trace};
 ghost use Rattle.sab_verdict.specs.ReadsBack.{LinesReadBack};
 ghost use Rattle.sab_verdict.specs.Verdict.{trace_verdict_text};
 ghost use Rattle.sab_run.specs.Tracing.{JudgesTrace, IsTraceFailure, refused_at};
@@ -61,7 +61,7 @@ fn tell<W: Write>(
     requires { All (IsTold trace.now) verdict.now.races.items }
     ensures ok { OnOk result (Appends (W.contents output.old) (W.contents output.new)
         (trace_verdict_text trace.now format verdict.now.races.items verdict.now.rest verdict.now.data_races)) }
-    ensures read_back { LinesReadBack access_side trace.now verdict.now.races.items verdict.now.rest
+    ensures read_back { LinesReadBack access_side judged_trace trace.now verdict.now.races.items verdict.now.rest
         verdict.now.data_races }
     ensures err { IfErr result (λ fault. fault ≡ ToolFault.WriteFailed) }
 {

@@ -13,8 +13,8 @@ abbrev pub RaceReadsBack : (Side → Data) → List Event → Race → Type 0
 RaceReadsBack tell trace race =
     ReadsBack (race_data tell race (side_at trace race.first) (side_at trace race.second))
 
--- so is each line of a verdict: of each race that is told, and the last
-pub record LinesReadBack (tell : Side → Data) (trace : List Event) (told : List Race)
+-- so is each line of a verdict: of each race that is told, and the last, which names what is judged
+pub record LinesReadBack (tell : Side → Data) (judged : List ℕ) (trace : List Event) (told : List Race)
     (rest data_races : ℕ) : Type 0 where
   pub races : All (RaceReadsBack tell trace) told
-  pub count : ReadsBack (count_data trace (length told) rest data_races)
+  pub count : ReadsBack (count_data judged trace (length told) rest data_races)

@@ -7,10 +7,10 @@ ghost use Rattle.sab_judge.specs.Trace.{IsTrace};
 ghost use Rattle.sab_judge.specs.Verdict.{IsTold};
 ghost use Rattle.sab_json.specs.CallData.{AreNames};
 ghost use Rattle.sab_json.specs.SafeNumbers.{HasSafeNumbers};
-ghost use Rattle.sab_verdict.specs.Json.{call_side, access_side};
+ghost use Rattle.sab_verdict.specs.Json.{call_side, access_side, judged_calls, judged_trace};
 ghost use Rattle.sab_verdict.specs.ReadsBack.{LinesReadBack};
 ghost use Rattle.sab_verdict.specs.Verdict.{line_of, last_line, verdict_text, run_verdict_text, trace_verdict_text};
-ghost use Rattle.sab_verdict.specs.Sides.{words_of, data_of, whose_of, HaveNames};
+ghost use Rattle.sab_verdict.specs.Sides.{words_of, data_of, whose_of, judged_of, HaveNames};
 
 use crate::side::side_at;
 use crate::sides::{Run, Sides};
@@ -42,8 +42,8 @@ pub fn write_run_verdict<W: Write>(
     requires told { All (IsTold trace.now) verdict.now.races.items }
     ensures written { OnOk result (Appends (W.contents w.old) (W.contents w.new) (run_verdict_text names.now plan.now
         journal.now trace.now format verdict.now.races.items verdict.now.rest verdict.now.data_races)) }
-    ensures read_back { HasSafeNumbers plan.now → LinesReadBack (call_side names.now plan.now journal.now) trace.now
-        verdict.now.races.items verdict.now.rest verdict.now.data_races }
+    ensures read_back { HasSafeNumbers plan.now → LinesReadBack (call_side names.now plan.now journal.now)
+        judged_calls trace.now verdict.now.races.items verdict.now.rest verdict.now.data_races }
 {
     let run = Run {
         names,
@@ -68,7 +68,8 @@ pub fn write_trace_verdict<W: Write>(
     requires { All (IsTold trace.now) verdict.now.races.items }
     ensures written { OnOk result (Appends (W.contents w.old) (W.contents w.new)
         (trace_verdict_text trace.now format verdict.now.races.items verdict.now.rest verdict.now.data_races)) }
-    ensures read_back { LinesReadBack access_side trace.now verdict.now.races.items verdict.now.rest verdict.now.data_races }
+    ensures read_back { LinesReadBack access_side judged_trace trace.now verdict.now.races.items verdict.now.rest
+        verdict.now.data_races }
 {
     write_verdict(&Sides::Accesses, trace, verdict, format, w)
 }
@@ -85,7 +86,8 @@ fn write_verdict<W: Write>(
     requires names { HaveNames sides.now }
     requires told { All (IsTold trace.now) verdict.now.races.items }
     ensures written { OnOk result (Appends (W.contents w.old) (W.contents w.new) (verdict_text format
-        (words_of sides.now) (data_of sides.now) (whose_of sides.now) trace.now verdict.now.races.items verdict.now.rest verdict.now.data_races)) }
+        (words_of sides.now) (data_of sides.now) (whose_of sides.now) (judged_of sides.now) trace.now
+        verdict.now.races.items verdict.now.rest verdict.now.data_races)) }
     ensures valid { IsTrace trace.now }
     ensures few { length verdict.now.races.items < 2 ^ 64 }
     ensures rest { verdict.now.rest < 2 ^ 64 }
@@ -161,10 +163,12 @@ fn push_last(
     requires agents { All (λ (e : Event). e.agent < 16) events.now }
     requires room { length chunk.old + Chunk.LINE_ROOM ≤ Chunk.ROOM }
     ensures { chunk.new ≡ chunk.old
-        ++ last_line format (whose_of sides.now) events.now races.now rest data_races }
+        ++ last_line format (whose_of sides.now) (judged_of sides.now) events.now races.now rest data_races }
 {
     match format {
         VerdictFormat::Plain => plain::push_end(sides, events, races, rest, data_races, chunk),
-        VerdictFormat::Json => as_json::push_count(events, races.len(), rest, data_races, chunk),
+        VerdictFormat::Json => {
+            as_json::push_count(sides, events, races.len(), rest, data_races, chunk);
+        }
     }
 }
