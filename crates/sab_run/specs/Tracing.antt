@@ -40,7 +40,7 @@ pub record JudgesTrace (format : VerdictFormat) (outcome : Outcome) (old new : O
   pub read_back : LinesReadBack access_side judged_trace events races rest data_races
   pub outcome_is : IsOutcomeOf events outcome
 
--- what the program tells of a trace that is refused: the fault, and at which line
+-- what the program reports about a trace that is refused: the fault, and at which line
 abbrev pub told_of : LineFault → ℕ → Failure
 told_of L.OutOfMemory line = untold OutOfMemory
 told_of L.ReadFailed line = untold ReadFailed

@@ -20,9 +20,9 @@ use std::io::{Read, Write};
 
 /// Judges a trace that a reader gives for unordered accesses, writes the verdict, and flushes.
 ///
-/// Told are the first races, at most [`MAX_TOLD`]. A line of the trace that is refused is told with its fault. ReadFailed
-/// where a read failed, OutOfMemory where there is no memory, and WriteFailed where a write or the flush failed; nothing
-/// is said then of how much was written. After every other fault nothing was written.
+/// The first races are listed, at most [`MAX_TOLD`]. A line of the trace that is refused is reported with its fault.
+/// ReadFailed if a read failed, OutOfMemory if there is no memory, and WriteFailed if a write or the flush failed;
+/// nothing is said then about how much was written. After every other fault nothing was written.
 pub fn judge_trace<R: Read, W: Write>(
     alloc: Global,
     format: VerdictFormat,
@@ -69,7 +69,7 @@ fn tell<W: Write>(
     output.flush().map_err(ToolFault::of_write)
 }
 
-/// That of a trace that is refused. Of a read that failed, and of want of memory, the line isn't told.
+/// That of a trace that is refused. For a read that failed, and for want of memory, no line is reported.
 fn failure_of(refusal: Refusal) -> Failure
     ensures { result ≡ refused_at refusal }
 {

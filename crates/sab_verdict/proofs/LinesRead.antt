@@ -63,7 +63,7 @@ does_short_at names plan None safe = tt
 does_short_at names plan (Some e) safe =
     does_short names plan e.agent e.call (call_of plan e.agent e.call) safe refl
 
--- each event of a trace is told with short numbers
+-- each event of a trace is written with short numbers
 abbrev TellsShort : (Side → Data) → List Event → Type 0
 TellsShort tell trace = (k : ℕ) → k < length trace → HasShortNumbers (tell (side_at trace k))
 

@@ -145,7 +145,7 @@ fn push_seen(seen: Option<usize>, chunk: &mut Chunk)
     }
 }
 
-/// Appends the line that counts accesses, agents and races, and names what is judged: so many races are told, so many
+/// Appends the line that counts accesses, agents and races, and names what is judged: so many races are listed, so many
 /// aren't, and so many of all are data races.
 pub(crate) fn push_count(
     sides: &Sides,

@@ -23,7 +23,7 @@ use std::io;
 use std::io::Write;
 
 /// Writes what a judge says of a script's run, whose trace has an event for each entry of the journal: a line for each
-/// race that is told, with the calls of its two events, and what stands behind them.
+/// race that is listed, with the calls of its two events, and what comes behind these lines.
 ///
 /// Each line of JSON is read as its tree, if the plan's Numbers are safe integers.
 ///
@@ -53,8 +53,8 @@ pub fn write_run_verdict<W: Write>(
     write_verdict(&Sides::Calls(run), trace, verdict, format, w)
 }
 
-/// Writes what a judge says of a trace: a line for each race that is told, with the accesses of its two events, and
-/// what stands behind them.
+/// Writes what a judge says about a trace: a line for each race that is listed, with the accesses of its two events,
+/// and what comes behind these lines.
 ///
 /// Each line of JSON is read as its tree.
 ///
@@ -74,7 +74,7 @@ pub fn write_trace_verdict<W: Write>(
     write_verdict(&Sides::Accesses, trace, verdict, format, w)
 }
 
-/// Writes what a judge says of a trace, whose events are told so.
+/// Writes what a judge says about a trace, whose events are written so.
 #[tactic(auto, using(sab_text::proofs::Appending::appends_both, sab_text::proofs::Appending::kept_out))]
 fn write_verdict<W: Write>(
     sides: &Sides,
@@ -150,7 +150,7 @@ fn push_race(sides: &Sides, events: &[Event], race: Race, format: VerdictFormat,
     }
 }
 
-/// Appends what stands behind the races that are told, where so many aren't, and so many of all are data races.
+/// Appends what comes behind the races that are listed, if so many aren't, and so many of all are data races.
 fn push_last(
     sides: &Sides,
     events: &[Event],
