@@ -59,7 +59,7 @@ fn race(first: usize, second: usize) -> Race {
     }
 }
 
-/// Whether a verdict tells the first two of six data races, and how many are left.
+/// Whether a verdict has the first two of six data races, and how many are left.
 fn tells_two_of_six(verdict: &Verdict) -> bool {
     verdict.races.as_slice() == [race(0, 1), race(0, 2)].as_slice()
         && verdict.rest == 4

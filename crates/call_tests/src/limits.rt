@@ -17,7 +17,7 @@ fn idle(alloc: Global) -> Result<Plan, Fail> {
     plan(alloc, &[0], &[], &[(true, &[])])
 }
 
-/// Makes a move so often, and tells whether it was made each time.
+/// Makes a move so often, and returns whether it was made each time.
 fn repeats(sim: &mut Sim, m: Move, count: usize) -> bool {
     for _ in 0..count {
         if sim.step(m).is_err() {
@@ -66,7 +66,7 @@ const ACCESS_AND_WAIT: [Move; 7] = [
     Step(0),
 ];
 
-/// Makes moves, and tells whether each was made.
+/// Makes moves, and returns whether each was made.
 fn steps(sim: &mut Sim, moves: &[Move]) -> bool {
     moves.iter().all(|m| sim.step(*m).is_ok())
 }

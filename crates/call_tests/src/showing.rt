@@ -21,7 +21,7 @@ fn waiters(alloc: Global) -> Result<Plan, Fail> {
     plan(alloc, &[8, 8], &[whole(Kind::Int32, 1, 8)?], &agents)
 }
 
-/// Makes a step of each of these agents, and tells whether just `waiting` wait at the first byte of block 1 then.
+/// Makes a step of each of these agents, and returns whether just `waiting` wait at the first byte of block 1 then.
 fn shows(sim: &mut Sim, agents: &[u32], waiting: &[u32]) -> bool {
     let place = Place { block: 1, byte: 0 };
     let other_block = Place { block: 0, byte: 0 };

@@ -4,8 +4,8 @@
 //! Then it makes calls, which `tests/refusals` refuses memory and threads to.
 //!
 //! Its argument is a folder that has a folder of cases for each subject; without one it is the folder where it runs. It
-//! tells of each subject, of each finding by the case's name, and of each call. With `--calls` it makes the calls alone,
-//! or the one that is named behind. It ends with status 1 if there is a finding.
+//! reports each subject, each finding by the case's name, and each call. With `--calls` it makes the calls alone, or
+//! the one that is named behind. It ends with status 1 if there is a finding.
 #![tactic(auto)]
 
 mod cases;

@@ -1,7 +1,7 @@
 //! Calls that are made while something outside refuses memory or threads.
 //!
-//! A line tells that the call gave its answer, or that it was refused as it may be, that all stood which has to stand,
-//! and that the same call once more gave its answer.
+//! A line reports that the call returned its answer, or that it was refused as it may be, that all stayed which has to
+//! stay, and that the same call once more returned its answer.
 
 mod case;
 mod found;

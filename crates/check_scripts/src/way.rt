@@ -21,7 +21,7 @@ impl Way {
     /// All ways.
     pub const ALL: [Way; 3] = [Way::Replay, Way::Race(Share::Lock), Way::Race(Share::Ring)];
 
-    /// What it is told by.
+    /// What it is named by.
     pub fn name(self) -> &'static str {
         match self {
             Way::Replay => "replayed",

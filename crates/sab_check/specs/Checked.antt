@@ -18,8 +18,8 @@ pub record IsAccepted (script text : List ℕ) : Type 0 where
   pub spelled : IsScriptOf script setup
   pub said : text ≡ accepted_text setup
 
--- what is said of a refusal where this was found, which JSON hasn't: it is told if it begins at the place where the text
--- stops being JSON, or before
+-- what is said about a refusal if this was found, which JSON hasn't: it is reported if it begins at the place where the
+-- text stops being JSON, or before
 abbrev pub said_of : List ℕ → Refusal → Option ForeignAt → List ℕ
 said_of script (NotJson place) (Some found) =
     if is_by (spot_after (take found.at script)) place.spot

@@ -66,7 +66,7 @@ abbrev pub agents_lines : SetupParts → ℕ → List ScriptParts → List ℕ
 agents_lines setup agent [] = []
 agents_lines setup agent (s ∷ ss) = calls_lines setup s.can_block agent 0 s.calls ++ agents_lines setup (suc agent) ss
 
--- a number and a word, with an s behind it but for 1
+-- a number and a word, with an s behind it except for 1
 abbrev pub plural : ℕ → List ℕ → List ℕ
 plural n word = decimal n ++ (codes " " ++ (word ++ (if n == 1 then [] else codes "s")))
 

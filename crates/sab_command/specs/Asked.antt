@@ -38,7 +38,7 @@ IsFormat value format.Svg = value ≡ Some (codes "svg")
 IsFormat value format.Plain = (value ≢ Some (codes "explained")) × (value ≢ Some (codes "json"))
     × (value ≢ Some (codes "svg"))
 
--- likewise the two formats of a verdict
+-- the two formats of a verdict are asked for in the same way
 abbrev pub IsVerdictFormat : Option Text → VerdictFormat → Type 0
 IsVerdictFormat value verdict.Json = value ≡ Some (codes "json")
 IsVerdictFormat value verdict.Plain = value ≢ Some (codes "json")

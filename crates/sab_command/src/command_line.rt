@@ -92,7 +92,7 @@ fn flag<'a>(alloc: Global, name: &'a str, help: &'a str) -> Arg<'a>
         .action(ArgAction::SetTrue)
 }
 
-/// What says how a report is told, whether all calls are to return, whether a refusal is explained, and the file.
+/// What says how a report is written, whether all calls are to return, whether a refusal is explained, and the file.
 fn report_arguments<'a>(alloc: Global, formats: &'a [&'a str]) -> Result<Vec<Arg<'a>>, AllocError>
     ensures { IfOk result (λ arguments. HaveRules arguments.items (report_rules formats.entry)) }
 {
@@ -124,7 +124,7 @@ fn trace_flag<'a>(alloc: Global) -> Result<Arg<'a>, AllocError>
     trace.conflicts_with("explain")
 }
 
-/// What says how a verdict is told, and of what.
+/// What says how a verdict is written, and about what it is.
 fn judge_arguments<'a>(alloc: Global, formats: &'a [&'a str]) -> Result<Vec<Arg<'a>>, AllocError>
     ensures { IfOk result (λ arguments. HaveRules arguments.items (judge_rules formats.entry)) }
 {

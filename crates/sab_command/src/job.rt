@@ -6,7 +6,7 @@ use sab_text::{Telling, VerdictFormat};
 /// In which form a run is written.
 #[derive(Clone, Copy, Debug, PartialEq, Eq)]
 pub enum RunForm {
-    /// Its report, which is told so.
+    /// Its report, which is written so.
     Report(Telling),
     /// A script that replays to that report.
     Script,
@@ -26,7 +26,7 @@ pub enum Job {
     Check,
     /// To replay it, and to judge the run for unordered accesses.
     Judge {
-        /// How the verdict is told.
+        /// How the verdict is written.
         format: VerdictFormat,
         /// Whether it is an answer of its own that some calls haven't returned.
         finish: bool,

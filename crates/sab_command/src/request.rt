@@ -10,7 +10,7 @@ pub enum Task {
     OfScript(Job),
     /// The input is a script, and its agents are to be run in threads.
     OfRace(RaceJob),
-    /// The input is a trace of a run, which is to be judged for unordered accesses; the verdict is told so.
+    /// The input is a trace of a run, which is to be judged for unordered accesses; the verdict is written so.
     OfTrace(VerdictFormat),
 }
 
@@ -30,6 +30,6 @@ pub struct Request<'a> {
     pub task: Task,
     /// Where the input is read from.
     pub source: Source<'a>,
-    /// Whether it is to be told why the script is refused, and at which place, also where no terminal shows it.
+    /// Whether to report why the script is refused, and at which place, also where no terminal shows it.
     pub explain: bool,
 }

@@ -1,4 +1,4 @@
--- What is told of a job that failed.
+-- What is reported about a job that failed.
 use Rattle.std.specs.Prelude.{ℕ, List, [], ◌++◌, Option, Some, None, codes, decimal}
 use Rattle.std.specs.Borrow.{Bor}
 use Rattle.sab_tool.specs.declared.tool_fault.ToolFault.{ToolFault}

@@ -1,4 +1,4 @@
--- The line that tells of a fault.
+-- The line that reports a fault.
 use Rattle.std.specs.Prelude.{ℕ, List, ◌++◌, codes, decimal}
 use Rattle.sab_tool.specs.declared.tool_fault.ToolFault.{ToolFault}
 use Rattle.sab_tool.specs.ToolFault.{number_of, name_of}

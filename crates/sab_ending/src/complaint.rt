@@ -1,4 +1,4 @@
-//! What is told of a job that failed.
+//! What is reported about a job that failed.
 
 ghost use Rattle.std.specs.Prelude.{◌≡◌};
 ghost use Rattle.sab_ending.specs.Complaint.{advice_text};
@@ -10,7 +10,7 @@ use std::fmt;
 /// What the program says on standard error of a job that failed, in lines.
 ///
 /// Its text is that of the [`FaultLine`], with the file's name behind it where there is one, and the line of the input
-/// where it is told, each behind a colon and a space, and a line feed. Behind it is a line that says what can be judged
+/// if that is reported, each behind a colon and a space, and a line feed. Then a line says what can be judged
 /// instead, if the fault is OrdinaryData, and then what a check says.
 #[derive(Clone, Copy, Debug)]
 pub struct Complaint<'a> {
@@ -18,9 +18,9 @@ pub struct Complaint<'a> {
     pub fault: ToolFault,
     /// The name of the file that failed, if one did.
     pub file: Option<&'a str>,
-    /// The line of the input that is refused, from 1, where that is told.
+    /// The line of the input that is refused, from 1, if that is reported.
     pub line: Option<u32>,
-    /// What a check says of the script, in lines; empty where that isn't told.
+    /// What a check says about the script, in lines; empty if that isn't reported.
     pub why: &'a str,
 }
 

@@ -14,13 +14,13 @@ pub enum Ending {
     Done,
     /// The command line was refused.
     Refused,
-    /// The script was refused, as standard output tells.
+    /// The script was refused, as standard output says.
     ScriptRefused,
     /// The script was run, and some call hasn't returned, though all were to.
     Unfinished,
-    /// Two accesses of the run are unordered, as standard output tells.
+    /// Two accesses of the run are unordered, as standard output says.
     Racy,
-    /// A fault, which the program tells of with a [`FaultLine`](crate::FaultLine).
+    /// A fault, which the program reports with a [`FaultLine`](crate::FaultLine).
     Failed(ToolFault),
 }
 

@@ -1,4 +1,4 @@
-//! The line that tells of a fault.
+//! The line that reports a fault.
 
 use sab_tool::ToolFault;
 use std::fmt;

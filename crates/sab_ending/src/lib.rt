@@ -1,4 +1,4 @@
-//! How `sabsim` ends: what a job came to, the exit status, and the line that tells of a fault.
+//! How `sabsim` ends: how a job ended, the exit status, and the line that reports a fault.
 #![tactic(auto)]
 
 mod complaint;

@@ -14,7 +14,7 @@ pub enum Outcome {
     Refused,
     /// All calls were to return, and some haven't.
     Unfinished,
-    /// The run was to be judged, and two of its accesses are unordered, as what was written tells.
+    /// The run was to be judged, and two of its accesses are unordered, as what was written says.
     Racy,
 }
 

@@ -1,4 +1,4 @@
--- What was known before a move is what the fact of its entry tells.
+-- What was known before a move is what the fact of its entry says.
 use Rattle.std.proofs.Common.{◌≡◌, ◌⊎◌, inl, inr, ℕ, zero, suc, ◌==◌, ◌||◌, not, Bool, true, false, cond, List, [], ◌∷◌, ◌++◌, length, take, map, slice_get, Option, Some, None, refl, ap, sym, ◌∙◌, subst, arith, MatchBool, ℤ}
 use Rattle.std.specs.Bool.{then_some}
 use Rattle.std.specs.Prelude.{⊤, Contains, IfSome, IfNone, if◌then◌else◌, filter, option_map}
@@ -53,7 +53,7 @@ use Rattle.sab_explain.proofs.Explaining.{Reaches-last}
 
 -- ---- one move more
 
--- what a step of a simulator tells
+-- what a step of a simulator reports
 pub record Stepped (old new : SimParts) (m : Move) (e : Entry) : Type 0 where
   pub fits_old : FitsMoves old.plan old.moves old.journal old.blocks
   pub fits_new : FitsMoves new.plan new.moves new.journal new.blocks

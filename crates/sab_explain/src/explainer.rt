@@ -21,7 +21,7 @@ use sab_sim::{Sim, SimFault};
 use std::alloc::{AllocError, Global};
 use std::marker::Model;
 
-/// A simulator that tells the fact of each entry.
+/// A simulator that returns the fact of each entry.
 #[derive(Drop)]
 pub struct Explainer {
     sim: Sim,
@@ -59,7 +59,7 @@ impl Explainer {
         })
     }
 
-    /// Makes one move, as `Sim::step` does, and tells its entry and the fact of it.
+    /// Makes one move, as `Sim::step` does, and returns its entry and the fact of it.
     ///
     /// Refused are, in this order, a move that names no agent (NoAgent), any move once the journal has 2^20 entries
     /// (Full), and one for which there is no memory (OutOfMemory). A refusal changes nothing, and the explainer goes

@@ -1,6 +1,6 @@
 //! What each move of a schedule found and changed.
 //!
-//! An [`Explainer`] is a simulator that tells of each move, besides its entry, the [`Fact`] of the entry.
+//! An [`Explainer`] is a simulator that returns for each move its entry and the [`Fact`] of the entry.
 #![tactic(auto)]
 
 mod before;

@@ -35,7 +35,7 @@ agent_lines names standings a [] = []
 agent_lines names standings a (p ∷ agents) =
     line (agent_data names a p (slice_index_or standings a None)) ++ agent_lines names standings (a + 1) agents
 
--- what is told of a run as JSON: a line for each entry that has one, and then one for each block and each agent
+-- what is written about a run as JSON: a line for each entry that has one, and then one for each block and each agent
 abbrev pub json_texts : List (List ℕ) → Lines → Texts
 json_texts names lines = record {
   start = [];

@@ -18,7 +18,7 @@ abbrev pub IsSafeArgument : Argument → Type 0
 IsSafeArgument (Value x) = IsSafeOperand x
 IsSafeArgument (Limit n) = IsSafeInteger n
 
--- each number of a call is a safe integer, but for BigInts
+-- each number of a call is a safe integer, except BigInts
 pub record IsSafeCall (call : Call) : Type 0 where
   pub index : IsSafeInteger (index_of call)
   pub arguments : All IsSafeArgument (arguments_of call)

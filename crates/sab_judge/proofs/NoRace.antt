@@ -1,4 +1,4 @@
--- A verdict that tells no race, and leaves none.
+-- A verdict that lists no race, and leaves none.
 use Rattle.std.proofs.Common.{◌≡◌, ℕ, ◌+◌, List, length, inl, inr, refl, arith}
 use Rattle.sab_judge.specs.declared.event.Event.{Event}
 use Rattle.sab_judge.specs.declared.race.Race.{Race}
@@ -15,13 +15,13 @@ no_races_counted of_none apart = refl
 no_races_counted (and_of counted here) apart =
     omega (arith, no_races_counted counted apart, none_counted here (λ i. apart i _))
 
--- where there is no race, none is told, and none is left
+-- if there is no race, none is listed, and none is left
 pub none_left : (trace : List Event) (most : ℕ) (told : List Race) (rest data_races : ℕ)
     → IsVerdict trace most told rest data_races
     → HaveNoRace trace → length told + rest ≡ 0
 none_left trace most told rest data_races v apart = no_races_counted v.count apart
 
--- where none is told, and none is left, there is no race
+-- if none is listed, and none is left, there is no race
 pub no_race : (trace : List Event) (most : ℕ) (told : List Race) (rest data_races : ℕ)
     → IsVerdict trace most told rest data_races
     → length told + rest ≡ 0 → HaveNoRace trace

@@ -1,4 +1,4 @@
--- What is told of races, one more at a time.
+-- What is reported about races, one more at a time.
 use Rattle.std.proofs.Common.{◌≡◌, ◌⊎◌, inl, inr, ℕ, ◌+◌, ◌^◌, ◌<◌, ◌≤◌, List, [], ◌∷◌, ◌++◌, length, refl, sym, subst, ap, ◌∙◌, arith, length-append}
 use Rattle.std.proofs.Math.ListN.{get_or-append}
 use Rattle.std.proofs.Math.Seq.{get_or-append_seam}
@@ -28,7 +28,7 @@ weaker {k} {l} {i} {j} (inr (same, lt)) = inr (same, omega (arith, lt))
 passed_more : (told : List Race) {i j : ℕ} → ComesAfterAll told i j → ComesAfterAll told (i + 1) j
 passed_more told passed k h = weaker (passed k h)
 
--- ---- races that are told
+-- ---- races that are listed
 
 among_more : {told : List Race} {k l : ℕ} (r : Race) → IsAmong told k l → IsAmong (told ++ r ∷ []) k l
 among_more {told} {k} {l} r a = record {
@@ -118,7 +118,7 @@ left_one {trace} {j} {i} {most} {told} {rest} t enough race = record {
   small = omega (arith, t.small);
 }
 
--- a race that is told
+-- a race that is listed
 pub told_one : {trace : List Event} {j i most : ℕ} {told : List Race} {rest : ℕ} (r : Race)
     → HasTold trace j i most told rest → length told < most → IsTold trace r → r.first ≡ i → r.second ≡ j
     → HasTold trace j (i + 1) most (told ++ r ∷ []) rest

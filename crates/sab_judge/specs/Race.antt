@@ -34,7 +34,7 @@ pub record IsDataRace (trace : List Event) (i j : ℕ) : Type 0 where
   pub meet : Meet trace i j
   pub unlike : are_alike (event_at trace i) (event_at trace j) ≡ false
 
--- ---- what is told of all races
+-- ---- what is reported about all races
 
 -- so many of the numbers below n are such
 pub data Counts (P : ℕ → Type 0) : ℕ → ℕ → Type 0 where

@@ -1,4 +1,4 @@
--- What is told of the races so far.
+-- What is reported about the races so far.
 use Rattle.std.specs.Prelude.{◌≡◌, ◌⊎◌, ℕ, ◌<◌, ◌≤◌, ◌+◌, ◌*◌, List, All, length}
 use Rattle.sab_judge.specs.declared.event.Event.{Event}
 use Rattle.sab_judge.specs.declared.race.Race.{Race}
@@ -6,7 +6,7 @@ use Rattle.sab_judge.specs.Race.{IsRace, Counts, CountsRaces, ComesBefore}
 use Rattle.sab_judge.specs.Verdict.{IsTold, InOrder, IsAmong, IsLeft, ComesAfterAll}
 use Rattle.sab_judge.specs.declared.trace.TheConstants.Trace.{MAX_EVENTS}
 
--- the races of the trace that come before i and j are told, or left
+-- the races of the trace that come before i and j are listed, or left
 pub record HasTold (trace : List Event) (j i most : ℕ) (told : List Race) (rest : ℕ) : Type 0 where
   pub races : All (IsTold trace) told
   pub order : InOrder told

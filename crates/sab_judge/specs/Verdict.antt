@@ -1,4 +1,4 @@
--- What a judge tells of a trace.
+-- What a judge reports about a trace.
 use Rattle.std.specs.Prelude.{◌≡◌, ◌⊎◌, ◌↔◌, ℕ, ◌<◌, ◌≤◌, ◌+◌, IsTrue, false, List, All, length, Option, Some, None, slice_index_or}
 use Rattle.sab_judge.specs.declared.event.Event.{Event}
 use Rattle.sab_judge.specs.declared.race.Race.{Race}
@@ -40,7 +40,7 @@ pub record IsAmong (told : List Race) (i j : ℕ) : Type 0 where
 abbrev pub ComesAfterAll : List Race → ℕ → ℕ → Type 0
 ComesAfterAll told i j = (k : ℕ) → k < length told → ComesBefore (race_at told k).first (race_at told k).second i j
 
--- the race of i and j is left: it comes after all that are told, and some are left
+-- the race of i and j is left: it comes after all that are listed, and some are left
 pub record IsLeft (told : List Race) (rest i j : ℕ) : Type 0 where
   pub after : ComesAfterAll told i j
   pub some : 0 < rest

@@ -31,11 +31,11 @@ use std::alloc::{AllocError, Global};
 
 /// Judges the events of a run, which stand in the order in which they took effect (Races, Data Races).
 ///
-/// Told are its first races, at most `most`, by their later events, and those of one later event by their earlier ones;
-/// the others are counted. So where none is told although one could be, no two events race.
+/// Its first races are listed, at most `most`, by their later events, and those of one later event by their earlier
+/// ones; the others are counted. So if none is listed although one could be, no two events race.
 ///
 /// An event takes time by how many different accesses its own meets, and not by how often agents make them or by how
-/// many bytes it has; and once more by the events, where its races are told. The first access of a range also moves what
+/// many bytes it has; and once more by the events, if its races are listed. The first access of a range also moves what
 /// is kept behind it. Some 90 bytes are kept for each event, and some for each different access. Where memory is
 /// refused, that is the answer.
 pub fn judge(alloc: Global, trace: &Trace, most: usize) -> Result<Verdict, AllocError>
@@ -98,8 +98,8 @@ fn data_races_of(
     count_data_races(trace, clock, past, seen, readers, j)
 }
 
-/// Tells the races of which the `j`-th event is the later one, which are so many; or counts them, where no more are to
-/// be told.
+/// Lists the races of which the `j`-th event is the later one, which are so many; or counts them, if no more are to be
+/// listed.
 fn tell_or_count(
     verdict: &mut Verdict,
     trace: &[Event],
@@ -122,7 +122,7 @@ fn tell_or_count(
     Ok(())
 }
 
-/// Tells the races of which the `j`-th event is the later one.
+/// Lists the races of which the `j`-th event is the later one.
 fn tell_races(
     verdict: &mut Verdict,
     trace: &[Event],
@@ -144,7 +144,7 @@ fn tell_races(
     Ok(())
 }
 
-/// Tells the race of the `i`-th event and the `j`-th, or counts it where no more are to be told.
+/// Lists the race of the `i`-th event and the `j`-th, or counts it if no more are to be listed.
 fn tell(
     verdict: &mut Verdict,
     trace: &[Event],

@@ -1,4 +1,4 @@
-//! Judges the events of a run for data races, by the happens-before order of ECMA-262.
+//! Judges the events of a run for unordered accesses, by the happens-before order of ECMA-262.
 #![tactic(auto)]
 
 mod access;

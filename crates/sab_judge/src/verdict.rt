@@ -1,15 +1,15 @@
-//! What is told of the races of a trace.
+//! What is reported about the races of a trace.
 
 use crate::race::Race;
 
 /// The first races of a trace, how many more there are, and how many of all are data races.
 #[derive(Debug, Drop)]
 pub struct Verdict {
-    /// The races that are told, by their later events, and those of one later event by their earlier ones.
+    /// The races that are listed, by their later events, and those of one later event by their earlier ones.
     pub races: Vec<Race>,
-    /// How many races aren't told.
+    /// How many races aren't listed.
     pub rest: u64,
-    /// How many of all races, those that aren't told too, are data races.
+    /// How many of all races, those that aren't listed too, are data races.
     pub data_races: u64,
 }
 

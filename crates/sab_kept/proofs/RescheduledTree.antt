@@ -64,7 +64,7 @@ spelled agents (m ∷ moves) h =
     let rest = All-tail (λ (m : Move). agent_of m < agents) m moves h in
     ((refl, first), spelled agents moves rest)
 
--- the setup is the same but for its schedule
+-- the setup is the same, except for its schedule
 pub respelled : (tree : Data) (setup : SetupParts) (moves : List Move) → Spells tree setup → length moves ≤ MAX_MOVES
     → All (λ m. agent_of m < length setup.plan.scripts) moves
     → Spells (rescheduled tree moves) (with_schedule setup moves)

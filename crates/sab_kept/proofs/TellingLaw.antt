@@ -23,7 +23,7 @@ kind_told (Step a) (Stuck NotWaiting) h = cc
 kind_told (Step a) (Stuck Endless) h = cc
 kind_told (Step a) _ h = refl
 
--- the move that an entry answers is the one that it tells of
+-- the move that an entry answers is the one that it records
 move_told : (before : List Entry) (m : Move) (e : Entry) → Answers before m e → m ≡ move_of e
 move_told before m e h =
     kind_told m e.what h.kind ∙ (λ i. cond (is_time_up e.what) (TimeUp (sym h.agent i)) (Step (sym h.agent i)))

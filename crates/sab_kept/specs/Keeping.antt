@@ -44,7 +44,7 @@ pub record IsKept (IsRun : SetupParts → ReportParts → Type 0) (script : List
   pub reads_back : IsScriptOf text (with_schedule setup report.schedule)
   -- the one report that fits these is this one
   pub its : IsReportOf (with_schedule setup report.schedule) report
-  -- its moves are those that its journal tells
+  -- its moves are those that its journal records
   pub told : report.schedule ≡ schedule_of report.journal
 
 -- just such a text came behind what the writer held

@@ -1,4 +1,4 @@
--- The schedule that a journal tells.
+-- The schedule that a journal records.
 use Rattle.std.specs.Prelude.{◌≡◌, List, map, Bool, true, false, if◌then◌else◌}
 use Rattle.sab_plan.specs.declared.answer.Answer.TheVariants.{TimedOut}
 use Rattle.sab_plan.specs.declared.entry.Why.TheVariants.{NotWaiting, Endless}
@@ -18,15 +18,15 @@ is_time_up (Stuck NotWaiting) = true
 is_time_up (Stuck Endless) = true
 is_time_up _ = false
 
--- the move that an entry tells of
+-- the move that an entry records
 abbrev pub move_of : Entry → Move
 move_of e = if is_time_up e.what then TimeUp e.agent else Step e.agent
 
--- the moves that a journal tells of
+-- the moves that a journal records
 abbrev pub schedule_of : List Entry → List Move
 schedule_of journal = map move_of journal
 
--- the law: a report that fits a plan has the schedule that its journal tells
+-- the law: a report that fits a plan has the schedule that its journal records
 abbrev pub JournalTells : Type 0
 JournalTells =
     (plan : PlanParts) (report : ReportParts) → Fits plan report → report.schedule ≡ schedule_of report.journal

@@ -5,11 +5,11 @@ ghost use Rattle.sab_kept.specs.Telling.{move_of, JournalTells};
 
 use sab_sim::{Answer, Entry, Move, What, Why};
 
-/// The move that an entry tells of: the end of a wait's time, where the entry says that it ended the
+/// The move that an entry records: the end of a wait's time, if the entry says that it ended the
 /// wait or found none that it could end; else a step.
 ///
 /// So a journal determines its schedule: in every report that fits a plan, move k is the one that
-/// entry k tells of.
+/// entry k records.
 #[tactic(auto, using(crate::proofs::TellingLaw::journal_tells))]
 pub fn move_told_by(entry: Entry) -> Move
     ensures told { result ≡ move_of entry }

@@ -7,7 +7,7 @@ use Rattle.sab_plan.specs.declared.progress.Progress.{Progress}
 use Rattle.sab_plan.specs.Script.{ScriptParts}
 use Rattle.sab_plan.specs.Journal.{returned_of}
 
--- what is told of a run
+-- what is reported about a run
 pub record ReportParts : Type 0 where
   pub schedule : List Move
   pub journal : List Entry

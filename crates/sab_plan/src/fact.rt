@@ -15,7 +15,7 @@ pub struct Explained {
     pub fact: Fact,
 }
 
-/// What an entry found and changed, beyond what the entry itself tells.
+/// What an entry found and changed, beyond what the entry itself has.
 #[derive(Drop)]
 pub struct Fact {
     /// The call that the agent was at; none where all its calls had returned.

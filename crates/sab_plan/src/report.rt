@@ -5,7 +5,7 @@ use crate::progress::Progress;
 use crate::schedule::Move;
 use std::marker::Model;
 
-/// What is told of a run.
+/// What is reported about a run.
 #[derive(Debug, Drop)]
 pub struct Report {
     /// The moves, in order.

@@ -8,7 +8,7 @@ use crate::gate::Gate;
 use rtrb::Producer;
 use sab_sim::Move;
 
-/// Sends an agent's moves into its ring, in order, each once. Before each the gate is told of it.
+/// Sends an agent's moves into its ring, in order, each once. Before each the gate is called.
 ///
 /// There are at most 2^20 moves, and the ring is known to have room for them all, so no push waits.
 pub fn feed<G: Gate>(ring: &mut Producer<Move>, agent: u32, moves: &[Move], gate: &G)

@@ -1,4 +1,4 @@
-//! Gates, which are told of each move of a race.
+//! Gates, which are called at each move of a race.
 
 /// Is told of each move of an agent's own thread, before it and after it. An agent's moves are numbered from 0.
 ///

@@ -53,7 +53,7 @@ impl Lane {
         given
     }
 
-    /// Makes the next move that came, and tells whether one was made.
+    /// Makes the next move that came, and returns whether one was made.
     pub fn take_one<G: Gate>(&mut self, race: &mut Race, gate: &G) -> bool
         ensures plan { race.new.plan ≡ race.old.plan }
         ensures spins { race.new.spins ≡ race.old.spins }

@@ -1,6 +1,6 @@
 //! Agents in real threads, which share one simulator by a lock or send it their moves by rings.
 //!
-//! What happened is told as a report, whose schedule is the order in which the moves took effect: it can be replayed.
+//! What happened is a report, whose schedule is the order in which the moves took effect: it can be replayed.
 #![tactic(auto)]
 
 mod agenda;

@@ -29,8 +29,8 @@ fn yields(seed: u64, agent: u32, k: u32) -> u32
     (draw_for(seed, agent, k) % 32) as u32
 }
 
-/// Whether whoever made an agent's move `k` yields after it: at `rate` of 16 moves behind its first ones, by a number
-/// drawn likewise, and never by the seed 0.
+/// Whether the thread that made an agent's move `k` yields after it: at `rate` of 16 moves behind its first ones, by a
+/// number drawn in the same way, and never by the seed 0.
 fn rests(seed: u64, rate: u32, agent: u32, k: u32) -> bool
     ensures { result ≡ rests_of seed rate agent k }
 {
@@ -40,14 +40,14 @@ fn rests(seed: u64, rate: u32, agent: u32, k: u32) -> bool
 /// The gate that lets threads yield, as often as is drawn from a seed.
 ///
 /// Before each of its first 16 moves an agent's thread yields 0 to 31 times, since it would else have made all moves of
-/// a short script before another thread has begun. After so many of 16 later ones whoever made the move yields once:
+/// a short script before another thread has begun. After so many of 16 later ones the thread that made the move yields:
 /// under the lock the agent's thread, so that another one takes it, and by rings their owner, so that a thread which
 /// shares a processor with it goes on. The gate keeps nothing else, and so brings no order of its own on the threads.
 #[derive(Clone, Copy, Debug)]
 pub struct Mix {
     /// What the numbers are drawn from.
     pub seed: u64,
-    /// After how many of 16 later moves whoever made them yields.
+    /// After how many of 16 later moves the thread that made them yields.
     pub rate: u32,
 }
 

@@ -38,7 +38,7 @@ pub fn drain<G: Gate>(race: &mut Race, lanes: &mut Vec<Lane>, gate: &G, route: &
     }
 }
 
-/// Looks into the rings so often in a row at most, and tells whether a move came.
+/// Looks into the rings so often in a row at most, and returns whether a move came.
 fn await_move<G: Gate>(
     race: &mut Race,
     lanes: &mut Vec<Lane>,
@@ -58,7 +58,7 @@ fn await_move<G: Gate>(
     false
 }
 
-/// Looks into each ring, from the one on that the route says, until one gives a move, and tells whether one did.
+/// Looks into each ring, from the one on that the route says, until one gives a move, and returns whether one did.
 fn look<G: Gate>(race: &mut Race, lanes: &mut Vec<Lane>, gate: &G, route: &mut Route) -> bool
     ensures plan { race.new.plan ≡ race.old.plan }
     ensures spins { race.new.spins ≡ race.old.spins }

@@ -131,7 +131,7 @@ impl Race {
         };
     }
 
-    /// Makes the next move of an agent, if one is left, and tells whether one was.
+    /// Makes the next move of an agent, if one is left, and returns whether one was.
     pub fn make_next(&mut self, agent: u32) -> bool
         ensures plan { self.new.plan ≡ self.old.plan }
         ensures spins { self.new.spins ≡ self.old.spins }
@@ -146,7 +146,7 @@ impl Race {
         true
     }
 
-    /// Makes a move if it is the agent's next one, and tells the number that it has among the agent's.
+    /// Makes a move if it is the agent's next one, and returns the number that it has among the agent's.
     pub fn make_given(&mut self, agent: u32, given: Move) -> Option<u32>
         ensures plan { self.new.plan ≡ self.old.plan }
         ensures spins { self.new.spins ≡ self.old.spins }

@@ -1,4 +1,4 @@
--- What the driver tells, move by move.
+-- What the driver writes, move by move.
 use Rattle.std.proofs.Common.{◌≡◌, inl, inr, ℕ, ◌+◌, List, [], ◌∷◌, ◌++◌, length, Option, Some, None, IfSome, IfNone, refl, ap, sym, subst, ◌∙◌, arith, append_assoc, append-nil, length-append}
 use Rattle.std.proofs.lemmas.List.{take-append-le}
 use Rattle.std.proofs.Math.Seq.{take-append_seam}
@@ -68,13 +68,13 @@ entries-push texts plan sinces k (f ∷ journal) (g ∷ facts) e fact h =
     ∙ sym (append_assoc here there (texts.entry plan (sinces_after after (k + 1) journal) (k + length (f ∷ journal)) e
     fact))
 
--- nothing is told of no entry
+-- nothing is written about no entry
 pub told_none : (texts : Texts) (plan : PlanParts) (journal : List Entry) (a : Option (List ℕ)) → journal ≡ []
     → TellsEntries texts plan journal a a
 told_none texts plan journal a e =
     rw e (record { facts = []; are = AreFacts-none plan; written = appends_none a })
 
--- what is told of one entry more comes behind what was told
+-- what is written about one entry more comes behind what was written
 pub told_more : (texts : Texts) (plan : PlanParts) (journal : List Entry) (a b y : Option (List ℕ))
     (sinces : List (Option ℕ)) (k : ℕ) (e : Entry) (fact : Fact)
     → length journal ≡ k → sinces ≡ sinces_after no_sinces 0 journal → TellsEntries texts plan journal a b

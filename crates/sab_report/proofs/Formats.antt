@@ -1,4 +1,4 @@
--- The formats of a report, each as its writer tells of it.
+-- The formats of a report, each as its writer's contract says.
 use Rattle.std.proofs.Common.{◌≡◌, ◌∙◌, ℕ, List, Option, refl, subst, sym}
 use Rattle.std.specs.Io.KnownBytes.{Appends}
 use Rattle.sab_plan.specs.declared.schedule.Move.{Move}

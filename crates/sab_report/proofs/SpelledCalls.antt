@@ -1,4 +1,4 @@
--- A value that spells a call is what a line of JSON tells of it.
+-- A value that spells a call is what a line of JSON has for it.
 use Rattle.std.proofs.Common.{◌≡◌, ℕ, ℤ, Bool, true, false, List, [], ◌∷◌, refl, sym, ap, ◌∙◌, subst}
 use Rattle.std.proofs.lemmas.Option.{get_or_from_slice_get}
 use Rattle.serde_json.specs.Data.{Data, string, Items, no_items, item}

@@ -11,7 +11,7 @@ use Rattle.sab_judge.specs.Race.{HaveNoRace}
 use Rattle.sab_judge.specs.Verdict.{IsVerdict}
 use Rattle.sab_events.specs.Events.{events_of}
 use Rattle.sab_text.specs.declared.format.VerdictFormat.{VerdictFormat}
-use Rattle.sab_verdict.specs.Json.{call_side}
+use Rattle.sab_verdict.specs.Json.{call_side, judged_calls}
 use Rattle.sab_verdict.specs.ReadsBack.{LinesReadBack}
 use Rattle.sab_verdict.specs.Verdict.{run_verdict_text}
 use Rattle.sab_report.specs.declared.judging.TheConstants.{MAX_TOLD}
@@ -29,7 +29,7 @@ pub verdict_told : (format : VerdictFormat) (names : List (List ℕ)) (plan : Pl
     → journal ≡ report.journal → trace ≡ events_of plan journal → IsVerdict trace MAX_TOLD races rest data_races
     → (IsTrue clean ↔ HaveNoRace trace)
     → Appends old new (run_verdict_text names plan journal trace format races rest data_races)
-    → LinesReadBack (call_side names plan journal) trace races rest data_races
+    → LinesReadBack (call_side names plan journal) judged_calls trace races rest data_races
     → TellsVerdict format names plan report old new (not clean)
 verdict_told format names plan report journal trace races rest data_races clean old new same made verdict none written
     read =
@@ -44,7 +44,8 @@ verdict_told format names plan report journal trace races rest data_races clean 
           (run_verdict_text names plan report.journal t format races rest data_races)) is
           (subst (λ (j : List Entry). Appends old new
           (run_verdict_text names plan j trace format races rest data_races)) same written);
-      read_back = subst (λ (t : List Event). LinesReadBack (call_side names plan report.journal) t races rest
-          data_races) is
-          (subst (λ (j : List Entry). LinesReadBack (call_side names plan j) trace races rest data_races) same read);
+      read_back = subst (λ (t : List Event). LinesReadBack (call_side names plan report.journal) judged_calls t
+          races rest data_races) is
+          (subst (λ (j : List Entry). LinesReadBack (call_side names plan j) judged_calls trace races rest data_races)
+          same read);
     }

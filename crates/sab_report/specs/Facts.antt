@@ -1,4 +1,4 @@
--- What is told of a run with its facts, in any format.
+-- What is written about a run with its facts, in any format.
 use Rattle.std.specs.Prelude.{◌≡◌, ℕ, ◌<◌, List, length, Option, Some, None, slice_get, slice_index_or, take}
 use Rattle.std.specs.Io.KnownBytes.{Appends}
 use Rattle.sab_plan.specs.declared.entry.Entry.{Entry}

@@ -11,7 +11,7 @@ use Rattle.sab_judge.specs.Race.{HaveNoRace}
 use Rattle.sab_judge.specs.Verdict.{IsVerdict}
 use Rattle.sab_events.specs.Events.{events_of}
 use Rattle.sab_text.specs.declared.format.VerdictFormat.{VerdictFormat}
-use Rattle.sab_verdict.specs.Json.{call_side}
+use Rattle.sab_verdict.specs.Json.{call_side, judged_calls}
 use Rattle.sab_verdict.specs.ReadsBack.{LinesReadBack}
 use Rattle.sab_verdict.specs.Verdict.{run_verdict_text}
 use Rattle.sab_tool.specs.declared.tool_fault.ToolFault.{ToolFault}
@@ -34,7 +34,8 @@ pub record TellsVerdict (format : VerdictFormat) (names : List (List ℕ)) (plan
   pub written : Appends old new
       (run_verdict_text names plan report.journal (events_of plan report.journal) format races rest data_races)
   pub read_back :
-      LinesReadBack (call_side names plan report.journal) (events_of plan report.journal) races rest data_races
+      LinesReadBack (call_side names plan report.journal) judged_calls (events_of plan report.journal) races rest
+      data_races
 
 -- the script spells a setup without ordinary data, the run of its one report was judged, and so it ended
 pub record JudgesAs (format : VerdictFormat) (old new : Option (List ℕ)) (script : List ℕ) (judged : Judged) :

@@ -1,4 +1,4 @@
--- What is told of a race.
+-- What is written about a race.
 use Rattle.std.specs.Prelude.{◌≡◌, ◌⊎◌, ℕ, List, Option}
 use Rattle.std.specs.Io.KnownBytes.{Keeps}
 use Rattle.sab_plan.specs.Plan.{PlanParts}

@@ -13,8 +13,8 @@ use Rattle.sab_json.specs.Lines.{block_data}
 use Rattle.sab_json.specs.ReadsBack.{ReadsBack}
 use Rattle.sab_report.specs.Facts.{IsStandingOf}
 
--- each line of a report, but for its line feed, is read as its tree: the line of each entry with its fact, of each block, and of each agent with
--- where it stands
+-- each line of a report, without its line feed, is read as its tree: the line of each entry with its fact, of each
+-- block, and of each agent with where it stands
 pub record LinesReadBack (names : List (List ℕ)) (plan : PlanParts) (report : ReportParts) : Type 0 where
   pub entries : (k : ℕ) (e : Entry) (fact : Fact) → slice_get report.journal k ≡ Some e
       → IsFact plan (take k report.journal) e fact → ReadsBack (entry_data names k e fact)

@@ -1,4 +1,4 @@
--- What a line of JSON tells of a call, and what a script spells for it.
+-- What a line of JSON has for a call, and what a script spells for it.
 use Rattle.std.specs.Prelude.{◌≡◌, ℕ, List}
 use Rattle.serde_json.specs.Data.{Data}
 use Rattle.sab_plan.specs.declared.call.Call.{Call}

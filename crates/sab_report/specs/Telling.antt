@@ -1,4 +1,4 @@
--- What is told of a run.
+-- What is written about a run.
 use Rattle.std.specs.Prelude.{◌≡◌, ◌⊎◌, ℕ, List, length, Option}
 use Rattle.std.specs.Io.KnownBytes.{Appends, Keeps}
 use Rattle.sab_plan.specs.declared.schedule.Move.{Move}

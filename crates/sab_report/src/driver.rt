@@ -73,7 +73,7 @@ fn write_facts<F: FactFormat, W: Write>(
     Ok(report)
 }
 
-/// Makes all moves of a schedule, for which the room is reserved, and writes what is told of each; the last may stay in
+/// Makes all moves of a schedule, for which the room is reserved, and writes the text about each; the last may stay in
 /// the chunk.
 ///
 /// Where a write failed, nothing is said of how many moves were made or how much was written.

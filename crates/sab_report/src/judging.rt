@@ -20,7 +20,7 @@ use sab_words::Name;
 use std::alloc::Global;
 use std::io::Write;
 
-/// How many races of a run are told at most; the others are counted.
+/// How many races of a run are listed at most; the others are counted.
 pub const MAX_TOLD: usize = 100;
 
 // The clauses cite the constant: so its number is held here.
@@ -38,10 +38,10 @@ pub struct Judged {
 /// Runs a script, judges the run for unordered accesses, writes the verdict, and returns what the run came to; it doesn't
 /// flush.
 ///
-/// Told are the first races, at most [`MAX_TOLD`]. OrdinaryData if a view's name begins with `ordinary_` or `init_`: such
-/// a script stands for a run with ordinary accesses, which it has as stores or not at all, so no verdict on it would be
-/// one on that run. WriteFailed where a write failed; nothing is said then of how much was written. Every other fault is
-/// a refusal of the script, or want of memory. But for WriteFailed nothing was written.
+/// The first races are listed, at most [`MAX_TOLD`]. OrdinaryData if a view's name begins with `ordinary_` or `init_`:
+/// such a script stands for a run with ordinary accesses, which it has as stores or not at all, so no verdict on it
+/// would be one on that run. WriteFailed if a write failed; nothing is said then about how much was written. Any other
+/// fault is a refusal of the script, or want of memory. Except after WriteFailed nothing was written.
 #[tactic(auto, using(sab_tool::proofs::ReplaySteps::keeps_same, crate::proofs::Judgeable::ordinary_found, crate::proofs::Judgeable::ordinary_refused, crate::proofs::Judgeable::unwritten_verdict))]
 pub fn judge_as<W: Write>(
     alloc: Global,

@@ -7,7 +7,7 @@ ghost use Rattle.sab_script.specs.Calls.{SpellsCall};
 ghost use Rattle.sab_report.specs.Facts.{NotesLast};
 ghost use Rattle.sab_report.specs.Spelling.{IsToldAsSpelled};
 
-/// What a line of JSON tells as a call's `does` is what a script spells for that call. A value that spells it is there
+/// What a line of JSON has as a call's `does` is what a script spells for that call. A value that spells it is there
 /// where its view has one of the names, and its numbers are in range.
 pub fn calls_are_told_as_spelled()
     ensures { (names : List (List ℕ)) (d : Data) (call : Call) → SpellsCall names d call → IsToldAsSpelled names call }

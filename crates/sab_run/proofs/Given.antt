@@ -51,7 +51,7 @@ race_failed (Some bytes) old new race fault input script all same few refused =
     subst (λ (s : List ℕ). (length s ≤ MAX_INPUT) × IsFaultOfRace race.form race.spins old new s fault) all
     (few, subst (λ (s : List ℕ). IsFaultOfRace race.form race.spins old new s fault) same refused)
 
--- what is told besides
+-- what is reported besides
 pub explained : (known : Option (List ℕ)) (is_asked : Bool) (fault : ToolFault) (input script : List ℕ)
     (told : Explanation) → IfSome known (λ bytes. input ≡ bytes) → script ≡ input
     → IsExplanation is_asked fault script told → IfSome known (λ s. IsExplanation is_asked fault s told)
@@ -60,7 +60,7 @@ explained (Some bytes) is_asked fault input script told all same e =
     subst (λ (s : List ℕ). IsExplanation is_asked fault s told) all
     (subst (λ (s : List ℕ). IsExplanation is_asked fault s told) same e)
 
--- of an input that can't be had nothing else is told
+-- about an input that can't be had nothing else is reported
 pub unread : (known : Option (List ℕ)) (is_asked : Bool) (fault : ToolFault) → IsInputFault known fault
     → IfSome known (λ s. IsExplanation is_asked fault s Untold)
 unread None is_asked fault h = tt

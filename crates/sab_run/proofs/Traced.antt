@@ -8,7 +8,7 @@ use Rattle.sab_judge.specs.Race.{HaveNoRace}
 use Rattle.sab_judge.specs.Verdict.{IsVerdict}
 use Rattle.sab_trace.specs.Reading.{SpellsTrace}
 use Rattle.sab_text.specs.declared.format.VerdictFormat.{VerdictFormat}
-use Rattle.sab_verdict.specs.Json.{access_side}
+use Rattle.sab_verdict.specs.Json.{access_side, judged_trace}
 use Rattle.sab_verdict.specs.ReadsBack.{LinesReadBack}
 use Rattle.sab_verdict.specs.Verdict.{trace_verdict_text}
 use Rattle.sab_report.specs.declared.judging.TheConstants.{MAX_TOLD}
@@ -29,7 +29,7 @@ pub judged : (known old new : Option (List ℕ)) (format : VerdictFormat) (outco
     (races : List Race) (rest data_races : ℕ) → IfSome known (λ bytes. SpellsTrace bytes events)
     → IsVerdict events MAX_TOLD races rest data_races
     → Appends old new (trace_verdict_text events format races rest data_races)
-    → LinesReadBack access_side events races rest data_races → IsOutcomeOf events outcome
+    → LinesReadBack access_side judged_trace events races rest data_races → IsOutcomeOf events outcome
     → IfSome known (JudgesTrace format outcome old new)
 judged None old new format outcome events races rest data_races spelled verdict written read is = tt
 judged (Some bytes) old new format outcome events races rest data_races spelled verdict written read is = record {

@@ -1,4 +1,4 @@
--- Why a script is refused, as a check tells it.
+-- Why a script is refused, as a check reports it.
 use Rattle.std.specs.Prelude.{◌≡◌, ℕ, ◌≤◌, List, length, Bool, true, Option, Some, None, String, string_bytes}
 use Rattle.std.specs.declared.alloc.Global.{Global}
 use Rattle.sab_tool.specs.declared.input.TheConstants.{MAX_INPUT}
@@ -13,8 +13,8 @@ abbrev pub IsExplained : List ℕ → Option (String Global) → Type 0
 IsExplained script None = (text : List ℕ) × IsAccepted script text
 IsExplained script (Some text) = IsRefused script (string_bytes text)
 
--- it is told why the script is refused exactly where that is asked for, the script itself is refused with the fault, and
--- there is memory: a script that is too long isn't checked; that there is none is said only where it is asked for too
+-- it is reported why the script is refused exactly if that is asked for, the script itself is refused with the fault,
+-- and there is memory: a script that is too long isn't checked; that there is none is said only if it is asked for too
 abbrev pub IsExplanation : Bool → ToolFault → List ℕ → Explanation → Type 0
 IsExplanation is_asked fault script Untold =
     is_asked ≡ true → status_after fault ≡ 1 → length script ≤ MAX_INPUT → (text : List ℕ) × IsAccepted script text

@@ -11,18 +11,18 @@ use Rattle.sab_run.specs.declared.failure.Explanation.{Explanation}
 use Rattle.sab_run.specs.declared.failure.Explanation.TheVariants.{Untold, NoMemory, Told, AtLine}
 use Rattle.sab_run.specs.declared.failure.Failure.{Failure}
 
--- a fault of which nothing else is told
+-- a fault about which nothing else is reported
 abbrev pub untold : ToolFault → Failure
 untold fault = record { fault = fault; explanation = Untold }
 
--- what a check says, where that is told
+-- what a check says, if that is reported
 abbrev pub explanation_text : Explanation → List ℕ
 explanation_text Untold = []
 explanation_text NoMemory = []
 explanation_text (Told text) = string_bytes text
 explanation_text (AtLine line) = []
 
--- the line of a trace, where that is told
+-- the line of a trace, if that is reported
 abbrev pub line_of : Explanation → Option ℕ
 line_of (AtLine line) = Some line
 line_of _ = None

@@ -10,7 +10,7 @@ use Rattle.sab_trace.specs.declared.line_fault.LineFault.{LineFault}
 use Rattle.sab_trace.specs.declared.line_fault.LineFault.TheVariants as L
 use Rattle.sab_trace.specs.Reading.{SpellsTrace, IsRefusedBy}
 use Rattle.sab_text.specs.declared.format.VerdictFormat.{VerdictFormat}
-use Rattle.sab_verdict.specs.Json.{access_side}
+use Rattle.sab_verdict.specs.Json.{access_side, judged_trace}
 use Rattle.sab_verdict.specs.ReadsBack.{LinesReadBack}
 use Rattle.sab_verdict.specs.Verdict.{trace_verdict_text}
 use Rattle.sab_tool.specs.declared.tool_fault.ToolFault.TheVariants.{TooMany, OutOfMemory, BadShape, BadNumber, BadAgent, NotJson, WriteFailed, TooLong, ReadFailed}
@@ -37,10 +37,10 @@ pub record JudgesTrace (format : VerdictFormat) (outcome : Outcome) (old new : O
   pub data_races : ℕ
   pub verdict : IsVerdict events MAX_TOLD races rest data_races
   pub written : Appends old new (trace_verdict_text events format races rest data_races)
-  pub read_back : LinesReadBack access_side events races rest data_races
+  pub read_back : LinesReadBack access_side judged_trace events races rest data_races
   pub outcome_is : IsOutcomeOf events outcome
 
--- what the program tells of a trace that is refused: the fault, and at which line
+-- what the program reports about a trace that is refused: the fault, and at which line
 abbrev pub told_of : LineFault → ℕ → Failure
 told_of L.OutOfMemory line = untold OutOfMemory
 told_of L.ReadFailed line = untold ReadFailed

@@ -19,7 +19,7 @@ pub fn explain_script(alloc: Global, script: &[u8]) -> Result<Option<String>, Al
     }
 }
 
-/// What is told besides the fault that a script's job ended with, where it is asked for or isn't.
+/// What is reported besides the fault that a script's job ended with, if that is asked for or isn't.
 pub(crate) fn explanation_of(
     alloc: Global,
     is_asked: bool,

@@ -11,7 +11,7 @@ use sab_ending::Complaint;
 use sab_tool::ToolFault;
 use std::io::{Error, ErrorKind};
 
-/// What is told of a refusal besides its fault.
+/// What is reported about a refusal besides its fault.
 #[derive(Drop)]
 pub enum Explanation {
     /// Nothing: it isn't asked for, or the fault isn't one of the script, or a check doesn't refuse the script.
@@ -29,7 +29,7 @@ pub enum Explanation {
 pub struct Failure {
     /// The fault.
     pub fault: ToolFault,
-    /// What is told besides.
+    /// What is reported besides.
     pub explanation: Explanation,
 }
 
@@ -63,7 +63,7 @@ impl Failure {
     }
 }
 
-/// The name of the file that failed, if it is told.
+/// The name of the file that failed, if it is reported.
 fn file_of<'a>(source: Source<'a>, fault: ToolFault) -> Option<&'a str>
     ensures { TellsFile source.entry fault result }
 {
@@ -83,7 +83,7 @@ fn has_control(name: &str) -> bool
     name.as_bytes().iter().any(|byte| byte.is_ascii_control())
 }
 
-/// The line of a trace that is refused, if that is told.
+/// The line of a trace that is refused, if that is reported.
 fn line_of(explanation: &Explanation) -> Option<u32>
     ensures { result ≡ line_of explanation.now }
 {
@@ -93,7 +93,7 @@ fn line_of(explanation: &Explanation) -> Option<u32>
     }
 }
 
-/// What a check says, if that is told.
+/// What a check says, if that is reported.
 fn text_of(explanation: &Explanation) -> &str
     ensures { result.now ≡ explanation_text explanation.now }
 {

@@ -23,7 +23,7 @@ use std::io::{Read, Write};
 /// gave more than [`MAX_INPUT`](sab_tool::MAX_INPUT) bytes, ReadFailed where a read failed, and WriteFailed where a
 /// write or the flush failed; nothing is said then of how much was written. Every other fault is that of the script's
 /// replay, or want of memory, and nothing was written. A check of a script that is refused isn't answered by its fault:
-/// what is written tells it. Where the script is refused, and that is to be explained, the failure has what a check says
+/// what is written reports it. If the script is refused, and that is to be explained, the failure has what a check says
 /// of it.
 #[tactic(auto, using(crate::proofs::Given::ran, crate::proofs::Given::failed, crate::proofs::Given::explained, crate::proofs::Given::unread))]
 pub fn run<R: Read, W: Write>(

@@ -3,7 +3,7 @@
 ghost use Rattle.std.specs.Prelude.{◌≡◌, All, IfOk, IfErr, IfSome, OnOk};
 ghost use Rattle.std.specs.Io.KnownBytes.{Appends, IsAtEnd};
 ghost use Rattle.sab_judge.specs.Verdict.{IsTold};
-ghost use Rattle.sab_verdict.specs.Json.{access_side};
+ghost use Rattle.sab_verdict.specs.Json.{access_side, judged_trace};
 ghost use Rattle.sab_verdict.specs.ReadsBack.{LinesReadBack};
 ghost use Rattle.sab_verdict.specs.Verdict.{trace_verdict_text};
 ghost use Rattle.sab_run.specs.Tracing.{JudgesTrace, IsTraceFailure, refused_at};
@@ -20,9 +20,9 @@ use std::io::{Read, Write};
 
 /// Judges a trace that a reader gives for unordered accesses, writes the verdict, and flushes.
 ///
-/// Told are the first races, at most [`MAX_TOLD`]. A line of the trace that is refused is told with its fault. ReadFailed
-/// where a read failed, OutOfMemory where there is no memory, and WriteFailed where a write or the flush failed; nothing
-/// is said then of how much was written. After every other fault nothing was written.
+/// The first races are listed, at most [`MAX_TOLD`]. A line of the trace that is refused is reported with its fault.
+/// ReadFailed if a read failed, OutOfMemory if there is no memory, and WriteFailed if a write or the flush failed;
+/// nothing is said then about how much was written. After every other fault nothing was written.
 pub fn judge_trace<R: Read, W: Write>(
     alloc: Global,
     format: VerdictFormat,
@@ -61,7 +61,7 @@ fn tell<W: Write>(
     requires { All (IsTold trace.now) verdict.now.races.items }
     ensures ok { OnOk result (Appends (W.contents output.old) (W.contents output.new)
         (trace_verdict_text trace.now format verdict.now.races.items verdict.now.rest verdict.now.data_races)) }
-    ensures read_back { LinesReadBack access_side trace.now verdict.now.races.items verdict.now.rest
+    ensures read_back { LinesReadBack access_side judged_trace trace.now verdict.now.races.items verdict.now.rest
         verdict.now.data_races }
     ensures err { IfErr result (λ fault. fault ≡ ToolFault.WriteFailed) }
 {
@@ -69,7 +69,7 @@ fn tell<W: Write>(
     output.flush().map_err(ToolFault::of_write)
 }
 
-/// That of a trace that is refused. Of a read that failed, and of want of memory, the line isn't told.
+/// That of a trace that is refused. For a read that failed, and for want of memory, no line is reported.
 fn failure_of(refusal: Refusal) -> Failure
     ensures { result ≡ refused_at refusal }
 {

@@ -244,7 +244,7 @@ IsKept-push plan moves journal machine m e machine' k named room of_m kind turns
     kept' = Kept-push plan moves journal machine m e machine'
         (agent_at machine.agents (agent_of m)) k.kept g_is of_m kind turns
 
--- the agents stand as the journal tells
+-- the agents stand as the journal says
 standing_from-kept : (journal : List Entry) (agents : List Agent) (a : ℕ) (scripts : List ScriptParts)
     → ((k : ℕ) → k < length scripts → (agent_at agents (a + k)).returned ≡ returned_of journal (a + k))
     → standing_from agents a scripts ≡ progress_from journal a scripts

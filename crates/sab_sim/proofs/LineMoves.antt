@@ -85,7 +85,7 @@ enlisted_turn {plan} {m} {a} turn call p begun call_is waits does =
         newest : Waiter
         newest = record { place = p; agent = a }
 
-        -- whoever stands in the line has an earlier ticket
+        -- each agent that stands in the line has an earlier ticket
         earlier : (w : Waiter) (t : ℕ) → WaitsAt agents w.agent w.place t → Contains S.line w → t < m.next_ticket
         earlier w t waiting there =
             let old = seated_waits m.agents 0 S.line w stood.seated there in

@@ -1,4 +1,4 @@
--- What a simulator tells, and what it keeps.
+-- What a simulator reports, and what it keeps.
 use Rattle.std.specs.Prelude.{◌≡◌, ℕ, suc, ◌≤◌, ◌-◌, List, [], ◌∷◌, length, map, take, Vec, vec_len, vec_capacity}
 use Rattle.std.proofs.Common.{Global}
 use Rattle.sab_plan.specs.declared.schedule.Move.{Move}

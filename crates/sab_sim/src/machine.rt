@@ -78,7 +78,7 @@ impl Machine {
         self.blocks
     }
 
-    /// Makes one move, and tells what it did.
+    /// Makes one move, and returns what it did.
     pub fn turn(&mut self, plan: &Plan, m: Move) -> Entry
         requires { IsReady plan.now self.old (agent_of m) }
         ensures agent { result.agent ≡ agent_of m }

@@ -1,4 +1,4 @@
-//! What a report tells of the blocks and of the agents, put into room that was reserved.
+//! What a report says about the blocks and the agents, put into room that was reserved.
 
 ghost use Rattle.std.specs.Prelude.{◌≡◌, ◌<◌, ◌≤◌, ◌^◌, [], length, All, vec_capacity};
 ghost use Rattle.sab_plan.specs.Script.{ScriptParts};
@@ -20,7 +20,7 @@ pub fn hand_over(room: &mut Vec<Vec<u8>>, blocks: Vec<Block>)
     }
 }
 
-/// Tells of each agent how many of its calls returned, and how many it has.
+/// Reports how many of its calls each agent returned from, and how many it has.
 pub fn tell_progress(room: &mut Vec<Progress>, scripts: &[Script], agents: &[Agent])
     requires empty { room.old.items ≡ [] }
     requires size { length agents.now ≡ length scripts.now }

@@ -12,7 +12,7 @@ use std::alloc::Global;
 /// The report of a plan after all moves of a schedule, in order.
 ///
 /// The first move that `Sim::step` would refuse decides between NoAgent and Full, and OutOfMemory may come in place of
-/// either; no other schedule is refused but for want of memory.
+/// either; no other schedule is refused, except for want of memory.
 pub fn replay(alloc: Global, plan: Plan, schedule: &[Move]) -> Result<Report, SimFault>
     ensures fits { IfOk result (λ report. Fits plan report) }
     ensures schedule { IfOk result (λ report. report.schedule ≡ schedule.now) }

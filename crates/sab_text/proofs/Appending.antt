@@ -65,7 +65,7 @@ none_left None b all p = tt
 none_left (Some x) None all p = p
 none_left (Some x) (Some y) all p = rw (← append-nil y) p
 
--- a piece is told, and the rest is left
+-- a piece is written, and the rest is left
 pub left_told : (a b y : Option (List ℕ)) (piece rest all : List ℕ) → Appends a (append_known b (piece ++ rest)) all
     → Appends b y piece → Appends a (append_known y rest) all
 left_told None b y piece rest all p q = tt

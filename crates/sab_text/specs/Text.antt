@@ -47,7 +47,7 @@ what_text (Stuck why) = codes "stuck " ++ why_text why
 abbrev pub field : ℕ → List ℕ
 field n = decimal n ++ codes " "
 
--- the line of entry k, but for its line feed
+-- the line of entry k, without its line feed
 abbrev pub entry_text : ℕ → Entry → List ℕ
 entry_text k e = field k ++ field e.agent ++ field e.call ++ what_text e.what
 
@@ -77,7 +77,7 @@ abbrev pub block_lines : ℕ → List (List ℕ) → List ℕ
 block_lines b [] = []
 block_lines b (bytes ∷ blocks) = block_line b bytes ++ block_lines (b + 1) blocks
 
--- the line of agent a, but for its line feed
+-- the line of agent a, without its line feed
 abbrev pub agent_text : ℕ → Progress → List ℕ
 agent_text a p = codes "agent " ++ field a ++ field p.returned ++ codes "of " ++ decimal p.total
 
@@ -89,7 +89,7 @@ abbrev pub agent_lines : ℕ → List Progress → List ℕ
 agent_lines a [] = []
 agent_lines a (p ∷ agents) = agent_line a p ++ agent_lines (a + 1) agents
 
--- the text of a report whose journal is told by these lines
+-- the text of a report whose journal is written in these lines
 abbrev pub text_by : Lines → ReportParts → List ℕ
 text_by lines report =
     journal_lines lines 0 report.journal ++ block_lines 0 report.blocks ++ agent_lines 0 report.agents

@@ -33,7 +33,7 @@ pub fn push_entry(lines: Lines, k: usize, entry: &Entry, chunk: &mut Chunk)
     chunk.push(line.bytes());
 }
 
-/// Prepends the text of an entry, its line but for the line feed; it is entry `k` of its journal.
+/// Prepends the text of an entry, its line without the line feed; it is entry `k` of its journal.
 pub fn prepend_entry(k: usize, entry: &Entry, line: &mut Line)
     requires { length line.old + ENTRY_LEN ≤ Line.ROOM }
     ensures { line.new ≡ entry_text k entry.now ++ line.old }

@@ -1,4 +1,4 @@
-//! How a report is told.
+//! How a report is written.
 
 use crate::lines::Lines;
 
@@ -15,7 +15,7 @@ pub enum Format {
     Svg,
 }
 
-/// The formats of a verdict on a run's data races.
+/// The formats of a verdict on a run's unordered accesses.
 #[derive(Clone, Copy, Debug, PartialEq, Eq)]
 pub enum VerdictFormat {
     /// A line in words for each race.
@@ -24,7 +24,7 @@ pub enum VerdictFormat {
     Json,
 }
 
-/// How a report is told.
+/// How a report is written.
 #[derive(Clone, Copy, Debug, PartialEq, Eq)]
 pub struct Telling {
     /// Its format.

@@ -67,7 +67,7 @@ pub enum ToolFault {
 impl ToolFault {
     ghost use Rattle.sab_tool.specs.ToolFault.{number_of, name_of};
 
-    /// The number that it is told by.
+    /// The number that it is reported by.
     pub fn number(self) -> u32
         ensures { result ≡ number_of self }
     {

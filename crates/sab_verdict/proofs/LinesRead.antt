@@ -25,7 +25,7 @@ use Rattle.sab_json.proofs.ShortCalls.{does_short}
 use Rattle.sab_json.proofs.ReadingBack.{IsInOrder, reads_back}
 use Rattle.sab_verdict.specs.declared.side.Side.{Side}
 use Rattle.sab_verdict.specs.Events.{access_in, side_at, call_in, call_at, overlap_of, accesses_of, agents_of, has_access, is_accessing}
-use Rattle.sab_verdict.specs.Json.{call_side, access_side, race_data, count_data}
+use Rattle.sab_verdict.specs.Json.{call_side, access_side, judged_calls, judged_trace, race_data, count_data}
 use Rattle.sab_verdict.specs.ReadsBack.{RaceReadsBack, LinesReadBack}
 use Rattle.sab_verdict.proofs.Racing.{first_within, second_within}
 use Rattle.sab_verdict.proofs.TreesRead.{call_side_in_order, access_side_in_order, race_in_order, count_in_order}
@@ -63,7 +63,7 @@ does_short_at names plan None safe = tt
 does_short_at names plan (Some e) safe =
     does_short names plan e.agent e.call (call_of plan e.agent e.call) safe refl
 
--- each event of a trace is told with short numbers
+-- each event of a trace is written with short numbers
 abbrev TellsShort : (Side → Data) → List Event → Type 0
 TellsShort tell trace = (k : ℕ) → k < length trace → HasShortNumbers (tell (side_at trace k))
 
@@ -127,19 +127,19 @@ race_short tell trace race is tells told =
       ),
     )
 
-count_short : (trace : List Event) (told rest data_races : ℕ) → IsTrace trace → told < 2 ^ 64 → rest < 2 ^ 64
-    → data_races < 2 ^ 64 → HasShortNumbers (count_data trace told rest data_races)
+count_short : (judged : List ℕ) (trace : List Event) (told rest data_races : ℕ) → IsTrace trace → told < 2 ^ 64 → rest < 2 ^ 64
+    → data_races < 2 ^ 64 → HasShortNumbers (count_data judged trace told rest data_races)
 unfolding count_data accesses_of agents_of
-count_short trace told rest data_races is few more some =
+count_short judged trace told rest data_races is few more some =
     let accesses : accesses_of trace < 2 ^ 64 = omega (arith, count_by-le-length has_access trace, is.short) in
     let agents : agents_of trace < 2 ^ 64 =
     omega (arith, count_by-le-length (is_accessing trace) (range_with_len 0 16), length-range_with_len 0 16) in
-    (accesses, (agents, (some, (more, (few, tt)))))
+    (accesses, (agents, (some, (tt, (more, (few, tt))))))
 
-lines_read_back : (tell : Side → Data) (trace : List Event) (told : List Race) (rest data_races : ℕ)
+lines_read_back : (tell : Side → Data) (judged : List ℕ) (trace : List Event) (told : List Race) (rest data_races : ℕ)
     → ((side : Side) → IsInOrder 126 (tell side)) → TellsShort tell trace → IsTrace trace → All (IsTold trace) told
-    → length told < 2 ^ 64 → rest < 2 ^ 64 → data_races < 2 ^ 64 → LinesReadBack tell trace told rest data_races
-lines_read_back tell trace told rest data_races order short is all few more some = record {
+    → length told < 2 ^ 64 → rest < 2 ^ 64 → data_races < 2 ^ 64 → LinesReadBack tell judged trace told rest data_races
+lines_read_back tell judged trace told rest data_races order short is all few more some = record {
   races =
       All-weaker (IsTold trace) (RaceReadsBack tell trace)
       (λ race is_told. reads_back
@@ -148,22 +148,22 @@ lines_read_back tell trace told rest data_races order short is all few more some
       (race_short tell trace race is short is_told))
       told all;
   count =
-      reads_back (count_data trace (length told) rest data_races)
-      (count_in_order 126 trace (length told) rest data_races)
-      (count_short trace (length told) rest data_races is few more some);
+      reads_back (count_data judged trace (length told) rest data_races)
+      (count_in_order 126 judged trace (length told) rest data_races)
+      (count_short judged trace (length told) rest data_races is few more some);
 }
 
 pub run_lines_read_back : (names : List (List ℕ)) (plan : PlanParts) (journal : List Entry) (trace : List Event)
     (told : List Race) (rest data_races : ℕ) → IsTrace trace → All (IsTold trace) told → length told < 2 ^ 64
     → rest < 2 ^ 64 → data_races < 2 ^ 64 → HasSafeNumbers plan
-    → LinesReadBack (call_side names plan journal) trace told rest data_races
+    → LinesReadBack (call_side names plan journal) judged_calls trace told rest data_races
 run_lines_read_back names plan journal trace told rest data_races is all few more some safe =
-    lines_read_back (call_side names plan journal) trace told rest data_races (call_side_in_order 124 names plan journal)
-    (call_side_short names plan journal trace safe is) is all few more some
+    lines_read_back (call_side names plan journal) judged_calls trace told rest data_races
+    (call_side_in_order 124 names plan journal) (call_side_short names plan journal trace safe is) is all few more some
 
 pub trace_lines_read_back : (trace : List Event) (told : List Race) (rest data_races : ℕ) → IsTrace trace
     → All (IsTold trace) told → length told < 2 ^ 64 → rest < 2 ^ 64 → data_races < 2 ^ 64
-    → LinesReadBack access_side trace told rest data_races
+    → LinesReadBack access_side judged_trace trace told rest data_races
 trace_lines_read_back trace told rest data_races is all few more some =
-    lines_read_back access_side trace told rest data_races (access_side_in_order 125) (access_side_short trace is) is all
-    few more some
+    lines_read_back access_side judged_trace trace told rest data_races (access_side_in_order 125)
+    (access_side_short trace is) is all few more some

@@ -3,7 +3,7 @@ use Rattle.std.proofs.Common.{◌≡◌, ℕ, ◌-◌, List, ◌++◌, refl, ap}
 use Rattle.std.specs.Prelude.{codes, option_map}
 use Rattle.std.specs.Fmt.{decimal}
 use Rattle.json.specs.Print.{escape_byte}
-use Rattle.serde_json.specs.Data.{Data, boolean, no_members, member}
+use Rattle.serde_json.specs.Data.{Data, boolean, string, no_members, member}
 use Rattle.serde_json.specs.Written.{compact_text}
 use Rattle.sab_plan.specs.Plan.{PlanParts}
 use Rattle.sab_plan.specs.declared.entry.Entry.{Entry}
@@ -57,9 +57,10 @@ race_json tell race first second =
     (member_before (codes "seen") (option_map natural race.seen)
     (member (codes "size") (natural (shared.end - shared.start)) no_members) refl)
 
-pub count_json : (trace : List Event) (told rest data_races : ℕ)
-    → compact_text (count_data trace told rest data_races) ≡ codes "{\"accesses\":" ++ (decimal (accesses_of trace)
+pub count_json : (judged : List ℕ) (trace : List Event) (told rest data_races : ℕ)
+    → compact_text (count_data judged trace told rest data_races) ≡ codes "{\"accesses\":" ++ (decimal (accesses_of trace)
     ++ (codes ",\"agents\":" ++ (decimal (agents_of trace) ++ (codes ",\"data_races\":" ++ (decimal data_races
-    ++ (codes ",\"more\":" ++ (decimal rest ++ (codes ",\"races\":" ++ (decimal told ++ codes "}")))))))))
+    ++ (codes ",\"judged\":" ++ (compact_text (string judged)
+    ++ (codes ",\"more\":" ++ (decimal rest ++ (codes ",\"races\":" ++ (decimal told ++ codes "}")))))))))))
 unfolding count_data escape_byte
-count_json trace told rest data_races = refl
+count_json judged trace told rest data_races = refl

@@ -39,7 +39,8 @@ race_in_order n tell each race first second =
     (since_in_order n race.seen) (refl, (tt, tt)) in
     (tt, (refl, (tt, (refl, (tt, (refl, (each first, (refl, (each second, seen)))))))))
 
-pub count_in_order : (n : ℕ) (trace : List Event) (told rest data_races : ℕ)
-    → IsInOrder (suc n) (count_data trace told rest data_races)
+pub count_in_order : (n : ℕ) (judged : List ℕ) (trace : List Event) (told rest data_races : ℕ)
+    → IsInOrder (suc n) (count_data judged trace told rest data_races)
 unfolding count_data
-count_in_order n trace told rest data_races = (tt, (refl, (tt, (refl, (tt, (refl, (tt, (refl, (tt, tt)))))))))
+count_in_order n judged trace told rest data_races =
+    (tt, (refl, (tt, (refl, (tt, (refl, (tt, (refl, (tt, (refl, (tt, tt)))))))))))

@@ -1,4 +1,4 @@
--- What is told of events: calls and accesses, the bytes that two accesses share, and how many there are.
+-- What is written about events: calls and accesses, the bytes that two accesses share, and how many there are.
 use Rattle.std.specs.Prelude.{ℕ, ◌+◌, ◌==◌, ◌&&◌, min, max, Bool, false, List, Option, Some, None, is_some, IsTrue, slice_get, count_by}
 use Rattle.std.specs.List.{list_any, range_with_len}
 use Rattle.sab_plan.specs.declared.call.Call.{Call}

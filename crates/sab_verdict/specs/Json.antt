@@ -1,6 +1,6 @@
 -- A verdict as JSON.
 use Rattle.std.specs.Prelude.{ℕ, ◌-◌, List, codes, option_map}
-use Rattle.serde_json.specs.Data.{Data, boolean, object, no_members, member}
+use Rattle.serde_json.specs.Data.{Data, boolean, string, object, no_members, member}
 use Rattle.sab_plan.specs.Plan.{PlanParts}
 use Rattle.sab_plan.specs.declared.entry.Entry.{Entry}
 use Rattle.sab_judge.specs.declared.event.Event.{Event}
@@ -36,9 +36,17 @@ race_data tell race first second =
     (member (codes "second") (tell second) (member_if (codes "seen") (option_map natural race.seen)
     (member (codes "size") (natural (shared.end - shared.start)) no_members)))))))
 
--- how many accesses and agents there are; how many of all races are data races, how many aren't told, and how many are
-unfoldable pub count_data : List Event → ℕ → ℕ → ℕ → Data
-count_data trace told rest data_races =
+-- what is judged: a script's calls of Atomics, or a trace
+abbrev pub judged_calls : List ℕ
+judged_calls = codes "calls of Atomics"
+
+abbrev pub judged_trace : List ℕ
+judged_trace = codes "a trace"
+
+-- how many accesses and agents there are; how many of all races are data races; what is judged; how many races aren't
+-- listed, and how many are
+unfoldable pub count_data : List ℕ → List Event → ℕ → ℕ → ℕ → Data
+count_data judged trace told rest data_races =
     object (member (codes "accesses") (natural (accesses_of trace)) (member (codes "agents") (natural (agents_of trace))
-    (member (codes "data_races") (natural data_races)
-    (member (codes "more") (natural rest) (member (codes "races") (natural told) no_members)))))
+    (member (codes "data_races") (natural data_races) (member (codes "judged") (string judged)
+    (member (codes "more") (natural rest) (member (codes "races") (natural told) no_members))))))

@@ -92,7 +92,7 @@ more_text rest data_races =
 abbrev pub in_calls : List ℕ
 in_calls = codes " in the script's calls of Atomics"
 
--- what is told where there is none
+-- what is written if there is none
 unfoldable pub none_text : List ℕ → List Event → List ℕ
 none_text whose trace =
     codes "no data race: " ++ counted (accesses_of trace) (codes " access") (codes " accesses") ++ codes " by "

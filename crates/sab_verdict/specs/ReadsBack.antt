@@ -8,13 +8,13 @@ use Rattle.sab_verdict.specs.declared.side.Side.{Side}
 use Rattle.sab_verdict.specs.Events.{side_at}
 use Rattle.sab_verdict.specs.Json.{race_data, count_data}
 
--- the line of a race but for its line feed is read as its tree
+-- the line of a race, without its line feed, is read as its tree
 abbrev pub RaceReadsBack : (Side → Data) → List Event → Race → Type 0
 RaceReadsBack tell trace race =
     ReadsBack (race_data tell race (side_at trace race.first) (side_at trace race.second))
 
--- so is each line of a verdict: of each race that is told, and the last
-pub record LinesReadBack (tell : Side → Data) (trace : List Event) (told : List Race)
+-- so is each line of a verdict: of each race that is listed, and the last, which names what is judged
+pub record LinesReadBack (tell : Side → Data) (judged : List ℕ) (trace : List Event) (told : List Race)
     (rest data_races : ℕ) : Type 0 where
   pub races : All (RaceReadsBack tell trace) told
-  pub count : ReadsBack (count_data trace (length told) rest data_races)
+  pub count : ReadsBack (count_data judged trace (length told) rest data_races)

@@ -6,7 +6,7 @@ use Rattle.sab_verdict.specs.declared.side.Side.{Side}
 use Rattle.sab_verdict.specs.declared.sides.Sides.{Sides}
 use Rattle.sab_verdict.specs.declared.sides.Sides.TheVariants.{Calls, Accesses}
 use Rattle.sab_verdict.specs.Plain.{by_call, by_access, in_calls}
-use Rattle.sab_verdict.specs.Json.{call_side, access_side}
+use Rattle.sab_verdict.specs.Json.{call_side, access_side, judged_calls, judged_trace}
 
 -- in words
 abbrev pub words_of : Sides → Side → List ℕ
@@ -22,6 +22,11 @@ data_of Accesses = access_side
 abbrev pub whose_of : Sides → List ℕ
 whose_of (Calls run) = in_calls
 whose_of Accesses = []
+
+-- what is judged
+abbrev pub judged_of : Sides → List ℕ
+judged_of (Calls run) = judged_calls
+judged_of Accesses = judged_trace
 
 -- the names are of letters, digits and `_`, where there are some
 abbrev pub HaveNames : Sides → Type 0

@@ -1,7 +1,7 @@
 //! A verdict as JSON.
 
 ghost use Rattle.std.specs.Prelude.{◌≡◌, ◌+◌, ◌<◌, ◌≤◌, ◌++◌, All, length, codes, option_map};
-ghost use Rattle.serde_json.specs.Data.{boolean};
+ghost use Rattle.serde_json.specs.Data.{boolean, string};
 ghost use Rattle.serde_json.specs.Written.{compact_text};
 ghost use Rattle.sab_judge.specs.declared.event.Event.{Event};
 ghost use Rattle.sab_json.specs.Members.{member_text, member_text_if};
@@ -9,7 +9,7 @@ ghost use Rattle.sab_json.specs.CallData.{AreNames, natural, call_data};
 ghost use Rattle.sab_json.specs.Lines.{line};
 ghost use Rattle.sab_verdict.specs.Events.{call_at, Overlap};
 ghost use Rattle.sab_verdict.specs.Json.{call_side, access_side, race_data, count_data};
-ghost use Rattle.sab_verdict.specs.Sides.{data_of, HaveNames};
+ghost use Rattle.sab_verdict.specs.Sides.{data_of, judged_of, HaveNames};
 
 use crate::byte_range::ByteRange;
 use crate::count::{count_accesses, count_agents};
@@ -145,9 +145,10 @@ fn push_seen(seen: Option<usize>, chunk: &mut Chunk)
     }
 }
 
-/// Appends the line that counts accesses, agents and races: so many are told, so many aren't, and so many of all are data
-/// races.
+/// Appends the line that counts accesses, agents and races, and names what is judged: so many races are listed, so many
+/// aren't, and so many of all are data races.
 pub(crate) fn push_count(
+    sides: &Sides,
     events: &[Event],
     told: usize,
     rest: u64,
@@ -156,7 +157,7 @@ pub(crate) fn push_count(
 )
     requires agents { All (λ (e : Event). e.agent < 16) events.now }
     requires room { length chunk.old + Chunk.LINE_ROOM ≤ Chunk.ROOM }
-    ensures { chunk.new ≡ chunk.old ++ line (count_data events.now told rest data_races) }
+    ensures { chunk.new ≡ chunk.old ++ line (count_data (judged_of sides.now) events.now told rest data_races) }
 {
     chunk.push(b"{\"accesses\":");
     chunk.push_number(count_accesses(events) as u64);
@@ -164,10 +165,24 @@ pub(crate) fn push_count(
     chunk.push_number(count_agents(events) as u64);
     chunk.push(b",\"data_races\":");
     chunk.push_number(data_races);
+    chunk.push(b",\"judged\":");
+    chunk.push(judged_text(sides));
     chunk.push(b",\"more\":");
     chunk.push_number(rest);
     chunk.push(b",\"races\":");
     chunk.push_number(told as u64);
     chunk.push(b"}");
     chunk.push(b"\n");
+}
+
+/// What is judged, as a string of JSON. A script has calls of `Atomics` alone, whatever the code behind it does besides.
+#[tactic(auto, unfolding(json::specs::Print::escape_byte))]
+fn judged_text(sides: &Sides) -> &'static [u8]
+    ensures text { result.now ≡ compact_text (string (judged_of sides.now)) }
+    ensures len { length result.now ≤ 18 }
+{
+    match sides {
+        Sides::Calls(_) => b"\"calls of Atomics\"",
+        Sides::Accesses => b"\"a trace\"",
+    }
 }

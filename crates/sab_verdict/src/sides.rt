@@ -1,4 +1,4 @@
-//! How the events of a race are told.
+//! How the events of a race are written.
 
 ghost use Rattle.std.specs.Prelude.{◌≡◌};
 ghost use Rattle.sab_verdict.specs.Events.{call_at};
@@ -6,7 +6,7 @@ ghost use Rattle.sab_verdict.specs.Events.{call_at};
 use sab_plan::{Call, Entry, Plan};
 use sab_words::Name;
 
-/// How the two events of a race are told.
+/// How the two events of a race are written.
 #[derive(Clone, Copy)]
 pub(crate) enum Sides<'a> {
     /// As calls of a script's run.

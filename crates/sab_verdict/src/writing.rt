@@ -7,10 +7,10 @@ ghost use Rattle.sab_judge.specs.Trace.{IsTrace};
 ghost use Rattle.sab_judge.specs.Verdict.{IsTold};
 ghost use Rattle.sab_json.specs.CallData.{AreNames};
 ghost use Rattle.sab_json.specs.SafeNumbers.{HasSafeNumbers};
-ghost use Rattle.sab_verdict.specs.Json.{call_side, access_side};
+ghost use Rattle.sab_verdict.specs.Json.{call_side, access_side, judged_calls, judged_trace};
 ghost use Rattle.sab_verdict.specs.ReadsBack.{LinesReadBack};
 ghost use Rattle.sab_verdict.specs.Verdict.{line_of, last_line, verdict_text, run_verdict_text, trace_verdict_text};
-ghost use Rattle.sab_verdict.specs.Sides.{words_of, data_of, whose_of, HaveNames};
+ghost use Rattle.sab_verdict.specs.Sides.{words_of, data_of, whose_of, judged_of, HaveNames};
 
 use crate::side::side_at;
 use crate::sides::{Run, Sides};
@@ -23,7 +23,7 @@ use std::io;
 use std::io::Write;
 
 /// Writes what a judge says of a script's run, whose trace has an event for each entry of the journal: a line for each
-/// race that is told, with the calls of its two events, and what stands behind them.
+/// race that is listed, with the calls of its two events, and what comes behind these lines.
 ///
 /// Each line of JSON is read as its tree, if the plan's Numbers are safe integers.
 ///
@@ -42,8 +42,8 @@ pub fn write_run_verdict<W: Write>(
     requires told { All (IsTold trace.now) verdict.now.races.items }
     ensures written { OnOk result (Appends (W.contents w.old) (W.contents w.new) (run_verdict_text names.now plan.now
         journal.now trace.now format verdict.now.races.items verdict.now.rest verdict.now.data_races)) }
-    ensures read_back { HasSafeNumbers plan.now → LinesReadBack (call_side names.now plan.now journal.now) trace.now
-        verdict.now.races.items verdict.now.rest verdict.now.data_races }
+    ensures read_back { HasSafeNumbers plan.now → LinesReadBack (call_side names.now plan.now journal.now)
+        judged_calls trace.now verdict.now.races.items verdict.now.rest verdict.now.data_races }
 {
     let run = Run {
         names,
@@ -53,8 +53,8 @@ pub fn write_run_verdict<W: Write>(
     write_verdict(&Sides::Calls(run), trace, verdict, format, w)
 }
 
-/// Writes what a judge says of a trace: a line for each race that is told, with the accesses of its two events, and
-/// what stands behind them.
+/// Writes what a judge says about a trace: a line for each race that is listed, with the accesses of its two events,
+/// and what comes behind these lines.
 ///
 /// Each line of JSON is read as its tree.
 ///
@@ -68,12 +68,13 @@ pub fn write_trace_verdict<W: Write>(
     requires { All (IsTold trace.now) verdict.now.races.items }
     ensures written { OnOk result (Appends (W.contents w.old) (W.contents w.new)
         (trace_verdict_text trace.now format verdict.now.races.items verdict.now.rest verdict.now.data_races)) }
-    ensures read_back { LinesReadBack access_side trace.now verdict.now.races.items verdict.now.rest verdict.now.data_races }
+    ensures read_back { LinesReadBack access_side judged_trace trace.now verdict.now.races.items verdict.now.rest
+        verdict.now.data_races }
 {
     write_verdict(&Sides::Accesses, trace, verdict, format, w)
 }
 
-/// Writes what a judge says of a trace, whose events are told so.
+/// Writes what a judge says about a trace, whose events are written so.
 #[tactic(auto, using(sab_text::proofs::Appending::appends_both, sab_text::proofs::Appending::kept_out))]
 fn write_verdict<W: Write>(
     sides: &Sides,
@@ -85,7 +86,8 @@ fn write_verdict<W: Write>(
     requires names { HaveNames sides.now }
     requires told { All (IsTold trace.now) verdict.now.races.items }
     ensures written { OnOk result (Appends (W.contents w.old) (W.contents w.new) (verdict_text format
-        (words_of sides.now) (data_of sides.now) (whose_of sides.now) trace.now verdict.now.races.items verdict.now.rest verdict.now.data_races)) }
+        (words_of sides.now) (data_of sides.now) (whose_of sides.now) (judged_of sides.now) trace.now
+        verdict.now.races.items verdict.now.rest verdict.now.data_races)) }
     ensures valid { IsTrace trace.now }
     ensures few { length verdict.now.races.items < 2 ^ 64 }
     ensures rest { verdict.now.rest < 2 ^ 64 }
@@ -148,7 +150,7 @@ fn push_race(sides: &Sides, events: &[Event], race: Race, format: VerdictFormat,
     }
 }
 
-/// Appends what stands behind the races that are told, where so many aren't, and so many of all are data races.
+/// Appends what comes behind the races that are listed, if so many aren't, and so many of all are data races.
 fn push_last(
     sides: &Sides,
     events: &[Event],
@@ -161,10 +163,12 @@ fn push_last(
     requires agents { All (λ (e : Event). e.agent < 16) events.now }
     requires room { length chunk.old + Chunk.LINE_ROOM ≤ Chunk.ROOM }
     ensures { chunk.new ≡ chunk.old
-        ++ last_line format (whose_of sides.now) events.now races.now rest data_races }
+        ++ last_line format (whose_of sides.now) (judged_of sides.now) events.now races.now rest data_races }
 {
     match format {
         VerdictFormat::Plain => plain::push_end(sides, events, races, rest, data_races, chunk),
-        VerdictFormat::Json => as_json::push_count(events, races.len(), rest, data_races, chunk),
+        VerdictFormat::Json => {
+            as_json::push_count(sides, events, races.len(), rest, data_races, chunk);
+        }
     }
 }

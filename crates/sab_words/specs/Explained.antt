@@ -67,7 +67,7 @@ standing_lines column names standings a (p ∷ agents) =
     standing_line column names a p (slice_index_or standings a None)
     ++ standing_lines column names standings (a + 1) agents
 
--- what is told of a run in words: a line for each entry that has one, and then one for each block and each agent; the
+-- what is written about a run in words: a line for each entry that has one, then one for each block and each agent; the
 -- words from this column on
 abbrev pub words_texts : ℕ → List (List ℕ) → Lines → Texts
 words_texts column names lines = record {

@@ -24,7 +24,7 @@ pub trait FactFormat {
         ensures written { OnOk result (Appends (append_known (W.contents w.old) chunk.old)
             (append_known (W.contents w.new) chunk.new) (texts self.old).start) };
 
-    /// Writes what is told of entry `k` of a plan's journal; the last of it may stay in the chunk.
+    /// Writes the text about entry `k` of a plan's journal; the last of it may stay in the chunk.
     ///
     /// `sinces` has for each agent the position of its last entry before this one that had an effect.
     fn write_entry<W: Write>(

@@ -52,7 +52,7 @@ one_by_one : (before close first others slash name end : List ℕ)
     ≡ before ++ (close ++ first ++ others ++ slash ++ name ++ end)
 one_by_one before close first others slash name end = simp append_assoc refl
 
--- an element whose parts are told
+-- an element whose parts are known
 element_told : (name : List ℕ) (a : Attributes) (content : Nodes) → IsName name → AreAttributeNames (attribute_names a)
     → IsContent (nodes_text content) → IsElement (node_text (element name a content))
 element_told name a no_nodes h g p = empty_tag name (attributes_text a) (attribute_names a) h (attributes_told a g)

@@ -40,7 +40,7 @@ fn perform_on<R: Print + AllocGlobal + Threads + Wait + Sync + RandomSource, I: 
 
 /// Does what is asked for, from the input's source to standard output, and says on standard error where it fails.
 ///
-/// Why a script is refused is told on a terminal too.
+/// On a terminal it also reports why a script is refused.
 fn perform<R: Print + Eprint + Input + Files + AllocGlobal + Threads + Wait + Sync + RandomSource>(
     rt: &R,
     request: Request<'_>,

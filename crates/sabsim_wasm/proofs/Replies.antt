@@ -1,15 +1,19 @@
 -- Replies, of what was shown of their parts.
-use Rattle.std.proofs.Common.{◌≡◌, ◌≢◌, ◌↔◌, ◌||◌, ℕ, Bool, true, false, IsTrue, List, [], Option, inl, inr, sym, subst}
+use Rattle.std.proofs.Common.{◌≡◌, ◌≢◌, ◌||◌, ℕ, Bool, true, false, List, [], Option, inl, inr, sym, subst, ap, ◌∙◌}
+use Rattle.clap.specs.Words.{kind_of}
+use Rattle.clap.specs.declared.error.Error.{Error}
 use Rattle.clap.specs.declared.error.kind.ErrorKind.{ErrorKind}
 use Rattle.clap.specs.declared.error.kind.ErrorKind.TheVariants.{OutOfMemory}
 use Rattle.sab_command.specs.declared.request.Request.{Request}
 use Rattle.sab_command.specs.declared.request.Task.{Task}
+use Rattle.sab_command.specs.Asked.{IsAsked, IsRefused}
 use Rattle.sab_command.specs.Job.{IsTaskWithinLimits}
 use Rattle.sabsim_wasm.specs.declared.reply.Reply.{Reply}
 use Rattle.sabsim_wasm.specs.Exports.{PutsSuch, RepliesToTask, RepliesToInput, RepliesToRefusal, RepliesToWords}
 use Rattle.sabsim_wasm.specs.Exports.{IsForErrors}
 use Rattle.sabsim_wasm.specs.Program.{WrittenParts, written_of, parsed}
 use Rattle.sabsim_wasm.specs.Room.{Puts}
+use Rattle.sabsim_wasm.specs.Words.{words_of}
 
 pub puts_such : (IsSuch : WrittenParts → Type 0) (written : WrittenParts) (old new : List ℕ) (reply : Reply)
     → IsSuch written → Puts 0 written old new reply → PutsSuch IsSuch old new reply
@@ -21,17 +25,34 @@ pub numbers : (task named : Option Task) (explain : Bool) (input old new : List 
 numbers task named explain input old new reply same replies =
     subst (λ (it : Option Task). RepliesToTask it explain input old new reply) same replies
 
--- the words ask for this
-pub requested : (words : List ℕ) (given : ℕ) (is_terminal : Bool) (request : Request) (input old new : List ℕ)
-    (reply : Reply) → IsTaskWithinLimits request.task
-    → RepliesToInput given request.task request.source (request.explain || is_terminal) input old new reply
-    → RepliesToWords words given is_terminal input old new reply
-requested words given is_terminal request input old new reply limits replies = inl (request, limits, replies)
+-- the words that a text spells, which is that of these bytes
+these : (bytes text : List ℕ) (words : List (List ℕ)) → text ≡ bytes → words ≡ words_of text → words ≡ words_of bytes
+these bytes text words same spelled = spelled ∙ ap words_of same
 
--- the words ask for nothing
-pub parsed_words : (words : List ℕ) (given : ℕ) (is_terminal : Bool) (kind : ErrorKind) (input old new : List ℕ)
-    (reply : Reply) → RepliesToRefusal kind old new reply → RepliesToWords words given is_terminal input old new reply
-parsed_words words given is_terminal kind input old new reply refused = inr (inl (kind, refused))
+-- the words ask for this
+pub requested : (bytes text : List ℕ) (words : List (List ℕ)) (given : ℕ) (is_terminal : Bool) (request : Request)
+    (input old new : List ℕ) (reply : Reply) → text ≡ bytes → words ≡ words_of text → IsAsked words request
+    → IsTaskWithinLimits request.task
+    → RepliesToInput given request.task request.source (request.explain || is_terminal) input old new reply
+    → RepliesToWords bytes given is_terminal input old new reply
+requested bytes text words given is_terminal request input old new reply same spelled asked limits replies =
+    inl (
+      request,
+      subst (λ (it : List (List ℕ)). IsAsked it request) (these bytes text words same spelled) asked,
+      limits,
+      replies,
+    )
+
+-- the command line doesn't take the words
+pub refused_bytes : (bytes text : List ℕ) (words : List (List ℕ)) (given : ℕ) (is_terminal : Bool) (error : Error)
+    (input old new : List ℕ) (reply : Reply) → text ≡ bytes → words ≡ words_of text → IsRefused words error
+    → RepliesToRefusal (kind_of error) old new reply → RepliesToWords bytes given is_terminal input old new reply
+refused_bytes bytes text words given is_terminal error input old new reply same spelled is refused =
+    inr (inl (
+      error,
+      subst (λ (it : List (List ℕ)). IsRefused it error) (these bytes text words same spelled) is,
+      refused,
+    ))
 
 -- the parser's text is for standard error
 pub refused_words : (kind : ErrorKind) (text : List ℕ) (is_for_errors : Bool) (old new : List ℕ) (reply : Reply)

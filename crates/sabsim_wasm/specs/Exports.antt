@@ -1,5 +1,7 @@
 -- What the host gets of each export.
 use Rattle.std.specs.Prelude.{◌≡◌, ◌⊎◌, ◌≢◌, ◌↔◌, ◌||◌, ℕ, Bool, IsTrue, List, [], Option, Some, None, IsUtf8}
+use Rattle.clap.specs.Words.{kind_of}
+use Rattle.clap.specs.declared.error.Error.{Error}
 use Rattle.clap.specs.declared.error.kind.ErrorKind.{ErrorKind}
 use Rattle.clap.specs.declared.error.kind.ErrorKind.TheVariants.{OutOfMemory, DisplayHelp, DisplayVersion}
 use Rattle.sab_tool.specs.declared.tool_fault.ToolFault.TheVariants.{ReadFailed}
@@ -7,12 +9,14 @@ use Rattle.sab_command.specs.declared.request.Request.{Request}
 use Rattle.sab_command.specs.declared.request.Source.{Source}
 use Rattle.sab_command.specs.declared.request.Source.TheVariants.{Standard}
 use Rattle.sab_command.specs.declared.request.Task.{Task}
+use Rattle.sab_command.specs.Asked.{IsAsked, IsRefused}
 use Rattle.sab_command.specs.Job.{IsTaskWithinLimits}
 use Rattle.sab_run.specs.Failure.{untold}
 use Rattle.sabsim_wasm.specs.declared.reply.Reply.{Reply}
 use Rattle.sabsim_wasm.specs.Asked.{task_at}
 use Rattle.sabsim_wasm.specs.Program.{WrittenParts, written_of, no_memory, no_text, parsed, Ends, Fails}
 use Rattle.sabsim_wasm.specs.Room.{Puts, AsksFor}
+use Rattle.sabsim_wasm.specs.Words.{words_of}
 
 -- the room has what the program writes, of which this is said; or there was no memory for that
 abbrev pub PutsSuch : (WrittenParts → Type 0) → List ℕ → List ℕ → Reply → Type 0
@@ -40,17 +44,18 @@ abbrev pub IsForErrors : ErrorKind → Bool → Type 0
 IsForErrors kind is_for_errors =
     IsTrue is_for_errors ↔ ((kind ≢ DisplayHelp) × (kind ≢ DisplayVersion))
 
--- the words ask for nothing that is done with an input, as the parser's text says; or there is no memory
+-- nothing is done with an input, as the parser's text says; or there is no memory
 abbrev pub RepliesToRefusal : ErrorKind → List ℕ → List ℕ → Reply → Type 0
 RepliesToRefusal kind old new reply =
     ((kind ≢ OutOfMemory) × ((text : List ℕ) × (is_for_errors : Bool) × IsForErrors kind is_for_errors
     × Puts 0 (parsed is_for_errors text) old new reply))
     ⊎ Puts 0 no_memory old new reply
 
--- what the words ask for is done, or they ask for nothing, or they are no text, or there is no memory for them
+-- what the words ask for is done; or the command line doesn't take them; or the bytes are no text, or there is no memory
+-- for the words
 abbrev pub RepliesToWords : List ℕ → ℕ → Bool → List ℕ → List ℕ → List ℕ → Reply → Type 0
-RepliesToWords words given is_terminal input old new reply =
-    ((request : Request) × IsTaskWithinLimits request.task
+RepliesToWords bytes given is_terminal input old new reply =
+    ((request : Request) × IsAsked (words_of bytes) request × IsTaskWithinLimits request.task
     × RepliesToInput given request.task request.source (request.explain || is_terminal) input old new reply)
-    ⊎ (((kind : ErrorKind) × RepliesToRefusal kind old new reply)
-    ⊎ (((¬ IsUtf8 words) × Puts 0 no_text old new reply) ⊎ Puts 0 no_memory old new reply))
+    ⊎ (((error : Error) × IsRefused (words_of bytes) error × RepliesToRefusal (kind_of error) old new reply)
+    ⊎ (((¬ IsUtf8 bytes) × Puts 0 no_text old new reply) ⊎ Puts 0 no_memory old new reply))

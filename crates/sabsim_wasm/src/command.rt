@@ -1,8 +1,9 @@
 //! What a host asks for by the words of a command line.
 
-ghost use Rattle.std.specs.Prelude.{◌≡◌, ◌||◌};
+ghost use Rattle.std.specs.Prelude.{◌≡◌, ◌||◌, IfOk, map};
 ghost use Rattle.clap.specs.Words.{kind_of};
 ghost use Rattle.sabsim_wasm.specs.Exports.{RepliesToInput, RepliesToRefusal, RepliesToWords};
+ghost use Rattle.sabsim_wasm.specs.Words.{words_of};
 
 use crate::reply::{Reply, ask_for, put, put_no_memory};
 use crate::written::{put_task, put_unreadable};
@@ -16,7 +17,7 @@ use std::alloc::{AllocError, Global};
 static NO_TEXT: &str = "sabsim: the command line is no text\n";
 
 /// Does what the words ask for, with what the host has read of the input.
-#[tactic(auto, using(crate::proofs::Replies::requested, crate::proofs::Replies::parsed_words))]
+#[tactic(auto, using(crate::proofs::Replies::requested, crate::proofs::Replies::refused_bytes))]
 pub(crate) fn obey(
     alloc: Global,
     words: &[u8],
@@ -40,12 +41,10 @@ pub(crate) fn obey(
 }
 
 /// The words of a text in which each has a byte 0 behind it.
-fn words_of<'a>(alloc: Global, text: &'a str) -> Result<Vec<&'a str>, AllocError> {
-    let mut words = Vec::new(alloc);
-    for word in text.split_terminator('\0') {
-        words.push(word)?;
-    }
-    Ok(words)
+fn words_of<'a>(alloc: Global, text: &'a str) -> Result<Vec<&'a str>, AllocError>
+    ensures { IfOk result (λ words. map (λ word. word.now) words.items ≡ words_of text.now) }
+{
+    text.split_terminator('\0').collect(alloc)
 }
 
 /// Does what is asked for, with what the host has read of the input.

@@ -14,7 +14,8 @@ export const statusOf = ({ races }) => (races.length === 0 ? NO_RACE : RACES);
 export function jsonText({ accesses, agents, races }) {
   const told = races.slice(0, MOST_TOLD);
   const data_races = dataRacesIn(races);
-  const last = { accesses, agents, data_races, more: races.length - told.length, races: told.length };
+  const more = races.length - told.length;
+  const last = { accesses, agents, data_races, judged: "a trace", more, races: told.length };
   return [...told, last].map((each) => `${JSON.stringify(each)}\n`).join("");
 }
 

@@ -13,7 +13,7 @@ const TYPE: Result<Operand, Thrown> = Err(Thrown::TypeError);
 
 const RANGE: Result<Operand, Thrown> = Err(Thrown::RangeError);
 
-/// Makes an access, and tells whether it has its answer.
+/// Makes an access, and returns whether it has its answer.
 fn gives(block: &mut Block, (kind, access, answer): &Step) -> bool {
     let Ok(view) = View::new(*kind, block.len(), 0, None) else {
         return false;

@@ -50,8 +50,8 @@ fn has_added(report: &Report, counts: &[u32]) -> bool {
 
 /// Races agents that add so often, and gives the report, and the gate.
 ///
-/// It fails where an addition is lost, where the gate isn't told of each move once before it and once after it, where a call
-/// of the gate is under way, or where what held a move back waited for what didn't come.
+/// It fails if an addition is lost, if the gate isn't called once before each move and once after it, if a call of the
+/// gate is under way, or if what held a move back waited for what didn't come.
 pub fn race_watched<R: Threads + Wait + Sync, H: Hold + 'static>(
     rt: &R,
     alloc: Global,

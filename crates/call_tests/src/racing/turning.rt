@@ -13,12 +13,12 @@ pub fn turn(times: u64) {
     }
 }
 
-/// Turns until a count is so high, and tells whether it was before the last turn.
+/// Turns until a count is so high, and returns whether it was before the last turn.
 pub fn turn_until(count: &AtomicU32, least: u32) -> bool {
     turn_at_most(MOST_TURNS, count, least)
 }
 
-/// Turns until a count is so high or so many turns are over, and tells whether the count was so high.
+/// Turns until a count is so high or so many turns are over, and returns whether the count was so high.
 pub fn turn_at_most(times: u64, count: &AtomicU32, least: u32) -> bool {
     for _ in 0..times {
         if count.load(Ordering::SeqCst) >= least {

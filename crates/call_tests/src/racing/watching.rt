@@ -1,4 +1,4 @@
-//! A gate that counts what it is told, and leaves it to another to hold moves back.
+//! A gate that counts its calls, and leaves it to another to hold moves back.
 
 use crate::racing::calls::Calls;
 use sab_race::Gate;
@@ -6,14 +6,14 @@ use std::sync::atomic::{AtomicBool, Ordering};
 
 /// Holds moves back.
 pub trait Hold: Send + Sync + Drop {
-    /// Holds an agent back before its move `k`, and tells whether what it waited for came.
+    /// Holds an agent back before its move `k`, and returns whether what it waited for came.
     fn before(&self, agent: u32, k: u32) -> bool;
 
-    /// Holds back whoever calls once move `k` was made, and tells whether what it waited for came.
+    /// Holds back the caller once move `k` was made, and returns whether what it waited for came.
     fn applied(&self, agent: u32, k: u32) -> bool;
 }
 
-/// Counts what a gate is told, and holds moves back as `hold` does, until something that it waited for didn't come.
+/// Counts the calls of a gate, and holds moves back as `hold` does, until something that it waited for didn't come.
 #[derive(Drop)]
 pub struct Watch<H: Hold> {
     pub hold: H,

@@ -132,7 +132,7 @@ fn failures_of<R: Threads + Wait + Sync>(
     Err(Fail::new("no writer took it"))
 }
 
-/// Whether a write that fails is told, whichever it is, a short report is one write, and a slow writer gets it all.
+/// Whether a write that fails is reported, whichever it is, a short report is one write, and a slow writer gets it all.
 fn is_told<R: Threads + Wait + Sync>(
     rt: &R,
     alloc: Global,
@@ -183,7 +183,7 @@ fn a_report_that_no_write_takes_is_told(rt: HostRuntime) -> Result<(), Fail> {
     expect(answer == Err(ToolFault::WriteFailed), "another answer")
 }
 
-/// Whether a run into a writer that takes no byte is told to have failed.
+/// Whether a run into a writer that takes no byte is reported to have failed.
 fn is_told_of_no_byte<R: Threads + Wait + Sync>(
     rt: &R,
     alloc: Global,
@@ -226,7 +226,7 @@ fn given(
     read_input(alloc, &mut giver)
 }
 
-/// Whether a read that fails is told, whichever it is.
+/// Whether a read that fails is reported, whichever it is.
 fn is_told_of_reads(alloc: Global, script: &str, fault: io::ErrorKind) -> bool {
     for reads in 0..=script.len() {
         if given(alloc, script, reads, fault).err() != Some(ToolFault::ReadFailed) {

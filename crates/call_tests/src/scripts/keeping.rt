@@ -19,7 +19,7 @@ const TWO_AGENTS: &str = r#"{"blocks":[4,8],
   "schedule":[]}"#;
 
 /// Whether the script that a race is kept as replays to the report that the race answers, and whether
-/// the report's journal tells its moves.
+/// the report's journal has its moves.
 fn comes_back<R: Threads + Wait + Sync>(
     rt: &R,
     alloc: Global,

@@ -121,7 +121,7 @@ fn too_many_moves_are_refused(rt: HostRuntime) -> Result<(), Fail> {
     expect(are_refused == [true; 2], "too many moves are made")
 }
 
-/// Whether the race of a script with 1,005,000 moves is told to its end.
+/// Whether the race of a script with 1,005,000 moves is reported to its end.
 fn is_told<R: Threads + Wait + Sync>(
     rt: &R,
     alloc: Global,

@@ -42,7 +42,7 @@ fn ended(gate: &Counter, refusal: Refusal) -> Found {
     }
 }
 
-/// Whether a report tells that four agents each added 1 a hundred times.
+/// Whether a report says that four agents each added 1 a hundred times.
 fn is_right(report: &Report) -> bool {
     let whole = Progress {
         returned: 100,

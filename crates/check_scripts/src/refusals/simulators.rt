@@ -195,7 +195,7 @@ pub fn sim_step(alloc: Global) -> Result<Found, Unmade> {
     })
 }
 
-/// Ten moves are made that were reserved, and their report. It also tells whether a further allocation is refused.
+/// Ten moves are made that were reserved, and their report. It also returns whether a further allocation is refused.
 pub fn reserved_steps(alloc: Global) -> Result<Found, Unmade> {
     let mut trial = Trial::new(alloc)?;
     trial.sim.reserve(10)?;

@@ -1,4 +1,4 @@
--- One event more has its clock, is kept, and its races are told.
+-- One event more has its clock, is kept, and its races are listed.
 use Rattle.std.proofs.Common.{◌≡◌, ◌<◌, ◌^◌, length, arith}
 use Rattle.sab_judge.proofs.Knowledge.{no_clocks, one_clock_more}
 use Rattle.sab_judge.specs.Race.{of_none, and_of}

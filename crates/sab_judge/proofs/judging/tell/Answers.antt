@@ -1,4 +1,4 @@
--- One race more is told, or left.
+-- One race more is listed, or left.
 use Rattle.std.proofs.Common.{◌<◌, ◌≤◌, length, refl, arith}
 use Rattle.sab_judge.proofs.Telling.{told_one, left_one}
 use Rattle.sab_judge.proofs.judging.tell.Goals as goal

@@ -1,4 +1,4 @@
--- One move more is told.
+-- One move more is written.
 use Rattle.std.proofs.Common.{◌≡◌, ℕ, ◌+◌, ◌∙◌, length, sym, subst, arith, length-append, ◌∷◌, [], ap}
 use Rattle.std.proofs.lemmas.List.{take_more}
 use Rattle.std.specs.Io.KnownBytes.{Appends, append_known}

@@ -1,4 +1,4 @@
--- Each part that is spelled is the part that is told.
+-- Each part that is spelled is the part that is written.
 use Rattle.sab_report.proofs.SpelledCalls.{told_as_spelled}
 use Rattle.sab_report.proofs.laws.calls_are_told_as_spelled.Goals as goal
 

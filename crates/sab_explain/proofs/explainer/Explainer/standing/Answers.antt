@@ -1,4 +1,4 @@
--- What is told of an agent is how it stands.
+-- What is reported about an agent is how it stands.
 use Rattle.std.proofs.Common.{rules, subst, None}
 use Rattle.std.specs.Prelude.{slice_index_or}
 use Rattle.sab_sim.specs.Run.{Reaches}

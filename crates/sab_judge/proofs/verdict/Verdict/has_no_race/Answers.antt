@@ -1,4 +1,4 @@
--- No race is told, and none is left, exactly where there is none.
+-- No race is listed, and none is left, exactly if there is none.
 use Rattle.std.proofs.Common.{◌≡◌, vec_len, sym, ◌∙◌, arith}
 use Rattle.std.proofs.lemmas.Bool.{false≢true, eq-eqb, eqb-true}
 use Rattle.sab_judge.proofs.NoRace.{none_left, no_race}

@@ -1,4 +1,4 @@
--- What is kept is told.
+-- What is kept is reported.
 use Rattle.std.proofs.Common.{◌∙◌, refl, subst}
 use Rattle.sab_plan.specs.Report.{ReportParts, items_of_each}
 use Rattle.sab_sim.specs.Fits.{Fits, IsOnly}
@@ -7,7 +7,7 @@ use Rattle.sab_sim.proofs.KeptFits.{Fits-kept}
 use Rattle.sab_sim.proofs.OnlyReport.{IsOnly-kept}
 use Rattle.sab_sim.proofs.sim.Sim.finish.Goals as goal
 
--- what is told
+-- what is reported
 abbrev report : goal.After-drop-plan-inside-3 → ReportParts
 report c = record {
   schedule = c.self.inside.moves.items;
