@@ -10,6 +10,7 @@ import { Refused } from "../options/refused.mjs";
 import { defaultsOf } from "../options/table.mjs";
 import { ownModules } from "../processes/own-modules.mjs";
 import { FIRST_THREADS, begunThread } from "../processes/thread.mjs";
+import { addScript, runOf, wholeRun } from "./whole-run.mjs";
 
 /** @typedef {import("../processes/thread.mjs").Thread} Thread */
 /** @typedef {"finished" | "deadlock" | "failed" | "check" | "race" | "bound"} Ending */
@@ -75,6 +76,8 @@ import { FIRST_THREADS, begunThread } from "../processes/thread.mjs";
  */
 
 /** @typedef {{ outcome: Outcome, judgement?: Judgement, aside: Aside }} One all that is told of one run */
+
+/** @typedef {One & { taken?: import("./whole-run.mjs").TakenRun }} Reported what the referee sends about one run */
 
 /** @typedef {{ setup: unknown, names: string[], hasInit: boolean, hasCheck: boolean }} Has what a module has */
 /** @typedef {{ thread: Thread, has: Has }} Loaded */
@@ -182,6 +185,8 @@ export class Group {
     this.referee = undefined;
     /** @type {import("../options/plan.mjs").Plan | undefined} */
     this.plan = undefined;
+    /** @type {ReturnType<typeof runOf> | undefined} what is the same for all runs */
+    this.shared = undefined;
     /** @type {import("../board/strategy.mjs").Rules | undefined} */
     this.rules = undefined;
     /** @type {ReturnType<typeof memoryOf> | undefined} */
@@ -216,7 +221,7 @@ export class Group {
       const { message, ended } = await referee.next();
       if (ended !== undefined) throw new Error(`the referee's worker failed: ${ended}`);
       if (message.finished) return;
-      if (message.outcome) onOutcome(message.outcome, message.judgement, message.aside);
+      if (message.outcome) onOutcome(message.outcome, this.#judgementOf(message), message.aside);
       if (message.outcome?.fails) referee.post({ taken: true });
       if (message.replace) {
         await Promise.all(message.replace.map((/** @type {number} */ agent) => this.#replace(agent)));
@@ -224,6 +229,17 @@ export class Group {
       }
       if (message.ask) referee.post({ problem: this.#askedHere(message.ask) });
     }
+  }
+
+  /**
+   * Adds the script and the report to an outcome, if the referee has left that to this thread.
+   * @param {Reported} run
+   * @returns {Judgement | undefined} what of it is to be checked
+   */
+  #judgementOf({ outcome, taken, judgement }) {
+    if (taken === undefined) return judgement;
+    addScript(outcome, wholeRun(started(this.shared), taken), []);
+    return outcome.script === undefined ? undefined : judgement;
   }
 
   /**
@@ -246,6 +262,7 @@ export class Group {
     const told = await this.#load(0);
     needsRightNames(told.names);
     this.plan = planOf(this.options, told.setup);
+    this.shared = runOf(this.plan);
     const { strategy, everywhere, timeouts, maxMoves } = this.options;
     this.rules = { agents: this.plan.agents, ways: waysOf(strategy, everywhere), timeouts, maxMoves };
     const options = this.#refereeOptions(told);

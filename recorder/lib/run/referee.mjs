@@ -11,7 +11,7 @@ import { RunReporter } from "./run-reporter.mjs";
 import { areSame } from "./same.mjs";
 import { SourceNames } from "./source-names.mjs";
 
-/** @typedef {import("./group.mjs").One} One */
+/** @typedef {import("./group.mjs").Reported} Reported */
 /** @typedef {import("./group.mjs").Outcome} Outcome */
 /** @typedef {import("./group.mjs").Wanted} Wanted */
 /** @typedef {import("./run-maker.mjs").Made} Made */
@@ -49,7 +49,7 @@ class Referee {
 
   /**
    * Sends what came of a run. If it failed, it is handed on before the next run, whose agents may end the process.
-   * @param {One} run
+   * @param {Reported} run
    */
   async #send(run) {
     const { port } = this;
@@ -78,7 +78,7 @@ class Referee {
     await maker.replace(maker.agents);
   }
 
-  /** @param {Wanted} wanted @returns {Promise<One>} the outcome of a seed */
+  /** @param {Wanted} wanted @returns {Promise<Reported>} the outcome of a seed */
   async #one(wanted) {
     const { maker, maker: { log }, reporter, meetings } = this;
     let hasSources = this.tellsNext;
@@ -95,18 +95,35 @@ class Referee {
     }
     found = await maker.judged(found);
     const outcome = reporter.brief(wanted, found);
-    if (wanted.whole || outcome.fails) reporter.addScript(outcome, found);
     // Here the log has all events. The log of a run that is made once more, with lines of code, may lack some reads.
-    const judgement = reporter.judgement(outcome, found);
+    const { taken, judgement } = this.#whole(wanted, outcome, found);
     await this.#replace(found);
     await this.#addSources(wanted, outcome, found, hasSources);
     Object.assign(outcome, covering);
     if (outcome.ending === "race") outcome.detail = outcome.races.map(({ text }) => text).join("\n");
     this.tellsNext = this.tellsAlways || (found.racy && !isCut);
-    return { outcome, judgement, aside: asideOf(found) };
+    return { outcome, taken, judgement, aside: asideOf(found) };
   }
 
-  /** @param {Wanted} wanted @returns {Promise<One>} a run that is made only to see how it ends */
+  /**
+   * What a check of a run needs. A run that failed gets its texts here. Those of others are made where they are checked.
+   * @param {Wanted} wanted
+   * @param {Outcome} outcome
+   * @param {Made} found
+   * @returns {Pick<Reported, "taken" | "judgement">}
+   */
+  #whole({ whole }, outcome, found) {
+    const { reporter } = this;
+    if (outcome.fails) {
+      reporter.addScript(outcome, found);
+      return outcome.script === undefined ? {} : { judgement: reporter.judgement(found) };
+    }
+    if (!whole) return {};
+    const taken = reporter.taken(outcome, found);
+    return { taken, judgement: reporter.judgement(found, taken.events) };
+  }
+
+  /** @param {Wanted} wanted @returns {Promise<Reported>} a run that is made only to see how it ends */
   async #tried(wanted) {
     const { maker, reporter } = this;
     const { tellsLines = false } = wanted;
