@@ -11,6 +11,7 @@ import { defaultsOf } from "../options/table.mjs";
 import { ownModules } from "../processes/own-modules.mjs";
 import { FIRST_THREADS, begunThread } from "../processes/thread.mjs";
 import { addScript, runOf, wholeRun } from "./whole-run.mjs";
+import { within } from "./within.mjs";
 
 /** @typedef {import("../processes/thread.mjs").Thread} Thread */
 /** @typedef {"finished" | "deadlock" | "failed" | "check" | "race" | "bound"} Ending */
@@ -79,6 +80,8 @@ import { addScript, runOf, wholeRun } from "./whole-run.mjs";
 
 /** @typedef {One & { taken?: import("./whole-run.mjs").TakenRun }} Reported what the referee sends about one run */
 
+/** @typedef {(outcome: Outcome, judgement: Judgement | undefined, aside: Aside) => void} OnOutcome */
+
 /** @typedef {{ setup: unknown, names: string[], hasInit: boolean, hasCheck: boolean }} Has what a module has */
 /** @typedef {{ thread: Thread, has: Has }} Loaded */
 
@@ -121,25 +124,6 @@ const REFEREE_MODULE = new URL("./referee.mjs", import.meta.url);
 
 /** How many agents' workers begin at once: all first ones but that of the referee. */
 const FIRST_WORKERS = FIRST_THREADS - 1;
-
-/**
- * The answer of a promise, or that it took too long.
- * @template T
- * @param {Promise<T>} promise
- * @param {number} seconds
- * @returns {Promise<T | undefined>}
- */
-async function within(promise, seconds) {
-  let timer;
-  const late = new Promise((done) => {
-    timer = setTimeout(done, seconds * 1_000);
-  });
-  try {
-    return await Promise.race([promise, late]);
-  } finally {
-    clearTimeout(timer);
-  }
-}
 
 /**
  * A part of a group, which is there when it has started.
@@ -198,7 +182,7 @@ export class Group {
   /**
    * Makes a run for each seed, in their order.
    * @param {Wanted[]} seeds
-   * @param {(outcome: Outcome, judgement: Judgement | undefined, aside: Aside) => void} onOutcome
+   * @param {OnOutcome} onOutcome
    */
   run(seeds, onOutcome) {
     return this.#work({ seeds }, onOutcome);
@@ -212,7 +196,7 @@ export class Group {
   /**
    * Has the referee do something, and does what it asks for meanwhile.
    * @param {{ seeds: Wanted[] } | { learns: true }} work
-   * @param {(outcome: Outcome, judgement: Judgement | undefined, aside: Aside) => void} onOutcome
+   * @param {OnOutcome} onOutcome
    */
   async #work(work, onOutcome) {
     const referee = started(this.referee);
@@ -221,7 +205,7 @@ export class Group {
       const { message, ended } = await referee.next();
       if (ended !== undefined) throw new Error(`the referee's worker failed: ${ended}`);
       if (message.finished) return;
-      if (message.outcome) onOutcome(message.outcome, this.#judgementOf(message), message.aside);
+      if (message.outcome) this.#receive(message, onOutcome);
       if (message.outcome?.fails) referee.post({ taken: true });
       if (message.replace) {
         await Promise.all(message.replace.map((/** @type {number} */ agent) => this.#replace(agent)));
@@ -232,14 +216,14 @@ export class Group {
   }
 
   /**
-   * Adds the script and the report to an outcome, if the referee has left that to this thread.
+   * Adds the script and the report to an outcome, if the referee has left that to this thread, and hands it on.
    * @param {Reported} run
-   * @returns {Judgement | undefined} what of it is to be checked
+   * @param {OnOutcome} onOutcome
    */
-  #judgementOf({ outcome, taken, judgement }) {
-    if (taken === undefined) return judgement;
-    addScript(outcome, wholeRun(started(this.shared), taken), []);
-    return outcome.script === undefined ? undefined : judgement;
+  #receive({ outcome, taken, judgement, aside }, onOutcome) {
+    if (taken !== undefined) addScript(outcome, wholeRun(started(this.shared), taken), []);
+    onOutcome(outcome, outcome.script === undefined ? undefined : judgement, aside);
+    Atomics.add(new Int32Array(started(this.memory).received), 0, 1);
   }
 
   /**

@@ -16,16 +16,22 @@ import { SourceNames } from "./source-names.mjs";
 /** @typedef {import("./group.mjs").Wanted} Wanted */
 /** @typedef {import("./run-maker.mjs").Made} Made */
 
+// So many runs at most await their check without their texts.
+const MOST_WAITING = 2;
+
 class Referee {
   /** @param {import("./run-maker.mjs").Given} given */
   constructor(given) {
-    const { port, plan, options } = given;
+    const { port, memory, plan, options } = given;
     const sourceNames = new SourceNames(options.module);
     this.port = port;
     this.plan = plan;
     this.options = options;
     this.maker = new RunMaker(given, sourceNames);
     this.reporter = new RunReporter(given, this.maker);
+    /** How many runs were sent, and how many of them the thread that checks them has done with. */
+    this.sent = 0;
+    this.received = new Int32Array(memory.received);
     this.meetings = options.tellsMeetings ? new Meetings(sourceNames) : undefined;
     this.tellsAlways = options.trace || this.meetings !== undefined;
     /** Whether the next run notes its lines of code at once. If the run before raced, the next one may race too. */
@@ -55,6 +61,7 @@ class Referee {
     const { port } = this;
     const taken = run.outcome.fails ? new Promise((done) => port.once("message", done)) : undefined;
     port.postMessage(run);
+    this.sent += 1;
     await taken;
   }
 
@@ -106,7 +113,8 @@ class Referee {
   }
 
   /**
-   * What a check of a run needs. A run that failed gets its texts here. Those of others are made where they are checked.
+   * What a check of a run needs. A run that failed gets its texts here. Those of others are made where they are checked,
+   * unless that thread lags behind.
    * @param {Wanted} wanted
    * @param {Outcome} outcome
    * @param {Made} found
@@ -114,11 +122,11 @@ class Referee {
    */
   #whole({ whole }, outcome, found) {
     const { reporter } = this;
-    if (outcome.fails) {
+    if (!whole && !outcome.fails) return {};
+    if (outcome.fails || this.sent - Atomics.load(this.received, 0) > MOST_WAITING) {
       reporter.addScript(outcome, found);
       return outcome.script === undefined ? {} : { judgement: reporter.judgement(found) };
     }
-    if (!whole) return {};
     const taken = reporter.taken(outcome, found);
     return { taken, judgement: reporter.judgement(found, taken.events) };
   }
