@@ -15,10 +15,18 @@
  * @returns {string}
  */
 export function reportOf(entries, bytes, progress) {
-  const moves = entries.map(({ agent, call, text }, position) => `${position} ${agent} ${call} ${text}\n`);
+  const moves = entries.map(({ agent, call, text }, position) => lineOf(position, agent, call, text));
+  return moves.join("") + endText(bytes, progress);
+}
+
+/** @type {(position: number, agent: number, call: number, text: string) => string} of a move */
+const lineOf = (position, agent, call, text) => `${position} ${agent} ${call} ${text}\n`;
+
+/** @param {string[]} bytes @param {{ returned: number, calls: number }[]} progress */
+function endText(bytes, progress) {
   const blocks = bytes.map((hex, block) => `block ${block} ${hex === "" ? "-" : hex}\n`);
   const agents = progress.map(({ returned, calls }, agent) => `agent ${agent} ${returned} of ${calls}\n`);
-  return [moves, blocks, agents].map((lines) => lines.join("")).join("");
+  return blocks.join("") + agents.join("");
 }
 
 /**
@@ -39,19 +47,25 @@ function wordOf({ joined, answer }, step) {
   return joined && step === 2 ? `leave ${answer}` : `return ${answer}`;
 }
 
-/** @param {import("./text.mjs").Transcript} transcript @returns {Entry[]} what each move did */
-function entriesOf(transcript) {
-  const cursors = transcript.calls.map(() => ({ call: 0, step: 0 }));
-  return transcript.moves.map(({ agent }) => {
+/**
+ * What each move did, a line each.
+ * @param {import("./text.mjs").Transcript} transcript
+ */
+function movesText({ calls, moves }) {
+  const cursors = calls.map(() => ({ call: 0, step: 0 }));
+  let text = "";
+  for (let position = 0; position < moves.length; position += 1) {
+    const { agent } = moves[position];
     const cursor = cursors[agent];
-    const { call, step } = cursor;
     // Each move of an agent is one of its calls'.
-    const done = transcript.calls[agent][call];
-    const isLast = step === (done.joined ? 3 : 2);
-    cursor.call = isLast ? call + 1 : call;
-    cursor.step = isLast ? 0 : step + 1;
-    return { agent, call, text: wordOf(done, step) };
-  });
+    const done = calls[agent][cursor.call];
+    text += lineOf(position, agent, cursor.call, wordOf(done, cursor.step));
+    cursor.step += 1;
+    if (cursor.step < (done.joined ? 4 : 3)) continue;
+    cursor.call += 1;
+    cursor.step = 0;
+  }
+  return text;
 }
 
 /**
@@ -65,7 +79,7 @@ export function reportText(transcript, bytes) {
   const progress = transcript.calls.map((calls) => {
     return { returned: calls.filter((call) => call.answer !== null).length, calls: calls.length };
   });
-  return reportOf(entriesOf(transcript), bytes, progress);
+  return movesText(transcript) + endText(bytes, progress);
 }
 
 /**

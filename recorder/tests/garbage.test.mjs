@@ -13,7 +13,7 @@ const WATCHING = `
   const { setImmediate: turn } = await import("node:timers/promises");
   const watched = new WeakRef({});
   await turn();
-  for (let time = 1; time < 4_096; time += 1) onceMore();
+  for (let time = 1; time < 1_024; time += 1) onceMore();
   const before = watched.deref() !== undefined;
   await turn();
   onceMore();
@@ -29,7 +29,7 @@ function printed(code) {
   return stdout;
 }
 
-test("a process that asks for it collects its garbage once in 4,096 times, and so do its threads", () => {
+test("a process that asks for it collects its garbage once in 1,024 times, and so do its threads", () => {
   assert.equal(printed(`collectGarbage();\n${WATCHING}`), "true false\n");
   assert.equal(printed(WATCHING), "true true\n");
   const inThread = `import("${GARBAGE}").then(async ({ onceMore }) => {${WATCHING}});`;

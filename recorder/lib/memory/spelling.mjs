@@ -37,9 +37,14 @@ export function viewName(lengths, { kind, block, offset, length }) {
 /** @param {number | bigint} operand @returns {string} as JSON: a BigInt is a string of its digits */
 const operandText = (operand) => (typeof operand === "bigint" ? `"${operand}"` : `${operand}`);
 
-/** @param {string} view its name @param {Call} call @returns {string} the call as a script has it */
-export function callText(view, call) {
-  let text = `["${CALLS[call.call].name}", "${view}", ${call.index}`;
+/**
+ * @param {string} view its name
+ * @param {Call} call
+ * @param {number} [index] of the element in that view
+ * @returns {string} the call as a script has it
+ */
+export function callText(view, call, index = call.index) {
+  let text = `["${CALLS[call.call].name}", "${view}", ${index}`;
   for (let at = 0; at < call.operands.length; at += 1) text += `, ${operandText(call.operands[at])}`;
   return call.limit === undefined ? `${text}]` : `${text}, ${call.limit}]`;
 }
@@ -54,7 +59,7 @@ export function callText(view, call) {
 export function placedCallText({ kind, block, offset, length, index }, call) {
   if (!(index >= 0 && index < length)) return callText(`${viewKey({ kind, block, offset, length })}`, call);
   const element = { kind, block, offset: offset + index * SIZES[kind], length: 1 };
-  return callText(`${viewKey(element)}`, { ...call, index: 0 });
+  return callText(`${viewKey(element)}`, call, 0);
 }
 
 /**

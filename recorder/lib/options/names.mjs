@@ -148,7 +148,7 @@ export class Names {
    * @returns {Named | undefined} undefined also where its view hasn't that element: it throws by that view alone
    */
   ofCall({ kind, block, offset, length, index }) {
-    return index >= 0 && index < length ? this.at(kind, block, offset + index * SIZES[kind]) : undefined;
+    return this.list.length > 0 && index >= 0 && index < length ? this.at(kind, block, offset + index * SIZES[kind]) : undefined;
   }
 }
 

@@ -6,7 +6,7 @@ import { setFlagsFromString } from "node:v8";
 import { runInNewContext } from "node:vm";
 
 // It takes some milliseconds, so it is done seldom.
-const OFTEN_ENOUGH = 4_096;
+const OFTEN_ENOUGH = 1_024;
 
 /** What shows all code the engine's own way to collect. */
 const FLAG = "--expose-gc";

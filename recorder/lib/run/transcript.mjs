@@ -6,7 +6,7 @@ import { CONSTRUCTORS, KINDS, SIZES } from "../../script/kinds.mjs";
 import { answerText } from "../../script/report.mjs";
 import { LEAVE, MAKE, MOVES, TIME_UP } from "../board/journal.mjs";
 import { READ } from "../memory/log.mjs";
-import { callText, viewName } from "../memory/spelling.mjs";
+import { callText, viewKey, viewName } from "../memory/spelling.mjs";
 import { NO_NAMES, nameText } from "../options/names.mjs";
 
 /** @typedef {import("../memory/stores.mjs").Store} Store */
@@ -56,6 +56,10 @@ class Writer {
     this.own = canBlock.map(() => 0);
     /** @type {Move[]} */
     this.moves = [];
+    /** Each agent's move that isn't the end of a time. */
+    this.plainMoves = canBlock.map((_, agent) => ({ agent, timeUp: false }));
+    /** @type {Map<number, string>} the names of the views of calls, by their keys */
+    this.viewNames = new Map();
     /** @type {Map<string, string[]>} the names of the views of stores, by whose they are: of each block's kinds */
     this.storeNames = new Map();
     // All names are there, so that who reads the script knows them.
@@ -69,7 +73,8 @@ class Writer {
 
   /** @param {number} agent @param {number} count @param {boolean} timeUp whether the first is the end of a time */
   addMoves(agent, count, timeUp) {
-    for (let move = 0; move < count; move += 1) this.moves.push({ agent, timeUp: timeUp && move === 0 });
+    if (timeUp) this.moves.push({ agent, timeUp });
+    for (let move = timeUp ? 1 : 0; move < count; move += 1) this.moves.push(this.plainMoves[agent]);
   }
 
   /** @param {Store} store @param {string} whose what its view's name begins with */
@@ -105,16 +110,29 @@ class Writer {
     return names[number];
   }
 
+  /**
+   * The name of a call's view, which the script gets with its first call.
+   * @param {import("../memory/records.mjs").Call} call
+   */
+  #viewName(call) {
+    const key = viewKey(call);
+    const known = this.viewNames.get(key);
+    if (known !== undefined) return known;
+    const name = viewName(this.lengths, call);
+    this.viewNames.set(key, name);
+    this.addView(name, call);
+    return name;
+  }
+
   /** @param {import("../memory/records.mjs").Records} records @param {number} agent @param {number} event */
   addEvent(records, agent, event) {
     if (event !== LEAVE && event !== TIME_UP) {
       const call = records.callAt(this.own[agent]);
       const named = this.names.ofCall(call);
-      const name = named?.view.name ?? viewName(this.lengths, call);
-      this.addView(name, named?.view ?? call);
-      const text = callText(name, { ...call, index: named?.index ?? call.index });
-      const done = records.doneAt(this.own[agent]);
-      this.calls[agent].push({ text, ...done, isOwn: true, name: named && nameText(named) });
+      const text = named === undefined
+        ? callText(this.#viewName(call), call) : callText(named.view.name, call, named.index);
+      const { joined, answer } = records.doneAt(this.own[agent]);
+      this.calls[agent].push({ text, joined, answer, isOwn: true, name: named && nameText(named) });
       this.own[agent] += 1;
     }
     this.addMoves(agent, MOVES[event], event === TIME_UP);
