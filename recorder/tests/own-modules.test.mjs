@@ -5,7 +5,7 @@ import { readFileSync, writeFileSync } from "node:fs";
 import { join } from "node:path";
 import { test } from "node:test";
 import { fileURLToPath, pathToFileURL } from "node:url";
-import { evaluated, ownModules } from "../lib/processes/own-modules.mjs";
+import { evaluated, ownModules } from "../lib/processes/own-modules.cjs";
 import { temporaryFolder } from "./helpers/common.mjs";
 
 const ROOTS = ["agent/worker.mjs", "run/referee.mjs"].map((path) => new URL(`../lib/${path}`, import.meta.url));

@@ -1,6 +1,7 @@
 // A worker whose messages are awaited one after the other.
 
 import { MessageChannel, Worker, receiveMessageOnPort } from "node:worker_threads";
+import { workerLimits } from "./garbage.mjs";
 
 // How long an end is awaited. A call of native code, as one that waits for another program, can't be broken off: the
 // thread stays until that call returns.
@@ -33,7 +34,7 @@ export class Thread {
   constructor(file, workerData, { ownPort = false } = {}) {
     const { port1, port2 } = ownPort ? new MessageChannel() : NO_PORTS;
     const own = { workerData: { ...workerData, port: port2 }, transferList: port2 === undefined ? [] : [port2] };
-    this.worker = new Worker(file, ownPort ? own : { workerData });
+    this.worker = new Worker(file, { ...(ownPort ? own : { workerData }), resourceLimits: workerLimits() });
     /** Where messages come from and go to. */
     this.port = port1 ?? this.worker;
     /** @type {Item[]} */
@@ -123,7 +124,7 @@ export class Thread {
  */
 export const FIRST_THREADS = 5;
 
-const OWN_WORKER = new URL("./own-worker.mjs", import.meta.url);
+const OWN_WORKER = new URL("./own-worker.cjs", import.meta.url);
 
 /** @type {Thread[]} those that a process has begun while it loads its modules */
 const begun = [];

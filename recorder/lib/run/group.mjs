@@ -8,7 +8,7 @@ import { waysOf } from "../board/strategy/ways.mjs";
 import { needsRightNames, planOf } from "../options/plan.mjs";
 import { Refused } from "../options/refused.mjs";
 import { defaultsOf } from "../options/table.mjs";
-import { ownModules } from "../processes/own-modules.mjs";
+import { ownModules } from "../processes/own-modules.cjs";
 import { FIRST_THREADS, begunThread } from "../processes/thread.mjs";
 
 /** @typedef {import("../processes/thread.mjs").Thread} Thread */
