@@ -6,11 +6,10 @@ const { pathToFileURL } = require("node:url");
 const { evaluated, ownModules } = require("./own-modules.cjs");
 
 const own = pathToFileURL(__filename);
-/** @type {Record<string, any>} what the modules export that are there: the others have the same workers and garbage */
+/** @type {Record<string, any>} what is evaluated once, so that the last module has these workers, and this garbage */
 const modules = {};
-const urlOf = (/** @type {string} */ name) => new URL(name, own);
 
-evaluated(ownModules(urlOf("./garbage.mjs")), modules).collectGarbage();
-const { FIRST_THREADS, beginThreads } = evaluated(ownModules(urlOf("./thread.mjs")), modules);
+evaluated(ownModules(new URL("./garbage.mjs", own)), modules).collectGarbage();
+const { FIRST_THREADS, beginThreads } = evaluated(ownModules(new URL("./thread.mjs", own)), modules);
 beginThreads(FIRST_THREADS);
 evaluated(ownModules(new URL(process.argv[2])), modules);

@@ -242,7 +242,8 @@ export class Group {
     this.#beginUpTo(FIRST_WORKERS);
     const referee = this.#thread();
     this.referee = referee;
-    const modules = ownModules(REFEREE_MODULE);
+    // It evaluates them while the agents' module is loaded.
+    referee.post({ modules: ownModules(REFEREE_MODULE) });
     const told = await this.#load(0);
     needsRightNames(told.names);
     this.plan = planOf(this.options, told.setup);
@@ -255,7 +256,7 @@ export class Group {
     this.memory = memoryOf(this.plan, this.options.logEvents);
     this.board = new Board(this.memory.board, this.rules);
     const { memory, plan, rules } = this;
-    referee.post({ modules, memory, plan, rules, options });
+    referee.post({ memory, plan, rules, options });
     const others = Array.from({ length: this.plan.agents - 1 }, (_, other) => other + 1);
     // A single agent meets nobody.
     const learns = !everywhere && others.length > 0;
