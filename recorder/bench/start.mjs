@@ -35,7 +35,8 @@ export function measured({ turns, record, agents }) {
   const lines = Object.entries(taken).map(([name, list]) => {
     return `${name}: median ${median(list).toFixed(0)} ms, least ${Math.min(...list).toFixed(0)} ms, of ${turns} turns`;
   });
-  return [...lines, `record takes ${(median(taken.record) / median(taken.bare)).toFixed(2)} times as long as bare`, ""].join("\n");
+  const times = median(taken.record) / median(taken.bare);
+  return [...lines, `record takes ${times.toFixed(2)} times as long as bare`, ""].join("\n");
 }
 
 if (process.argv[1] === fileURLToPath(import.meta.url)) {

@@ -136,6 +136,7 @@ test("imports are found in each form", () => {
     'require("./i.cjs")', 'new URL("./j.cjs", own)',
   ];
   assert.deepEqual(importedBy("lib/run/group.mjs", forms.join("\n")), [
-    "lib/run/a.mjs", "lib/run/b.mjs", "lib/c.mjs", "d.mjs", "lib/run/e/f.mjs", "lib/run/g.mjs", "lib/h.mjs", "lib/run/i.cjs", "lib/run/j.cjs",
+    "lib/run/a.mjs", "lib/run/b.mjs", "lib/c.mjs", "d.mjs", "lib/run/e/f.mjs", "lib/run/g.mjs", "lib/h.mjs",
+    "lib/run/i.cjs", "lib/run/j.cjs",
   ]);
 });

@@ -72,7 +72,8 @@ test("a module is evaluated once, behind those that it imports, in strict mode, 
 
 test("a module of CommonJS is required as it is, once", (context) => {
   const folder = temporaryFolder(context);
-  writeFileSync(join(folder, "one.cjs"), "globalThis.evaluatedOnes = (globalThis.evaluatedOnes ?? 0) + 1;\nexports.one = 1;\n");
+  const counting = "globalThis.evaluatedOnes = (globalThis.evaluatedOnes ?? 0) + 1;\nexports.one = 1;\n";
+  writeFileSync(join(folder, "one.cjs"), counting);
   const text = 'import { one } from "./one.cjs";\nexport const two = one + 1;\n';
   for (const name of ["a.mjs", "b.mjs"]) writeFileSync(join(folder, name), text);
   for (const name of ["a.mjs", "b.mjs"]) {
