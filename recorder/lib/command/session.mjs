@@ -53,7 +53,7 @@ export class Session {
   }
 
   /**
-   * Makes the runs, keeps what is to be kept, and tells the summary, also where not all runs could be made.
+   * Makes the runs, keeps what is to be kept, and prints the summary, also where not all runs could be made.
    * @returns {Promise<{ failed: boolean, problems: unknown[] }>} whether a run failed; what went wrong besides
    */
   async run() {
@@ -110,7 +110,7 @@ export class Session {
 
   /** The failing run of the least seed. */
   #failing() {
-    // All that is told of it is known here, where it was made.
+    // All that is reported of it is known here, where it was made.
     return /** @type {Outcome | undefined} */ (this.summary.failing);
   }
 

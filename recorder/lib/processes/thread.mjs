@@ -81,7 +81,8 @@ export class Thread {
   }
 
   /**
-   * Ends the worker. Nothing is told of it. One that native code holds is left alone after a while, and ends later.
+   * Ends the worker. Nothing more is reported of it. A worker that native code holds is left alone after a while, and
+   * ends later.
    * @param {number} [milliseconds] how long its end is awaited at most
    * @returns {Promise<boolean>} whether it has ended
    */

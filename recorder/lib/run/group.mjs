@@ -41,7 +41,7 @@ import { FIRST_THREADS, begunThread } from "../processes/thread.mjs";
  */
 
 /**
- * @typedef {object} Covering what an outcome tells besides, where coverage is looked for
+ * @typedef {object} Covering what an outcome has besides, where coverage is looked for
  * @property {string[]} [meetings] pairs of lines that came one after the other at a place, by different agents; those
  * that this group's runs before haven't shown
  * @property {number} [unplaced] how many accesses have told no line
@@ -60,7 +60,7 @@ import { FIRST_THREADS, begunThread } from "../processes/thread.mjs";
 /** @typedef {Wanting & import("../board/row.mjs").RowWanted} Wanted a run that is to be made */
 
 /**
- * @typedef {object} Aside what is told beside an outcome to who compares runs
+ * @typedef {object} Aside what is reported beside an outcome to code that compares runs
  * @property {{ agent: number, block: number, byte: number }[]} waiting who waits where in a deadlock, in order of
  * arrival
  * @property {import("../board/row.mjs").Stray} [stray] how it has strayed from the row that it was to go by exactly
@@ -322,7 +322,7 @@ export class Group {
     try {
       const call = name === "init" ? init : check;
       const answer = call?.([...buffers], { agents: started(this.plan).agents, args: [...args] });
-      // That it is a promise is told; what it comes to isn't anybody's.
+      // That it is a promise is reported; what comes of it is nobody's.
       Promise.resolve(answer).catch(() => {});
       return leftOpen(answer, "it") ?? foundBy(answer) ?? "";
     } catch (thrown) {
