@@ -153,12 +153,13 @@ export class Group {
   /**
    * Starts the workers, and waits until the agents' module is loaded in each.
    * @param {GroupOptions} options
+   * @param {() => void} [meanwhile] is called once, while this thread awaits others
    * @returns {Promise<Group>}
    */
-  static async open(options) {
+  static async open(options, meanwhile = () => {}) {
     const group = new Group(options);
     try {
-      await group.#start();
+      await group.#start(meanwhile);
       return group;
     } catch (error) {
       await group.close();
@@ -238,7 +239,8 @@ export class Group {
     return runs[0];
   }
 
-  async #start() {
+  /** @param {() => void} meanwhile */
+  async #start(meanwhile) {
     this.#beginUpTo(FIRST_WORKERS);
     const referee = this.#thread();
     this.referee = referee;
@@ -261,17 +263,23 @@ export class Group {
     // A single agent meets nobody.
     const learns = !everywhere && others.length > 0;
     this.#beginUpTo(others.length + (learns ? this.plan.agents : 0));
+    if (!learns) meanwhile();
     await Promise.all(others.map((agent) => this.#load(agent)));
     await Promise.all(this.agents.map((_, agent) => this.#hand(agent)));
-    if (learns) await this.#learn();
+    if (learns) await this.#learn(meanwhile);
   }
 
-  /** Has the pilots made. Meanwhile the workers load the module that the agents have afterwards. */
-  async #learn() {
+  /**
+   * Has the pilots made. Meanwhile the workers load the module that the agents have afterwards.
+   * @param {() => void} meanwhile
+   */
+  async #learn(meanwhile) {
     this.next = this.agents.map((_, agent) => this.#loaded(agent));
     // If one can't load it, that is reported when it is needed.
     for (const loading of this.next) loading.catch(() => {});
-    await this.#work({ learns: true }, () => {});
+    const learning = this.#work({ learns: true }, () => {});
+    meanwhile();
+    await learning;
   }
 
   /** Begins a worker. */
