@@ -18,6 +18,7 @@ const HIDDEN = "--no-expose-gc";
 
 /** The room for young objects grows no more, until a worker begins. By itself it grows to 16 MB twice. */
 const NO_GROWTH = "--semi-space-growth-factor=1";
+const ASKED = /--expose[-_]gc/;
 
 /** The same in a worker: 2 MB twice, and as much for large objects. */
 const WORKER_LIMITS = Object.freeze({ maxYoungGenerationSizeMb: 6 });
@@ -28,8 +29,12 @@ const KEY = "sabsim: garbage is collected";
 /** @type {{ gc?: () => void }} */
 const realm = /** @type {any} */ (globalThis);
 
-/** @type {(() => void) | undefined} it is there where node was started with it */
+/** @type {(() => void) | undefined} undefined: nobody has shown it yet */
 let collect = realm.gc;
+
+// A worker that begins while another thread shows it finds it too, though nobody has asked for it. It can't be deleted.
+const isAsked = ASKED.test(`${process.execArgv.join(" ")} ${process.env.NODE_OPTIONS ?? ""}`);
+if (collect !== undefined && !isAsked) realm.gc = undefined;
 
 let isOwn = getEnvironmentData(KEY) === true;
 
