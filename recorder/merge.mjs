@@ -68,6 +68,6 @@ async function main() {
   }
 }
 
-// Where nobody reads what went wrong, the status tells it.
+// Where nobody reads what went wrong, the status reports it.
 process.stderr.on("error", () => {});
 process.exitCode = await main();

@@ -95,7 +95,7 @@ export interface RecordOptions {
   shorten?: boolean;
 }
 
-/** The options of many runs: those of one, but for its seed, and these. */
+/** The options of many runs: those of one, except its seed, and these. */
 export interface ExploreOptions extends Omit<RecordOptions, "seed" | "shorten"> {
   /** As "1..1000", which begins at 1 and ends at 1000; a number: so many of them, from 1 on; else "1..100". */
   seeds?: string | number | { first: number; last: number };
@@ -170,7 +170,7 @@ export interface Shortened {
   runs: number;
   /** How often another agent moved than before: in the run as it was found, and in the shortest. */
   changes: { before: number; after: number };
-  /** How many calls of Atomics were begun, likewise. */
+  /** How many calls of Atomics were begun, in the same two runs. */
   calls: { before: number; after: number };
   /** Why it was ended before all was tried. */
   stopped?: string;

@@ -1,3 +1,8 @@
 // The recorder as a library: `import { explore, record } from "./recorder.mjs"`.
 
-export { Difference, LostJob, NoSabsim, Refused, explore, record } from "./lib/library/recorder.mjs";
+export { Difference } from "./lib/check/check.mjs";
+export { explore } from "./lib/library/explore.mjs";
+export { record } from "./lib/library/recorder.mjs";
+export { Refused } from "./lib/options/refused.mjs";
+export { LostJob } from "./lib/seeds/remote-job.mjs";
+export { NoSabsim } from "./lib/simulator/native.mjs";

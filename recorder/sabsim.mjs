@@ -57,7 +57,7 @@ function run(path, words) {
  * @param {NodeJS.Signals} signal
  */
 function endBy(signal) {
-  // Of a signal that doesn't end node, as SIGPIPE, the status tells, as a shell's does.
+  // Of a signal that doesn't end node, as SIGPIPE, the status reports, as a shell's does.
   process.exitCode = 128 + constants.signals[signal];
   process.kill(process.pid, signal);
 }

@@ -2,7 +2,7 @@
 
 import type { ExploreOptions } from "./recorder.mjs";
 
-/** What a trial is made by: the options of `explore`, but for `failFast`, and what is done with a failing run. */
+/** What a trial is made by: the options of `explore` except `failFast`, and what is done with a failing run. */
 export interface TrialOptions extends Omit<ExploreOptions, "failFast"> {
   /** The folder in which a failing run is kept, from the working directory; else a new one for temporary files. */
   out?: string;

@@ -37,14 +37,14 @@ export const slotOf = (owner, name) => {
 export const TypedArray = /** @type {Constructor} */ (getPrototypeOf(Int8Array));
 const { prototype: typedArrays } = TypedArray;
 
-// Of a typed array, by the engine's own slots: they throw for what is none, but for `tagOf`, which is undefined then.
+// Of a typed array, by the engine's own slots: they throw for what is none, except `tagOf`, which is undefined then.
 export const bufferOf = slotOf(typedArrays, "buffer");
 export const offsetOf = slotOf(typedArrays, "byteOffset");
 export const lengthOf = slotOf(typedArrays, "length");
 export const byteLengthOf = slotOf(typedArrays, "byteLength");
 export const tagOf = slotOf(typedArrays, Symbol.toStringTag);
 
-// Of a DataView and of a shared buffer, likewise.
+// The same of a DataView and of a shared buffer.
 export const viewBufferOf = slotOf(DataView.prototype, "buffer");
 export const viewOffsetOf = slotOf(DataView.prototype, "byteOffset");
 export const viewLengthOf = slotOf(DataView.prototype, "byteLength");

@@ -1,4 +1,4 @@
-// The elements of a run's memory: which view tells best of some bytes, what an element is called, and its value.
+// The elements of a run's memory: which view shows some bytes best, what an element is called, and its value.
 
 import { OF_STORES } from "../schedule/report.mjs";
 
@@ -54,7 +54,7 @@ export function write(bytes, { kind, byte, after }) {
   for (let at = 0; at < size; at += 1) bytes[byte + at] = Number((raw >> BigInt(8 * at)) & 255n);
 }
 
-/** The views of a run, and which of them tells best of some bytes. */
+/** The views of a run, and which of them shows some bytes best. */
 export class Views {
   /** @param {{ views: View[], blocks: number[] }} data of the run */
   constructor({ views, blocks }) {
@@ -66,7 +66,7 @@ export class Views {
   }
 
   /**
-   * The view that tells best of some bytes.
+   * The view that shows some bytes best.
    * @param {number} block
    * @param {number} byte
    * @param {number} size

@@ -1,5 +1,5 @@
-// The facts of a run in the words of `sabsim replay --format explained`, from what `--format json` tells of it. It runs
-// in pages, and in tests.
+// The facts of a run in the words of `sabsim replay --format explained`, from what `--format json` prints of it. It
+// runs in pages, and in tests.
 
 /** @typedef {import("../schedule/report.mjs").Entry} Entry */
 /** @typedef {{ name: string, kind: string, block: number, offset: number, length: number }} View */
@@ -127,7 +127,7 @@ function placeInLine(ahead) {
 
 /**
  * How far an agent came that hasn't come to the end of its calls.
- * @param {Record<string, any>} standing as `--format json` tells it
+ * @param {Record<string, any>} standing as `--format json` prints it
  * @returns {string}
  */
 export function standingText({ at, does, since, notified, woken_by: by }) {

@@ -5,21 +5,12 @@ import { spawnSync } from "node:child_process";
 import { test } from "node:test";
 import { fileURLToPath } from "node:url";
 import { RECORD, agentsOf, temporaryFolder } from "./helpers/common.mjs";
+import { WATCHING } from "./helpers/watched-garbage.mjs";
 
 const GARBAGE = new URL("../lib/processes/garbage.mjs", import.meta.url).href;
 
-/** Code that says of an object that nobody has any more whether it is there after so many runs. */
-const WATCHING = `
-  const { setImmediate: turn } = await import("node:timers/promises");
-  const watched = new WeakRef({});
-  await turn();
-  for (let time = 1; time < 1_024; time += 1) onceMore();
-  const before = watched.deref() !== undefined;
-  await turn();
-  onceMore();
-  await turn();
-  console.log(before, watched.deref() !== undefined);
-`;
+/** Code that prints what it sees of an object that nobody has any more. */
+const PRINTING = `console.log(...await (${WATCHING})(onceMore));`;
 
 /** What a process prints. @param {string} code */
 function printed(code) {
@@ -30,9 +21,9 @@ function printed(code) {
 }
 
 test("a process that asks for it collects its garbage once in 1,024 times, and so do its threads", () => {
-  assert.equal(printed(`collectGarbage();\n${WATCHING}`), "true false\n");
-  assert.equal(printed(WATCHING), "true true\n");
-  const inThread = `import("${GARBAGE}").then(async ({ onceMore }) => {${WATCHING}});`;
+  assert.equal(printed(`collectGarbage();\n${PRINTING}`), "true false\n");
+  assert.equal(printed(PRINTING), "true true\n");
+  const inThread = `import("${GARBAGE}").then(async ({ onceMore }) => {${PRINTING}});`;
   const starting = `
     const { Worker } = await import("node:worker_threads");
     new Worker(${JSON.stringify(inThread)}, { eval: true });
@@ -44,9 +35,9 @@ test("a process that asks for it collects its garbage once in 1,024 times, and s
 test("the process of a job collects garbage in the workers that it begins before it has loaded its module", () => {
   const fileOf = (path) => fileURLToPath(new URL(path, import.meta.url));
   const module = new URL("./helpers/begun-thread.mjs", import.meta.url).href;
-  const words = [fileOf("../lib/processes/own-process.mjs"), module];
+  const words = [fileOf("../lib/processes/own-process.cjs"), module];
   const { stdout, stderr } = spawnSync(process.execPath, words, { encoding: "utf8" });
-  assert.deepEqual([stdout, stderr], ["function\n", ""]);
+  assert.deepEqual([stdout, stderr], ["true false undefined\n", ""]);
 });
 
 test("agents find the engine's own way to collect only where node was started with it", (context) => {

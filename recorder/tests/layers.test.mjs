@@ -13,7 +13,8 @@ const MAP = new URL("../../docs/ARCHITECTURE.md", import.meta.url);
 const ROW = /^ {4} ?(\d+) {2,}(\S.*)$/gm;
 
 /** An import of a file of the recorder, and a file that a worker or a process begins with. */
-const IMPORT = /\b(?:from|import)\s*\(?\s*(["'])(\.[^"']*)\1|\bnew URL\(\s*(["'])(\.[^"']*\.mjs)\3,\s*import\.meta/g;
+const IMPORT =
+  /\b(?:from|import|require)\s*\(?\s*(["'])(\.[^"']*)\1|\bnew URL\(\s*(["'])(\.[^"']*\.[cm]js)\3,/g;
 
 /** @returns {Map<string, number>} the row of each folder and file that the picture names */
 function rowsDrawn() {
@@ -42,7 +43,7 @@ function modulesIn(folder) {
   return entries.flatMap((entry) => {
     const path = `${folder}${entry.name}`;
     if (entry.isDirectory()) return modulesIn(`${path}/`);
-    return path.endsWith(".mjs") ? [path] : [];
+    return /\.[cm]js$/.test(path) ? [path] : [];
   });
 }
 
@@ -132,8 +133,10 @@ test("imports are found in each form", () => {
     'import { one,\n  two } from "./a.mjs";', 'import "./b.mjs";', 'export { one } from "../c.mjs";',
     'await import("../../d.mjs")', '/** @type {import("./e/f.mjs").One} */', 'new URL("./g.mjs", import.meta.url)',
     'import { join } from "node:path";', 'new URL("./folder/", import.meta.url)', "import one from '../h.mjs';",
+    'require("./i.cjs")', 'new URL("./j.cjs", own)',
   ];
   assert.deepEqual(importedBy("lib/run/group.mjs", forms.join("\n")), [
     "lib/run/a.mjs", "lib/run/b.mjs", "lib/c.mjs", "d.mjs", "lib/run/e/f.mjs", "lib/run/g.mjs", "lib/h.mjs",
+    "lib/run/i.cjs", "lib/run/j.cjs",
   ]);
 });

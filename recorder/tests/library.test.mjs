@@ -1,7 +1,7 @@
 // The library: what its options may be, and what each of them does.
 
 import assert from "node:assert/strict";
-import { writeFileSync } from "node:fs";
+import { readFileSync, writeFileSync } from "node:fs";
 import { join } from "node:path";
 import { test } from "node:test";
 import { pathToFileURL } from "node:url";
@@ -11,6 +11,15 @@ import { CHECKER, NOWHERE, hasSabsim } from "./helpers/needs.mjs";
 import { simulated } from "./helpers/simulate.mjs";
 
 const module = agentsPath("cases");
+
+test("each entry of the package exports the functions and classes that its types declare, and no others", async () => {
+  for (const entry of ["recorder", "testing"]) {
+    const types = readFileSync(new URL(`../${entry}.d.mts`, import.meta.url), "utf8");
+    const declared = [...types.matchAll(/^export (?:declare )?(?:function|class|const) (\w+)/gm)].map(([, name]) => name);
+    assert.ok(declared.length > 1);
+    assert.deepEqual(Object.keys(await import(`../${entry}.mjs`)), declared.sort());
+  }
+});
 
 test("each option that can't be is refused, with one line that names it", async () => {
   const wrong = {

@@ -5,11 +5,11 @@ import { readFileSync, writeFileSync } from "node:fs";
 import { join } from "node:path";
 import { test } from "node:test";
 import { fileURLToPath, pathToFileURL } from "node:url";
-import { evaluated, ownModules } from "../lib/processes/own-modules.mjs";
+import { evaluated, ownModules } from "../lib/processes/own-modules.cjs";
 import { temporaryFolder } from "./helpers/common.mjs";
 
 const ROOTS = ["agent/worker.mjs", "run/referee.mjs"].map((path) => new URL(`../lib/${path}`, import.meta.url));
-// These two begin to work where they are evaluated.
+// The first one begins to work where it is evaluated.
 const withoutRoot = (root) => ownModules(root).slice(0, -1);
 
 /** A module of some text. */
@@ -68,6 +68,19 @@ test("a module is evaluated once, behind those that it imports, in strict mode, 
   assert.deepEqual(Object.keys(exported), ["Told", "later", "told", "self", "url"]);
   const { told, self, url: itsUrl } = exported;
   assert.deepEqual([told, self, itsUrl], [["function", "function", 1, 2, 1, "function"], undefined, url.href]);
+});
+
+test("a module of CommonJS is required as it is, once", (context) => {
+  const folder = temporaryFolder(context);
+  const counting = "globalThis.evaluatedOnes = (globalThis.evaluatedOnes ?? 0) + 1;\nexports.one = 1;\n";
+  writeFileSync(join(folder, "one.cjs"), counting);
+  const text = 'import { one } from "./one.cjs";\nexport const two = one + 1;\n';
+  for (const name of ["a.mjs", "b.mjs"]) writeFileSync(join(folder, name), text);
+  for (const name of ["a.mjs", "b.mjs"]) {
+    const list = ownModules(pathToFileURL(join(folder, name)));
+    assert.deepEqual([list.length, evaluated(list).two], [1, 2]);
+  }
+  assert.equal(globalThis.evaluatedOnes, 1);
 });
 
 test("a module that imports or exports in another form is refused, with its line", (context) => {

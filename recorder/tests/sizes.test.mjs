@@ -32,7 +32,7 @@ function functionsIn(text) {
 }
 
 const FILES = readdirSync(RECORDER, { recursive: true, encoding: "utf8" })
-  .filter((file) => /\.m?[jt]s$/.test(file) && !/^(?:tests|bench|examples)\//.test(file))
+  .filter((file) => /\.[cm]?[jt]s$/.test(file) && !/^(?:tests|bench|examples)\//.test(file))
   .map((file) => ({ file, text: readFileSync(new URL(file, RECORDER), "utf8") }));
 
 test("no file has more than 400 lines", () => {

@@ -5,6 +5,10 @@ interface ImportMeta {
   readonly url: string;
 }
 
+// Of a CommonJS module.
+declare const __filename: string;
+declare const require: (name: string) => any;
+
 declare namespace NodeJS {
   type Signals = "SIGHUP" | "SIGINT" | "SIGQUIT" | "SIGKILL" | "SIGPIPE" | "SIGTERM";
 
@@ -337,61 +341,6 @@ declare module "node:util" {
   export function parseArgs(words: Words): Parsed;
   const util: { inspect(value: unknown, options?: object): string; types: object };
   export default util;
-}
-
-declare module "node:v8" {
-  interface PromiseHooks {
-    onInit(hook: (promise: Promise<unknown>, parent: Promise<unknown> | undefined) => void): void;
-    onSettled(hook: (promise: Promise<unknown>) => void): void;
-  }
-  export const promiseHooks: PromiseHooks;
-  export function setFlagsFromString(flags: string): void;
-  const all: { Serializer: { prototype: object }; Deserializer: Function; DefaultDeserializer: Function };
-  export default all;
-}
-
-declare module "node:vm" {
-  export function compileFunction(code: string, names: string[], options: { filename: string }): Function;
-  export function runInNewContext(code: string): any;
-  const vm: { Script: Function };
-  export default vm;
-}
-
-declare module "node:worker_threads" {
-  interface Port extends NodeJS.Listened {
-    postMessage(message: unknown): void;
-  }
-  export class MessagePort implements Port {
-    on(event: string, listener: (...given: any[]) => void): this;
-    once(event: string, listener: (...given: any[]) => void): this;
-    off(event: string, listener: (...given: any[]) => void): this;
-    postMessage(message: unknown): void;
-    close(): void;
-  }
-  export class MessageChannel {
-    readonly port1: MessagePort;
-    readonly port2: MessagePort;
-  }
-  interface WorkerOptions {
-    workerData?: unknown;
-    transferList?: MessagePort[];
-    stdout?: boolean;
-    stderr?: boolean;
-  }
-  export class Worker implements Port {
-    constructor(file: URL, options: WorkerOptions);
-    on(event: string, listener: (...given: any[]) => void): this;
-    once(event: string, listener: (...given: any[]) => void): this;
-    off(event: string, listener: (...given: any[]) => void): this;
-    postMessage(message: unknown): void;
-    terminate(): Promise<number>;
-    unref(): void;
-  }
-  export const parentPort: MessagePort | null;
-  export const workerData: any;
-  export function receiveMessageOnPort(port: MessagePort): { message: any } | undefined;
-  const threads: Record<"MessagePort" | "BroadcastChannel" | "Worker", Function>;
-  export default threads;
 }
 
 declare module "node:zlib" {

@@ -1,7 +1,12 @@
 // Holds the types that the package declares (recorder.d.mts) against those of the code: each pair must be the same.
 
 import * as declared from "../recorder.mjs";
-import * as written from "../lib/library/recorder.mjs";
+import * as check from "../lib/check/check.mjs";
+import * as exploring from "../lib/library/explore.mjs";
+import * as recording from "../lib/library/recorder.mjs";
+import * as refused from "../lib/options/refused.mjs";
+import * as remote from "../lib/seeds/remote-job.mjs";
+import * as native from "../lib/simulator/native.mjs";
 import * as declaredTesting from "../testing.mjs";
 import * as writtenTesting from "../lib/suite/tests.mjs";
 import type { ExploreOptions, TrialOptions, WithBuffers } from "../lib/library/library-options.mjs";
@@ -18,30 +23,30 @@ type Flat<T> = T extends Function | URL | AbortSignal ? T : T extends object ? {
 type Holds<T extends true> = T;
 
 export type Held = [
-  Holds<Same<Flat<declared.RecordOptions>, Flat<written.RecordOptions>>>,
+  Holds<Same<Flat<declared.RecordOptions>, Flat<recording.RecordOptions>>>,
   Holds<Same<Flat<declared.ExploreOptions>, Flat<ExploreOptions>>>,
   Holds<Same<Flat<declaredTesting.TrialOptions>, Flat<TrialOptions>>>,
   Holds<Same<keyof typeof declaredTesting, keyof typeof writtenTesting>>,
-  Holds<Same<Flat<declared.Outcome>, Flat<written.Outcome>>>,
+  Holds<Same<Flat<declared.Outcome>, Flat<recording.Outcome>>>,
   Holds<Same<declared.Ending, Ending>>,
   Holds<Same<Flat<declared.Race>, Flat<RaceReport>>>,
   Holds<Same<Flat<declared.RaceSide>, Flat<Side>>>,
   Holds<Same<Flat<declared.Shortened>, Flat<Shortened>>>,
   Holds<Same<Parameters<declared.WithBuffers>, Parameters<WithBuffers>>>,
   Holds<Same<ReturnType<declared.WithBuffers>, ReturnType<WithBuffers>>>,
-  Holds<Same<Flat<declared.Difference["outcome"]>, Flat<written.Difference["outcome"]>>>,
-  Holds<Same<ConstructorParameters<typeof declared.Refused>, ConstructorParameters<typeof written.Refused>>>,
-  Holds<Same<keyof declared.Difference, keyof written.Difference>>,
-  Holds<Same<keyof declared.NoSabsim, keyof written.NoSabsim>>,
-  Holds<Same<ConstructorParameters<typeof declared.LostJob>, ConstructorParameters<typeof written.LostJob>>>,
-  Holds<Same<keyof typeof declared, keyof typeof written>>,
+  Holds<Same<Flat<declared.Difference["outcome"]>, Flat<check.Difference["outcome"]>>>,
+  Holds<Same<ConstructorParameters<typeof declared.Refused>, ConstructorParameters<typeof refused.Refused>>>,
+  Holds<Same<keyof declared.Difference, keyof check.Difference>>,
+  Holds<Same<keyof declared.NoSabsim, keyof native.NoSabsim>>,
+  Holds<Same<ConstructorParameters<typeof declared.LostJob>, ConstructorParameters<typeof remote.LostJob>>>,
+  Holds<Same<keyof typeof declared, "Difference" | "LostJob" | "NoSabsim" | "Refused" | "explore" | "record">>,
 ];
 
-export const record: typeof declared.record = written.record;
-export const explore: typeof declared.explore = written.explore;
-export const sameExplore: typeof written.explore = declared.explore;
+export const record: typeof declared.record = recording.record;
+export const explore: typeof declared.explore = exploring.explore;
+export const sameExplore: typeof exploring.explore = declared.explore;
 export const testAgents: typeof declaredTesting.testAgents = writtenTesting.testAgents;
 export const sameTestAgents: typeof writtenTesting.testAgents = declaredTesting.testAgents;
 export const assertAgents: typeof declaredTesting.assertAgents = writtenTesting.assertAgents;
 export const sameAssertAgents: typeof writtenTesting.assertAgents = declaredTesting.assertAgents;
-export const sameRecord: typeof written.record = declared.record;
+export const sameRecord: typeof recording.record = declared.record;

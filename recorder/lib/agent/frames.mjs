@@ -80,7 +80,7 @@ function firstOfAgents(frames) {
 }
 
 /**
- * The innermost frame of the agents' code. An ordinary access is told by `watching.seen`, and its own frame is near.
+ * The innermost frame of the agents' code. `watching.seen` gets an ordinary access, and its own frame is near.
  * @param {Function} from a function whose frame, with those above it, is left out
  */
 function agentsFrame(from) {

@@ -22,7 +22,7 @@ const partOf = uncurried(String.prototype.slice);
 const WORDS = Object.freeze({
   Microtask: "queueMicrotask", TickObject: "process.nextTick", STATWATCHER: "a callback",
 });
-/** @type {Readonly<Record<string, string>>} likewise, of what can be cleared */
+/** @type {Readonly<Record<string, string>>} the same, of what can be cleared */
 const TIMERS = Object.freeze({ Timeout: "a timer", Immediate: "setImmediate" });
 const CALLBACKS = Object.freeze(["CALLBACK", "REQ", "WRAP"]);
 

@@ -1,5 +1,5 @@
 // Which ordinary accesses an agent has made since its last call, so that the same one is noted once, and a spin is
-// found. Nobody else moves between two calls of an agent: what it repeats there tells nothing new.
+// found. Nobody else moves between two calls of an agent: what it repeats there shows nothing new.
 
 import { uncurried } from "../primordials.mjs";
 

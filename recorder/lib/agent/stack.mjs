@@ -1,4 +1,4 @@
-// What is told of an error's stack.
+// What is reported of an error's stack.
 
 import { uncurried } from "../primordials.mjs";
 

@@ -31,7 +31,7 @@ const includes = uncurried(String.prototype.includes);
 const plainTitle = uncurried(Error.prototype.toString);
 
 /**
- * An error's title as it tells it itself, or as the engine does where the agents' code has broken that.
+ * An error's title as its own `toString` returns it, or as the engine does where the agents' code has broken that.
  * @param {Error} error
  * @returns {string}
  */
@@ -102,7 +102,7 @@ function described(thrown, depth = 0) {
 function printAtOnce() {
   /** @param {string | Uint8Array} chunk */
   const printed = (chunk) => {
-    // Of runs that are made to learn from nothing is told.
+    // Nothing is printed of runs that are made to learn from.
     if (self.player?.isPilot() === true) return true;
     try {
       fs.writeSync(2, chunk);
@@ -258,7 +258,7 @@ function namesIn(module, agent) {
 }
 
 /**
- * Imports the agents' module, and tells what it exports besides the agent.
+ * Imports the agents' module, and reports what it exports besides the agent.
  * @param {(url: string) => Promise<any>} load
  * @returns {Promise<{ default: Function, init?: Function, check?: Function } | undefined>}
  */

@@ -124,7 +124,7 @@ export class Board {
   /**
    * How a wait ends whose agent has the turn.
    * @param {number} agent
-   * @returns {boolean} whether its time is up, which the clock then tells; else it was woken
+   * @returns {boolean} whether its time is up, which the clock then shows; else it was woken
    */
   timesOut(agent) {
     const isUp = this.line.phase(agent) !== PHASE.WOKEN;

@@ -1,4 +1,4 @@
-// What a command line has asked for, as a summary tells it: so that summaries can be joined where it is the same.
+// What a command line has asked for, as a summary reports it: so that summaries can be joined where it is the same.
 
 import { createHash } from "node:crypto";
 import { readFileSync } from "node:fs";

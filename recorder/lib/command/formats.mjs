@@ -1,4 +1,4 @@
-// The forms in which a summary is told.
+// The forms in which a summary is printed.
 
 import { summaryText } from "./summary-text.mjs";
 

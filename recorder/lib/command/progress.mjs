@@ -1,4 +1,4 @@
-// A line that tells how far it is, on a terminal only.
+// A line that shows how far the runs are, on a terminal only.
 
 import { digits } from "../keeping/words.mjs";
 

@@ -83,7 +83,7 @@ export class Replay {
   }
 
   /**
-   * Makes the run, and tells how it ended.
+   * Makes the run, and prints how it ended.
    * @returns {Promise<{ failed: boolean, problems: unknown[] }>} whether it failed
    * @throws {NoLongerTheSame}
    */
@@ -108,7 +108,7 @@ export class Replay {
     const long = { seconds: DEBUGGED_SECONDS, loadSeconds: DEBUGGED_SECONDS };
     const limits = isDebugged() ? long : { seconds: options.seconds };
     // A debugger would stop in each further run of the agents. So there are no pilots, from which nothing is to be
-    // learnt, since the row says who moves; and the lines of code are told at once.
+    // learnt, since the row says who moves; and the lines of code are noted at once.
     const only = { first: seed, last: seed, jobs: 1, fresh: false, everywhere: true, trace: true };
     const checking = { sabsim, checkEvery: 1 };
     const wanted = { row: draws.map(({ agent }) => agent), isExact: true, calls: callNumbers(this.kept) };

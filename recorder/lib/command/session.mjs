@@ -4,7 +4,7 @@ import { resolve } from "node:path";
 import { Difference } from "../check/check.mjs";
 import { Keeper } from "../keeping/keep.mjs";
 import { keepPictures } from "../keeping/pictures.mjs";
-import { collectGarbage, onceMore } from "../processes/garbage.mjs";
+import { collectGarbage, onceMore, stopGrowth } from "../processes/garbage.mjs";
 import { preloads } from "../processes/preloads.mjs";
 import { Coverage } from "../seeds/coverage.mjs";
 import { Runs } from "../seeds/runs.mjs";
@@ -53,7 +53,7 @@ export class Session {
   }
 
   /**
-   * Makes the runs, keeps what is to be kept, and tells the summary, also where not all runs could be made.
+   * Makes the runs, keeps what is to be kept, and prints the summary, also where not all runs could be made.
    * @returns {Promise<{ failed: boolean, problems: unknown[] }>} whether a run failed; what went wrong besides
    */
   async run() {
@@ -80,6 +80,7 @@ export class Session {
   /** Makes the runs, and looks for the shortest one that fails as the one that is kept, which it then replaces. */
   async #record() {
     collectGarbage();
+    stopGrowth();
     const { runs, summary } = this;
     try {
       for await (const outcome of runs.outcomes()) if (this.#isLast(outcome)) break;
@@ -109,7 +110,7 @@ export class Session {
 
   /** The failing run of the least seed. */
   #failing() {
-    // All that is told of it is known here, where it was made.
+    // All that is reported of it is known here, where it was made.
     return /** @type {Outcome | undefined} */ (this.summary.failing);
   }
 

@@ -1,4 +1,4 @@
-// What is told of the shortening of the run that is kept.
+// What is reported of the shortening of the run that is kept.
 
 import { counted, digits } from "../keeping/words.mjs";
 
@@ -9,7 +9,7 @@ import { counted, digits } from "../keeping/words.mjs";
  * @typedef {object} Shortening as JSON
  * @property {number} runs how many it took
  * @property {Change} changes of agents, in the run as it was found and in the shortest
- * @property {Change} calls of Atomics that were begun, likewise
+ * @property {Change} calls of Atomics that were begun, in the same two runs
  * @property {string | null} stopped why it was ended before all was tried
  * @property {string | null} unchanged why the run is kept as it was found; null: the shortest is kept
  * @property {boolean} checked whether sabsim says the same of the shortest run

@@ -1,4 +1,4 @@
-// The plain text of a summary. It is made from the object that `--format json` tells, and from nothing else.
+// The plain text of a summary. It is made from the object that `--format json` prints, and from nothing else.
 
 import { counted, digits, listed } from "../keeping/words.mjs";
 import { rangeText } from "../seeds/ranges.mjs";

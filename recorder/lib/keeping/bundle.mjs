@@ -1,6 +1,6 @@
 // Modules as one script, for a page. Each is a function of its own, so that their names don't meet.
 
-import { ownModules } from "../processes/own-modules.mjs";
+import { ownModules } from "../processes/own-modules.cjs";
 
 const RECORDER = new URL("../../", import.meta.url).href;
 

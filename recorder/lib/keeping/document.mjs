@@ -31,7 +31,7 @@ const partOf = (name) => readFileSync(new URL(name, PAGES), "utf8");
 const escaped = (text) => text.replace(/[&<>"']/g, (sign) => `&#${sign.charCodeAt(0)};`);
 
 /**
- * The digest by which a browser is told which code and which looks are the page's own.
+ * The digest by which a browser knows which code and which looks are the page's own.
  * @param {string} text
  */
 const digestOf = (text) => `'sha256-${createHash("sha256").update(text).digest("base64")}'`;

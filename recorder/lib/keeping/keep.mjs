@@ -32,7 +32,7 @@ export class Keeper {
   }
 
   /**
-   * Keeps a failing run, unless one of a lower seed is kept, or nothing is told of this one. The files of one of a
+   * Keeps a failing run, unless one of a lower seed is kept, or nothing is reported of this one. The files of one of a
    * higher seed go when all those of this one are there.
    * @param {import("../run/group.mjs").Outcome} outcome
    */
@@ -63,7 +63,7 @@ export class Keeper {
   }
 
   /**
-   * Keeps what is told of a run, in files of their own.
+   * Keeps what is reported of a run, in files of their own.
    * @param {number} seed
    * @param {Record<string, string | undefined>} texts by the endings of their names; undefined: there is none
    */

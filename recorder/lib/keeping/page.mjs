@@ -1,5 +1,5 @@
 // The page of a run, `seed-N.html`: one file for a browser, which needs no other and no network. Its code and its looks
-// stand in the folder `page`; here they are joined with what sabsim tells of the run, its trace and the agents' code,
+// stand in the folder `page`; here they are joined with what sabsim prints of the run, its trace and the agents' code,
 // and with the simulator, where its module is there.
 
 import { builtSimulator, documentOf } from "./document.mjs";
@@ -8,7 +8,7 @@ import { builtSimulator, documentOf } from "./document.mjs";
 /** @typedef {import("../../page/run-data.mjs").Command} Command */
 /** @typedef {import("../../page/run-data.mjs").RunData} RunData */
 
-// Of a trace of more events the ordinary accesses are left out, but for those that race.
+// Of a trace of more events the ordinary accesses are left out, except those that race.
 const MOST_EVENTS = 20_000;
 
 /**
@@ -19,7 +19,7 @@ const MOST_EVENTS = 20_000;
 const objectsOf = (text) => text.split("\n").filter((line) => line !== "").map((line) => JSON.parse(line));
 
 /**
- * What tells an access of a trace, and a side of a race, from others.
+ * What distinguishes an access of a trace, and a side of a race, from others.
  * @param {any} access
  */
 const keyOf = ({ agent, block, byte, size, atomic, call, source, read, write, access = accessOf(read, write) }) =>

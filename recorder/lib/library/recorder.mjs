@@ -1,16 +1,10 @@
-// The recorder as a library.
+// `record` of the library: one run, in this process.
 
 import { Job } from "../seeds/job.mjs";
 import { Runs } from "../seeds/runs.mjs";
 import { chosenProgram } from "../simulator/chosen.mjs";
 import { checkedOptions } from "./library-options.mjs";
 import { folderOfCaller } from "./module-url.mjs";
-
-export { Difference } from "../check/check.mjs";
-export { explore } from "./explore.mjs";
-export { Refused } from "../options/refused.mjs";
-export { LostJob } from "../seeds/remote-job.mjs";
-export { NoSabsim } from "../simulator/native.mjs";
 
 /** @typedef {import("../check/check.mjs").Check} Check */
 /** @typedef {import("../run/group.mjs").Outcome & Check & Shortening} Outcome */

@@ -60,7 +60,7 @@ export class Log {
 
   /**
    * @param {ArrayBufferLike} memory
-   * @param {Int32Array} words in which one tells how many events there are
+   * @param {Int32Array} words in which one is how many events there are
    * @param {number} count the position of that word
    */
   constructor(memory, words, count) {

@@ -1,6 +1,6 @@
 // The seeded generator that picks moves: xoshiro128**, started by splitmix32. Both are in the public domain; the same
-// seed gives the same numbers on every machine. Its four words can lie in shared memory, so that whoever has the turn
-// draws from the same row.
+// seed gives the same numbers on every machine. Its four words can lie in shared memory, so that each agent with
+// the turn draws from the same row.
 
 // Agents may change what they find, so the engine's own functions are kept here, before.
 const { floor, imul } = Math;
@@ -38,7 +38,7 @@ export class Random {
     const low = splitmix32(seed % WORD);
     const high = splitmix32(floor(seed / WORD));
     const { words } = this;
-    // No two seeds start with the same words: the first number of each row tells its start.
+    // No two seeds start with the same words: the first number of each row shows its start.
     for (let at = 0; at < words.length; at += 1) words[at] = at < 2 ? low() : high();
     if ((words[0] | words[1] | words[2] | words[3]) === 0) words[0] = 1;
   }

@@ -1,37 +1,72 @@
 // Garbage. Each thread has a heap of its own, and the engine lets lie there what has outlived a first while, up to some
 // hundred megabytes. So that memory doesn't grow with the seeds, a process that is the recorder's own collects it
 // itself, in each of its threads, whenever that has done something often enough.
+//
+// No flag of the engine differs from its default while a worker begins. Node has its own code compiled ahead, for the
+// default flags alone: with others each worker would compile it anew.
 
 import { setFlagsFromString } from "node:v8";
-import { runInNewContext } from "node:vm";
+import { Script, createContext } from "node:vm";
+import { getEnvironmentData, setEnvironmentData } from "node:worker_threads";
 
 // It takes some milliseconds, so it is done seldom.
 const OFTEN_ENOUGH = 1_024;
 
-/** What shows all code the engine's own way to collect. */
-const FLAG = "--expose-gc";
+/** What shows the engine's own way to collect to all code of contexts that begin from now on, and what ends that. */
+const SHOWN = "--expose-gc";
+const HIDDEN = "--no-expose-gc";
 
 /** The room for young objects grows no more, until a worker begins. By itself it grows to 16 MB twice. */
 const NO_GROWTH = "--semi-space-growth-factor=1";
 const ASKED = /--expose[-_]gc/;
 
+/** The same in a worker: 2 MB twice, and as much for large objects. */
+const WORKER_LIMITS = Object.freeze({ maxYoungGenerationSizeMb: 6 });
+
+/** Under this key the threads of a process find whether it is the recorder's own. */
+const KEY = "sabsim: garbage is collected";
+
 /** @type {{ gc?: () => void }} */
 const realm = /** @type {any} */ (globalThis);
 
-/** @type {(() => void) | undefined} undefined: it is left to the engine */
+/** @type {(() => void) | undefined} undefined: nobody has shown it yet */
 let collect = realm.gc;
 
-// Who hasn't asked for it doesn't find it, as in a process of somebody else's. It can't be deleted.
+// A worker that begins while another thread shows it finds it too, though nobody has asked for it. It can't be deleted.
 const isAsked = ASKED.test(`${process.execArgv.join(" ")} ${process.env.NODE_OPTIONS ?? ""}`);
 if (collect !== undefined && !isAsked) realm.gc = undefined;
 
-let isOwn = false;
+let isOwn = getEnvironmentData(KEY) === true;
+
+// Agents may replace what they find in node's modules later.
+const { apply } = Reflect;
+const { runInContext } = Script.prototype;
 
 /** This process is the recorder's own: its garbage is collected, also in the threads that it starts from now on. */
 export function collectGarbage() {
-  setFlagsFromString(FLAG);
-  setFlagsFromString(NO_GROWTH);
+  setEnvironmentData(KEY, true);
   isOwn = true;
+}
+
+/** If this process is the recorder's own, its first thread gets no more room for young objects. */
+export function stopGrowth() {
+  if (isOwn) setFlagsFromString(NO_GROWTH);
+}
+
+/** @returns {{ maxYoungGenerationSizeMb?: number }} the limits of the workers of this process */
+export const workerLimits = () => (isOwn ? WORKER_LIMITS : {});
+
+/** @returns {() => void} the engine's own way to collect this thread's garbage */
+function collector() {
+  setFlagsFromString(SHOWN);
+  try {
+    return apply(runInContext, new Script("globalThis.gc"), [createContext()]);
+  } catch {
+    // Agents have broken what node needs for it. Then it is left to the engine.
+    return () => {};
+  } finally {
+    setFlagsFromString(HIDDEN);
+  }
 }
 
 let times = 0;
@@ -40,6 +75,6 @@ let times = 0;
 export function onceMore() {
   times += 1;
   if (times % OFTEN_ENOUGH !== 0) return;
-  if (isOwn) collect ??= runInNewContext("globalThis.gc");
+  if (isOwn) collect ??= collector();
   collect?.();
 }

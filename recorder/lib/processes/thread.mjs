@@ -1,6 +1,7 @@
 // A worker whose messages are awaited one after the other.
 
 import { MessageChannel, Worker, receiveMessageOnPort } from "node:worker_threads";
+import { workerLimits } from "./garbage.mjs";
 
 // How long an end is awaited. A call of native code, as one that waits for another program, can't be broken off: the
 // thread stays until that call returns.
@@ -33,7 +34,7 @@ export class Thread {
   constructor(file, workerData, { ownPort = false } = {}) {
     const { port1, port2 } = ownPort ? new MessageChannel() : NO_PORTS;
     const own = { workerData: { ...workerData, port: port2 }, transferList: port2 === undefined ? [] : [port2] };
-    this.worker = new Worker(file, ownPort ? own : { workerData });
+    this.worker = new Worker(file, { ...(ownPort ? own : { workerData }), resourceLimits: workerLimits() });
     /** Where messages come from and go to. */
     this.port = port1 ?? this.worker;
     /** @type {Item[]} */
@@ -80,7 +81,8 @@ export class Thread {
   }
 
   /**
-   * Ends the worker. Nothing is told of it. One that native code holds is left alone after a while, and ends later.
+   * Ends the worker. Nothing more is reported of it. A worker that native code holds is left alone after a while, and
+   * ends later.
    * @param {number} [milliseconds] how long its end is awaited at most
    * @returns {Promise<boolean>} whether it has ended
    */
@@ -123,7 +125,7 @@ export class Thread {
  */
 export const FIRST_THREADS = 5;
 
-const OWN_WORKER = new URL("./own-worker.mjs", import.meta.url);
+const OWN_WORKER = new URL("./own-worker.cjs", import.meta.url);
 
 /** @type {Thread[]} those that a process has begun while it loads its modules */
 const begun = [];

@@ -54,7 +54,7 @@ class Teller {
     this.transcript = transcript;
     this.sourceNames = sourceNames;
     this.sources = sources;
-    /** @type {ReturnType<typeof ownCalls>[]} each agent's own calls, likewise */
+    /** @type {ReturnType<typeof ownCalls>[]} each agent's own calls, in the same way */
     this.calls = [];
   }
 

@@ -8,7 +8,7 @@ import { waysOf } from "../board/strategy/ways.mjs";
 import { needsRightNames, planOf } from "../options/plan.mjs";
 import { Refused } from "../options/refused.mjs";
 import { defaultsOf } from "../options/table.mjs";
-import { ownModules } from "../processes/own-modules.mjs";
+import { ownModules } from "../processes/own-modules.cjs";
 import { FIRST_THREADS, begunThread } from "../processes/thread.mjs";
 import { addScript, runOf, wholeRun } from "./whole-run.mjs";
 import { within } from "./within.mjs";
@@ -43,7 +43,7 @@ import { within } from "./within.mjs";
  */
 
 /**
- * @typedef {object} Covering what an outcome tells besides, where coverage is looked for
+ * @typedef {object} Covering what an outcome has besides, where coverage is looked for
  * @property {string[]} [meetings] pairs of lines that came one after the other at a place, by different agents; those
  * that this group's runs before haven't shown
  * @property {number} [unplaced] how many accesses have told no line
@@ -62,7 +62,7 @@ import { within } from "./within.mjs";
 /** @typedef {Wanting & import("../board/row.mjs").RowWanted} Wanted a run that is to be made */
 
 /**
- * @typedef {object} Aside what is told beside an outcome to who compares runs
+ * @typedef {object} Aside what is reported beside an outcome to code that compares runs
  * @property {{ agent: number, block: number, byte: number }[]} waiting who waits where in a deadlock, in order of
  * arrival
  * @property {import("../board/row.mjs").Stray} [stray] how it has strayed from the row that it was to go by exactly
@@ -140,12 +140,13 @@ export class Group {
   /**
    * Starts the workers, and waits until the agents' module is loaded in each.
    * @param {GroupOptions} options
+   * @param {() => void} [meanwhile] is called once, while this thread awaits others
    * @returns {Promise<Group>}
    */
-  static async open(options) {
+  static async open(options, meanwhile = () => {}) {
     const group = new Group(options);
     try {
-      await group.#start();
+      await group.#start(meanwhile);
       return group;
     } catch (error) {
       await group.close();
@@ -238,11 +239,13 @@ export class Group {
     return runs[0];
   }
 
-  async #start() {
+  /** @param {() => void} meanwhile */
+  async #start(meanwhile) {
     this.#beginUpTo(FIRST_WORKERS);
     const referee = this.#thread();
     this.referee = referee;
-    const modules = ownModules(REFEREE_MODULE);
+    // It evaluates them while the agents' module is loaded.
+    referee.post({ modules: ownModules(REFEREE_MODULE) });
     const told = await this.#load(0);
     needsRightNames(told.names);
     this.plan = planOf(this.options, told.setup);
@@ -256,22 +259,28 @@ export class Group {
     this.memory = memoryOf(this.plan, this.options.logEvents);
     this.board = new Board(this.memory.board, this.rules);
     const { memory, plan, rules } = this;
-    referee.post({ modules, memory, plan, rules, options });
+    referee.post({ memory, plan, rules, options });
     const others = Array.from({ length: this.plan.agents - 1 }, (_, other) => other + 1);
     // A single agent meets nobody.
     const learns = !everywhere && others.length > 0;
     this.#beginUpTo(others.length + (learns ? this.plan.agents : 0));
+    if (!learns) meanwhile();
     await Promise.all(others.map((agent) => this.#load(agent)));
     await Promise.all(this.agents.map((_, agent) => this.#hand(agent)));
-    if (learns) await this.#learn();
+    if (learns) await this.#learn(meanwhile);
   }
 
-  /** Has the pilots made. Meanwhile the workers load the module that the agents have afterwards. */
-  async #learn() {
+  /**
+   * Has the pilots made. Meanwhile the workers load the module that the agents have afterwards.
+   * @param {() => void} meanwhile
+   */
+  async #learn(meanwhile) {
     this.next = this.agents.map((_, agent) => this.#loaded(agent));
     // If one can't load it, that is reported when it is needed.
     for (const loading of this.next) loading.catch(() => {});
-    await this.#work({ learns: true }, () => {});
+    const learning = this.#work({ learns: true }, () => {});
+    meanwhile();
+    await learning;
   }
 
   /** Begins a worker. */
@@ -322,7 +331,7 @@ export class Group {
     try {
       const call = name === "init" ? init : check;
       const answer = call?.([...buffers], { agents: started(this.plan).agents, args: [...args] });
-      // That it is a promise is told; what it comes to isn't anybody's.
+      // That it is a promise is reported; what comes of it is nobody's.
       Promise.resolve(answer).catch(() => {});
       return leftOpen(answer, "it") ?? foundBy(answer) ?? "";
     } catch (thrown) {

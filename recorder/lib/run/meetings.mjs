@@ -104,7 +104,7 @@ export class Meetings {
     return own[number];
   }
 
-  /** @param {string} place file, line and column, as an agent tells them */
+  /** @param {string} place file, line and column, as an agent notes them */
   #number(place) {
     const name = place === "" ? UNKNOWN : this.sourceNames.nameOf(place);
     const known = this.numbers.get(name);

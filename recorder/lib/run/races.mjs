@@ -17,7 +17,7 @@ import { viewKey } from "../memory/spelling.mjs";
 /** @typedef {import("../memory/log.mjs").Log} Log */
 
 /**
- * Is told of two accesses that race, with each byte on which they meet.
+ * Gets two accesses that race, with each byte on which they meet.
  * @callback OnRace
  * @param {number} one the position of an event in the log
  * @param {number} other that of a later one

@@ -184,4 +184,10 @@ class Referee {
 /** @param {Made} found @returns {import("./group.mjs").Aside} */
 const asideOf = ({ waiting, stray }) => ({ waiting, stray });
 
-new Referee(/** @type {import("./run-maker.mjs").Given} */ (workerData)).awaitWork();
+/** Awaits what it goes by, and then its work. */
+export function main() {
+  const { port } = workerData;
+  port.once("message", (/** @type {Omit<import("./run-maker.mjs").Given, "port">} */ given) => {
+    new Referee({ port, ...given }).awaitWork();
+  });
+}

@@ -23,7 +23,7 @@ export class SourceNames {
 
   /**
    * The name of a place in the code: the file as it is seen from the folder of the agents' module, line and column.
-   * @param {string} source file, line and column, as the engine tells them
+   * @param {string} source file, line and column, as the engine shows them
    * @returns {string}
    */
   nameOf(source) {

@@ -1,6 +1,6 @@
 // The process of a job. It ends with the process that has started it, however that one ends.
 
-import { onceMore } from "../processes/garbage.mjs";
+import { onceMore, stopGrowth } from "../processes/garbage.mjs";
 import { endGroup } from "../processes/group-end.mjs";
 import { Job } from "./job.mjs";
 import { packed } from "./remote-job.mjs";
@@ -22,6 +22,8 @@ function tell(outcome) {
 /** @param {import("./remote-job.mjs").Request} request @returns {Promise<unknown>} */
 async function answerTo(request) {
   if (request.open !== undefined) await job.open(request.open);
+  // Its first workers have begun.
+  stopGrowth();
   if (request.run !== undefined) await job.run(request.run, tell);
   return request.shorten && job.shorten(request.shorten, (tried) => send({ tried }));
 }

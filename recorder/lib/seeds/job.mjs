@@ -56,9 +56,7 @@ export class Job {
     this.#simulator = checks ? simulatorAt(sabsim) : undefined;
     this.#every = checkEvery;
     this.#isBrief = isBrief;
-    this.#group = Group.open(options);
-    // The workers begin meanwhile.
-    this.#simulator?.prepare();
+    this.#group = Group.open(options, () => this.#simulator?.prepare());
     await this.#group;
   }
 

@@ -161,7 +161,7 @@ export class RemoteJob {
         }
       };
       this.onMessage = onMessage;
-      // Where it can't be sent, the process is about to end, and its exit tells it.
+      // Where it can't be sent, the process is about to end, and its exit reports it.
       if (this.lost === undefined) this.child.send(request, () => {});
       else onMessage({ failed: { kind: "LostJob", message: this.lost } });
     });

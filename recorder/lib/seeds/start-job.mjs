@@ -3,11 +3,8 @@
 import { fork } from "node:child_process";
 import { fileURLToPath } from "node:url";
 
-const PROGRAM = fileURLToPath(new URL("../processes/own-process.mjs", import.meta.url));
+const PROGRAM = fileURLToPath(new URL("../processes/own-process.cjs", import.meta.url));
 const MODULE = new URL("./job-process.mjs", import.meta.url).href;
-
-// By itself the engine lets the room for each thread's young objects grow to 16 MB twice, in some thousand seeds.
-const MEMORY = "--max-semi-space-size=2";
 
 // A program that stands in the words of node's command line itself, and what it is.
 const EVALUATED = /^(-[ep]+|--eval|--print|--input-type)$/;
@@ -35,6 +32,6 @@ export function jobWords(words) {
 /** @returns {import("node:child_process").ChildProcess} which leads a group of processes */
 export function startJob() {
   const stdio = ["ignore", "inherit", "inherit", "ipc"];
-  const execArgv = [MEMORY, ...jobWords(process.execArgv)];
+  const execArgv = jobWords(process.execArgv);
   return fork(PROGRAM, [MODULE], { stdio, execArgv, serialization: "advanced", detached: true, windowsHide: true });
 }

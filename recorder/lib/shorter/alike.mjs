@@ -25,7 +25,7 @@ const pairOf = (lines) => lines.join(" and ");
 
 /**
  * Whether a run fails as another one does: with the same ending; a deadlock with the same agents at the same places, a
- * race with the pair of lines that the other one tells first, and else with the same message up to its numbers.
+ * race with the pair of lines that the other one reports first, and else with the same message up to its numbers.
  * @param {Run} run
  * @param {Run} other
  * @returns {boolean}

@@ -20,7 +20,7 @@ import { changesOf, joinedFrom, rowOf, shortenedAt, stretchesOf, without } from 
  * @typedef {object} Shortened what the shortening of a failing run came to
  * @property {number} runs how many it took
  * @property {Change} changes how often another agent moved than before: in the run as it was found, and in the shortest
- * @property {Change} calls of Atomics that were begun, likewise
+ * @property {Change} calls of Atomics that were begun, in the same two runs
  * @property {string} [stopped] why it was ended before all was tried
  * @property {string} [unchanged] why the run is told as it was found
  */

@@ -14,7 +14,7 @@ const reverseElements = uncurried(TypedArray.prototype.reverse);
 const sortElements = uncurried(TypedArray.prototype.sort);
 
 /**
- * An array of a species is filled one by one, as agents' code would: a watched one tells it.
+ * An array of a species is filled one by one, as agents' code would: a watched one reports it.
  * @param {any} array
  * @param {any} values
  * @param {number} count

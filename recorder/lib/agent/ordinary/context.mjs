@@ -13,7 +13,7 @@ import { weakGet, weakSet } from "../../primordials.mjs";
 /**
  * @typedef {object} Watching
  * @property {(buffer: unknown) => number} blockOf position among the recorded buffers, or -1
- * @property {(place: Place, from: number, to: number, writes: boolean) => void} seen is told bytes of the block before
+ * @property {(place: Place, from: number, to: number, writes: boolean) => void} seen gets bytes of the block before
  *   they are read or written; it may throw, and then nothing was done
  * @property {(why: string) => never} refuse ends the run
  */

@@ -1,5 +1,5 @@
 // The DataView of a watched realm. One on a recorded buffer is an object without elements: its methods are the only way
-// to its bytes, so each of them tells what it reads or writes.
+// to its bytes, so each of them reports what it reads or writes.
 
 import {
   apply, construct, copyProperty, create, getPrototypeOf, likeEngine, ownKeys, put,

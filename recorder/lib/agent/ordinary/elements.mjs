@@ -1,4 +1,4 @@
-// What agents hold in place of a typed array on a recorded buffer: a proxy that tells each read and write of an
+// What agents hold in place of a typed array on a recorded buffer: a proxy that reports each read and write of an
 // element. All but the elements are the engine's own array, behind it.
 
 import {
@@ -104,7 +104,7 @@ const isFalse = (descriptor, name) => hasOwn(descriptor, name) && !descriptor[na
 const { String: text } = globalThis;
 
 /**
- * Whether a key is a number as it is printed: those are never properties of a typed array, but for its elements.
+ * Whether a key is a number as it is printed: those are never properties of a typed array, except its elements.
  * @param {string} key
  */
 const isNumeric = (key) => key === "-0" || text(+key) === key;

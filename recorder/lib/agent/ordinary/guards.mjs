@@ -25,7 +25,7 @@ function anyReaches(given, depth, suspicious) {
 }
 
 /**
- * Makes what is given private, in its place, and tells that it is read.
+ * Makes what is given private, in its place, and reports that it is read.
  * @param {unknown[]} given
  * @param {number} [depth] how many objects deep it is looked for
  * @returns {unknown[]}
@@ -37,10 +37,10 @@ export function madePrivate(given, depth = WHOLLY) {
   return given;
 }
 
-/** @type {Standing} private copies are given, which are told as reads */
+/** @type {Standing} private copies are given, which are reported as reads */
 export const copying = (engine) => methodOf((self, given) => apply(engine, self, madePrivate(given)));
 
-/** @type {Standing} likewise of what is given itself, where that may be any object */
+/** @type {Standing} the same of what is given itself, where that may be any object */
 export const copyingGiven = (engine) => methodOf((self, given) => apply(engine, self, madePrivate(given, 0)));
 
 /**
@@ -61,7 +61,7 @@ function eachWritable(list) {
   return made;
 }
 
-/** @type {Standing} the engine's own array is given, which is told as written, or a list of such */
+/** @type {Standing} the engine's own array is given, which is reported as written, or a list of such */
 export const writing = (engine) => methodOf((self, given) => {
   if (!anyReaches(given, SHALLOW)) return apply(engine, self, given);
   const reals = [];

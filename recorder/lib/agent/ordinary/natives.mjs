@@ -131,7 +131,7 @@ function watchAssertions() {
   }
 }
 
-/** @type {Standing} how many bytes a text takes is tried in a private array, so that those alone are told */
+/** @type {Standing} how many bytes a text takes is tried in a private array, so that those alone are reported */
 const encodingInto = (engine) => methodOf((self, given) => {
   const text = given[0];
   const target = given[1];

@@ -34,7 +34,7 @@ export function replace(owner, name, make) {
 }
 
 /**
- * Likewise for a function by which recorded memory would get where nothing is seen: it must be where it is looked for.
+ * Does the same for a function by which recorded memory would get where nothing is seen. The function must be there.
  * @param {Record<string, any>} owner
  * @param {string} name
  * @param {(engine: Function) => Function} make

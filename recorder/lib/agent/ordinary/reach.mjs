@@ -83,7 +83,7 @@ export function reaches(value, depth, suspicious = false) {
 }
 
 /**
- * Tells that a whole recorded buffer is read.
+ * Reports that a whole recorded buffer is read.
  * @param {object} buffer
  * @param {number} block
  */
@@ -106,7 +106,7 @@ function bytesOf(buffer, offset, length) {
 }
 
 /**
- * A private copy of a recorded buffer. It tells that all of it is read.
+ * A private copy of a recorded buffer. That all of it is read is reported.
  * @param {object} buffer
  */
 export function privateBuffer(buffer) {
@@ -115,8 +115,8 @@ export function privateBuffer(buffer) {
 }
 
 /**
- * A private copy of a watched array or view, which stands where that stands in its buffer. It tells that all of it is
- * read.
+ * A private copy of a watched array or view, which lies where that one lies in its buffer. That all of it is
+ * read is reported.
  * @param {import("./watched.mjs").Watched} watched
  * @param {SharedArrayBuffer} [buffer] another one than what is made
  */

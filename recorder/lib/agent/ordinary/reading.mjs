@@ -1,5 +1,5 @@
 // The methods of typed arrays that read, for watched ones: what the standard says, with each read told. A read that
-// agents' code can come between is told by itself; else those of a stretch are told together.
+// agents' code can come between is reported by itself; else those of a stretch are reported together.
 
 import { TypedArray, uncurried } from "../../primordials.mjs";
 import { listed } from "./elements.mjs";
@@ -37,7 +37,7 @@ function sought(watched, self, callback, thisArgument, wanted) {
 }
 
 /**
- * Likewise for `find` and its like, which answer the element too.
+ * Does the same for `find` and its like, which return the element too.
  * @param {WatchedArray} watched
  * @param {object} self
  * @param {unknown} callback

@@ -39,7 +39,7 @@ function answered(buffer, count) {
 }
 
 /**
- * Tells that bytes of a buffer are accessed, where it is recorded.
+ * Reports that bytes of a buffer are accessed, where it is recorded.
  * @param {object} buffer
  * @param {number} from
  * @param {number} to

@@ -78,7 +78,7 @@ export class Watched {
   }
 }
 
-/** @typedef {Watched & { tellElement(index: number, writes: boolean): void }} WatchedArray that tells each element */
+/** @typedef {Watched & { tellElement(index: number, writes: boolean): void }} WatchedArray that reports each element */
 
 /**
  * A view on a recorded buffer itself, in place of one on another object that has its memory.
@@ -141,7 +141,7 @@ export function registerView(watched, standIn) {
 export const watchedOf = (value) => weakGet(arrays, value);
 
 /**
- * Likewise of an object that may be a DataView. What is no object is none, and throws.
+ * The same of an object that may be a DataView. What is no object is none, and throws.
  * @type {(view: object) => Watched | undefined}
  */
 export const watchedView = Marked.of;
@@ -160,7 +160,7 @@ export function unwrapped(value) {
 }
 
 /**
- * Tells that elements are read or written.
+ * Reports that elements are read or written.
  * @param {Watched} watched
  * @param {number} from the first element
  * @param {number} to behind the last
@@ -173,7 +173,7 @@ export function tell(watched, from, to, writes) {
 }
 
 /**
- * Tells that all of it is read or written.
+ * Reports that all of it is read or written.
  * @param {Watched} watched
  * @param {boolean} writes
  */

@@ -1,4 +1,4 @@
-// Whoever moved last goes on as a rule; how likely it is that another one moves next is given.
+// The agent that moved last goes on as a rule; how likely it is that another one moves next is given.
 
 export class Switching {
   /** @param {import("./drawing.mjs").Parts} parts @param {number} likelihood from 0 to 1 */

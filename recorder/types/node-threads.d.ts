@@ -1,0 +1,63 @@
+// What the recorder uses of node for threads and for code that is evaluated, as `node.d.ts` has the rest.
+
+declare module "node:v8" {
+  interface PromiseHooks {
+    onInit(hook: (promise: Promise<unknown>, parent: Promise<unknown> | undefined) => void): void;
+    onSettled(hook: (promise: Promise<unknown>) => void): void;
+  }
+  export const promiseHooks: PromiseHooks;
+  export function setFlagsFromString(flags: string): void;
+  const all: { Serializer: { prototype: object }; Deserializer: Function; DefaultDeserializer: Function };
+  export default all;
+}
+
+declare module "node:vm" {
+  export function compileFunction(code: string, names: string[], options: { filename: string }): Function;
+  export class Script {
+    constructor(code: string);
+    runInContext(context: object): any;
+  }
+  export function createContext(): object;
+  const vm: { Script: Function };
+  export default vm;
+}
+
+declare module "node:worker_threads" {
+  export function getEnvironmentData(key: string): unknown;
+  export function setEnvironmentData(key: string, value: unknown): void;
+  interface Port extends NodeJS.Listened {
+    postMessage(message: unknown): void;
+  }
+  export class MessagePort implements Port {
+    on(event: string, listener: (...given: any[]) => void): this;
+    once(event: string, listener: (...given: any[]) => void): this;
+    off(event: string, listener: (...given: any[]) => void): this;
+    postMessage(message: unknown): void;
+    close(): void;
+  }
+  export class MessageChannel {
+    readonly port1: MessagePort;
+    readonly port2: MessagePort;
+  }
+  interface WorkerOptions {
+    workerData?: unknown;
+    transferList?: MessagePort[];
+    stdout?: boolean;
+    stderr?: boolean;
+    resourceLimits?: { maxYoungGenerationSizeMb?: number };
+  }
+  export class Worker implements Port {
+    constructor(file: URL, options: WorkerOptions);
+    on(event: string, listener: (...given: any[]) => void): this;
+    once(event: string, listener: (...given: any[]) => void): this;
+    off(event: string, listener: (...given: any[]) => void): this;
+    postMessage(message: unknown): void;
+    terminate(): Promise<number>;
+    unref(): void;
+  }
+  export const parentPort: MessagePort | null;
+  export const workerData: any;
+  export function receiveMessageOnPort(port: MessagePort): { message: any } | undefined;
+  const threads: Record<"MessagePort" | "BroadcastChannel" | "Worker", Function>;
+  export default threads;
+}
