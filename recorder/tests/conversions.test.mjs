@@ -10,7 +10,7 @@ import { KIND_NAMES, found } from "./agents/conversions.mjs";
 import { agentsOf, agentsPath, temporaryFolder } from "./helpers/common.mjs";
 import { CHECKER } from "./helpers/needs.mjs";
 
-/** With `everywhere` no pilots are made first. Without an error of `record`, sabsim replays the script to the report. */
+/** With `everywhere` no pilots are made first. `record` throws if sabsim doesn't replay the script to the report. */
 const HOW = { agents: 1, buffers: [64], sabsim: CHECKER, seconds: 60, everywhere: true };
 
 /**
@@ -170,7 +170,8 @@ describe("what an agent's code does in a conversion comes before the call", () =
       assert.equal(outcome.ending, "finished", outcome.detail);
       const [calls] = callsOf(outcome);
       assert.deepEqual([calls[0], calls.at(-1)], inOrder(["store", 0, 1], ["add", 0, 11])[0]);
-      assert.ok(calls.length > 2 && calls.slice(1, -1).every(([name, view]) => /^store ordinary_/.test(`${name} ${view}`)));
+      const between = calls.slice(1, -1).map(([name, view]) => `${name} ${view}`);
+      assert.ok(between.length > 0 && between.every((call) => /^store ordinary_/.test(call)));
       assert.equal(outcome.bytes[0].slice(0, 32), "0c000000000000000500000006000000");
     });
   }

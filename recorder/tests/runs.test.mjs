@@ -193,7 +193,8 @@ test("each call that no script can have is refused by name and line, even where 
     wide: `store: the value ${2n ** 127n}n ${wide}`, negativeWide: `add: the value ${-(2n ** 127n) - 1n}n ${wide}`,
     wideText: `exchange: the value ${2n ** 128n}n ${wide}`, indexUnsafe: `load: the index ${unsafe}`,
     indexText: `load: the index -${unsafe}`, countUnsafe: `notify: the count ${unsafe}`,
-    countText: "notify: the count -1e\\+300", waitAsync: "waitAsync: no script can have this function: use Atomics.wait$",
+    countText: "notify: the count -1e\\+300",
+    waitAsync: "waitAsync: no script can have this function: use Atomics.wait$",
   };
   assert.deepEqual(Object.keys(SAID), NAMES);
   outcomes.forEach(({ detail, script }, at) => {

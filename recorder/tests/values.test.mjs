@@ -53,7 +53,8 @@ test("operands are safe whole Numbers and BigInts of 128 bits, or become such, o
   const bigs = [0n, -1n, 2n ** 127n - 1n, -(2n ** 127n)];
   for (const convert of [number, big]) checkEach(convert, bigs.map((value) => [value, value]));
   checkEach(big, [[true, 1n], [false, 0n], ["1", 1n], [[], 0n], [{ valueOf: () => 1n }, 1n]]);
-  for (const value of [Infinity, -Infinity, most + 1, -most - 1, `${most + 1}`]) assert.throws(() => number(value), REFUSED);
+  const unsafe = [Infinity, -Infinity, most + 1, -most - 1, `${most + 1}`];
+  for (const value of unsafe) assert.throws(() => number(value), REFUSED);
   for (const value of [2n ** 127n, -(2n ** 127n) - 1n, `${2n ** 127n}`]) assert.throws(() => big(value), REFUSED);
   for (const value of [Symbol("s"), 2n ** 127n]) assert.throws(() => number(value), TypeError);
   for (const value of [Symbol("s"), 0.5, NaN, most + 1, undefined, null, () => 1]) {
@@ -83,7 +84,8 @@ test("an operand is converted only if the checks before it pass", () => {
 test("an index is a safe whole Number, or becomes one, or is refused", () => {
   const index = (value, length = 4) => indexFrom(value, asked("Int32", { length }), refuse);
   checkEach(index, [
-    [0, 0], [5, 5], [-1, -1], [most, most], [-0, 0], [undefined, 0], ["0", 0], [0.5, 0], [NaN, 0], [null, 0], ["-1.5", -1],
+    [0, 0], [5, 5], [-1, -1], [most, most], [-0, 0], [undefined, 0], ["0", 0], [0.5, 0], [NaN, 0], [null, 0],
+    ["-1.5", -1],
   ]);
   assert.equal(index("1", 0), 1);
   assert.throws(() => index(1n), TypeError);

@@ -56,6 +56,9 @@ function callOf(call, given, view, kind, block, refuse) {
   return asked;
 }
 
+/** @param {number} timeout @returns {number} for how long the engine waits, where the run's time goes on instead */
+const engineTime = (timeout) => (isNaN(timeout) || timeout === Infinity ? timeout : 0);
+
 /**
  * A call on an array of the program's own. A wait there that has a timeout is how code sleeps; nobody else has the
  * array, so it takes only the run's time.
@@ -68,25 +71,31 @@ function privately(engine, asking, name, given) {
   const timeout = given[3];
   const sleeps = name === "wait" && timeout !== undefined && asking.simulatesTime && asking.isRecording();
   if (!sleeps) return apply(engine[name], engine, given);
-  let milliseconds = 0;
-  const engineTime = () => {
-    milliseconds = +timeout;
-    return isNaN(milliseconds) || milliseconds === Infinity ? Infinity : 0;
-  };
-  given[3] = typeof timeout === "number" ? engineTime() : convertedBy(engineTime);
+  if (typeof timeout !== "number") return waitConverting(engine, asking, given);
+  given[3] = engineTime(timeout);
   const answer = apply(engine.wait, engine, given);
-  if (answer === "timed-out") asking.sleep(milliseconds);
+  if (answer === "timed-out") asking.sleep(timeout);
   return answer;
 }
 
 /**
- * An argument that the engine converts when its turn comes.
- * @param {() => number} convert what gives its number
+ * A wait there whose timeout is converted: once, by the engine, after the index and the value.
+ * @param {Functions} engine
+ * @param {Asking} asking
+ * @param {any[]} given
  */
-function convertedBy(convert) {
-  const argument = create(null);
-  argument[toPrimitive] = convert;
-  return argument;
+function waitConverting(engine, asking, given) {
+  const timeout = given[3];
+  let milliseconds = 0;
+  const converted = create(null);
+  converted[toPrimitive] = () => {
+    milliseconds = +timeout;
+    return engineTime(milliseconds);
+  };
+  given[3] = converted;
+  const answer = apply(engine.wait, engine, given);
+  if (answer === "timed-out") asking.sleep(milliseconds);
+  return answer;
 }
 
 /**

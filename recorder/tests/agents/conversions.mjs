@@ -44,9 +44,13 @@ const ARGUMENTS = {
   "valueOf": (log) => ({ valueOf: () => answered(log, "valueOf", 2.5) }),
   "valueOf of a BigInt": (log) => ({ valueOf: () => answered(log, "valueOf", 2n) }),
   "valueOf of a text": (log) => ({ valueOf: () => answered(log, "valueOf", "4") }),
-  "toString": (log) => ({ valueOf: () => answered(log, "valueOf", {}), toString: () => answered(log, "toString", "6") }),
+  "toString": (log) => ({
+    valueOf: () => answered(log, "valueOf", {}), toString: () => answered(log, "toString", "6"),
+  }),
   "neither": (log) => ({ valueOf: () => answered(log, "valueOf", {}), toString: () => answered(log, "toString", {}) }),
-  "toPrimitive": (log) => ({ [Symbol.toPrimitive]: (hint) => answered(log, `toPrimitive ${hint}`, "1"), valueOf: null }),
+  "toPrimitive": (log) => ({
+    [Symbol.toPrimitive]: (hint) => answered(log, `toPrimitive ${hint}`, "1"), valueOf: null,
+  }),
   "toPrimitive of an object": (log) => ({ [Symbol.toPrimitive]: () => answered(log, "toPrimitive", {}) }),
   "toPrimitive that is none": () => ({ [Symbol.toPrimitive]: 5 }),
   "a getter": (log) => ({ get valueOf() { return answered(log, "get", () => answered(log, "valueOf", 3)); } }),
@@ -106,8 +110,8 @@ function resultOf(atomics, name, view, given, log) {
 
 /**
  * The arguments of a call, of which all but one log and are right.
- * @param {string} name of the function @param {object} view @param {number} place of the other one @param {string} argument
- * @param {string[]} log
+ * @param {string} name of the function @param {object} view @param {number} place of the other one
+ * @param {string} argument @param {string[]} log
  */
 function argumentsOf(name, view, place, argument, log) {
   const isBig = /Big/.test(view.constructor.name);
