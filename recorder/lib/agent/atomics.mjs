@@ -72,8 +72,7 @@ function privately(engine, asking, name, given) {
   const sleeps = name === "wait" && timeout !== undefined && asking.simulatesTime && asking.isRecording();
   if (!sleeps) return apply(engine[name], engine, given);
   if (typeof timeout !== "number") return waitConverting(engine, asking, given);
-  given[3] = engineTime(timeout);
-  const answer = apply(engine.wait, engine, given);
+  const answer = apply(engine.wait, engine, [given[0], given[1], given[2], engineTime(timeout)]);
   if (answer === "timed-out") asking.sleep(timeout);
   return answer;
 }
