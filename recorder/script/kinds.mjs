@@ -20,6 +20,11 @@ export const CONSTRUCTORS = Object.freeze(KINDS.map((kind) => {
 /** How many bytes an element of each kind has, by its number. */
 export const SIZES = Object.freeze(CONSTRUCTORS.map((constructor) => constructor.BYTES_PER_ELEMENT));
 
+const FIRST_BIG = KINDS.indexOf("BigInt64");
+
+/** @param {number} kind @returns {boolean} whether its elements are BigInts */
+export const isBigKind = (kind) => kind >= FIRST_BIG;
+
 /**
  * @typedef {object} Taken what a call takes
  * @property {string} name of the function of Atomics

@@ -182,7 +182,7 @@ describe("a patched language", () => {
 
   const FUNCTIONS = ["top", "agent"].flatMap((when) => ["throws", "lies"].map((how) => ["functions", when, how]));
   const ENDS = {
-    finished: "", deadlock: "waits at byte 20", failed: "threw Error: as it must be", refused: "the value 0.5",
+    finished: "", deadlock: "waits at byte 20", failed: "threw Error: as it must be", refused: "the value 9007199254740992",
     later: "goes on later, by setImmediate",
   };
 
@@ -377,7 +377,7 @@ describe("a stack that comes to its end in what an agent asks", () => {
     return found;
   }
 
-  for (const asks of ["add", "wait", "notify", "refuse"]) {
+  for (const asks of ["add", "wait", "notify", "exchange", "refuse"]) {
     test(`leaves nothing to the seeds that come after it: ${asks}`, { timeout: 120_000 }, async () => {
       const calm = await outcomes(asks, () => 0);
       const deep = await outcomes(asks, (seed) => (seed % 2 === 1 ? seed * STEP : 0));

@@ -1,7 +1,7 @@
 // Runs of real agents: what they are answered, how they end, and what is told of it.
 
 import assert from "node:assert/strict";
-import { writeFileSync } from "node:fs";
+import { readFileSync, writeFileSync } from "node:fs";
 import { test } from "node:test";
 import { Group } from "../lib/run/group.mjs";
 import { Difference, NoSabsim, Refused, record } from "../recorder.mjs";
@@ -171,7 +171,9 @@ test("an agent whose stack comes to its end amid a call is told of, or not harme
   else assert.equal(outcome.bytes[0].slice(0, 8), "01000000");
 });
 
-test("each call that no script can have is refused by name, even where the agent catches it", async () => {
+const REFUSED_LINES = readFileSync(agentsPath("refused"), "utf8").split("\n");
+
+test("each call that no script can have is refused by name and line, even where the agent catches it", async () => {
   const outcomes = await Promise.all(NAMES.map((name) => {
     return record({ module: agentsPath("refused"), args: [name], agents: 2, buffers: [16], sabsim: false });
   }));
@@ -181,10 +183,26 @@ test("each call that no script can have is refused by name, even where the agent
     assert.match(detail, told, NAMES[at]);
   });
   const told = (name) => outcomes[NAMES.indexOf(name)].detail;
-  assert.match(told("fraction"), /Atomics\.store: the value 1\.5 isn't a whole .*: convert it before the call$/m);
-  assert.match(told("object"), /Atomics\.add: the value an object is no Number or BigInt/);
-  assert.match(told("waitAsync"), /Atomics\.waitAsync: no script can have this function: use Atomics\.wait$/m);
-  assert.match(told("replacement"), /Atomics\.compareExchange: the replacement undefined/);
+  const unsafe = "9007199254740992 isn't within ±\\(2\\^53 - 1\\): no script can hold it";
+  const wide = "is a BigInt of more than 128 bits: no script can hold it";
+  const SAID = {
+    infinity: "store: the value Infinity isn't within", negativeInfinity: "add: the value -Infinity isn't within",
+    unsafe: `store: the value ${unsafe}`, negativeUnsafe: `sub: the value -${unsafe}`,
+    waitUnsafe: `wait: the value ${unsafe}`, object: `add: the value ${unsafe}`, text: `sub: the value ${unsafe}`,
+    expected: "compareExchange: the expected value 1e\\+300", replacement: "compareExchange: the replacement 1e\\+300",
+    wide: `store: the value ${2n ** 127n}n ${wide}`, negativeWide: `add: the value ${-(2n ** 127n) - 1n}n ${wide}`,
+    wideText: `exchange: the value ${2n ** 128n}n ${wide}`, indexUnsafe: `load: the index ${unsafe}`,
+    indexText: `load: the index -${unsafe}`, countUnsafe: `notify: the count ${unsafe}`,
+    countText: "notify: the count -1e\\+300",
+    waitAsync: "waitAsync: no script can have this function: use Atomics.wait$",
+  };
+  assert.deepEqual(Object.keys(SAID), NAMES);
+  outcomes.forEach(({ detail, script }, at) => {
+    assert.match(detail, new RegExp(`Error: Atomics\\.${SAID[NAMES[at]]}`, "m"));
+    const line = 1 + REFUSED_LINES.findIndex((text) => text.startsWith(`  ${NAMES[at]}: `));
+    assert.match(detail, new RegExp(`refused\\.mjs:${line}:\\d+`), NAMES[at]);
+    assert.deepEqual(JSON.parse(script).agents[1].calls, [], NAMES[at]);
+  });
 });
 
 test("the agents' Atomics look like the engine's", async (context) => {

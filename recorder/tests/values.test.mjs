@@ -2,10 +2,11 @@
 
 import assert from "node:assert/strict";
 import { test } from "node:test";
+import { countFrom, indexFrom, limitOf, operandFrom, timeoutFrom } from "../lib/agent/conversions.mjs";
 import { Random } from "../lib/memory/random.mjs";
 import { Records } from "../lib/memory/records.mjs";
 import { CALLS, KINDS, kindOf } from "../script/kinds.mjs";
-import { OutsideProfile, countOf, indexOf, operandOf, shown, timeoutOf } from "../script/operands.mjs";
+import { shown } from "../script/operands.mjs";
 
 test("each of the eleven typed arrays has its kind, and nothing else has one", () => {
   const names = KINDS.map((_, number) => KINDS[kindOf(new globalThis[`${KINDS[number]}Array`](1))]);
@@ -28,40 +29,86 @@ test("a call takes as much as its function of Atomics does, and only waits and n
   assert.equal(CALLS.length, 11);
 });
 
-test("operands are safe whole Numbers and BigInts of 128 bits", () => {
-  const most = Number.MAX_SAFE_INTEGER;
-  for (const value of [0, 1, -1, most, -most, 0n, -1n, 2n ** 127n - 1n, -(2n ** 127n)]) {
-    assert.equal(operandOf(value, "it"), value);
+const asked = (kind, more = {}) => ({
+  call: 1, kind: KINDS.indexOf(kind), block: 0, offset: 0, length: 4, index: 0, operands: [], limit: undefined, ...more,
+});
+const refuse = (why) => {
+  throw new EvalError(why);
+};
+const REFUSED = { name: "EvalError" };
+const most = Number.MAX_SAFE_INTEGER;
+
+/** @param {(value: any) => unknown} convert @param {[any, unknown][]} pairs of what is given and what comes of it */
+function checkEach(convert, pairs) {
+  for (const [given, wanted] of pairs) assert.ok(Object.is(convert(given), wanted), `${typeof given} ${shown(given)}`);
+}
+
+test("operands are safe whole Numbers and BigInts of 128 bits, or become such, or are refused", () => {
+  const number = (value) => operandFrom(value, asked("Int32"), refuse);
+  const big = (value) => operandFrom(value, asked("BigInt64"), refuse);
+  checkEach(number, [
+    [0, 0], [1, 1], [-1, -1], [most, most], [-most, -most], [-0, 0], [0.5, 0], [-0.5, 0], [NaN, 0], [undefined, 0],
+    [null, 0], [true, 1], ["1", 1], [{}, 0], [[], 0], [() => 1, 0], [{ valueOf: () => 1 }, 1], [-2.5, -2],
+  ]);
+  const bigs = [0n, -1n, 2n ** 127n - 1n, -(2n ** 127n)];
+  for (const convert of [number, big]) checkEach(convert, bigs.map((value) => [value, value]));
+  checkEach(big, [[true, 1n], [false, 0n], ["1", 1n], [[], 0n], [{ valueOf: () => 1n }, 1n]]);
+  const unsafe = [Infinity, -Infinity, most + 1, -most - 1, `${most + 1}`];
+  for (const value of unsafe) assert.throws(() => number(value), REFUSED);
+  for (const value of [2n ** 127n, -(2n ** 127n) - 1n, `${2n ** 127n}`]) assert.throws(() => big(value), REFUSED);
+  for (const value of [Symbol("s"), 2n ** 127n]) assert.throws(() => number(value), TypeError);
+  for (const value of [Symbol("s"), 0.5, NaN, most + 1, undefined, null, () => 1]) {
+    assert.throws(() => big(value), value instanceof Function ? SyntaxError : TypeError);
   }
-  assert.ok(Object.is(operandOf(-0, "it"), 0));
-  const outside = [
-    0.5, NaN, Infinity, -Infinity, most + 1, 2n ** 127n, -(2n ** 127n) - 1n, undefined, null, true, "1", {}, [],
-    Symbol("s"), () => 1, { valueOf: () => assert.fail("its code was called") },
-  ];
-  for (const value of outside) assert.throws(() => operandOf(value, "the value"), OutsideProfile);
 });
 
-test("an index is a safe whole Number", () => {
-  for (const value of [0, 5, -1, Number.MAX_SAFE_INTEGER]) assert.equal(indexOf(value), value);
-  assert.ok(Object.is(indexOf(-0), 0));
-  for (const value of [undefined, "0", 0.5, 1n, NaN, Infinity, null]) {
-    assert.throws(() => indexOf(value), OutsideProfile);
+test("a wait takes 0 for an infinite operand", () => {
+  const wait = (value) => operandFrom(value, asked("Int32", { call: 9 }), refuse);
+  checkEach(wait, [[Infinity, 0], [-Infinity, 0], ["Infinity", 0], [most, most]]);
+  assert.throws(() => wait(most + 1), REFUSED);
+});
+
+test("an operand is converted only if the checks before it pass", () => {
+  const value = { valueOf: () => assert.fail("its code was called") };
+  for (const index of [-1, 4]) {
+    assert.throws(() => operandFrom(value, asked("Int32", { index }), refuse), RangeError);
   }
+  const second = { call: 8, operands: [1n] };
+  assert.throws(() => operandFrom(value, asked("Int32", second), refuse), TypeError);
+  assert.throws(() => operandFrom(value, asked("Float64"), refuse), TypeError);
+  assert.throws(() => indexFrom(value, asked("Float64"), refuse), TypeError);
+  assert.throws(() => timeoutFrom(value, asked("Int32", { call: 9, operands: [1n] })), TypeError);
+  assert.throws(() => countFrom(value, asked("Int16", { call: 10 }), refuse), TypeError);
+});
+
+test("an index is a safe whole Number, or becomes one, or is refused", () => {
+  const index = (value, length = 4) => indexFrom(value, asked("Int32", { length }), refuse);
+  checkEach(index, [
+    [0, 0], [5, 5], [-1, -1], [most, most], [-0, 0], [undefined, 0], ["0", 0], [0.5, 0], [NaN, 0], [null, 0],
+    ["-1.5", -1],
+  ]);
+  assert.equal(index("1", 0), 1);
+  assert.throws(() => index(1n), TypeError);
+  for (const value of [Infinity, "-Infinity"]) assert.throws(() => index(value), RangeError);
+  for (const value of [most + 1, `${-most - 1}`]) assert.throws(() => index(value), REFUSED);
 });
 
 test("a count is none for undefined and Infinity, which the standard takes for no bound", () => {
-  assert.equal(countOf(undefined), undefined);
-  assert.equal(countOf(Infinity), undefined);
-  for (const value of [0, 3, -2]) assert.equal(countOf(value), value);
-  for (const value of [0.5, NaN, -Infinity, 1n, "1", null]) assert.throws(() => countOf(value), OutsideProfile);
+  const count = (value) => countFrom(value, asked("Int32", { call: 10 }), refuse);
+  checkEach(count, [[undefined, undefined], [Infinity, undefined], ["Infinity", undefined], [0, 0], [3, 3], [-2, -2]]);
+  checkEach(count, [[0.5, 0], [NaN, 0], [-Infinity, 0], ["1", 1], [null, 0], [-0, 0]]);
+  assert.throws(() => count(1n), TypeError);
+  for (const value of [most + 1, -most - 1]) assert.throws(() => count(value), REFUSED);
 });
 
 test("a timeout is none for undefined, NaN and Infinity, and of any other Number the whole part", () => {
-  for (const value of [undefined, NaN, Infinity]) assert.equal(timeoutOf(value), undefined);
-  const kept = [[0, 0], [50, 50], [0.5, 0], [-0.5, 0], [-3, -3], [1e300, Number.MAX_SAFE_INTEGER]];
-  for (const [given, wanted] of kept) assert.ok(Object.is(timeoutOf(given), wanted), `${given}`);
-  assert.equal(timeoutOf(-Infinity), -Number.MAX_SAFE_INTEGER);
-  for (const value of [1n, "1", null, {}]) assert.throws(() => timeoutOf(value), OutsideProfile);
+  const timeout = (value) => timeoutFrom(value, asked("Int32", { call: 9, operands: [0] }));
+  const limit = (value) => limitOf(timeout(value));
+  checkEach(limit, [undefined, NaN, Infinity, {}, "ten"].map((value) => [value, undefined]));
+  checkEach(limit, [[0, 0], [50, 50], [0.5, 0], [-0.5, 0], [-3, -3], [1e300, most], [-Infinity, -most]]);
+  checkEach(limit, [["1.5", 1], [null, 0], [true, 1], ["1e300", most]]);
+  checkEach(timeout, [["1.5", 1.5], [0.5, 0.5], [null, 0]]);
+  assert.throws(() => timeout(1n), TypeError);
 });
 
 test("values are shown without calling their code", () => {

@@ -2,12 +2,14 @@
 // on an array of the program's own is the engine's.
 
 import { CALLS, CALL_NUMBERS, kindOf } from "../../script/kinds.mjs";
-import { OutsideProfile, countOf, indexOf, operandOf, timeoutOf } from "../../script/operands.mjs";
-import { apply, bufferOf, likeEngine, lengthOf, offsetOf, put } from "../primordials.mjs";
+import { isWhole } from "../../script/operands.mjs";
+import { apply, bufferOf, create, likeEngine, lengthOf, offsetOf, put } from "../primordials.mjs";
+import { countFrom, indexFrom, limitOf, operandFrom, timeoutFrom } from "./conversions.mjs";
 import { unwrapped } from "./ordinary/watched.mjs";
 
-const { wait: WAIT, notify: NOTIFY, compareExchange: COMPARE_EXCHANGE } = CALL_NUMBERS;
+const { wait: WAIT, notify: NOTIFY } = CALL_NUMBERS;
 const { isNaN } = Number;
+const { toPrimitive } = Symbol;
 
 /** @typedef {import("../memory/records.mjs").Call} Call */
 /** @typedef {Record<string, any>} Functions an Atomics: its functions by their names */
@@ -18,34 +20,44 @@ const { isNaN } = Number;
  * @property {() => boolean} isRecording whether the agent's part in a run goes on
  * @property {(call: Call, view: object, called: Function) => unknown} make blocks until it is the agent's turn; above
  * what was called stands the agent's own frame
- * @property {(milliseconds: number) => boolean} sleep lets time pass in a wait that nobody can end; whether it did
+ * @property {boolean} simulatesTime whether a run has a time of its own
+ * @property {(milliseconds: number) => void} sleep lets the run's time pass in a wait that nobody can end
  * @property {(why: string) => never} refuse ends the run, for a call that no script can have
  */
 
-/** @param {number} call @param {number} place @returns {string} what a call's operands are named in a refusal */
-function operandName(call, place) {
-  if (call === COMPARE_EXCHANGE) return place === 0 ? "the expected value" : "the replacement";
-  return "the value";
-}
-
 /**
- * What a script has for a call.
+ * What a script has for a call. What the language converts is converted here, in its order.
  * @param {number} call
  * @param {any[]} given
  * @param {object} view the typed array, as the engine knows it
+ * @param {number} kind
  * @param {number} block
+ * @param {(why: string) => never} refuse
  * @returns {Call}
  */
-function callOf(call, given, view, block) {
-  const index = indexOf(given[1]);
-  const operands = [];
-  for (let at = 0; at < CALLS[call].operands; at += 1) operands[at] = operandOf(given[2 + at], operandName(call, at));
-  const limit = call === WAIT ? timeoutOf(given[3]) : call === NOTIFY ? countOf(given[2]) : undefined;
-  const kind = kindOf(view);
-  // A script has no fraction of a timeout, but the run's time goes on by all of it.
-  const milliseconds = call === WAIT && limit !== undefined ? given[3] : 0;
-  return { call, kind, block, offset: offsetOf(view), length: lengthOf(view), index, operands, limit, milliseconds };
+function callOf(call, given, view, kind, block, refuse) {
+  /** @type {Call} */
+  const asked = {
+    call, kind, block, offset: offsetOf(view), length: lengthOf(view), index: 0, operands: [], limit: undefined,
+    milliseconds: undefined,
+  };
+  const index = given[1];
+  asked.index = isWhole(index) ? index + 0 : indexFrom(index, asked, refuse);
+  for (let at = 0; at < CALLS[call].operands; at += 1) {
+    const value = given[2 + at];
+    asked.operands[at] = isWhole(value) ? value + 0 : operandFrom(value, asked, refuse);
+  }
+  if (call === NOTIFY) asked.limit = countFrom(given[2], asked, refuse);
+  if (call === WAIT) {
+    // A script has no fraction of a timeout, but the run's time goes on by all of it.
+    asked.milliseconds = timeoutFrom(given[3], asked);
+    asked.limit = limitOf(asked.milliseconds);
+  }
+  return asked;
 }
+
+/** @param {number} timeout @returns {number} for how long the engine waits, where the run's time goes on instead */
+const engineTime = (timeout) => (isNaN(timeout) || timeout === Infinity ? timeout : 0);
 
 /**
  * A call on an array of the program's own. A wait there that has a timeout is how code sleeps; nobody else has the
@@ -56,14 +68,33 @@ function callOf(call, given, view, block) {
  * @param {any[]} given
  */
 function privately(engine, asking, name, given) {
-  const own = engine[name];
   const timeout = given[3];
-  if (name !== "wait" || timeout === undefined || !asking.isRecording()) return apply(own, engine, given);
-  const milliseconds = +timeout;
-  if (isNaN(milliseconds) || milliseconds === Infinity) return apply(own, engine, given);
-  const answer = apply(own, engine, [given[0], given[1], given[2], 0]);
-  if (answer !== "timed-out" || asking.sleep(milliseconds)) return answer;
-  return apply(own, engine, given);
+  const sleeps = name === "wait" && timeout !== undefined && asking.simulatesTime && asking.isRecording();
+  if (!sleeps) return apply(engine[name], engine, given);
+  if (typeof timeout !== "number") return waitConverting(engine, asking, given);
+  const answer = apply(engine.wait, engine, [given[0], given[1], given[2], engineTime(timeout)]);
+  if (answer === "timed-out") asking.sleep(timeout);
+  return answer;
+}
+
+/**
+ * A wait there whose timeout is converted: once, by the engine, after the index and the value.
+ * @param {Functions} engine
+ * @param {Asking} asking
+ * @param {any[]} given
+ */
+function waitConverting(engine, asking, given) {
+  const timeout = given[3];
+  let milliseconds = 0;
+  const converted = create(null);
+  converted[toPrimitive] = () => {
+    milliseconds = +timeout;
+    return engineTime(milliseconds);
+  };
+  given[3] = converted;
+  const answer = apply(engine.wait, engine, given);
+  if (answer === "timed-out") asking.sleep(milliseconds);
+  return answer;
 }
 
 /**
@@ -75,21 +106,16 @@ function privately(engine, asking, name, given) {
  */
 function recorded(engine, asking, call) {
   const { name } = CALLS[call];
+  const refuse = (/** @type {string} */ why) => asking.refuse(`Atomics.${name}: ${why}: no script can hold it`);
   const made = (/** @type {any[]} */ ...given) => {
     const view = unwrapped(given[0]);
-    const block = kindOf(view) < 0 ? -1 : asking.blockOf(bufferOf(view));
+    const kind = kindOf(view);
+    const block = kind < 0 ? -1 : asking.blockOf(bufferOf(view));
     if (block < 0 || !asking.isRecording()) {
       given[0] = view;
       return privately(engine, asking, name, given);
     }
-    let asked;
-    try {
-      asked = callOf(call, given, view, block);
-    } catch (problem) {
-      if (!(problem instanceof OutsideProfile)) throw problem;
-      return asking.refuse(`Atomics.${name}: ${problem.message}: convert it before the call`);
-    }
-    return asking.make(asked, view, made);
+    return asking.make(callOf(call, given, view, kind, block, refuse), view, made);
   };
   return made;
 }

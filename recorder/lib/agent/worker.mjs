@@ -181,11 +181,8 @@ const asking = {
   blockOf,
   isRecording,
   make: (call, view, called) => playing().make(call, view, called),
-  sleep: (milliseconds) => {
-    if (clock !== "run") return false;
-    playing().doze(milliseconds);
-    return true;
-  },
+  simulatesTime: clock === "run",
+  sleep: (milliseconds) => playing().doze(milliseconds),
   refuse: (why) => refuse("made a call", why),
 };
 

@@ -4,7 +4,8 @@ const ASKS = {
   add: (words) => Atomics.add(words, 3, 1),
   wait: (words) => Atomics.wait(words, 3, 0, 5),
   notify: (words) => Atomics.notify(words, 3),
-  refuse: (words) => Atomics.store(words, 3, 0.5),
+  exchange: (words) => Atomics.exchange(words, { valueOf: () => 3 }, "0.5"),
+  refuse: (words) => Atomics.store(words, 3, 2 ** 53),
 };
 
 /** Goes down to the end of the stack, and asks on the way back. */

@@ -64,6 +64,11 @@ function work(buffers, agent) {
   }
   Atomics.add(bigs, agent & 1, 5n);
   Atomics.compareExchange(bigs, 1, -1n, 2n ** 100n);
+  // The language converts these, and calls none of its functions that can be patched.
+  Atomics.or(words, "5", 0.5);
+  Atomics.add(bigs, true, "0x10");
+  Atomics.wait(words, "3", -1.5, "0.5");
+  Atomics.notify(words, null, null);
   new Uint8Array(buffers[0])[28 + agent] = math.random() * 256;
   Atomics.store(words, 6, performance.now() * 1_000 | 0);
   try {
@@ -84,7 +89,7 @@ export default function agent({ buffers, agent: number, args }) {
   switch (args[0]) {
     case "deadlock": return void Atomics.wait(words, 5, 0);
     case "failed": throw new EngineError("as it must be");
-    case "refused": return void Atomics.store(words, 5, 0.5);
+    case "refused": return void Atomics.store(words, 5, 2 ** 53);
     case "later": return void setImmediate(() => {});
     default: return undefined;
   }

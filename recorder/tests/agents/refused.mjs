@@ -1,19 +1,22 @@
 // One agent that makes a call which no script can have; the first argument says which.
 
 const REFUSED = {
-  fraction: (words) => Atomics.store(words, 0, 1.5),
-  notANumber: (words) => Atomics.add(words, 0, NaN),
   infinity: (words) => Atomics.store(words, 0, Infinity),
+  negativeInfinity: (words) => Atomics.add(words, 0, "-Infinity"),
   unsafe: (words) => Atomics.store(words, 0, 2 ** 53),
-  object: (words) => Atomics.add(words, 0, { valueOf: () => 1 }),
-  text: (words) => Atomics.sub(words, 0, "1"),
-  nothing: (words) => Atomics.store(words, 0),
-  replacement: (words) => Atomics.compareExchange(words, 0, 0, undefined),
+  negativeUnsafe: (words) => Atomics.sub(words, 0, -(2 ** 53)),
+  waitUnsafe: (words) => Atomics.wait(words, 0, 2 ** 53, 0),
+  object: (words) => Atomics.add(words, 0, { valueOf: () => 2 ** 53 }),
+  text: (words) => Atomics.sub(words, 0, "9007199254740993"),
+  expected: (words) => Atomics.compareExchange(words, 0, 1e300, 0),
+  replacement: (words) => Atomics.compareExchange(words, 0, 0, "1e300"),
   wide: (_, bigs) => Atomics.store(bigs, 0, 2n ** 127n),
-  indexText: (words) => Atomics.load(words, "0"),
-  indexFraction: (words) => Atomics.load(words, 0.5),
-  countFraction: (words) => Atomics.notify(words, 0, 0.5),
-  timeoutText: (words) => Atomics.wait(words, 0, 0, "5"),
+  negativeWide: (_, bigs) => Atomics.add(bigs, 0, -(2n ** 127n) - 1n),
+  wideText: (_, bigs) => Atomics.exchange(bigs, 0, `0x1${"0".repeat(32)}`),
+  indexUnsafe: (words) => Atomics.load(words, 2 ** 53),
+  indexText: (words) => Atomics.load(words, "-9007199254740992"),
+  countUnsafe: (words) => Atomics.notify(words, 0, 2 ** 53),
+  countText: (words) => Atomics.notify(words, 0, "-1e300"),
   waitAsync: (words) => Atomics.waitAsync(words, 0, 0),
 };
 

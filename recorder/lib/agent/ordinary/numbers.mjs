@@ -38,6 +38,9 @@ export function wholeOf(value) {
   return number !== number ? 0 : trunc(number) + 0;
 }
 
+/** @param {any} value @returns {bigint} what the language makes of it, with all its bits */
+export const bigOf = (value) => asIntN(MOST, value);
+
 /**
  * A position in an array, which counts from its end where it is negative.
  * @param {any} value
