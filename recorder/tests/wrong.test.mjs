@@ -53,12 +53,12 @@ test("there are 81 wrong programs, one that starves, and 6 that are right in spi
   assert.equal(new Set(EDITS.map(({ name }) => name)).size, EDITS.length);
 });
 
-test("each piece is named in its first line as right, and has 25 to 65 lines", () => {
+test("each piece is named in its first line as right, and has 25 to 60 lines", () => {
   assert.equal(PIECES.length, 27);
   for (const piece of PIECES) {
     const lines = readFileSync(fileOf(piece), "utf8").split("\n");
     assert.match(lines[0], /^\/\/ Right\b.{20,}\.$/, piece);
-    assert.ok(lines.length > 25 && lines.length <= 66, `${piece} has ${lines.length - 1} lines`);
+    assert.ok(lines.length > 25 && lines.length <= 61, `${piece} has ${lines.length - 1} lines`);
   }
 });
 

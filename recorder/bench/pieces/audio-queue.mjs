@@ -1,12 +1,12 @@
 // Right: a queue of audio frames in two channels, without sleeping. One slot stays free, so that full isn't empty.
 
 export const setup = {
-  agents: 2, buffers: [8, 20, 20], names: { READ: 0, WRITE: 1, left: ["Float32", 1], right: ["Float32", 2] },
+  agents: 2, buffers: [8, 24, 24], names: { READ: 0, WRITE: 1, left: ["Float32", 1], right: ["Float32", 2] },
 };
 
 const READ = 0;
 const WRITE = 1;
-const LENGTH = 5;
+const LENGTH = 6;
 const BLOCK = 2;
 const BLOCKS = 4;
 

@@ -2,11 +2,9 @@
 
 export const setup = { agents: 4, buffers: [12], names: { STATE: 0, WAKE: 1, DATA: 2 } };
 
-// Twice the number of readers, and 1 more where a writer waits; or WRITER, which is odd, too.
-const STATE = 0;
-// Goes on where a writer that sleeps may come in.
-const WAKE = 1;
-const DATA = 2;
+// STATE is twice the number of readers, and 1 more where a writer waits; or WRITER, which is odd, too. WAKE goes on
+// where a writer that sleeps may come in.
+const [STATE, WAKE, DATA] = [0, 1, 2];
 const WRITER = 2 ** 31 - 1;
 const ROUNDS = 2;
 
@@ -30,10 +28,8 @@ function wakeWriter(words) {
 function lock(words) {
   for (;;) {
     let state = Atomics.load(words, STATE);
-    if (state <= 1) {
-      if (Atomics.compareExchange(words, STATE, state, WRITER) === state) return;
-      continue;
-    }
+    if (state <= 1 && Atomics.compareExchange(words, STATE, state, WRITER) === state) return;
+    if (state <= 1) continue;
     if (state % 2 === 0 && Atomics.compareExchange(words, STATE, state, state + 1) !== state) continue;
     const wake = Atomics.load(words, WAKE);
     state = Atomics.load(words, STATE);
@@ -50,15 +46,15 @@ function unlock(words) {
 export default function agent({ buffers, agent: self }) {
   const words = new Int32Array(buffers[0]);
   for (let time = 0; time < ROUNDS; time += 1) {
-    if (self < 2) {
-      lock(words);
-      words[DATA] += 1;
-      unlock(words);
-    } else {
+    if (self >= 2) {
       lockShared(words);
       if (words[DATA] > 2 * ROUNDS) throw new Error(`it reads ${words[DATA]}`);
       unlockShared(words);
+      continue;
     }
+    lock(words);
+    words[DATA] += 1;
+    unlock(words);
   }
 }
 

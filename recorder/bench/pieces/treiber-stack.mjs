@@ -40,9 +40,7 @@ function give(words, node) {
   push(words, node);
 }
 
-export const init = ([buffer]) => {
-  for (let node = NODES; node > 0; node -= 1) push(new Int32Array(buffer), node);
-};
+export const init = ([buffer]) => [3, 2, 1].forEach((node) => push(new Int32Array(buffer), node));
 
 export default function agent({ buffers }) {
   const words = new Int32Array(buffers[0]);
