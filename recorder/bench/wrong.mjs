@@ -5,8 +5,8 @@
 //     node recorder/bench/wrong.mjs [--seeds N] [--jobs N] [--only NAME,..]
 //
 // It prints a table of the wrong programs, one of the pieces, and the share that was found. NAME is that of a wrong
-// program or of a piece; without it all are run. The status is 1 where a run of a right program fails, or where all
-// wrong programs are run and fewer than LEAST of them are found.
+// program or of a piece; without it all are run. The status is 1 if a run of a right program fails, or if all wrong
+// programs are run and fewer than LEAST of them are found; and 2 if the command line is refused.
 
 import { mkdtempSync, readdirSync, rmSync, writeFileSync } from "node:fs";
 import { tmpdir } from "node:os";
@@ -14,6 +14,7 @@ import { join } from "node:path";
 import { parseArgs } from "node:util";
 import { fileURLToPath } from "node:url";
 import { checkedOptions } from "../lib/library/library-options.mjs";
+import { Refused } from "../lib/options/refused.mjs";
 import { Job } from "../lib/seeds/job.mjs";
 import { Runs, outcomesOf } from "../lib/seeds/runs.mjs";
 import { EDITS, HIDDEN, RIGHT, STARVES, editedText, fileOf } from "./edits.mjs";
@@ -62,7 +63,7 @@ const printRow = (cells) => process.stdout.write(`| ${cells.join(" | ")} |\n`);
 function cellsOf({ failed, first, endings }, note) {
   const shown = [...endings].sort().map(([ending, count]) => `${ending} ${count}`);
   if (note !== undefined) shown.push(note);
-  return [`${failed}`, first === undefined ? "" : `${first}`, shown.join(", ")];
+  return [`${failed}`, first === undefined ? "none" : `${first}`, shown.join(", ")];
 }
 
 /**
@@ -114,12 +115,18 @@ function printHead(titles) {
   printRow(titles.map((title) => (/runs|seed/.test(title) ? "---:" : "---")));
 }
 
+/** @param {string} name of an option @param {string | undefined} word */
+function amountOf(name, word) {
+  if (!/^[1-9]\d{0,8}$/.test(`${word}`)) throw new Refused(`--${name} takes a number from 1 on, and not ${word}`);
+  return Number(word);
+}
+
 /** What is to be run. @param {string | undefined} only */
 function chosen(only) {
   if (only === undefined) return { edits: EDITS, pieces: PIECES };
   const names = only.split(",");
   const unknown = names.find((name) => !PIECES.includes(name) && !EDITS.some((edit) => edit.name === name));
-  if (unknown !== undefined) throw new Error(`there is no ${unknown}`);
+  if (unknown !== undefined) throw new Refused(`there is no wrong program and no piece \`${unknown}\``);
   return {
     edits: EDITS.filter(({ name }) => names.includes(name)),
     pieces: PIECES.filter((name) => names.includes(name)),
@@ -132,7 +139,7 @@ async function main() {
     seeds: { type: "string", default: "500" }, jobs: { type: "string", default: "1" }, only: { type: "string" },
   };
   const { values } = parseArgs({ options });
-  const amount = { seeds: Number(values.seeds), jobs: Number(values.jobs) };
+  const amount = { seeds: amountOf("seeds", values.seeds), jobs: amountOf("jobs", values.jobs) };
   const { edits, pieces } = chosen(values.only);
   printHead(["Wrong program", "Kind", "Failing runs", "First seed", "Endings"]);
   const { found, wrong, red } = await runWrong(edits, amount);
@@ -146,4 +153,12 @@ async function main() {
   process.exitCode = red.length === 0 && areEnough ? 0 : 1;
 }
 
-if (process.argv[1] === fileURLToPath(import.meta.url)) await main();
+/** Prints why a command line is refused. @param {any} failure */
+function tellRefused(failure) {
+  const isRefused = failure instanceof Refused || /^ERR_PARSE_ARGS/.test(failure?.code);
+  if (!isRefused) throw failure;
+  process.stderr.write(`wrong.mjs: ${failure.message}\n`);
+  process.exitCode = 2;
+}
+
+if (process.argv[1] === fileURLToPath(import.meta.url)) await main().catch(tellRefused);

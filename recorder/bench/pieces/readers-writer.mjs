@@ -2,8 +2,7 @@
 
 export const setup = { agents: 4, buffers: [12], names: { STATE: 0, WAKE: 1, DATA: 2 } };
 
-// STATE is twice the number of readers, and 1 more where a writer waits; or WRITER, which is odd, too. WAKE goes on
-// where a writer that sleeps may come in.
+// STATE has 2 for each reader, and 1 where a writer waits; or WRITER. WAKE goes on where a writer may come in.
 const [STATE, WAKE, DATA] = [0, 1, 2];
 const WRITER = 2 ** 31 - 1;
 const ROUNDS = 2;
