@@ -39,11 +39,12 @@ const NOTES = new Map([[RIGHT, "right"], [HIDDEN, "hidden by a time"], [STARVES,
  * Runs a program under many seeds. Only how each run ends is looked at.
  * @param {string} module
  * @param {{ seeds: number, jobs: number }} amount
+ * @param {object} [further] options of the library
  * @returns {Promise<Counted>}
  */
-export async function counted(module, { seeds, jobs }) {
+export async function counted(module, { seeds, jobs }, further = {}) {
   const many = { first: 1, last: seeds, jobs, checkEvery: 0, fresh: false, sabsim: undefined, trials: true };
-  const options = { ...checkedOptions({ module }, () => undefined), ...many };
+  const options = { ...checkedOptions({ module, ...further }, () => undefined), ...many };
   const runs = new Runs(options, jobs === 1 ? { job: new Job() } : {});
   /** @type {Counted} */
   const told = { failed: 0, first: undefined, endings: new Map() };

@@ -14,6 +14,9 @@ const README = readFileSync(new URL("../bench/README.md", import.meta.url), "utf
 const AMOUNT = { seeds: 20, jobs: 1 };
 const SIDE_BY_SIDE = 4;
 
+/** Makes no pilots, so that a program with few runs needs two thirds of the time. */
+const WITHOUT_PILOTS = { everywhere: true };
+
 /** Wrong programs that fail in many runs, by many kinds of mistakes. */
 const OFTEN = [
   "ring-publish-first", "ring-plain-read", "condition-no-notify", "barrier-notify-first", "asymmetric-if",
@@ -40,7 +43,7 @@ async function countedOf(programs) {
   const told = [];
   const work = async () => {
     for (let next = left.shift(); next !== undefined; next = left.shift()) {
-      told.push([next[0], await counted(next[1], AMOUNT)]);
+      told.push([next[0], await counted(next[1], AMOUNT, WITHOUT_PILOTS)]);
     }
   };
   await Promise.all(Array.from({ length: SIDE_BY_SIDE }, work));
