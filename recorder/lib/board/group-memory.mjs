@@ -20,6 +20,5 @@ export function memoryOf({ agents, buffers }, logEvents) {
     buffers: buffers.map((bytes) => new SharedArrayBuffer(bytes)),
     copies: buffers.map((bytes) => new SharedArrayBuffer(bytes)),
     records: Array.from({ length: agents }, () => Records.memory()),
-    received: new SharedArrayBuffer(4),
   };
 }

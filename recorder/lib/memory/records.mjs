@@ -7,7 +7,7 @@ import { answerText } from "../../script/report.mjs";
 import { positionIn } from "../primordials.mjs";
 
 // Agents may change what they find, so the engine's own functions are kept here, before.
-const { ArrayBuffer, BigInt64Array, Float64Array, Int32Array, SharedArrayBuffer } = globalThis;
+const { BigInt64Array, Float64Array, Int32Array, SharedArrayBuffer } = globalThis;
 const { asIntN, asUintN } = BigInt;
 
 /**
@@ -63,49 +63,12 @@ export class Records {
     return new SharedArrayBuffer(SCRIPT_LIMITS.calls * BYTES_EACH);
   }
 
-  /**
-   * A copy of some agents' records, in memory of its own, which the next run leaves as it is.
-   * @param {Records[]} all
-   * @param {number[]} counts how many calls each of these agents has made
-   * @returns {ArrayBuffer}
-   */
-  static taken(all, counts) {
-    const copy = new ArrayBuffer(counts.reduce((sum, count) => sum + count, 0) * BYTES_EACH);
-    const copies = Records.from(copy, counts);
-    for (let agent = 0; agent < all.length; agent += 1) copies[agent].#copy(all[agent]);
-    return copy;
-  }
-
-  /**
-   * The records of each agent in a copy.
-   * @param {ArrayBuffer} copy
-   * @param {number[]} counts how many calls each agent has made
-   * @returns {Records[]}
-   */
-  static from(copy, counts) {
-    let at = 0;
-    return counts.map((count) => {
-      at += count * BYTES_EACH;
-      return new Records(copy, count, at - count * BYTES_EACH);
-    });
-  }
-
-  /**
-   * @param {ArrayBufferLike} memory
-   * @param {number} [room] for how many calls
-   * @param {number} [at] the byte at which they begin, a multiple of eight
-   */
-  constructor(memory, room = SCRIPT_LIMITS.calls, at = 0) {
-    this.bigs = new BigInt64Array(memory, at, room * BIGS_EACH);
-    this.numbers = new Float64Array(memory, at + this.bigs.byteLength, room * NUMBERS_EACH);
-    this.words = new Int32Array(memory, at + this.bigs.byteLength + this.numbers.byteLength, room * WORDS_EACH);
-  }
-
-  /** @param {Records} other the first of whose calls these become, as many as there is room for */
-  #copy({ bigs, numbers, words }) {
-    this.bigs.set(bigs.subarray(0, this.bigs.length));
-    this.numbers.set(numbers.subarray(0, this.numbers.length));
-    this.words.set(words.subarray(0, this.words.length));
+  /** @param {SharedArrayBuffer} memory */
+  constructor(memory) {
+    const room = SCRIPT_LIMITS.calls;
+    this.bigs = new BigInt64Array(memory, 0, room * BIGS_EACH);
+    this.numbers = new Float64Array(memory, this.bigs.byteLength, room * NUMBERS_EACH);
+    this.words = new Int32Array(memory, this.bigs.byteLength + this.numbers.byteLength, room * WORDS_EACH);
   }
 
   /** @param {number} position of the call among the agent's @param {Call} call that begins */

@@ -9,7 +9,7 @@ import { KINDS, SIZES } from "../../script/kinds.mjs";
 import { SCRIPT_LIMITS } from "../../script/limits.mjs";
 import { WORD } from "./layout.mjs";
 
-const { ArrayBuffer, Int32Array, Uint8Array, SharedArrayBuffer } = globalThis;
+const { Int32Array, Uint8Array, SharedArrayBuffer } = globalThis;
 
 // More don't come into a script, even where each of its calls is such a store of eight bytes that were written singly.
 const ROOM = SCRIPT_LIMITS.agents * SCRIPT_LIMITS.calls * 8;
@@ -52,34 +52,6 @@ const STORED = Object.freeze(KINDS.map((name, kind) => {
  * @property {Uint8Array} bytes that it writes
  */
 
-/** @typedef {{ entries: Int32Array, isThinned: number }} TakenStores the stores of a run, in memory of their own */
-
-/**
- * Where stores are only read, nobody needs the agents' buffers.
- * @type {{ real: Uint8Array[], known: Uint8Array[], takeOver: (block: number, from: number, to: number) => void }}
- */
-const NO_BUFFERS = { real: [], known: [], takeOver() {} };
-
-/**
- * Some stores as `Stores` has them.
- * @param {Store[]} stores
- * @returns {TakenStores}
- */
-export function takenStores(stores) {
-  const entries = new Int32Array(stores.length * EACH);
-  const all = new Uint8Array(entries.buffer);
-  stores.forEach(({ position, agent, block, byte, kind, bytes }, number) => {
-    const at = number * EACH;
-    entries[at + POSITION] = position;
-    entries[at + AGENT] = agent;
-    entries[at + BLOCK] = block;
-    entries[at + BYTE] = byte;
-    entries[at + KIND] = kind;
-    all.set(bytes, (at + VALUE) * 4);
-  });
-  return { entries, isThinned: ALL };
-}
-
 export class Stores {
   /** @param {number[]} lengths of the blocks */
   static memory(lengths) {
@@ -92,9 +64,9 @@ export class Stores {
   }
 
   /**
-   * @param {{ entries: ArrayBufferLike, touched: ArrayBufferLike, dropped: ArrayBufferLike }} memory
+   * @param {ReturnType<typeof Stores.memory>} memory
    * @param {Int32Array} words of the board
-   * @param {Pick<import("./memory.mjs").Memory, "real" | "known" | "takeOver">} buffers
+   * @param {import("./memory.mjs").Memory} buffers
    */
   constructor(memory, words, buffers) {
     this.entries = new Int32Array(memory.entries);
@@ -112,25 +84,6 @@ export class Stores {
       this.firsts[block] = first;
       first += buffers.real[block].length;
     }
-  }
-
-  /**
-   * Stores of a run that others have taken.
-   * @param {TakenStores} taken
-   * @returns {Stores}
-   */
-  static from({ entries, isThinned }) {
-    const words = new Int32Array(WORD.IS_THINNED + 1);
-    words[WORD.STORES] = entries.length / EACH;
-    words[WORD.IS_THINNED] = isThinned;
-    const none = new ArrayBuffer(0);
-    return new Stores({ entries: entries.slice().buffer, touched: none, dropped: none }, words, NO_BUFFERS);
-  }
-
-  /** @returns {TakenStores} what there is, in memory of its own, which the next run leaves as it is */
-  taken() {
-    const { entries, words } = this;
-    return { entries: entries.slice(0, words[WORD.STORES] * EACH), isThinned: words[WORD.IS_THINNED] };
   }
 
   /** A run begins. */

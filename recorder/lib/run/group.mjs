@@ -10,7 +10,6 @@ import { Refused } from "../options/refused.mjs";
 import { defaultsOf } from "../options/table.mjs";
 import { ownModules } from "../processes/own-modules.cjs";
 import { FIRST_THREADS, begunThread } from "../processes/thread.mjs";
-import { addScript, runOf, wholeRun } from "./whole-run.mjs";
 import { within } from "./within.mjs";
 
 /** @typedef {import("../processes/thread.mjs").Thread} Thread */
@@ -77,10 +76,6 @@ import { within } from "./within.mjs";
  */
 
 /** @typedef {{ outcome: Outcome, judgement?: Judgement, aside: Aside }} One all that is told of one run */
-
-/** @typedef {One & { taken?: import("./whole-run.mjs").TakenRun }} Reported what the referee sends about one run */
-
-/** @typedef {(outcome: Outcome, judgement: Judgement | undefined, aside: Aside) => void} OnOutcome */
 
 /** @typedef {{ setup: unknown, names: string[], hasInit: boolean, hasCheck: boolean }} Has what a module has */
 /** @typedef {{ thread: Thread, has: Has }} Loaded */
@@ -170,8 +165,6 @@ export class Group {
     this.referee = undefined;
     /** @type {import("../options/plan.mjs").Plan | undefined} */
     this.plan = undefined;
-    /** @type {ReturnType<typeof runOf> | undefined} what is the same for all runs */
-    this.shared = undefined;
     /** @type {import("../board/strategy.mjs").Rules | undefined} */
     this.rules = undefined;
     /** @type {ReturnType<typeof memoryOf> | undefined} */
@@ -183,7 +176,7 @@ export class Group {
   /**
    * Makes a run for each seed, in their order.
    * @param {Wanted[]} seeds
-   * @param {OnOutcome} onOutcome
+   * @param {(outcome: Outcome, judgement: Judgement | undefined, aside: Aside) => void} onOutcome
    */
   run(seeds, onOutcome) {
     return this.#work({ seeds }, onOutcome);
@@ -197,7 +190,7 @@ export class Group {
   /**
    * Has the referee do something, and does what it asks for meanwhile.
    * @param {{ seeds: Wanted[] } | { learns: true }} work
-   * @param {OnOutcome} onOutcome
+   * @param {(outcome: Outcome, judgement: Judgement | undefined, aside: Aside) => void} onOutcome
    */
   async #work(work, onOutcome) {
     const referee = started(this.referee);
@@ -206,7 +199,7 @@ export class Group {
       const { message, ended } = await referee.next();
       if (ended !== undefined) throw new Error(`the referee's worker failed: ${ended}`);
       if (message.finished) return;
-      if (message.outcome) this.#receive(message, onOutcome);
+      if (message.outcome) onOutcome(message.outcome, message.judgement, message.aside);
       if (message.outcome?.fails) referee.post({ taken: true });
       if (message.replace) {
         await Promise.all(message.replace.map((/** @type {number} */ agent) => this.#replace(agent)));
@@ -214,17 +207,6 @@ export class Group {
       }
       if (message.ask) referee.post({ problem: this.#askedHere(message.ask) });
     }
-  }
-
-  /**
-   * Adds the script and the report to an outcome, if the referee has left that to this thread, and hands it on.
-   * @param {Reported} run
-   * @param {OnOutcome} onOutcome
-   */
-  #receive({ outcome, taken, judgement, aside }, onOutcome) {
-    if (taken !== undefined) addScript(outcome, wholeRun(started(this.shared), taken), []);
-    onOutcome(outcome, outcome.script === undefined ? undefined : judgement, aside);
-    Atomics.add(new Int32Array(started(this.memory).received), 0, 1);
   }
 
   /**
@@ -249,7 +231,6 @@ export class Group {
     const told = await this.#load(0);
     needsRightNames(told.names);
     this.plan = planOf(this.options, told.setup);
-    this.shared = runOf(this.plan);
     const { strategy, everywhere, timeouts, maxMoves } = this.options;
     this.rules = { agents: this.plan.agents, ways: waysOf(strategy, everywhere), timeouts, maxMoves };
     const options = this.#refereeOptions(told);

@@ -11,27 +11,21 @@ import { RunReporter } from "./run-reporter.mjs";
 import { areSame } from "./same.mjs";
 import { SourceNames } from "./source-names.mjs";
 
-/** @typedef {import("./group.mjs").Reported} Reported */
+/** @typedef {import("./group.mjs").One} One */
 /** @typedef {import("./group.mjs").Outcome} Outcome */
 /** @typedef {import("./group.mjs").Wanted} Wanted */
 /** @typedef {import("./run-maker.mjs").Made} Made */
 
-// So many runs at most await their check without their texts.
-const MOST_WAITING = 2;
-
 class Referee {
   /** @param {import("./run-maker.mjs").Given} given */
   constructor(given) {
-    const { port, memory, plan, options } = given;
+    const { port, plan, options } = given;
     const sourceNames = new SourceNames(options.module);
     this.port = port;
     this.plan = plan;
     this.options = options;
     this.maker = new RunMaker(given, sourceNames);
     this.reporter = new RunReporter(given, this.maker);
-    /** How many runs were sent, and how many of them the thread that checks them has done with. */
-    this.sent = 0;
-    this.received = new Int32Array(memory.received);
     this.meetings = options.tellsMeetings ? new Meetings(sourceNames) : undefined;
     this.tellsAlways = options.trace || this.meetings !== undefined;
     /** Whether the next run notes its lines of code at once. If the run before raced, the next one may race too. */
@@ -55,13 +49,12 @@ class Referee {
 
   /**
    * Sends what came of a run. If it failed, it is handed on before the next run, whose agents may end the process.
-   * @param {Reported} run
+   * @param {One} run
    */
   async #send(run) {
     const { port } = this;
     const taken = run.outcome.fails ? new Promise((done) => port.once("message", done)) : undefined;
     port.postMessage(run);
-    this.sent += 1;
     await taken;
   }
 
@@ -85,7 +78,7 @@ class Referee {
     await maker.replace(maker.agents);
   }
 
-  /** @param {Wanted} wanted @returns {Promise<Reported>} the outcome of a seed */
+  /** @param {Wanted} wanted @returns {Promise<One>} the outcome of a seed */
   async #one(wanted) {
     const { maker, maker: { log }, reporter, meetings } = this;
     let hasSources = this.tellsNext;
@@ -102,36 +95,18 @@ class Referee {
     }
     found = await maker.judged(found);
     const outcome = reporter.brief(wanted, found);
+    if (wanted.whole || outcome.fails) reporter.addScript(outcome, found);
     // Here the log has all events. The log of a run that is made once more, with lines of code, may lack some reads.
-    const { taken, judgement } = this.#whole(wanted, outcome, found);
+    const judgement = reporter.judgement(outcome, found);
     await this.#replace(found);
     await this.#addSources(wanted, outcome, found, hasSources);
     Object.assign(outcome, covering);
     if (outcome.ending === "race") outcome.detail = outcome.races.map(({ text }) => text).join("\n");
     this.tellsNext = this.tellsAlways || (found.racy && !isCut);
-    return { outcome, taken, judgement, aside: asideOf(found) };
+    return { outcome, judgement, aside: asideOf(found) };
   }
 
-  /**
-   * What a check of a run needs. A run that failed gets its texts here. Those of others are made where they are checked,
-   * unless that thread lags behind.
-   * @param {Wanted} wanted
-   * @param {Outcome} outcome
-   * @param {Made} found
-   * @returns {Pick<Reported, "taken" | "judgement">}
-   */
-  #whole({ whole }, outcome, found) {
-    const { reporter } = this;
-    if (!whole && !outcome.fails) return {};
-    if (outcome.fails || this.sent - Atomics.load(this.received, 0) > MOST_WAITING) {
-      reporter.addScript(outcome, found);
-      return outcome.script === undefined ? {} : { judgement: reporter.judgement(found) };
-    }
-    const taken = reporter.taken(outcome, found);
-    return { taken, judgement: reporter.judgement(found, taken.events) };
-  }
-
-  /** @param {Wanted} wanted @returns {Promise<Reported>} a run that is made only to see how it ends */
+  /** @param {Wanted} wanted @returns {Promise<One>} a run that is made only to see how it ends */
   async #tried(wanted) {
     const { maker, reporter } = this;
     const { tellsLines = false } = wanted;

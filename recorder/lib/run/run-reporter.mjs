@@ -2,13 +2,15 @@
 // unordered accesses and the trace.
 
 import { createHash } from "node:crypto";
+import { reportText } from "../../script/report.mjs";
 import { Records } from "../memory/records.mjs";
 import { Sources } from "../memory/sources.mjs";
+import { Names } from "../options/names.mjs";
 import { preloads } from "../processes/preloads.mjs";
 import { racesTold } from "./findings.mjs";
+import { fitted } from "./fitting.mjs";
 import { UNSEEN_LINE, placesIn, traceText } from "./trace.mjs";
-import { transcriptOf } from "./transcript.mjs";
-import { addScript, runOf, takenRun } from "./whole-run.mjs";
+import { transcriptOf, waitingText } from "./transcript.mjs";
 
 /** @typedef {import("./group.mjs").Outcome} Outcome */
 /** @typedef {import("./run-maker.mjs").Made} Made */
@@ -22,7 +24,10 @@ export class RunReporter {
     this.options = options;
     this.sourceNames = maker.sourceNames;
     this.sources = memory.sources.map((each) => new Sources(each));
-    this.run = { ...runOf(plan), log: maker.log, records: memory.records.map((each) => new Records(each)) };
+    this.run = {
+      log: maker.log, records: memory.records.map((each) => new Records(each)), lengths: plan.buffers,
+      canBlock: plan.canBlock, names: new Names(plan.names),
+    };
     /** Whether each ordinary access is seen: code from before the recorder may make some that aren't watched. */
     this.seesAll = options.ordinary === "watch" && !preloads();
   }
@@ -49,21 +54,25 @@ export class RunReporter {
   }
 
   /**
-   * Adds the script and its report.
+   * Adds the script and its report, for a run that fails or is to be checked.
    * @param {Outcome} outcome
    * @param {Made} found
    */
   addScript(outcome, found) {
-    addScript(outcome, this.#whole(found), found.waiting);
-  }
-
-  /**
-   * @param {Outcome} outcome
-   * @param {Made} found
-   * @returns {import("./whole-run.mjs").TakenRun} what another thread makes the script and the report from
-   */
-  taken({ progress }, found) {
-    return takenRun(this.#whole(found), progress.map(({ calls }) => calls));
+    const { maker: { stores, agents }, run } = this;
+    const whole = { ...run, isOrdinary: this.#isOrdinary() };
+    const { transcript, script, holds, bytes = [], noScript } = fitted(whole, stores, found.initial, found.bytes);
+    if (outcome.ending === "deadlock") outcome.detail = waitingText(found.waiting, transcript);
+    outcome.bytes = found.bytes;
+    const own = agents.map((agent) => transcript.calls[agent].filter(({ isOwn }) => isOwn));
+    outcome.answers = own.map((calls) => calls.map(({ answer }) => answer));
+    if (script === undefined) {
+      outcome.noScript = noScript;
+      return;
+    }
+    outcome.script = script;
+    outcome.scriptHolds = holds;
+    outcome.report = reportText(transcript, bytes);
   }
 
   /**
@@ -95,21 +104,15 @@ export class RunReporter {
   }
 
   /**
-   * Whether unordered accesses were found, if they are looked for: so a check can look for them too.
+   * Whether unordered accesses were found, if the outcome has the script, so that both can be checked.
+   * @param {Outcome} outcome
    * @param {Made} found
-   * @param {Int32Array} [events] those of the log, if they were taken already
    * @returns {import("./group.mjs").Judgement | undefined}
    */
-  judgement({ racy, initial }, events = this.run.log.taken()) {
-    if (this.options.ordinary !== "watch") return undefined;
+  judgement({ script }, { racy, initial }) {
+    if (script === undefined || this.options.ordinary !== "watch") return undefined;
     // The stores of `init` are none of the run's accesses, and ordinary reads are in no script.
-    return { racy, events, isInScript: !this.#isOrdinary() && initial.length === 0 };
-  }
-
-  /** @param {Made} found @returns {import("./whole-run.mjs").Whole} */
-  #whole({ initial, bytes }) {
-    const { maker: { stores }, run } = this;
-    return { run: { ...run, isOrdinary: this.#isOrdinary() }, stores, initial, bytes };
+    return { racy, events: this.run.log.taken(), isInScript: !this.#isOrdinary() && initial.length === 0 };
   }
 
   /** @returns {boolean} whether ordinary accesses were made, or may have been made unseen */
