@@ -148,7 +148,8 @@ export class Names {
    * @returns {Named | undefined} undefined also where its view hasn't that element: it throws by that view alone
    */
   ofCall({ kind, block, offset, length, index }) {
-    return this.list.length > 0 && index >= 0 && index < length ? this.at(kind, block, offset + index * SIZES[kind]) : undefined;
+    if (this.list.length === 0 || index < 0 || index >= length) return undefined;
+    return this.at(kind, block, offset + index * SIZES[kind]);
   }
 }
 

@@ -59,7 +59,7 @@ export function nearest(name, known) {
 }
 
 /**
- * The known name that a name is up to a slip: its capitals, what stands between its words, or one letter that isn't
+ * The known name that a name becomes if one slip in it is mended: its capitals, what stands between its words, or one letter that isn't
  * the first. So it is much nearer than `nearest` asks for: what has the name may be something of its own.
  * @param {string} name
  * @param {string[]} known
