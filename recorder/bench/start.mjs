@@ -11,10 +11,11 @@ import { parseArgs } from "node:util";
 const RECORDER = new URL("../", import.meta.url);
 const RECORD = fileURLToPath(new URL("record.mjs", RECORDER));
 const AGENTS = fileURLToPath(new URL("examples/mutex-naive.agents.mjs", RECORDER));
-const BARE = 'const { Worker } = require("node:worker_threads"); for (const _ of "123") new Worker("", { eval: true });';
+const BARE = `const { Worker } = require("node:worker_threads");
+  for (const _ of "123") new Worker("", { eval: true });`;
 
 /** @param {string[]} words @returns {number} how many milliseconds node takes with these words */
-export function millisecondsOf(words) {
+function millisecondsOf(words) {
   const begun = performance.now();
   const { status, stderr } = spawnSync(process.execPath, words, { stdio: ["ignore", "ignore", "pipe"] });
   if (status !== 0) throw new Error(`node ${words[0]} ended with status ${status}: ${stderr}`);
@@ -25,7 +26,7 @@ export function millisecondsOf(words) {
 const median = (list) => [...list].sort((one, other) => one - other)[Math.floor(list.length / 2)];
 
 /** @returns {string} a line for each, and how many times as long the command line takes */
-export function measured({ turns, record, agents }) {
+function measured({ turns, record, agents }) {
   const cases = { bare: ["--eval", BARE], record: [record, agents, "--seeds", "1"] };
   /** @type {Record<string, number[]>} */
   const taken = { bare: [], record: [] };
@@ -39,13 +40,11 @@ export function measured({ turns, record, agents }) {
   return [...lines, `record takes ${times.toFixed(2)} times as long as bare`, ""].join("\n");
 }
 
-if (process.argv[1] === fileURLToPath(import.meta.url)) {
-  const { turns, record, agents } = parseArgs({
-    options: {
-      turns: { type: "string", default: "9" },
-      record: { type: "string", default: RECORD },
-      agents: { type: "string", default: AGENTS },
-    },
-  }).values;
-  process.stdout.write(measured({ turns: Number(turns), record, agents }));
-}
+const { turns, record, agents } = parseArgs({
+  options: {
+    turns: { type: "string", default: "9" },
+    record: { type: "string", default: RECORD },
+    agents: { type: "string", default: AGENTS },
+  },
+}).values;
+process.stdout.write(measured({ turns: Number(turns), record, agents }));
