@@ -154,11 +154,14 @@ class Trial:
 
     def try_touched(self, edit, kept):
         """Tries the functions that an edit changes or adds, and nothing else of the crate. Returns the edit's result if
-        one of them is refused for a reason of its own. Else this decides nothing, and it returns None."""
+        one of them is refused for a reason of its own. Else this decides nothing, and it returns None; also if the edit
+        changes more than code, since then not all that it changes is read."""
         texts, why = rt.read_edit(edit.file, self.crate.folder)
+        if why or not all(file.startswith("src/") for file in texts):
+            return None
         with tempfile.TemporaryDirectory(prefix="sabsim-edit-") as room:
-            functions = [] if why else self.functions_of_texts(texts, room)
-            tried = [InPlace(it, edit) for it in functions_touched(texts or {}, self.crate.folder, functions)]
+            functions = self.functions_of_texts(texts, room)
+            tried = [InPlace(it, edit) for it in functions_touched(texts, self.crate.folder, functions)]
             if not tried:
                 return None
             with copy_of(kept) as own:
