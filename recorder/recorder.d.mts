@@ -150,6 +150,8 @@ export interface Outcome {
   report?: string;
   /** Each event as an object of JSON, a line each. The first line may say that accesses are missing (`unseen`). */
   trace?: string;
+  /** By which arrays the trace's ordinary accesses were made, and what they read. */
+  accesses?: Accesses;
   /** The code of each file that the trace names; null where it can't be read, or is longer than 2^20 characters. */
   sources?: { file: string; text: string | null }[];
   /** Which agent moved with each draw, in order; told of the shortest run. */
@@ -162,6 +164,17 @@ export interface Outcome {
   original?: Omit<Outcome, "original" | "shortened">;
   /** What came of the option `shorten`, where the run failed. */
   shortened?: Shortened;
+}
+
+/** What a trace doesn't have of its ordinary accesses. */
+export interface Accesses {
+  /** The typed arrays of the code by which they were made: each by its name in texts, its kind and where it lies. */
+  arrays: { name: string; kind: string; block: number; offset: number; length: number }[];
+  /**
+   * For each: its position in the trace, that of its array, and as JavaScript writes it what it read; null: it wrote, or
+   * read more than one element.
+   */
+  made: [event: number, array: number, value: string | null][];
 }
 
 /** What the shortening of a failing run came to. */
@@ -228,7 +241,7 @@ export interface Setup {
   buffers?: number[];
   /** The agents that can't block: `Atomics.wait` throws TypeError there. Else all can. */
   noBlock?: number[];
-  /** What words and whole arrays are called, in scripts, reports and pictures. */
+  /** What words and arrays are called, in scripts, reports and pictures. */
   names?: Record<string, NamedPlace>;
 }
 
@@ -238,9 +251,22 @@ export type Kind = "Int8" | "Uint8" | "Uint8Clamped" | "Int16" | "Uint16" | "Int
 
 /**
  * What a name stands for: `[kind, buffer, index]` one element of an array of that kind over that whole buffer,
- * `[kind, buffer]` all of that array, and a number alone the element of that index of an Int32Array on buffer 0.
+ * `[kind, buffer]` all of that array, and a number alone the element of that index of an Int32Array on buffer 0. With
+ * members it is a part of a buffer, as the constructor of a typed array takes it: indices count from its offset.
  */
-export type NamedPlace = number | [kind: Kind, buffer: number] | [kind: Kind, buffer: number, index: number];
+export type NamedPlace = number | [kind: Kind, buffer: number] | [kind: Kind, buffer: number, index: number]
+  | NamedPart;
+
+/** A part of a buffer that has a name. */
+export interface NamedPart {
+  kind: Kind;
+  /** The buffer's position. */
+  buffer: number;
+  /** Its first byte, a multiple of an element's bytes; else 0. */
+  offset?: number;
+  /** How many elements; else all up to the buffer's end. */
+  length?: number;
+}
 
 /** What a module of agents may export as `init` and as `check`: it is called when no agent runs. */
 export type WithBuffers = (buffers: SharedArrayBuffer[], run: { agents: number; args: string[] }) => unknown;

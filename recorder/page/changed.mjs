@@ -49,6 +49,7 @@ export function scriptData(script, report) {
   const { bytes, blocks = [bytes], views, agents } = script;
   return {
     seed: 0, module: "", detail: "", holds: "all", isWhole: true, events: [], places: [], files: [], races: [],
+    arrays: [],
     blocks, agents: agents.length, ...toldBy(report, agents.length),
     views: views.map((/** @type {any} */ { block = 0, offset, length, ...view }) => {
       return { ...view, block, offset, length: length ?? Math.floor((blocks[block] - offset) / sizeOf(view)) };
@@ -73,7 +74,8 @@ function byCall(events) {
 }
 
 /**
- * The events of a trace in the order of another schedule. An agent's ordinary accesses stay between its calls.
+ * The events of a trace in the order of another schedule. An agent's ordinary accesses stay between its calls; what the
+ * reads would read there isn't known.
  * @param {RunData} data of the recorded run
  * @param {Script} script
  * @param {Report} report of the other schedule
@@ -81,7 +83,7 @@ function byCall(events) {
  */
 function retraced({ events, agents }, script, { entries }) {
   const calls = byCall(events.filter((event) => !isOrdinary(event)));
-  const ordinary = byCall(events.filter(isOrdinary));
+  const ordinary = byCall(events.filter(isOrdinary).map(({ value, ...event }) => event));
   const own = script.agents.map((agent) => {
     let number = 0;
     return agent.calls.map((call) => (isStandIn(call) ? -1 : number++));

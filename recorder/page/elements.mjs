@@ -1,109 +1,159 @@
-// The elements of a run's memory: which view shows some bytes best, what an element is called, and its value.
+// The elements of a run's memory: which view shows some bytes, and what changed in them.
 
-import { OF_STORES } from "../schedule/report.mjs";
+import { elementText, sizeOfKind } from "../script/values.mjs";
+import { OF_STORES, isNamed, labelOf } from "../script/written.mjs";
 
 /** @typedef {import("./words.mjs").View} View */
 
 /** @typedef {{ view: View, label: string, block: number, byte: number }} Cell of memory that is shown */
 
-/** @typedef {{ new (bytes: ArrayBufferLike): ArrayLike<number | bigint>, BYTES_PER_ELEMENT: number }} Kind */
+/**
+ * @typedef {object} Stored what a store of the script writes
+ * @property {number} block
+ * @property {number} byte
+ * @property {Uint8Array} bytes
+ * @property {View} view by which the code wrote them, as far as the script shows it
+ */
 
-/** @type {Record<string, Kind>} */
-const KINDS = {
-  Int8: Int8Array, Uint8: Uint8Array, Uint8Clamped: Uint8ClampedArray, Int16: Int16Array, Uint16: Uint16Array,
-  Int32: Int32Array, Uint32: Uint32Array, Float32: Float32Array, Float64: Float64Array, BigInt64: BigInt64Array,
-  BigUint64: BigUint64Array,
-};
+/** @typedef {{ name: string, before: string, after: string }} Change of an element, in the code's values */
+
 const UNSIGNED = /** @type {Record<number, string>} */ ({ 1: "Uint8", 2: "Uint16", 4: "Uint32", 8: "BigUint64" });
-
-const BY_ITSELF = new RegExp(`^(?:${Object.keys(KINDS).join("|")})(?:_b\\d+)?(?:_at\\d+)?(?:_x\\d+)?$`);
-
-/** @param {View} view @returns {string} a view's name without what says that it is one of stores */
-export const plainName = ({ name }) => name.replace(OF_STORES, "");
-
-/** @param {View} view @returns {boolean} whether it has a name that the program gave it */
-export const isNamed = (view) => !BY_ITSELF.test(plainName(view));
 
 /** @param {View} view @returns {boolean} whether it is one word that has a name */
 export const isWord = (view) => view.length === 1 && isNamed(view);
 
-/** @param {{ kind: string }} view @returns {number} how many bytes its elements have */
-export const sizeOf = ({ kind }) => KINDS[kind].BYTES_PER_ELEMENT;
-
-/** @param {View} view @param {number} byte */
-export const labelOf = (view, byte) => {
-  const index = (byte - view.offset) / sizeOf(view);
-  return isWord(view) ? plainName(view) : `${plainName(view)}[${index}]`;
-};
+/** @param {View} view @returns {number} how many bytes its elements have */
+export const sizeOf = ({ kind }) => sizeOfKind(kind);
 
 /** @param {Uint8Array} bytes of its block @param {Cell} cell @returns {string} the value of an element */
-export function valueAt(bytes, { view, byte }) {
-  const value = new KINDS[view.kind](bytes.slice(byte, byte + sizeOf(view)).buffer)[0];
-  return typeof value === "bigint" ? `${value}n` : `${value}`;
-}
+export const valueAt = (bytes, { view, byte }) => elementText(view.kind, bytes, byte);
 
 /**
- * Writes a value into a block.
- * @param {Uint8Array} bytes
- * @param {{ kind: string, byte: number, after: number | string }} change
+ * Whether some bytes lie in a view.
+ * @param {View} view
+ * @param {number} block
+ * @param {number} byte
+ * @param {number} size
  */
-export function write(bytes, { kind, byte, after }) {
-  const size = sizeOf({ kind });
-  // Numbers too go by their bits: a whole number has the same in each kind of its size.
-  const raw = BigInt.asUintN(size * 8, BigInt(after));
-  for (let at = 0; at < size; at += 1) bytes[byte + at] = Number((raw >> BigInt(8 * at)) & 255n);
-}
+const covers = (view, block, byte, size) =>
+  view.block === block && byte >= view.offset && byte + size <= view.offset + view.length * sizeOf(view);
 
-/** The views of a run, and which of them shows some bytes best. */
+/**
+ * Whether a view has elements that are just some bytes.
+ * @param {View} view
+ * @param {number} block
+ * @param {number} byte
+ * @param {number} size
+ */
+const fits = (view, block, byte, size) =>
+  covers(view, block, byte, size) && (byte - view.offset) % sizeOf(view) === 0 && size % sizeOf(view) === 0;
+
+/**
+ * Writes what a store has written.
+ * @param {Uint8Array[]} blocks
+ * @param {Stored} store
+ */
+export const write = (blocks, { block, byte, bytes }) => blocks[block].set(bytes, byte);
+
+/** The views of a run, and which of them shows some bytes. */
 export class Views {
-  /** @param {{ views: View[], blocks: number[] }} data of the run */
-  constructor({ views, blocks }) {
+  /** @param {{ views: View[], arrays: View[], blocks: number[] }} data of the run */
+  constructor({ views, arrays, blocks }) {
     this.list = views;
+    this.arrays = arrays;
     this.blocks = blocks;
     this.byName = new Map(views.map((view) => [view.name, view]));
-    /** @type {Map<string, View>} */
+    /** The shortest first: a word goes before an array that has it. */
+    this.named = views.filter((view) => isNamed(view) && !OF_STORES.test(view.name))
+      .sort((one, other) => one.length - other.length);
+    /** @type {Map<string, View | undefined>} */
     this.known = new Map();
   }
 
   /**
-   * The view that shows some bytes best.
+   * The view by which an access is shown: a name of the program's, if it has one, and else the array of the code's.
    * @param {number} block
    * @param {number} byte
    * @param {number} size
-   * @returns {View}
+   * @param {number} array by which the code has made the access: its position among the arrays, or -1
+   * @returns {View | undefined} undefined: the bytes go by their numbers
    */
-  best(block, byte, size) {
-    const key = `${block} ${byte} ${size}`;
-    const view = this.known.get(key) ?? this.#best(block, byte, size);
-    this.known.set(key, view);
-    return view;
+  of(block, byte, size, array) {
+    const key = `${block} ${byte} ${size} ${array}`;
+    if (!this.known.has(key)) this.known.set(key, this.#of(block, byte, size, this.arrays[array]));
+    return this.known.get(key);
   }
 
-  /** @param {number} block @param {number} byte @param {number} size */
-  #best(block, byte, size) {
-    const fitting = this.list.filter((view) => {
-      const each = sizeOf(view);
-      const at = byte - view.offset;
-      return view.block === block && at >= 0 && at % each === 0 && size % each === 0 && at + size <= view.length * each;
-    });
+  /** @param {number} block @param {number} byte @param {number} size @param {View | undefined} array */
+  #of(block, byte, size, array) {
     /** @param {View} view */
-    const worth = (view) => (sizeOf(view) === size ? 4 : 0) + (isNamed(view) ? 2 : 0) +
-      (OF_STORES.test(view.name) ? 0 : 1);
-    const [first, ...rest] = fitting;
-    if (first === undefined) return this.#plain(block, byte, size);
-    return rest.reduce((best, view) => (worth(view) > worth(best) ? view : best), first);
+    const isLike = (view) => (array === undefined ? sizeOf(view) === size : view.kind === array.kind);
+    return this.named.find((view) => isLike(view) && fits(view, block, byte, size)) ?? array;
   }
 
   /**
-   * A view that the script hasn't, for bytes that none of its own has.
+   * A view for bytes that the code hasn't accessed by an array: one of the script's, or one that it hasn't.
    * @param {number} block
    * @param {number} byte
    * @param {number} size
    * @returns {View}
    */
-  #plain(block, byte, size) {
+  plain(block, byte, size) {
+    const known = this.list.find((view) => {
+      return sizeOf(view) === size && !OF_STORES.test(view.name) && fits(view, block, byte, size);
+    });
+    if (known !== undefined) return known;
     const kind = byte % size === 0 ? UNSIGNED[size] ?? "Uint8" : "Uint8";
     const name = `${kind}${this.blocks.length > 1 ? `_b${block}` : ""}`;
-    return { name, kind, block, offset: 0, length: Math.floor(this.blocks[block] / sizeOf({ kind })) };
+    return { name, kind, block, offset: 0, length: Math.floor(this.blocks[block] / sizeOfKind(kind)) };
   }
+
+  /**
+   * The elements that show what a store has changed.
+   * @param {Stored} store
+   * @param {View | undefined} wanted that of the access for which the store stands
+   * @returns {Cell[]}
+   */
+  cellsOf({ block, byte, bytes: { length }, view: own }, wanted) {
+    const views = wanted === undefined ? this.named : [wanted, ...this.named];
+    return this.cellsIn(views.find((view) => covers(view, block, byte, length)) ?? own, byte, length);
+  }
+
+  /**
+   * The elements of a view on which some bytes lie, each by its name if it has one.
+   * @param {View} view
+   * @param {number} byte
+   * @param {number} length of the bytes
+   * @returns {Cell[]}
+   */
+  cellsIn(view, byte, length) {
+    const size = sizeOf(view);
+    const first = byte - ((byte - view.offset) % size);
+    return Array.from({ length: Math.ceil((byte + length - first) / size) }, (_, at) => {
+      const place = first + at * size;
+      const isName = (/** @type {View} */ each) => each.kind === view.kind && fits(each, view.block, place, size);
+      return cellAt(this.named.find(isName) ?? view, place);
+    });
+  }
+}
+
+/** @param {View} view @param {number} byte @returns {Cell} the element that begins at a byte */
+export const cellAt = (view, byte) => ({ view, label: labelOf(view, byte), block: view.block, byte });
+
+/**
+ * Makes some stores, and says which elements they have changed.
+ * @param {Uint8Array[]} blocks
+ * @param {Stored[]} stores
+ * @param {(store: Stored) => Cell[]} cellsOf the elements that show what a store has changed
+ * @returns {Change[]}
+ */
+export function changesBy(blocks, stores, cellsOf) {
+  const cells = new Map(stores.flatMap(cellsOf).map((cell) => [cell.label, cell]));
+  const all = [...cells.values()];
+  const before = all.map((cell) => valueAt(blocks[cell.block], cell));
+  for (const store of stores) write(blocks, store);
+  const after = all.map((cell) => valueAt(blocks[cell.block], cell));
+  return all.flatMap(({ label }, at) => {
+    return before[at] === after[at] ? [] : [{ name: label, before: before[at], after: after[at] }];
+  });
 }

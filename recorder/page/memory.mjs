@@ -1,9 +1,8 @@
 // What is in memory, and who waits there, in a browser.
 
 import { badge, by, made, spoken } from "./dom.mjs";
-import { valueAt } from "./elements.mjs";
+import { sizeOf, valueAt } from "./elements.mjs";
 import { placeKey } from "./model.mjs";
-import { valueText } from "./words.mjs";
 
 /** @typedef {import("./model.mjs").Run} Run */
 /** @typedef {import("./model.mjs").State} State */
@@ -28,12 +27,11 @@ export class Memory {
     const { steps, rows } = this.run;
     this.state = state;
     this.accesses = steps[index].accesses;
-    this.changes = steps[state.changedBy].changes;
     this.isNow = state.changedBy === index;
     this.body.replaceChildren(...rows.map((row) => this.#row(row)));
   }
 
-  /** @param {import("./model.mjs").Row} row */
+  /** @param {import("./memory-rows.mjs").Row} row */
   #row({ name, isWord, cells, more }) {
     const values = made("td", "values", ...cells.map((cell) => this.#cell(cell, isWord)));
     if (more > 0) values.append(made("span", "more", `and ${more} more`));
@@ -44,20 +42,20 @@ export class Memory {
 
   /** @param {import("./elements.mjs").Cell} cell @param {boolean} isWord */
   #cell(cell, isWord) {
-    const state = /** @type {State} */ (this.state);
-    const size = Number(/\d+$/.exec(cell.view.kind)?.[0] ?? 8) / 8;
-    /** @param {{ block: number, byte: number }} other @param {number} length */
-    const meets = (other, length) =>
-      other.block === cell.block && other.byte < cell.byte + size && cell.byte < other.byte + length;
-    const access = this.accesses?.find((each) => meets(each, each.size));
-    const change = this.changes?.find((each) => each.block === cell.block && each.byte === cell.byte);
+    const { blocks, before } = /** @type {State} */ (this.state);
+    const size = sizeOf(cell.view);
+    const access = this.accesses?.find((each) => {
+      return each.block === cell.block && each.byte < cell.byte + size && cell.byte < each.byte + each.size;
+    });
+    const [was, is] = [before, blocks].map((bytes) => valueAt(bytes[cell.block], cell));
+    const isChanged = was !== is;
     const span = made("span", "cell");
     if (!isWord) span.append(made("span", "index", cell.label.slice(cell.label.indexOf("["))));
-    if (change !== undefined && this.isNow) span.append(made("s", "", valueText(change.before)), spoken(" became "));
-    span.append(made("span", "value", valueAt(state.blocks[cell.block], cell)));
+    if (isChanged && this.isNow) span.append(made("s", "", was), spoken(" became "));
+    span.append(made("span", "value", is));
     if (access !== undefined) span.classList.add(access.writes ? "written" : "read");
-    if (change !== undefined) span.classList.add(this.isNow ? "now" : "before");
-    if (change !== undefined) span.append(spoken(this.isNow ? " (changed now)" : " (changed last)"));
+    if (isChanged) span.classList.add(this.isNow ? "now" : "before");
+    if (isChanged) span.append(spoken(this.isNow ? " (changed now)" : " (changed last)"));
     return span;
   }
 

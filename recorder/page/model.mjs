@@ -1,14 +1,13 @@
 // A run as its page shows it: its steps, and for each of them the memory, who waits where, and where the agents are. It
 // runs in pages, and in tests; it knows nothing of how things are shown.
 
-import { Views, isNamed, isWord, labelOf, plainName, sizeOf, write } from "./elements.mjs";
+import { Rows } from "./memory-rows.mjs";
+import { Views, write } from "./elements.mjs";
 import { Stepper } from "./steps.mjs";
 import { elementText } from "./words.mjs";
 
-/** @typedef {import("./elements.mjs").Cell} Cell */
 /** @typedef {import("./run-data.mjs").RunData} RunData */
 /** @typedef {import("./steps.mjs").Step} Step */
-/** @typedef {import("./words.mjs").View} View */
 
 /**
  * @typedef {object} AgentState
@@ -20,15 +19,11 @@ import { elementText } from "./words.mjs";
 /**
  * @typedef {object} State after a step
  * @property {Uint8Array[]} blocks
+ * @property {Uint8Array[]} before the blocks before the last step that has changed something
  * @property {Map<string, number[]>} lines the agents that wait at each place, oldest first
  * @property {AgentState[]} agents
  * @property {number} changedBy the last step that has changed something
  */
-
-/** @typedef {{ name: string, isWord: boolean, cells: Cell[], more: number }} Row of memory that is shown */
-
-// Nobody looks at more elements of one view.
-const MOST_CELLS = 128;
 
 /** @param {number} block @param {number} byte */
 export const placeKey = (block, byte) => `${block} ${byte}`;
@@ -42,7 +37,7 @@ export class Run {
     this.steps = new Stepper(data, this.views).all();
     this.failing = this.#failing();
     this.racing = data.races.map((pair) => pair.map((event) => this.#stepOf(event)));
-    this.rows = this.#memoryRows();
+    this.rows = new Rows(this.views, this.steps).all();
     /** @type {number[]} the last step of each agent */
     this.last = Array.from({ length: data.agents }, (_, agent) => this.#lastOf(agent));
   }
@@ -55,20 +50,22 @@ export class Run {
   /** @param {number} index of the step @returns {State} how things are after a step */
   stateAt(index) {
     const blocks = this.data.blocks.map((length) => new Uint8Array(length));
+    const changes = this.steps.map(({ stores }) => stores.length > 0);
+    const changedBy = Math.max(0, changes.lastIndexOf(true, index));
+    let before = blocks;
     /** @type {Map<string, number[]>} */
     const lines = new Map();
     /** @type {(number | undefined)[]} */
     const latest = [];
-    let changedBy = 0;
     for (let at = 0; at <= index; at += 1) {
       const step = this.steps[at];
-      for (const change of step.changes) write(blocks[change.block], change);
-      if (step.changes.length > 0) changedBy = at;
+      if (at === changedBy) before = blocks.map((bytes) => bytes.slice());
+      for (const store of step.stores) write(blocks, store);
       if (step.agent !== undefined && step.what !== "stuck") latest[step.agent] = at;
       moveLine(lines, step);
     }
     const agents = this.last.map((_, agent) => this.#agentAt(agent, latest[agent], index, lines));
-    return { blocks, lines, agents, changedBy };
+    return { blocks, before, lines, agents, changedBy };
   }
 
   /**
@@ -138,34 +135,6 @@ export class Run {
     const agent = isByAgent ? /^agent (\d+) /.exec(detail)?.[1] : undefined;
     const last = agent === undefined ? -1 : this.#lastOf(Number(agent));
     return [last < 0 ? end : last];
-  }
-
-  /** @returns {Row[]} what is shown of memory: all that has a name, and all that is accessed */
-  #memoryRows() {
-    /** @type {Map<string, Map<number, Cell>>} */
-    const rows = new Map();
-    /** @param {View} view @param {number} byte */
-    const add = (view, byte) => {
-      const name = plainName(view);
-      const cells = rows.get(name) ?? new Map();
-      rows.set(name, cells);
-      if (!cells.has(byte)) cells.set(byte, { view, label: labelOf(view, byte), block: view.block, byte });
-    };
-    for (const view of this.views.list) {
-      if (!isNamed(view)) continue;
-      for (let at = 0; at < Math.min(view.length, MOST_CELLS); at += 1) add(view, view.offset + at * sizeOf(view));
-    }
-    for (const { accesses } of this.steps) {
-      for (const { block, byte, size } of accesses) {
-        const view = this.views.best(block, byte, size);
-        for (let at = byte; at < byte + size; at += sizeOf(view)) add(view, at);
-      }
-    }
-    return [...rows].map(([name, cells]) => {
-      const all = [...cells.values()].sort((one, other) => one.byte - other.byte);
-      const more = Math.max(0, all.length - MOST_CELLS);
-      return { name, isWord: isWord(all[0].view), cells: all.slice(0, MOST_CELLS), more };
-    });
   }
 }
 

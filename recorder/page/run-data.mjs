@@ -14,6 +14,8 @@
  * @property {boolean} read
  * @property {boolean} write
  * @property {number} place its position among the places of the code, or -1
+ * @property {number} [array] of an ordinary access by a typed array: its position among the arrays
+ * @property {string} [value] what an ordinary read of one element has read
  */
 
 /**
@@ -25,6 +27,7 @@
  * @property {number} agents how many, without that of `init`
  * @property {number[]} blocks their lengths
  * @property {View[]} views
+ * @property {View[]} arrays of the code, by which ordinary accesses were made
  * @property {Entry[]} entries those that act, wait, leave and are stuck
  * @property {Record<string, any>[]} standings of agents that haven't come to the end of their calls
  * @property {Event[]} events of the trace; none where it isn't known

@@ -1,26 +1,27 @@
 // The steps of a run, from the entries of its report and the events of its trace.
 
 import { isStandIn } from "../schedule/report.mjs";
-import { labelOf, sizeOf } from "./elements.mjs";
-import { callText, entryText, standingText, valueText } from "./words.mjs";
+import { storedBytes } from "../script/values.mjs";
+import { labelOf, writtenView } from "../script/written.mjs";
+import { changesBy, sizeOf } from "./elements.mjs";
+import { callText, changesText, entryText, standingText, valueText } from "./words.mjs";
 
 /** @typedef {import("../schedule/report.mjs").Entry} Entry */
+/** @typedef {import("./elements.mjs").Change} Change */
+/** @typedef {import("./elements.mjs").Stored} Stored */
 /** @typedef {import("./elements.mjs").Views} Views */
 /** @typedef {import("./run-data.mjs").Event} Event */
 /** @typedef {import("./run-data.mjs").RunData} RunData */
 /** @typedef {import("./words.mjs").View} View */
 
 /**
- * @typedef {object} Change of an element
+ * @typedef {object} Access
  * @property {number} block
  * @property {number} byte
- * @property {string} kind
- * @property {number | string} before
- * @property {number | string} after
- * @property {string} name of the element
+ * @property {number} size
+ * @property {boolean} writes
+ * @property {View} [view] by which it is shown; undefined: its bytes go by their numbers
  */
-
-/** @typedef {{ block: number, byte: number, size: number, writes: boolean }} Access */
 
 /**
  * @typedef {object} Step
@@ -33,7 +34,8 @@ import { callText, entryText, standingText, valueText } from "./words.mjs";
  * @property {string} sentence the fact
  * @property {number} place of the code, or -1
  * @property {Access[]} accesses
- * @property {Change[]} changes
+ * @property {Stored[]} stores
+ * @property {Change[]} changes of elements, by the stores
  * @property {boolean} isSwitch whether another agent has made the step before
  * @property {Entry} [fact]
  */
@@ -61,11 +63,25 @@ export class Stepper {
     events.forEach((event, position) => this.#event(event, position));
     while (this.next < this.entries.length) this.#entry(-1, undefined);
     this.#end();
+    const blocks = this.data.blocks.map((length) => new Uint8Array(length));
     this.steps.forEach((step, at) => {
       const before = this.steps[at - 1]?.agent;
       step.isSwitch = before !== undefined && step.agent !== undefined && step.agent !== before;
+      this.#change(step, blocks);
     });
     return this.steps;
+  }
+
+  /**
+   * Adds to a step what its stores change.
+   * @param {Step} step
+   * @param {Uint8Array[]} blocks as they are before it
+   */
+  #change(step, blocks) {
+    const { stores, accesses: [access], what } = step;
+    if (stores.length === 0) return;
+    step.changes = changesBy(blocks, stores, (store) => this.views.cellsOf(store, access?.view));
+    if (what === "ordinary" || what === "store") step.sentence += `: ${changesText(step.changes)}`;
   }
 
   /** Whether the calls of the trace are those of the report. */
@@ -81,14 +97,14 @@ export class Stepper {
   /** @param {Partial<Step> & { what: Step["what"] }} parts */
   #add(parts) {
     const plain = { text: "", answer: "", sentence: "", place: -1, accesses: [], changes: [], isSwitch: false };
-    this.steps.push({ ...plain, ...parts });
+    this.steps.push({ ...plain, stores: [], ...parts });
   }
 
   #start() {
     const first = this.data.entries.filter(({ agent }) => agent >= this.data.agents);
     const how = first.length === 0 ? "every byte is zero" : "the bytes are as `init` left them";
     this.#add({ what: "start", text: "the start", sentence: `The run begins: ${how}.`,
-      changes: first.flatMap((entry) => this.#changesOf(entry)) });
+      stores: first.flatMap((entry) => this.#storesOf(entry)) });
   }
 
   #end() {
@@ -109,18 +125,14 @@ export class Stepper {
 
   /** @param {Event} event @param {number} position */
   #ordinary(event, position) {
-    const { agent, block, byte, size, write: writes, place } = event;
-    const text = `${writes ? "writes" : "reads"} ${this.#bytesText(event)}`;
-    this.#add({ what: "ordinary", agent, event: position, text, sentence: `${text}, without Atomics`, place,
-      accesses: [{ block, byte, size, writes }] });
+    const { agent, block, byte, size, write: writes, place, array = -1, value } = event;
+    const view = this.views.of(block, byte, size, array);
+    const text = `${writes ? "writes" : "reads"} ${bytesText(event, view)}`;
+    const answer = value === undefined ? "" : `= ${value}`;
+    const sentence = `${text}${value === undefined ? "" : `, which is ${value}`}, without Atomics`;
+    this.#add({ what: "ordinary", agent, event: position, text, answer, sentence, place,
+      accesses: [{ block, byte, size, writes, view }] });
     if (writes) this.pending[agent].push(this.steps[this.steps.length - 1]);
-  }
-
-  /** @param {Event} event */
-  #bytesText({ block, byte, size }) {
-    const view = this.views.best(block, byte, size);
-    const last = byte + size - sizeOf(view);
-    return last === byte ? labelOf(view, byte) : `${labelOf(view, byte)} to ${labelOf(view, last)}`;
   }
 
   /**
@@ -131,30 +143,33 @@ export class Stepper {
   #entry(place, event) {
     const entry = this.entries[this.next];
     this.next += 1;
+    if (entry.what !== "stuck" && isStandIn(entry.does)) {
+      this.#store(entry);
+      return;
+    }
     const sentence = entryText(entry, this.known);
     if (entry.what === "stuck") this.#stuck(entry, sentence);
-    else if (isStandIn(entry.does)) this.#store(entry, sentence);
     else this.#call(entry, sentence, place, event);
   }
 
-  /** @param {Entry} entry @param {string} sentence */
-  #store(entry, sentence) {
-    const changes = this.#changesOf(entry);
+  /** @param {Entry} entry */
+  #store(entry) {
+    const { agent, entry: number } = entry;
+    const stores = this.#storesOf(entry);
     const { block, byte, size } = this.#accessOf(entry, true);
-    const writes = this.pending[entry.agent].filter(({ accesses: [access] }) => {
+    const writes = this.pending[agent].filter(({ accesses: [access] }) => {
       return access.block === block && access.byte < byte + size && byte < access.byte + access.size;
     });
     const step = writes[writes.length - 1];
     if (step === undefined) {
-      const { agent, entry: number } = entry;
-      const text = `writes ${labelOf(this.#viewOf(entry), byte)}`;
-      this.#add({ what: "store", agent, entry: number, text, sentence: `${text}, without Atomics: ${sentence}`,
-        accesses: [{ block, byte, size, writes: true }], changes });
+      const view = writtenView(this.#viewOf(entry), this.views.byName);
+      const text = `writes ${labelOf(view, byte)}`;
+      this.#add({ what: "store", agent, entry: number, text, sentence: `${text}, without Atomics`, stores,
+        accesses: [{ block, byte, size, writes: true, view }] });
       return;
     }
-    step.sentence += `${step.entry === undefined ? ":" : ";"} ${sentence}`;
-    step.entry ??= entry.entry;
-    step.changes.push(...changes);
+    step.entry ??= number;
+    step.stores.push(...stores);
   }
 
   /** @param {Entry} entry @param {string} sentence @param {number} place @param {number | undefined} event */
@@ -168,7 +183,7 @@ export class Stepper {
     this.#add({
       what: what === "act" ? "call" : /** @type {"wait" | "leave"} */ (what),
       agent, entry: number, event, place, sentence, text: callText(does), answer: answerText(entry),
-      accesses: access, changes: this.#changesOf(entry), fact: entry,
+      accesses: access, stores: this.#storesOf(entry), fact: entry,
     });
   }
 
@@ -187,17 +202,32 @@ export class Stepper {
   /** @param {Entry} entry that has a place @param {boolean} writes @returns {Access} */
   #accessOf(entry, writes) {
     const { block, byte } = /** @type {import("../schedule/report.mjs").Place} */ (entry.place);
-    return { block, byte, size: sizeOf(this.#viewOf(entry)), writes };
+    const view = this.#viewOf(entry);
+    return { block, byte, size: sizeOf(view), writes, view };
   }
 
-  /** @param {Entry} entry @returns {Change[]} */
-  #changesOf(entry) {
+  /** @param {Entry} entry @returns {Stored[]} */
+  #storesOf(entry) {
     const { found = {}, place, what } = entry;
     if (what !== "act" || place === undefined || found.after === undefined || found.after === found.before) return [];
     const view = this.#viewOf(entry);
-    const { before, after } = found;
-    return [{ ...place, kind: view.kind, before, after, name: labelOf(view, place.byte) }];
+    const bytes = storedBytes(view.kind, found.after);
+    return [{ ...place, bytes, view: writtenView(view, this.views.byName) }];
   }
+}
+
+/**
+ * The bytes of an access: its elements, or their numbers.
+ * @param {Event} event
+ * @param {View | undefined} view
+ */
+function bytesText({ block, byte, size }, view) {
+  if (view === undefined) {
+    const which = size === 1 ? `byte ${byte}` : `bytes ${byte} to ${byte + size - 1}`;
+    return `${which} of block ${block}`;
+  }
+  const last = byte + size - sizeOf(view);
+  return last === byte ? labelOf(view, byte) : `${labelOf(view, byte)} to ${labelOf(view, last)}`;
 }
 
 /**

@@ -1,7 +1,6 @@
 // The timeline of a run in a browser: a row for each step, with a lane for each agent.
 
 import { badge, by, made, spoken } from "./dom.mjs";
-import { valueText } from "./words.mjs";
 
 /** @typedef {import("./model.mjs").Run} Run */
 /** @typedef {import("./steps.mjs").Step} Step */
@@ -108,6 +107,7 @@ export class Timeline {
     for (const tag of this.#tags(index)) does.append(made("span", "tag", tag));
     const mark = entry === undefined ? undefined : this.marks.get(entry);
     if (mark !== undefined) does.append(made("span", "mark", mark));
+    does.title = does.textContent ?? "";
     row.append(number, this.#lanes(step, index), does, changesOf(changes));
     return row;
   }
@@ -167,13 +167,13 @@ function acrossAt(lane, least, most) {
   return lane === most ? ["across", "to-the-left"] : ["across"];
 }
 
-/** @param {import("./steps.mjs").Change[]} changes */
+/** @param {import("./elements.mjs").Change[]} changes */
 function changesOf(changes) {
   const [first, ...rest] = changes;
   const text = made("span", "changes");
   if (first === undefined) return text;
-  const name = made("span", "name", first.name);
-  text.append(name, ` ${valueText(first.before)} → `, made("b", "", valueText(first.after)));
-  if (rest.length > 0) text.append(`, ${rest.length} more`);
+  const more = rest.length > 0 ? `, ${rest.length} more` : "";
+  text.append(made("span", "name", first.name), ` ${first.before} → `, made("b", "", first.after), more);
+  text.title = text.textContent ?? "";
   return text;
 }

@@ -1,5 +1,7 @@
 // The report of a replay, as `sabsim replay --format json` writes it (docs/FORMATS.md has its form).
 
+import { OF_STORES } from "../script/written.mjs";
+
 /** @typedef {{ block: number, byte: number }} Place */
 
 /**
@@ -25,9 +27,6 @@
  * @property {string[]} blocks the bytes of each at the end, in hexadecimal digits
  * @property {Progress[]} agents
  */
-
-/** What the names of views begin with whose stores stand for something else. */
-export const OF_STORES = /^(?:ordinary|init)_/;
 
 /** @param {string} text lines of JSON @returns {Report} */
 export function readReport(text) {

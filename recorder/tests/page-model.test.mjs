@@ -67,7 +67,7 @@ test("the steps of a run are its calls and its ordinary accesses, in their order
     [0, 6, "store(FLAG, 0, -1)", "", 3],
     [0, 9, "notify(FLAG, 0)", "wakes 1", 4],
     [1, 11, "wait(FLAG, 0, 0)", "goes on", 0],
-    [1, undefined, "reads slots[1]", "", 5],
+    [1, undefined, "reads slots[1]", "= 7", 5],
     [1, 14, "wait(FLAG, 0, -1)", "waits", 6],
     [undefined, undefined, "the end: deadlock", "", -1],
   ]);
@@ -79,11 +79,11 @@ test("each step's sentence is its fact", () => {
     "The run begins: every byte is zero.",
     "wait(FLAG, 0, 0) waits at FLAG[0], first in line",
     "reads slots[0] to slots[1], without Atomics",
-    "writes slots[1], without Atomics: store(ordinary_slots, 1, 7) changes ordinary_slots[1] from 0 to 7",
+    "writes slots[1], without Atomics: changes slots[1] from 0 to 7",
     "store(FLAG, 0, -1) changes FLAG[0] from 0 to -1",
     "notify(FLAG, 0) wakes agent 1, which waited at FLAG[0] since 1",
     "wait(FLAG, 0, 0) was woken by 9",
-    "reads slots[1], without Atomics",
+    "reads slots[1], which is 7, without Atomics",
     "wait(FLAG, 0, -1) waits at FLAG[0], first in line",
     "The run ends: deadlock. Agent 1 waits at FLAG[0] since 14, in wait(FLAG, 0, -1); nobody has notified FLAG[0] " +
       "since.",

@@ -107,7 +107,7 @@ test("where the code now finishes with the same calls the status is 0", async (c
 test("the code's first difference from the script is told", async (context) => {
   const { module, file, outcome } = await keptRun(context);
   const { draws, steps } = keptScript(outcome.script, file);
-  assert.deepEqual(steps.slice(0, 1).map(({ text }) => text), ['["store", "init_Int32", 5, 77]']);
+  assert.deepEqual(steps.slice(0, 1).map(({ text }) => text), ["Int32[5] = 77"]);
   assert.ok(draws.length > 4);
   const changed = [
     ["store(words, 0, 1)", "store(words, 0, 2)",
@@ -118,9 +118,9 @@ test("the code's first difference from the script is told", async (context) => {
       "agent 0 goes on where the script ends"],
     ["words[4] = 12;", "", 'agent 1\'s call [^\n]* and is now ["add", '],
     ["= 77", "= 78",
-      '`init` left ["store", "init_Int32", 5, 77] in the script, and is now ["store", "init_Int32", 5, 78]'],
+      "`init` left Int32[5] = 77 in the script, and is now Int32[5] = 78"],
     ["words[4] = 12;", "words[4] = 12; words[7] = 3;",
-      'agent 0 makes an ordinary write before its call 1 that isn\'t in the script, ["store", "ordinary_Int32", 7, 3]'],
+      "agent 0 makes an ordinary write before its call 1 that isn't in the script, Int32[7] = 3"],
   ];
   for (const [from, to, how] of changed) {
     assert.ok(CODE.includes(from), from);

@@ -1,6 +1,7 @@
 // An agent's ordinary reads and writes between its calls: they are noted in the log as they are made, and what the
 // writes have changed is taken as stores before the agent's next call.
 
+import { SIZES } from "../../script/kinds.mjs";
 import { WORD } from "../memory/layout.mjs";
 import { FLAG, NO_CALL, READ, WRITE } from "../memory/log.mjs";
 import { numberHere } from "./frames.mjs";
@@ -53,7 +54,7 @@ export class Accesses {
    * @returns {number} one of `NOTED`
    */
   note(place, from, to, writes, made) {
-    const { board, log } = this.table;
+    const { board, log, memory } = this.table;
     this.count += 1;
     const tellsSources = board.words[WORD.TELLS_SOURCES] === 1;
     const repeats = this.repeats.note(place, from, to, writes);
@@ -71,6 +72,8 @@ export class Accesses {
     const source = tellsSources ? numberHere(this.table.sources) : 0;
     const flags = (writes ? FLAG.WRITES : FLAG.READS) | (isNew ? 0 : FLAG.AGAIN);
     log.append(what, this.agent, NO_CALL, flags, made, place.block, from, to, place, source);
+    // Nobody else moves until it is read.
+    if (tellsSources && !writes && isElement(place, from, to)) log.addValue(memory.real[place.block], from, to);
     this.repeats.add(place, from, to, writes);
     return NOTED.YES;
   }
@@ -120,3 +123,6 @@ export class Accesses {
     if (from < to) stores.takeWritten(this.agent, log.length, block, from, to, kind);
   }
 }
+
+/** @param {Place} place @param {number} from @param {number} to @returns {boolean} whether it is one element */
+const isElement = ({ kind }, from, to) => SIZES[kind] === to - from;

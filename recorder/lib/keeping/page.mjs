@@ -73,6 +73,8 @@ function shownEvents(events, racing) {
 export function pageData(outcome, facts, module) {
   const { seed, ending, detail, races, script = "{}", trace = "", sources = [], scriptHolds: holds = "all" } = outcome;
   const { blocks, views } = JSON.parse(script);
+  const { arrays, made } = outcome.accesses ?? { arrays: [], made: [] };
+  const accesses = new Map(made.map(([event, array, value]) => [event, { array, value: value ?? undefined }]));
   const told = objectsOf(facts);
   // The first line may say that accesses are missing.
   const all = objectsOf(trace).filter(({ event }) => event !== undefined);
@@ -82,14 +84,15 @@ export function pageData(outcome, facts, module) {
   const places = [...new Set(events.map(({ source }) => source))].filter((source) => source !== null);
   const placeNumbers = new Map(places.map((place, at) => [place, at]));
   return {
-    seed, ending, detail, holds, blocks, views, places, files: sources, script,
+    seed, ending, detail, holds, blocks, views, arrays, places, files: sources, script,
     module: decodeURIComponent(module.replace(/[?#].*$/, "").replace(/^.*\//, "")),
     agents: outcome.progress.length,
     isWhole: events.length === all.length,
     entries: told.filter(({ what }) => what === "act" || what === "wait" || what === "leave"),
     standings: told.filter(({ standing }) => standing !== undefined),
-    events: events.map(({ agent, call, does, block, byte, size, read, write, source }) => {
-      return { agent, call, does, block, byte, size, read, write, place: placeNumbers.get(source) ?? -1 };
+    events: events.map(({ event, agent, call, does, block, byte, size, read, write, source }) => {
+      const place = placeNumbers.get(source) ?? -1;
+      return { agent, call, does, block, byte, size, read, write, place, ...accesses.get(event) };
     }),
     races: /** @type {[number, number][]} */ (racing.map((pair) => pair.map((event) => numbers.get(event)))),
   };

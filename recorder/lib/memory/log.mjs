@@ -1,7 +1,7 @@
 // The log of a run: every access and every act on a place's waiters, in the order in which they were made, in shared
 // memory. Scripts, traces and the judging of races are read off it.
 
-const { Int32Array, SharedArrayBuffer } = globalThis;
+const { ArrayBuffer, Int32Array, SharedArrayBuffer, Uint8Array } = globalThis;
 
 /** The first four are what the board counts (`journal.mjs`); then come ordinary reads and writes. */
 export const READ = 4;
@@ -27,6 +27,10 @@ const TO = 4;
 const SOURCE = 5;
 const OFFSET = 6;
 const LENGTH = 7;
+
+// Behind all events there is room for what each has read: the bytes of an element.
+const VALUE_BYTES = 8;
+const ROOM_BYTES = EACH * 4 + VALUE_BYTES;
 
 // The head: what was done, by whom, on a view of which kind, by which call, and the flags.
 const AGENT_BITS = 4;
@@ -55,7 +59,7 @@ const BEFORE_CALL = (1 << CALL_BITS) - 1;
 export class Log {
   /** @param {number} [room] for how many events @returns {SharedArrayBuffer} */
   static memory(room = ROOM) {
-    return new SharedArrayBuffer(room * EACH * 4);
+    return new SharedArrayBuffer(room * ROOM_BYTES);
   }
 
   /**
@@ -64,10 +68,11 @@ export class Log {
    * @param {number} count the position of that word
    */
   constructor(memory, words, count) {
-    this.events = new Int32Array(memory);
+    this.most = memory.byteLength / ROOM_BYTES;
+    this.events = new Int32Array(memory, 0, this.most * EACH);
+    this.values = new Uint8Array(memory, this.most * EACH * 4);
     this.words = words;
     this.count = count;
-    this.most = this.events.length / EACH;
   }
 
   /** @returns {number} how many events there are */
@@ -148,7 +153,23 @@ export class Log {
     return true;
   }
 
+  /**
+   * Writes down what the last event has read.
+   * @param {Uint8Array} bytes of its block
+   * @param {number} from
+   * @param {number} to the byte behind the last one; no value is longer than 8 bytes
+   */
+  addValue(bytes, from, to) {
+    const at = (this.length - 1) * VALUE_BYTES;
+    for (let byte = from; byte < to; byte += 1) this.values[at + byte - from] = bytes[byte];
+  }
+
   // Of one event.
+
+  /** @param {number} event @returns {Uint8Array} the bytes that it has read, if they were written down */
+  valueAt(event) {
+    return this.values.subarray(event * VALUE_BYTES, (event + 1) * VALUE_BYTES);
+  }
 
   /** @param {number} event */
   whatAt(event) {
@@ -218,7 +239,9 @@ export class Log {
 
   /** @param {Int32Array} events @returns {Log} a log of events that were taken from one */
   static from(events) {
-    // A message may bring them amid other memory.
-    return new Log(events.slice().buffer, Int32Array.of(events.length / EACH), 0);
+    const count = events.length / EACH;
+    const log = new Log(new ArrayBuffer(count * ROOM_BYTES), Int32Array.of(count), 0);
+    log.events.set(events);
+    return log;
   }
 }

@@ -38,7 +38,7 @@ const UNSIGNED = Object.freeze({ 1: UINT8, 2: KINDS.indexOf("Uint16"), 4: KINDS.
   8: KINDS.indexOf("BigUint64") });
 
 /** The kind of a store that writes the bytes of an element of each kind. A float stands by its bytes. */
-const STORED = Object.freeze(KINDS.map((name, kind) => {
+export const STORED = Object.freeze(KINDS.map((name, kind) => {
   return name.startsWith("Float") || name === "Uint8Clamped" ? UNSIGNED[SIZES[kind]] : kind;
 }));
 
@@ -48,7 +48,7 @@ const STORED = Object.freeze(KINDS.map((name, kind) => {
  * @property {number} agent
  * @property {number} block
  * @property {number} byte
- * @property {number} kind
+ * @property {number} kind of the element as the code wrote it; the script's store is of the kind `STORED` has for it
  * @property {Uint8Array} bytes that it writes
  */
 
@@ -108,13 +108,12 @@ export class Stores {
    */
   takeWritten(agent, position, block, from, to, kind) {
     if (kind < KINDS.length && to - from <= FEW_BYTES) {
-      const stored = STORED[kind];
-      for (let byte = from; byte < to; byte += SIZES[stored]) this.#take(agent, position, block, byte, stored);
+      for (let byte = from; byte < to; byte += SIZES[kind]) this.#take(agent, position, block, byte, kind);
       return;
     }
     for (let byte = from; byte < to;) {
       const size = largestAt(byte, to);
-      this.#take(agent, position, block, byte, UNSIGNED[size]);
+      this.#take(agent, position, block, byte, STORED[kind] === UNSIGNED[size] ? kind : UNSIGNED[size]);
       byte += size;
     }
   }

@@ -2,7 +2,8 @@
 // leave something open from the export `setup` of the agents' module.
 
 import { SCRIPT_LIMITS } from "../../script/limits.mjs";
-import { checkedNames, isWithin } from "./names.mjs";
+import { isWithin } from "./named-place.mjs";
+import { checkedNames } from "./names.mjs";
 import { meant, slipOf } from "./nearest.mjs";
 import { Refused } from "./refused.mjs";
 
@@ -17,7 +18,7 @@ const EXPORTS = ["setup", "init", "check"];
  * @property {number} agents how many
  * @property {number[]} buffers the length of each in bytes
  * @property {boolean[]} canBlock of each agent
- * @property {import("./names.mjs").Name[]} names of words and of whole arrays
+ * @property {import("./names.mjs").Name[]} names of words and of arrays
  */
 
 /** @param {unknown} agents @returns {number} */

@@ -8,15 +8,19 @@ import { nameText } from "../options/names.mjs";
 /** @typedef {import("../memory/log.mjs").LogEvent} LogEvent */
 
 /**
- * The element of an access that has a byte, by its own name or by its view's name and index.
+ * The element of an access that has a byte, by its own name or by its view's name and index. A DataView's has a name
+ * if its bytes are just those of an element that has one.
  * @param {LogEvent} event
  * @param {number} byte
  * @param {number[]} lengths of the blocks
  * @param {import("../options/names.mjs").Names} names
  * @returns {string}
  */
-export function elementName({ kind, block, offset, length }, byte, lengths, names) {
-  if (kind >= KINDS.length) return `byte ${byte} of block ${block}`;
+export function elementName({ kind, block, from, to, offset, length }, byte, lengths, names) {
+  if (kind >= KINDS.length) {
+    const named = names.of(block, from, to);
+    return named === undefined ? `byte ${byte} of block ${block}` : nameText(named);
+  }
   const index = Math.floor((byte - offset) / SIZES[kind]);
   const named = names.at(kind, block, offset + index * SIZES[kind]);
   if (named !== undefined) return nameText(named);

@@ -7,6 +7,7 @@ import { Records } from "../memory/records.mjs";
 import { Sources } from "../memory/sources.mjs";
 import { Names } from "../options/names.mjs";
 import { preloads } from "../processes/preloads.mjs";
+import { accessesIn } from "./accesses.mjs";
 import { racesTold } from "./findings.mjs";
 import { fitted } from "./fitting.mjs";
 import { UNSEEN_LINE, placesIn, traceText } from "./trace.mjs";
@@ -91,7 +92,7 @@ export class RunReporter {
    * @param {boolean} wantsTrace
    */
   addSources(outcome, wantsTrace) {
-    const { run: { log }, sourceNames } = this;
+    const { run: { log, lengths }, sourceNames } = this;
     outcome.races = this.options.ordinary === "watch" ? this.races(true) : [];
     if (!wantsTrace) return;
     const names = this.sources.map((each) => each.list().map((/** @type {string} */ place) => {
@@ -100,6 +101,7 @@ export class RunReporter {
     // If some are found, no verdict on the trace says that there are none.
     const mayLookClean = !(this.seesAll && log.hasRoom()) && outcome.races.length === 0;
     outcome.trace = (mayLookClean ? UNSEEN_LINE : "") + traceText(log, names);
+    outcome.accesses = accessesIn(log, lengths);
     outcome.sources = sourceNames.textsOf(placesIn(log, names));
   }
 

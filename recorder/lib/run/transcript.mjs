@@ -7,6 +7,7 @@ import { answerText } from "../../script/report.mjs";
 import { LEAVE, MAKE, MOVES, TIME_UP } from "../board/journal.mjs";
 import { READ } from "../memory/log.mjs";
 import { callText, viewKey, viewName } from "../memory/spelling.mjs";
+import { STORED } from "../memory/stores.mjs";
 import { NO_NAMES, nameText } from "../options/names.mjs";
 
 /** @typedef {import("../memory/stores.mjs").Store} Store */
@@ -39,8 +40,8 @@ function viewOf(name, { kind, block, offset, length }) {
 }
 
 // An element of each kind on the same bytes: what a store's bytes stand for. Nothing outlives a look.
-const STORED = new Uint8Array(Math.max(...SIZES));
-const ELEMENTS = CONSTRUCTORS.map((Kind) => new Kind(STORED.buffer, 0, 1));
+const BYTES = new Uint8Array(Math.max(...SIZES));
+const ELEMENTS = CONSTRUCTORS.map((Kind) => new Kind(BYTES.buffer, 0, 1));
 
 class Writer {
   /** @param {number[]} lengths @param {boolean[]} canBlock @param {import("../options/names.mjs").Names} names */
@@ -77,13 +78,17 @@ class Writer {
     for (let move = timeUp ? 1 : 0; move < count; move += 1) this.moves.push(this.plainMoves[agent]);
   }
 
-  /** @param {Store} store @param {string} whose what its view's name begins with */
+  /**
+   * Adds a store. Its view has the name by which the code wrote, and the kind that can be stored.
+   * @param {Store} store
+   * @param {string} whose what its view's name begins with
+   */
   addStore({ agent, block, byte, kind, bytes }, whose) {
     const named = this.names.at(kind, block, byte);
     const name = named === undefined ? this.#storeName(whose, kind, block) : `${whose}_${named.view.name}`;
-    if (named !== undefined) this.addView(name, named.view);
-    STORED.set(bytes);
-    const [value] = ELEMENTS[kind];
+    if (named !== undefined) this.addView(name, { ...named.view, kind: STORED[kind] });
+    BYTES.set(bytes);
+    const [value] = ELEMENTS[STORED[kind]];
     const isBig = typeof value === "bigint";
     const index = named?.index ?? byte / SIZES[kind];
     const text = `["store", "${name}", ${index}, ${isBig ? `"${value}"` : value}]`;
@@ -105,7 +110,7 @@ class Writer {
     if (names[number] === undefined) {
       const range = { kind, block, offset: 0, length: Math.floor(this.lengths[block] / SIZES[kind]) };
       names[number] = `${whose}_${viewName(this.lengths, range)}`;
-      this.addView(names[number], range);
+      this.addView(names[number], { ...range, kind: STORED[kind] });
     }
     return names[number];
   }

@@ -29,7 +29,7 @@ import { simulatorAt } from "../simulator/chosen.mjs";
  * @param {Checked} outcome
  * @returns {Checked}
  */
-function lightened({ script, report, trace, sources, bytes, answers, ...rest }) {
+function lightened({ script, report, trace, accesses, sources, bytes, answers, ...rest }) {
   return rest;
 }
 

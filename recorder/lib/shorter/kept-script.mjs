@@ -5,6 +5,7 @@
 // writes and of `init` are no draws.
 
 import { CALLS, KINDS, SIZES } from "../../script/kinds.mjs";
+import { OF_STORES, writtenText } from "../../script/written.mjs";
 import { callNumber } from "../board/row.mjs";
 import { callText, placedCallText } from "../memory/spelling.mjs";
 import { Refused } from "../options/refused.mjs";
@@ -14,7 +15,8 @@ import { Refused } from "../options/refused.mjs";
  * @property {number} agent
  * @property {boolean} isOwn whether the agent called it
  * @property {number} call its number among the agent's own; of a store that of the next one
- * @property {string} text as the script has it
+ * @property {string} text as the script has it; of a store that stands for an ordinary write what was written:
+ * `samples[1] = 0.25`
  * @property {string} key the same, with what its view is in place of the view's name
  * @property {number} block
  * @property {number} from the first byte of its element
@@ -40,8 +42,6 @@ import { Refused } from "../options/refused.mjs";
 
 const METHODS = CALLS.map(({ name }) => name);
 
-// What the name of a view begins with that is no agent's own.
-const OTHERS = /^(ordinary|init)_/;
 const OF_INIT = /^init_/;
 
 /** A text that is no script of the recorder's; it says why. */
@@ -61,6 +61,8 @@ const isCount = (value) => Number.isInteger(value) && Number(value) >= 0;
 
 /** @typedef {import("../memory/spelling.mjs").Range} View */
 
+/** @typedef {Map<string, import("../../script/text.mjs").View>} AsSpelled views as the script has them, by their names */
+
 /** @param {any} script @returns {Map<string, View>} by their names */
 function viewsOf({ views }) {
   need(Array.isArray(views), "it has no views");
@@ -75,9 +77,10 @@ function viewsOf({ views }) {
 /**
  * @param {any} parts of a call as a script has it
  * @param {Map<string, View>} views
+ * @param {AsSpelled} spelled
  * @returns {Omit<Step, "agent" | "call"> & { view: string, waits: boolean }}
  */
-function callOf(parts, views) {
+function callOf(parts, views, spelled) {
   need(Array.isArray(parts) && METHODS.includes(parts[0]), `${JSON.stringify(parts)} is no call`);
   const [method, name, index, ...rest] = parts;
   const view = views.get(name);
@@ -86,10 +89,25 @@ function callOf(parts, views) {
   const operands = rest.map((value) => (typeof value === "string" ? BigInt(value) : value));
   const call = { ...view, call: METHODS.indexOf(method), index, operands, limit: undefined };
   const from = offset + index * SIZES[kind];
+  const isOwn = !OF_STORES.test(name);
+  const isWrite = !isOwn && method === "store" && operands.length === 1;
   return {
-    isOwn: !OTHERS.test(name), view: name, waits: method === "wait", loads: method === "load",
-    text: callText(name, call), key: placedCallText(call, call), block, from, to: from + SIZES[kind],
+    isOwn, view: name, waits: method === "wait", loads: method === "load",
+    text: isWrite ? writeOf(spelled, name, index, operands[0]) : callText(name, call),
+    key: placedCallText(call, call), block, from, to: from + SIZES[kind],
   };
+}
+
+/**
+ * What a store that stands for a write has written.
+ * @param {AsSpelled} views
+ * @param {string} name of its view
+ * @param {number} index
+ * @param {number | bigint} operand
+ */
+function writeOf(views, name, index, operand) {
+  need(typeof operand === "bigint" || Number.isInteger(operand), `its store of ${operand} isn't one of an ordinary write`);
+  return writtenText(/** @type {import("../../script/text.mjs").View} */ (views.get(name)), views, index, operand);
 }
 
 class Reader {
@@ -98,12 +116,14 @@ class Reader {
     need(Array.isArray(script?.blocks) && script.blocks.every(isCount), "it has no blocks");
     need(Array.isArray(script.agents) && Array.isArray(script.schedule), "it has no agents, or no schedule");
     const views = viewsOf(script);
+    /** @type {AsSpelled} */
+    const spelled = new Map(script.views.map((/** @type {any} */ view) => [view.name, view]));
     this.schedule = script.schedule;
     this.lengths = script.blocks;
     /** @type {ReturnType<typeof callOf>[][]} */
     this.calls = script.agents.map((/** @type {any} */ { calls }) => {
       need(Array.isArray(calls), "an agent has no calls");
-      return calls.map((call) => callOf(call, views));
+      return calls.map((call) => callOf(call, views, spelled));
     });
     const isOfInit = this.calls.at(-1)?.some(({ view }) => OF_INIT.test(view));
     /** @type {boolean[]} */

@@ -48,6 +48,12 @@ export const EVENTS = [
   { agent: 1, call: 1, does: "wait", block: 0, byte: 0, size: 4, read: true, write: false, source: "a.mjs:7:1" },
 ].map((event, at) => ({ event: at, atomic: true, waiters: false, ...event }));
 
+/** By which array the events 1, 2 and 6 were made, and what 6 has read. */
+export const ACCESSES = {
+  arrays: [{ name: "Uint8_b1", kind: "Uint8", block: 1, offset: 0, length: 2 }],
+  made: [[1, 0, null], [2, 0, null], [6, 0, "7"]],
+};
+
 /** Objects as lines of JSON. @param {object[]} objects */
 export const lines = (objects) => objects.map((each) => `${JSON.stringify(each)}\n`).join("");
 const LINES = ["// The code", "const [one, other] = slots;", "slots[1] = 7;", "Atomics.store(words, FLAG, -1);",
@@ -55,7 +61,7 @@ const LINES = ["// The code", "const [one, other] = slots;", "slots[1] = 7;", "A
 
 export const OUTCOME = {
   seed: 5, ending: "deadlock", detail: "agent 1 waits at FLAG", races: [], progress: [{}, {}],
-  script: JSON.stringify(SCRIPT), trace: lines(EVENTS), scriptHolds: "all",
+  script: JSON.stringify(SCRIPT), trace: lines(EVENTS), accesses: ACCESSES, scriptHolds: "all",
   sources: [{ file: "a.mjs", text: LINES.join("\n") }, { file: "b.mjs", text: null }],
 };
 export const FILE = "file:///somewhere/agents.mjs";
