@@ -2,6 +2,7 @@
 
 import { Editing } from "../schedule/editing.mjs";
 import { whyNotOnCode } from "../schedule/on-code.mjs";
+import { showAbout } from "./about.mjs";
 import { Changeable } from "./changeable.mjs";
 import { by, made } from "./dom.mjs";
 import { Run } from "./model.mjs";
@@ -43,7 +44,7 @@ function showChangedHead({ seed, module }) {
  */
 function notesOn({ command }, editing, name) {
   const note = "These are the recorded calls in another order, not the program: the code might take another path.";
-  const why = command === undefined ? "the run wasn't made by sabsim-record" : editing && whyNotOnCode(editing);
+  const why = command === undefined ? "no command makes the recorded run" : editing && whyNotOnCode(editing);
   if (command === undefined || why !== undefined) return [note, `No command makes this schedule on the code: ${why}.`];
   const how = "Save the script. This command makes the schedule on the code, or says where the code does other things:";
   return [note, how, `$ ${command.options} --replay ${name}${command.args}`];
@@ -58,6 +59,7 @@ export async function openPage(Simulator) {
   const data = JSON.parse(by("run").textContent ?? "");
   const run = new Run(data);
   showHead(data);
+  showAbout(data);
   const fileName = `seed-${data.seed}.changed.json`;
   /** @type {Changeable} */
   const shown = new Changeable(run, {

@@ -37,13 +37,22 @@
  * @property {[number, number][]} races the two events of each, the most telling first
  * @property {"all" | "touched"} holds which ordinary writes the script has
  * @property {string} [script] its text, in a page that can change the schedule
- * @property {Command} [command] that has made the run; undefined: it was made without one
+ * @property {About} [about] how the run was made
+ * @property {Command} [command] that makes the run again; undefined: none does
+ */
+
+/**
+ * @typedef {object} About
+ * @property {string} module its path
+ * @property {string} options of the command line that aren't as they are by themselves; empty: none
+ * @property {string} made the versions of the recorder, the simulator and node
  */
 
 /**
  * @typedef {object} Command words of a shell
  * @property {string} options the program, the module and the options that the run depends on
  * @property {string} args what stands behind the options, for the agents
+ * @property {string} script the path of the run's script
  */
 
 export {};

@@ -112,9 +112,9 @@ describe("ordinary accesses in each mode", () => {
         ["store", "ordinary_Uint8_b1", 1, 255],
         ["store", "ordinary_Uint8_b1", 2, 254],
         ["store", "ordinary_Uint32_b1", 1, 0x3fc00000],
-        ["store", "ordinary_Uint8_b1", 3, 255],
-        ["store", "ordinary_Uint32_b1", 2, 0xbf000000],
-        ["store", "ordinary_BigUint64_b1", 2, `${bytes.getBigUint64(16, true)}`],
+        ["store", "ordinary_Uint8Clamped_b1", 3, 255],
+        ["store", "ordinary_Float32_b1", 2, 0xbf000000],
+        ["store", "ordinary_Float64_b1", 2, `${bytes.getBigUint64(16, true)}`],
         ["store", "ordinary_BigInt64_b1", 3, "-3"],
       ]);
     }

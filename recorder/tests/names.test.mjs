@@ -1,11 +1,11 @@
-// Names of words and of whole arrays, which a module's `setup` gives: in scripts, in what sabsim tells of them, and in
-// the recorder's own texts.
+// Names of words and of arrays, which a module's `setup` gives: in scripts, in what sabsim tells of them, and in the
+// recorder's own texts.
 
 import assert from "node:assert/strict";
 import { writeFileSync } from "node:fs";
 import { join } from "node:path";
 import { test } from "node:test";
-import { checkedNames, Names } from "../lib/options/names.mjs";
+import { checkedNames, Names, nameText } from "../lib/options/names.mjs";
 import { Refused } from "../lib/options/refused.mjs";
 import { KINDS } from "../script/kinds.mjs";
 import { temporaryFolder } from "./helpers/common.mjs";
@@ -34,10 +34,19 @@ function explained(script) {
 test("what a name may be, and what it may stand for", () => {
   const words = checkedNames({ LOCK: 0, wake: ["Int32", 0, 1], big: ["BigInt64", 1, 1], slots: ["Uint8", 1] }, [8, 16]);
   assert.deepEqual(words, [
-    { name: "LOCK", isWord: true, kind: INT32, block: 0, offset: 0, length: 1 },
-    { name: "wake", isWord: true, kind: INT32, block: 0, offset: 4, length: 1 },
-    { name: "big", isWord: true, kind: KINDS.indexOf("BigInt64"), block: 1, offset: 8, length: 1 },
-    { name: "slots", isWord: false, kind: UINT8, block: 1, offset: 0, length: 16 },
+    { name: "LOCK", kind: INT32, block: 0, offset: 0, length: 1 },
+    { name: "wake", kind: INT32, block: 0, offset: 4, length: 1 },
+    { name: "big", kind: KINDS.indexOf("BigInt64"), block: 1, offset: 8, length: 1 },
+    { name: "slots", kind: UINT8, block: 1, offset: 0, length: 16 },
+  ]);
+  const FLOAT64 = KINDS.indexOf("Float64");
+  assert.deepEqual(checkedNames({
+    samples: { kind: "Float64", buffer: 0, offset: 8, length: 2 }, rest: { kind: "Float64", buffer: 0, offset: 16 },
+    all: { kind: "Uint8", buffer: 1 },
+  }, [37, 3]), [
+    { name: "samples", kind: FLOAT64, block: 0, offset: 8, length: 2 },
+    { name: "rest", kind: FLOAT64, block: 0, offset: 16, length: 2 },
+    { name: "all", kind: UINT8, block: 1, offset: 0, length: 3 },
   ]);
   assert.deepEqual(checkedNames(undefined, [8]), []);
   assert.equal(checkedNames({ [`a${"_".repeat(22)}`]: 0 }, [8]).length, 1);
@@ -69,6 +78,22 @@ for (const [names, why] of [
   [{ LOCK: ["Int32", 0, undefined] }, /puts LOCK at index undefined/],
   [{ LOCK: 0, lock: ["Int32", 0, 0] }, /^`names` has two names for one place, LOCK and lock: give one$/],
   [{ a: ["Uint8", 1], b: ["Uint8", 1] }, /two names for one place, a and b/],
+  [{ a: { kind: "Int16", buffer: 1, ofset: 2 } }, /^`names` gives a a member ofset: is offset meant\?$/],
+  [{ a: { buffer: 1 } }, /^`names` gives a no `kind`$/],
+  [{ a: { kind: "Int16", offset: 2 } }, /^`names` gives a no `buffer`$/],
+  [{ a: { kind: "int16", buffer: 1 } }, /^`names` says of a that its kind is int16: is Int16 meant\?$/],
+  [{ a: { kind: "Int16", buffer: 2 } }, /^`names` puts a on buffer 2: there is no such buffer, but 0 to 1$/],
+  [{ a: { kind: "Float64", buffer: 1, offset: 4 } },
+    /^`names` puts a at offset 4: give a multiple of 8, since an element of kind Float64 takes 8 bytes$/],
+  [{ a: { kind: "Float64", buffer: 1, offset: 16 } },
+    /^`names` puts a at offset 16: buffer 1 has 16 bytes, and an element of kind Float64 takes 8$/],
+  [{ a: { kind: "Int16", buffer: 1, offset: "2" } }, /^`names` puts a at offset 2: buffer 1 has 16 bytes/],
+  [{ a: { kind: "Int16", buffer: 1, offset: -2 } }, /puts a at offset -2/],
+  [{ a: { kind: "Int16", buffer: 1, offset: 8, length: 5 } },
+    /^`names` gives a the length 5: buffer 1 has room for 1 to 4 elements of kind Int16 from offset 8 on$/],
+  [{ a: { kind: "Int16", buffer: 1, offset: 8, length: 0 } }, /gives a the length 0/],
+  [{ a: { kind: "Int16", buffer: 1, length: null } }, /gives a the length null/],
+  [{ a: { kind: "Uint8", buffer: 1 }, b: ["Uint8", 1] }, /two names for one place, a and b/],
   [Object.fromEntries(Array.from({ length: 65 }, (_, at) => [`w${at}`, at])), /^`names` has 65 names: a script has /],
 ]) {
   test(`names that can't be: ${JSON.stringify(names).slice(0, 60)}`, () => {
@@ -95,6 +120,23 @@ test("an element goes by its word, and else by its array", () => {
   assert.deepEqual([told(UINT8, 1, 0), told(UINT8, 1, 3)], ["first 0", "slots 3"]);
   assert.deepEqual([told(KINDS.indexOf("Uint16"), 1, 2), told(KINDS.indexOf("Uint16"), 1, 4)], ["half 0", undefined]);
   assert.deepEqual([told(UINT8, 0, 0), told(KINDS.indexOf("Int8"), 1, 0)], [undefined, undefined]);
+});
+
+test("indices of a part of a buffer count from its offset, and the shortest name of an element counts", () => {
+  const names = new Names(checkedNames({
+    all: ["Int16", 0], head: { kind: "Int16", buffer: 0, offset: 0, length: 2 }, FLAG: ["Int16", 0, 1],
+    samples: { kind: "Float64", buffer: 0, offset: 8, length: 2 },
+  }, [24]));
+  const [INT16, FLOAT64] = ["Int16", "Float64"].map((kind) => KINDS.indexOf(kind));
+  const told = (...place) => {
+    const named = names.at(...place);
+    return named && nameText(named);
+  };
+  assert.deepEqual([0, 2, 4, 8, 3].map((byte) => told(INT16, 0, byte)), ["head[0]", "FLAG", "all[2]", "all[4]", undefined]);
+  assert.deepEqual([0, 8, 16].map((byte) => told(FLOAT64, 0, byte)), [undefined, "samples[0]", "samples[1]"]);
+  // A DataView has no kind: its bytes go by the name of an element that is just these.
+  const of = (from, to) => names.of(0, from, to)?.view.name;
+  assert.deepEqual([of(8, 16), of(2, 4), of(8, 12), of(9, 17)], ["samples", "FLAG", undefined, undefined]);
 });
 
 test("scripts and reports have the names, from whichever view a call comes", async (context) => {

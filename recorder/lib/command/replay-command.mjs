@@ -1,26 +1,23 @@
 // The words that run a module's agents once more by a kept script, as the page of a run shows them.
 
-import { relative } from "node:path";
+import { fileURLToPath } from "node:url";
+import { quoted, shortPath } from "../keeping/about.mjs";
 import { OPTIONS } from "../options/table.mjs";
 
 // What a run by a row of draws depends on, besides the module and the agents' arguments.
 const NAMES = /** @type {const} */ (["ordinary", "races", "bounds", "clock"]);
 
-/**
- * A word as a shell takes it.
- * @param {string} word
- */
-const quoted = (word) => (/^[\w@%+=:,./-]+$/.test(word) ? word : `'${word.replaceAll("'", "'\\''")}'`);
+const PROGRAM = fileURLToPath(new URL("../../record.mjs", import.meta.url));
 
 /** How this program is started: by its name where it is installed, else by its file. */
 function programWords() {
-  const [, file] = process.argv;
-  return /[\\/]node_modules[\\/]/.test(file) ? "npx sabsim-record" : `node ${quoted(relative("", file))}`;
+  const isInstalled = [process.argv[1] ?? "", PROGRAM].some((file) => /[\\/]node_modules[\\/]/.test(file));
+  return isInstalled ? "npx sabsim-record" : `node ${quoted(shortPath(PROGRAM))}`;
 }
 
 /**
  * @param {Pick<import("./options.mjs").Options, "module" | "args" | (typeof NAMES)[number]>} options of the run
- * @returns {import("../../page/run-data.mjs").Command} to which `--replay FILE` is added, before what
+ * @returns {Omit<import("../../page/run-data.mjs").Command, "script">} to which `--replay FILE` is added, before what
  * stands behind `--`
  */
 export function replayCommand(options) {

@@ -2,6 +2,7 @@
 
 import { resolve } from "node:path";
 import { Difference } from "../check/check.mjs";
+import { modulePath, optionsText } from "../keeping/about.mjs";
 import { Keeper } from "../keeping/keep.mjs";
 import { keepPictures } from "../keeping/pictures.mjs";
 import { collectGarbage, onceMore, stopGrowth } from "../processes/garbage.mjs";
@@ -136,8 +137,9 @@ export class Session {
       keeper.keepAll(seed, { json: script, report, "trace.jsonl": trace, ...theirs });
     } else if (failing !== undefined && keeper.seed === failing.seed) {
       const outcome = shortened?.shortest ?? failing;
-      const command = replayCommand({ ...this.options, module: this.asked.module });
-      const how = { simulator: this.simulator, module: this.options.module, command };
+      const { module } = this.options;
+      const command = replayCommand({ ...this.options, module: modulePath(module) });
+      const how = { simulator: this.simulator, module, options: optionsText(this.options), command };
       this.leftOut.push(...keepPictures(keeper, outcome, how));
     }
   }

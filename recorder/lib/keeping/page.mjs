@@ -5,7 +5,6 @@
 import { builtSimulator, documentOf } from "./document.mjs";
 
 /** @typedef {import("../run/group.mjs").Outcome} Outcome */
-/** @typedef {import("../../page/run-data.mjs").Command} Command */
 /** @typedef {import("../../page/run-data.mjs").RunData} RunData */
 
 // Of a trace of more events the ordinary accesses are left out, except those that race.
@@ -114,9 +113,9 @@ export function pageOf(data, simulator) {
  * @param {Outcome} outcome that has a script
  * @param {string} facts what `sabsim replay --format json` tells of it
  * @param {string} module the URL of the agents' module
- * @param {Command} [command] that has made the run
+ * @param {Pick<RunData, "about" | "command">} made how the run was made
  * @throws {SyntaxError} where the facts are no JSON
  */
-export function pageText(outcome, facts, module, command) {
-  return pageOf({ ...pageData(outcome, facts, module), command }, builtSimulator());
+export function pageText(outcome, facts, module, made) {
+  return pageOf({ ...pageData(outcome, facts, module), ...made }, builtSimulator());
 }

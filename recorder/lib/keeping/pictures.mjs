@@ -1,6 +1,8 @@
 // What the simulator makes of a kept script for people to look at: the explained report, the picture, and the page of
 // the run.
 
+import { join } from "node:path";
+import { aboutOf } from "./about.mjs";
 import { pageText } from "./page.mjs";
 
 /** @typedef {import("../run/group.mjs").Outcome} Outcome */
@@ -10,14 +12,18 @@ import { pageText } from "./page.mjs";
  * @typedef {object} Picture
  * @property {string} ending of its file's name
  * @property {"explained" | "svg" | "json"} format of the replay that it is made from
- * @property {(output: string, outcome: Outcome, how: How) => string} made
+ * @property {(output: string, outcome: Outcome, module: string, told: Told) => string} made
  */
 
 /**
  * @typedef {object} How a run was made
  * @property {string} module the URL of the agents' module
- * @property {import("../../page/run-data.mjs").Command} [command] undefined: not by the command
+ * @property {string} options of the command line that aren't as they are by themselves; empty: none
+ * @property {Omit<import("../../page/run-data.mjs").Command, "script">} [command] that makes the run again, by its
+ * script; undefined: none does
  */
+
+/** @typedef {ReturnType<typeof aboutOf>} Told how a run was made, as its page says it */
 
 /** Why something isn't made of a script, in its message. */
 export class NotMade extends Error {}
@@ -29,10 +35,10 @@ export const PICTURES = Object.freeze([
   { ending: "html", format: "json", made: pageMade },
 ]);
 
-/** @param {string} facts @param {Outcome} outcome @param {How} how */
-function pageMade(facts, outcome, { module, command }) {
+/** @param {string} facts @param {Outcome} outcome @param {string} module @param {Told} told */
+function pageMade(facts, outcome, module, told) {
   try {
-    return pageText(outcome, facts, module, command);
+    return pageText(outcome, facts, module, told);
   } catch (problem) {
     if (problem instanceof SyntaxError) throw new NotMade("what sabsim says of the run is no JSON");
     throw problem;
@@ -44,14 +50,15 @@ function pageMade(facts, outcome, { module, command }) {
  * @param {Simulator} simulator
  * @param {Picture} picture what
  * @param {Outcome} outcome that has a script
- * @param {How} how it was made
+ * @param {string} module the URL of the agents' module
+ * @param {Told} told
  * @returns {string}
  * @throws {NotMade}
  */
-export function pictureOf(simulator, { format, made }, outcome, how) {
+function pictureOf(simulator, { format, made }, outcome, module, told) {
   const { status, output, complaint } = replayed(simulator, format, outcome.script ?? "");
   if (status !== 0) throw new NotMade(`sabsim ended with status ${status}: ${complaint.trim()}`);
-  return made(output, outcome, how);
+  return made(output, outcome, module, told);
 }
 
 /** @param {Simulator} simulator @param {Picture["format"]} format @param {string} script */
@@ -73,10 +80,11 @@ function replayed(simulator, format, script) {
 export function keepPictures(keeper, outcome, { simulator, ...how }) {
   const { seed, script } = outcome;
   if (script === undefined) return [];
+  const told = aboutOf(how, join(keeper.folder, `seed-${seed}.json`), simulator.version);
   return PICTURES.flatMap((picture) => {
     const { ending } = picture;
     try {
-      keeper.keepAll(seed, { [ending]: pictureOf(simulator, picture, outcome, how) });
+      keeper.keepAll(seed, { [ending]: pictureOf(simulator, picture, outcome, how.module, told) });
       return [];
     } catch (problem) {
       if (problem instanceof NotMade) return [`not kept: seed-${seed}.${ending}: ${problem.message}`];

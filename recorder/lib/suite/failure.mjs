@@ -1,6 +1,7 @@
 // What a test says of a run that failed: the seed and how it ended, how it came to that, and where its files lie.
 
 import { digits } from "../keeping/words.mjs";
+import { linesAsWritten } from "../keeping/written-lines.mjs";
 
 const TITLE = "Its last acts, as sabsim explains them (the move, the agent, how many of its calls had returned):";
 
@@ -36,9 +37,10 @@ export function failureText({ outcome, passed, simulator, kept }) {
  * @returns {string[]} none if there is no script
  */
 function explainedEnd({ script }, simulator) {
-  const output = script === undefined ? undefined : explained(simulator, script);
+  if (script === undefined) return [];
+  const output = explained(simulator, script);
   if (output === undefined) return [];
-  const lines = output.trimEnd().split("\n");
+  const lines = linesAsWritten(output.trimEnd().split("\n"), script);
   const end = lines.findIndex((line) => line.startsWith("block "));
   const acts = lines.slice(Math.max(0, end - MOST_LINES), end);
   return [TITLE, ...indented([...acts, ...lines.slice(end)].map(shortened))];

@@ -5,6 +5,8 @@ import { mkdtempSync } from "node:fs";
 import { tmpdir } from "node:os";
 import { join, resolve } from "node:path";
 import { toldOf } from "../command/problems.mjs";
+import { replayCommand } from "../command/replay-command.mjs";
+import { modulePath, optionsText } from "../keeping/about.mjs";
 import { Keeper } from "../keeping/keep.mjs";
 import { keepPictures } from "../keeping/pictures.mjs";
 import { counted, digits } from "../keeping/words.mjs";
@@ -68,30 +70,42 @@ export async function tried(given, { folder, place }) {
  * @returns {Promise<string>}
  */
 async function failureOf(runs, failing, passed, { out, shorten }) {
-  const { module, sabsim } = runs.options;
+  const { options } = runs;
+  const { sabsim } = options;
   const simulator = simulatorAt(sabsim || undefined);
   const outcome = shorten ? (await runs.shorten(failing)).shortest ?? failing : failing;
-  const kept = keptLines({ failing, outcome }, module, out, simulator);
+  const kept = keptLines({ failing, outcome }, options, out, simulator);
   return failureText({ outcome, passed, simulator, kept });
 }
 
 /**
  * Keeps a run.
  * @param {{ failing: Outcome, outcome: Outcome }} runs the one that has failed, and the shortest that fails so
- * @param {string} module its URL
+ * @param {Runs["options"]} options of the runs
  * @param {string | undefined} out where; undefined: in a new folder for temporary files
  * @param {import("../simulator/chosen.mjs").Simulator} simulator
  * @returns {string[]} what lies where, and what doesn't
  */
-function keptLines({ failing, outcome }, module, out, simulator) {
+function keptLines({ failing, outcome }, options, out, simulator) {
   try {
     const keeper = new Keeper(resolve(out ?? mkdtempSync(join(tmpdir(), "sabsim-"))), "`out`");
     keeper.keepLowest(failing);
     if (outcome !== failing) keeper.keepShortest(failing, outcome);
-    const notKept = keepPictures(keeper, outcome, { simulator, module });
+    const notKept = keepPictures(keeper, outcome, { simulator, ...howMade(options) });
     const kept = keeper.names.length === 0 ? [] : [`kept in ${keeper.folder}: ${keeper.names.join(", ")}`];
     return [...kept, ...notKept];
   } catch (problem) {
     return [`not kept: ${toldOf(problem)}`];
   }
+}
+
+/**
+ * How a run was made. No command calls a test's own `init` and `check`.
+ * @param {Runs["options"]} options
+ */
+function howMade(options) {
+  const { module, init, check } = options;
+  const all = /** @type {any} */ ({ ...options, module: modulePath(module) });
+  const command = init === undefined && check === undefined ? replayCommand(all) : undefined;
+  return { module, options: optionsText(options), command };
 }

@@ -1,0 +1,84 @@
+// How a kept run was made, as its page says it: the module, the options, the versions, and the words that make it again.
+
+import { readFileSync } from "node:fs";
+import { relative, resolve } from "node:path";
+import { fileURLToPath } from "node:url";
+import { OPTIONS, wordOf } from "../options/table.mjs";
+
+/** @typedef {import("../../page/run-data.mjs").About} About */
+/** @typedef {import("../../page/run-data.mjs").Command} Command */
+
+// The package is the folder above, in the repository and where it is installed.
+const PACKAGE = new URL("../../../package.json", import.meta.url);
+
+/** @returns {string} of the recorder */
+const version = () => JSON.parse(readFileSync(PACKAGE, "utf8")).version;
+
+/**
+ * A word as a shell takes it.
+ * @param {string} word
+ * @returns {string}
+ */
+export const quoted = (word) => (/^[\w@%+=:,./-]+$/.test(word) ? word : `'${word.replaceAll("'", "'\\''")}'`);
+
+/**
+ * A path as seen from the working directory, unless the two share only the root.
+ * @param {string} path
+ * @returns {string}
+ */
+export function shortPath(path) {
+  const short = relative("", path);
+  const up = short.split(/[\\/]/).filter((part) => part === "..").length;
+  const depth = process.cwd().split(/[\\/]/).filter((part) => part !== "").length;
+  return short === "" || (up > 0 && up >= depth) ? resolve(path) : short;
+}
+
+/**
+ * The path of a module, as short as it can be.
+ * @param {string} url
+ * @returns {string} the URL itself if no file has it alone
+ */
+export function modulePath(url) {
+  return /^file:[^?#]*$/.test(url) ? shortPath(fileURLToPath(url)) : url;
+}
+
+/**
+ * The options of a run that aren't as they are by themselves, as words of the command line.
+ * @param {object} options
+ * @returns {string} empty: none
+ */
+export function optionsText(options) {
+  const given = /** @type {Record<string, unknown>} */ (options);
+  const names = Object.entries(OPTIONS).filter(([name, { of, isShared, ifNone }]) => {
+    return isShared && (of.includes("record") || name === "fresh") && ![undefined, ifNone].includes(given[name]);
+  });
+  const { args = [] } = /** @type {{ args?: string[] }} */ (given);
+  const words = names.flatMap(([name, { word = name }]) => wordsOf(word, given[name]));
+  return [...words, ...(args.length === 0 ? [] : ["--", ...args.map(quoted)])].join(" ");
+}
+
+/**
+ * One option.
+ * @param {string} name
+ * @param {unknown} value
+ * @returns {string[]}
+ */
+function wordsOf(name, value) {
+  const word = `--${wordOf(name)}`;
+  if (value === true) return [word];
+  if (name === "noBlock") return [value].flat().map((agent) => `${word} ${agent}`);
+  return [`${word} ${quoted(`${value}`)}`];
+}
+
+/**
+ * What the page of a run says about how the run was made.
+ * @param {import("./pictures.mjs").How} how
+ * @param {string} script the path of its script
+ * @param {string} simulator the version of the simulator
+ * @returns {{ about: About, command?: Command }}
+ */
+export function aboutOf({ module, options, command }, script, simulator) {
+  const made = [`sabsim ${version()}`, simulator, `node ${process.versions.node}`];
+  const about = { module: modulePath(module), options, made: made.join(", ") };
+  return { about, command: command && { ...command, script: quoted(shortPath(script)) } };
+}
