@@ -65,7 +65,12 @@ export class Rows {
     if (!cells.has(byte)) cells.set(byte, cellAt(view, byte));
   }
 
-  /** @param {number} block @param {number} byte @param {number} size @returns {boolean} whether all bytes have a name */
+  /**
+   * Whether all of some bytes have a name.
+   * @param {number} block
+   * @param {number} byte
+   * @param {number} size
+   */
   #isNamed(block, byte, size) {
     return this.named[block].subarray(byte, byte + size).every((mark) => mark === 1);
   }

@@ -55,3 +55,15 @@ export function writtenText(view, views, index, operand) {
   const label = labelOf(written, view.offset + index * sizeOfKind(view.kind));
   return `${label} = ${elementText(written.kind, storedBytes(view.kind, operand))}`;
 }
+
+/**
+ * Whether a script has stores that stand for writes of floats.
+ * @param {string} script
+ * @returns {boolean}
+ */
+export function hasFloats(script) {
+  /** @type {View[]} */
+  const list = JSON.parse(script).views;
+  const views = new Map(list.map((view) => [view.name, view]));
+  return list.some((view) => OF_STORES.test(view.name) && writtenView(view, views).kind.startsWith("Float"));
+}

@@ -9,7 +9,7 @@ import { after, before, describe, it } from "node:test";
 import { pageData, pageOf } from "../lib/keeping/page.mjs";
 import { Browser, withBrowser } from "./helpers/browser.mjs";
 import { temporaryFolder } from "./helpers/common.mjs";
-import { FACTS, FILE, OUTCOME, lines } from "./helpers/page-run.mjs";
+import { FACTS, FILE, OUTCOME, lines, view } from "./helpers/page-run.mjs";
 import { PALE_TEXTS } from "./helpers/pale-texts.mjs";
 
 /** What is chosen, and what is highlighted of it. */
@@ -28,6 +28,20 @@ const SHOWN = `(() => {
     sentence: text("#sentence .fact").join(),
   };
 })()`;
+
+/** What the data of the run by hand has in place of its own, so that its words and values are long. */
+function longValues() {
+  const name = "s".repeat(23);
+  const views = [view(name, "Float64", 0, 2), view(`ordinary_${name}`, "BigUint64", 0, 2)];
+  const bits = new BigUint64Array(Float64Array.of(-Number.MAX_VALUE, Number.MAX_VALUE).buffer);
+  const place = { block: 0, byte: 8 };
+  const does = (value) => ["store", `ordinary_${name}`, 1, `${value}`];
+  const entries = [["0", bits[0]], [bits[0], bits[1]]].map(([before, after], at) => ({
+    agent: at, entry: 3 * at + 1, call: 0, what: "act", does: does(after), place, answer: `${after}`, since: 3 * at,
+    found: { before: `${before}`, after: `${after}` },
+  }));
+  return { views, blocks: [16], entries, standings: [], events: [], races: [], ending: "check" };
+}
 
 describe("the page of a run, in a browser", { timeout: 120_000 }, () => {
   /** @type {Browser} */
@@ -160,6 +174,56 @@ describe("the page of a run, in a browser", { timeout: 120_000 }, () => {
     assert.equal(await page.value(beyond), 0);
     await page.press("ArrowUp");
     assert.equal((await page.value(SHOWN)).line, "6");
+  });
+
+  it("keeps a row's words and its values in the row, however long both are", withBrowser, async (context) => {
+    const page = await opened(context, { data: longValues(), width: 700 });
+    const parts = await page.value(`[...document.querySelectorAll("#timeline .row")].map((row) => {
+      const [pane, does, changes] = [row, ...row.querySelectorAll(".does, .changes")].map((part) => {
+        return part.getBoundingClientRect();
+      });
+      const { title, scrollWidth, clientWidth } = row.querySelector(".changes");
+      return { does: does.width, ends: changes.right <= pane.right && does.right <= changes.left, title,
+        isCut: scrollWidth > clientWidth };
+    })`);
+    const { does, ends, title, isCut } = parts.findLast((part) => part.title !== "");
+    assert.ok(parts.every((part) => part.ends), JSON.stringify(parts));
+    assert.ok(does > 150 && ends && isCut, JSON.stringify(parts));
+    assert.equal(title, `${"s".repeat(23)}[1] ${-Number.MAX_VALUE} → ${Number.MAX_VALUE}`);
+  });
+
+  it("shows in memory the old and the new value of an element in one language", withBrowser, async (context) => {
+    const page = await opened(context, { data: longValues() });
+    await page.press("End", "ArrowUp");
+    const cell = "document.querySelector('#memory .cell.now')";
+    const [was, is] = await page.value(`[${cell}.querySelector("s"), ${cell}.querySelector(".value")].map((part) => {
+      return part.textContent;
+    })`);
+    assert.deepEqual([was, is], [`${-Number.MAX_VALUE}`, `${Number.MAX_VALUE}`]);
+  });
+
+  it("says how its run was made, and copies the command that makes it again", withBrowser, async (context) => {
+    const command = { options: "npx sabsim-record a.mjs --clock real", script: "found/seed-5.json", args: " -- one" };
+    const about = { module: "src/a.mjs", options: "--clock real -- one", made: "sabsim 0.1.0, module 12, node 20.0.0" };
+    const page = await opened(context, { data: { about, command } });
+    const text = "npx sabsim-record a.mjs --clock real --replay found/seed-5.json -- one";
+    const lines = await page.value("[...document.querySelectorAll('#about p')].map((line) => line.textContent)");
+    assert.deepEqual(lines, [`Run it again: ${text} Copy`, "Module: src/a.mjs", "Options: --clock real -- one",
+      "Made by: sabsim 0.1.0, module 12, node 20.0.0"]);
+    const copy = async (clipboard) => {
+      await page.value(`(Object.defineProperty(navigator, "clipboard", { configurable: true, value: ${clipboard} }), 0)`);
+      await page.click("#copy");
+      return page.value("[document.querySelector('#copy').textContent, window.copied, getSelection().toString()]");
+    };
+    const taken = "{ writeText(text) { window.copied = text; } }";
+    assert.deepEqual(await copy(taken), ["Copied", text, ""]);
+    // If a browser forbids it, the command is selected.
+    assert.deepEqual(await copy("undefined"), ["Selected", text, text]);
+    assert.deepEqual(await page.value(PALE_TEXTS), []);
+    const none = await opened(context, { data: { about: { ...about, options: "" }, command: undefined } });
+    const rest = await none.value("document.querySelector('#about').textContent");
+    assert.equal(rest, "Run it again: no command makes it againModule: src/a.mjsOptions: none" +
+      "Made by: sabsim 0.1.0, module 12, node 20.0.0");
   });
 
   it("shows texts that look like code as they are", withBrowser, async (context) => {

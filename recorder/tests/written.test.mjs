@@ -1,5 +1,5 @@
-// Values as the code wrote them: in scripts, on pages, in tests' failures and in what --replay says; and what is known of
-// how a kept run was made.
+// Values as the code wrote them: in scripts, on pages, in tests' failures and in what --replay says; and what a page
+// says about how its run was made.
 
 import assert from "node:assert/strict";
 import { spawnSync } from "node:child_process";
@@ -87,11 +87,13 @@ test("a test that fails, and --replay, have the values of the code", async (cont
     const [, acts] = message.split("Its last acts");
     assert.match(acts, /^ +\d+ 0 \d+ write +samples\[[01]\] from [\d.]+ to \d\.25$/m);
     assert.doesNotMatch(message, /ordinary_|\d{12}n/);
+    assert.match(message, /\nin seed-\d+\.explained and seed-\d+\.svg a float [^\n]+ has its bits$/);
     return true;
   });
   const [, seed] = /seed-(\d+)\.html/.exec(readdirSync(out).join());
   const script = join(out, `seed-${seed}.json`);
-  const again = () => spawnSync(process.execPath, [RECORD, module, "--replay", script, ...CHECKING], { encoding: "utf8" });
+  const words = [RECORD, module, "--replay", script, ...CHECKING];
+  const again = () => spawnSync(process.execPath, words, { encoding: "utf8" });
   const same = again();
   assert.deepEqual([same.status, same.stderr], [1, ""], same.stdout);
   writeFileSync(module, readFileSync(RING, "utf8").replace("= at + 0.25;", "= at + 0.5;"));
@@ -151,7 +153,7 @@ test("what an ordinary read has read is in no trace: sabsim's judge takes no suc
   assert.deepEqual(accesses.made.map(([event]) => event), ordinary.map(({ event }) => event));
 });
 
-test("the headline of a page and its timeline name an element in the same way, with a name and without", async (context) => {
+test("the headline of a page and its timeline name an element in the same way, with names and without", async (context) => {
   const code = readFileSync(RING, "utf8");
   for (const names of [true, false]) {
     const module = join(temporaryFolder(context), "ring.mjs");
@@ -222,6 +224,9 @@ test("a kept page says its module, options and versions, and its command makes t
   const made = spawnSync(process.execPath, [RECORD, ...words, ...CHECKING], { cwd: folder, encoding: "utf8" });
   assert.equal(made.status, 1, made.stderr);
   const name = readdirSync(join(folder, "found")).find((each) => each.endsWith(".html"));
+  // Who opens the explained report finds bits there, which is said where it is kept.
+  assert.match(made.stdout, new RegExp("\\nin seed-(\\d+)\\.explained and seed-\\1\\.svg a float that was written without " +
+    "Atomics is a whole number, which has its bits\\n$"));
   const { about, command, seed } = dataOf(join(folder, "found", name));
   assert.deepEqual([about.module, about.options], ["src/ring.mjs", "--strategy uniform --timeouts 0.5"]);
   const { version } = JSON.parse(readFileSync(new URL("../../package.json", import.meta.url), "utf8"));
@@ -238,7 +243,8 @@ test("the page of a test's run has a command, unless the test has a check of its
   const folder = temporaryFolder(context);
   for (const [own, check] of [[false, undefined], [true, () => false]]) {
     const out = join(folder, `found-${own}`);
-    await assert.rejects(assertAgents({ module: RING, seeds: "1..40", strategy: "uniform", out, check, shorten: false }));
+    const options = { module: RING, seeds: "1..40", strategy: "uniform", out, check, shorten: false };
+    await assert.rejects(assertAgents(options));
     const { about, command } = dataOf(join(out, readdirSync(out).find((each) => each.endsWith(".html"))));
     assert.equal(about.options, "--strategy uniform");
     assert.equal(command === undefined, own);

@@ -1,5 +1,6 @@
 // The words that run a module's agents once more by a kept script, as the page of a run shows them.
 
+import { join } from "node:path";
 import { fileURLToPath } from "node:url";
 import { quoted, shortPath } from "../keeping/about.mjs";
 import { OPTIONS } from "../options/table.mjs";
@@ -7,7 +8,7 @@ import { OPTIONS } from "../options/table.mjs";
 // What a run by a row of draws depends on, besides the module and the agents' arguments.
 const NAMES = /** @type {const} */ (["ordinary", "races", "bounds", "clock"]);
 
-const PROGRAM = fileURLToPath(new URL("../../record.mjs", import.meta.url));
+const PROGRAM = join(fileURLToPath(new URL("../../", import.meta.url)), "record.mjs");
 
 /** How this program is started: by its name where it is installed, else by its file. */
 function programWords() {

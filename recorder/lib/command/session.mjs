@@ -4,7 +4,7 @@ import { resolve } from "node:path";
 import { Difference } from "../check/check.mjs";
 import { modulePath, optionsText } from "../keeping/about.mjs";
 import { Keeper } from "../keeping/keep.mjs";
-import { keepPictures } from "../keeping/pictures.mjs";
+import { keepPictures, notesOn } from "../keeping/pictures.mjs";
 import { collectGarbage, onceMore, stopGrowth } from "../processes/garbage.mjs";
 import { preloads } from "../processes/preloads.mjs";
 import { Coverage } from "../seeds/coverage.mjs";
@@ -44,6 +44,8 @@ export class Session {
     });
     /** @type {string[]} what isn't kept though there is a script to make it from, and why */
     this.leftOut = [];
+    /** @type {string[]} what a reader of the kept files must know */
+    this.notes = [];
     this.progress = new Progress(this.wanted);
     this.interruption = new Interruption();
     /** @type {Promise<void> | undefined} settled when nothing is left of the jobs */
@@ -141,6 +143,7 @@ export class Session {
       const command = replayCommand({ ...this.options, module: modulePath(module) });
       const how = { simulator: this.simulator, module, options: optionsText(this.options), command };
       this.leftOut.push(...keepPictures(keeper, outcome, how));
+      this.notes.push(...notesOn(keeper, outcome));
     }
   }
 
@@ -159,11 +162,11 @@ export class Session {
    * @returns {import("./summary-form.mjs").WholeSummary}
    */
   #told(stopped, problems) {
-    const { keeper, options: { first, last } } = this;
+    const { keeper, notes, options: { first, last } } = this;
     const isKept = keeper !== undefined && keeper.names.length > 0;
     const told = this.summary.told({
       stopped,
-      kept: isKept ? { folder: keeper.folder, path: resolve(keeper.folder), files: keeper.names } : null,
+      kept: isKept ? { folder: keeper.folder, path: resolve(keeper.folder), files: keeper.names, notes } : null,
       notKept: this.leftOut,
       problems: problems.filter((problem) => !(problem instanceof Interrupted)).map(toldOf),
     });

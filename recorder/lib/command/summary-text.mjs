@@ -20,7 +20,7 @@ export function summaryText(summary) {
     lines.push(...coverageLines(summary), ...checkLines(summary), ...scriptLines(summary), accessLine(summary));
     lines.push(...unseen);
   }
-  if (kept !== null) lines.push(`kept in ${kept.folder}: ${kept.files.join(", ")}`);
+  if (kept !== null) lines.push(`kept in ${kept.folder}: ${kept.files.join(", ")}`, ...kept.notes ?? []);
   return [...lines, ...notKept].map((line) => `${line}\n`).join("");
 }
 

@@ -38,6 +38,7 @@ import { Tally } from "./tally.mjs";
  * @property {string} folder as it was given
  * @property {string} path
  * @property {string[]} files
+ * @property {string[]} [notes] what their readers must know; an older recorder tells none
  */
 
 /**

@@ -1,6 +1,7 @@
-// How a kept run was made, as its page says it: the module, the options, the versions, and the words that make it again.
+// How a kept run was made, as its page says it: the module, the options, the versions, and the command that makes it
+// again.
 
-import { readFileSync } from "node:fs";
+import { existsSync, readFileSync } from "node:fs";
 import { relative, resolve } from "node:path";
 import { fileURLToPath } from "node:url";
 import { OPTIONS, wordOf } from "../options/table.mjs";
@@ -11,8 +12,10 @@ import { OPTIONS, wordOf } from "../options/table.mjs";
 // The package is the folder above, in the repository and where it is installed.
 const PACKAGE = new URL("../../../package.json", import.meta.url);
 
-/** @returns {string} of the recorder */
-const version = () => JSON.parse(readFileSync(PACKAGE, "utf8")).version;
+/** @returns {string} the recorder's name, with its version if it lies in its package */
+function version() {
+  return existsSync(PACKAGE) ? `sabsim ${JSON.parse(readFileSync(PACKAGE, "utf8")).version}` : "sabsim";
+}
 
 /**
  * A word as a shell takes it.
@@ -78,7 +81,7 @@ function wordsOf(name, value) {
  * @returns {{ about: About, command?: Command }}
  */
 export function aboutOf({ module, options, command }, script, simulator) {
-  const made = [`sabsim ${version()}`, simulator, `node ${process.versions.node}`];
+  const made = [version(), simulator, `node ${process.versions.node}`];
   const about = { module: modulePath(module), options, made: made.join(", ") };
   return { about, command: command && { ...command, script: quoted(shortPath(script)) } };
 }

@@ -2,6 +2,7 @@
 // the run.
 
 import { join } from "node:path";
+import { hasFloats } from "../../script/written.mjs";
 import { aboutOf } from "./about.mjs";
 import { pageText } from "./page.mjs";
 
@@ -91,4 +92,16 @@ export function keepPictures(keeper, outcome, { simulator, ...how }) {
       throw problem;
     }
   });
+}
+
+/**
+ * What a reader of the kept files must know.
+ * @param {import("./keep.mjs").Keeper} keeper
+ * @param {Outcome} outcome of the run that is kept
+ * @returns {string[]} a sentence each
+ */
+export function notesOn({ names }, { seed, script }) {
+  const files = ["explained", "svg"].map((ending) => `seed-${seed}.${ending}`).filter((name) => names.includes(name));
+  if (script === undefined || files.length === 0 || !hasFloats(script)) return [];
+  return [`in ${files.join(" and ")} a float that was written without Atomics is a whole number, which has its bits`];
 }

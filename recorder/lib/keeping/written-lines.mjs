@@ -7,8 +7,8 @@ import { elementText, storedBytes } from "../../script/values.mjs";
 /** @typedef {import("../../script/text.mjs").View} View */
 
 /** The act of a store that stands for a write, as it is explained. */
-const WRITE =
-  /^(\d+ \d+ \d+ )(act \S+ +)store\(((?:ordinary|init)_\w+), (\d+), -?\d+n?\) (?:changes \S+ from (\S+) to|leaves \S+ at) (\S+)$/;
+const WRITE = new RegExp("^(\\d+ \\d+ \\d+ )(act \\S+ +)store\\(((?:ordinary|init)_\\w+), (\\d+), -?\\d+n?\\) " +
+  "(?:changes \\S+ from (\\S+) to|leaves \\S+ at) (\\S+)$");
 
 /**
  * @param {View} view

@@ -71,8 +71,8 @@ function placeOfMembers(name, given, lengths) {
   const { offset = 0 } = given;
   const [size, bytes] = [SIZES[kind], lengths[block]];
   if (!isWithin(offset, 0, bytes - size)) {
-    throw new Refused(`\`names\` puts ${name} at offset ${offset}: buffer ${block} has ${bytes} bytes, and an element ` +
-      `of kind ${given.kind} takes ${size}`);
+    throw new Refused(`\`names\` puts ${name} at offset ${offset}: buffer ${block} has ${bytes} bytes, and an ` +
+      `element of kind ${given.kind} takes ${size}`);
   }
   if (offset % size !== 0) {
     throw new Refused(`\`names\` puts ${name} at offset ${offset}: give a multiple of ${size}, since an element of ` +
@@ -81,8 +81,8 @@ function placeOfMembers(name, given, lengths) {
   const most = Math.floor((bytes - offset) / size);
   const { length = most } = given;
   if (isWithin(length, 1, most)) return { kind, block, offset, length };
-  throw new Refused(`\`names\` gives ${name} the length ${length}: buffer ${block} has room for 1 to ${most} elements ` +
-    `of kind ${given.kind} from offset ${offset} on`);
+  throw new Refused(`\`names\` gives ${name} the length ${length}: buffer ${block} has room for 1 to ${most} ` +
+    `elements of kind ${given.kind} from offset ${offset} on`);
 }
 
 /**

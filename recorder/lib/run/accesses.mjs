@@ -1,5 +1,5 @@
-// What a trace doesn't have of the ordinary accesses: by which array the code made each, and what it read. The page of a
-// run shows it.
+// What a trace doesn't have of the ordinary accesses: by which array the code made each, and what it read. The page of
+// a run shows it.
 
 import { KINDS, SIZES } from "../../script/kinds.mjs";
 import { elementText } from "../../script/values.mjs";

@@ -8,7 +8,7 @@ import { toldOf } from "../command/problems.mjs";
 import { replayCommand } from "../command/replay-command.mjs";
 import { modulePath, optionsText } from "../keeping/about.mjs";
 import { Keeper } from "../keeping/keep.mjs";
-import { keepPictures } from "../keeping/pictures.mjs";
+import { keepPictures, notesOn } from "../keeping/pictures.mjs";
 import { counted, digits } from "../keeping/words.mjs";
 import { runsOf } from "../library/explore.mjs";
 import { checkedOwn } from "../library/library-options.mjs";
@@ -93,7 +93,7 @@ function keptLines({ failing, outcome }, options, out, simulator) {
     if (outcome !== failing) keeper.keepShortest(failing, outcome);
     const notKept = keepPictures(keeper, outcome, { simulator, ...howMade(options) });
     const kept = keeper.names.length === 0 ? [] : [`kept in ${keeper.folder}: ${keeper.names.join(", ")}`];
-    return [...kept, ...notKept];
+    return [...kept, ...notesOn(keeper, outcome), ...notKept];
   } catch (problem) {
     return [`not kept: ${toldOf(problem)}`];
   }
