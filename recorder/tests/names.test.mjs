@@ -225,6 +225,21 @@ test("a deadlock and a race are told by names", async (context) => {
   assert.deepEqual(sides.map(({ element }) => element), ["data[9]", "data[9]"]);
 });
 
+test("a race of a DataView is told by the name whose element its bytes are, and else by the byte", async (context) => {
+  const names = { samples: { kind: "Float64", buffer: 0, offset: 8, length: 2 } };
+  const setup = { agents: 2, buffers: [24], names };
+  const elements = async (at) => {
+    const [{ races }] = await recordedModule(context, setup, `
+      Atomics.load(new Int32Array(buffers[0]), 0);
+      if (agent === 0) new DataView(buffers[0], ${at}).setFloat64(0, 0.25, true);
+      else new Float64Array(buffers[0], 8, 2).slice();
+    `);
+    return races.flatMap(({ sides }) => sides.map(({ element }) => element)).sort();
+  };
+  assert.deepEqual(await elements(16), ["samples[1]", "samples[1]"]);
+  assert.deepEqual(await elements(12), ["byte 12 of block 0", "samples[0]"]);
+});
+
 test("with names, runs of all seeds come to the same as without", async (context) => {
   const setup = { agents: 3, buffers: [12] };
   const body = `

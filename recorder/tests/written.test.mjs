@@ -187,6 +187,7 @@ test("an element of each kind, a DataView's too, is told by the code's kind", as
       view.setInt16(25, 258);
       new Float64Array(buffer).fill(2.5, 6);
       new BigInt64Array(buffer)[2] === -7n || view.getFloat64(16, true);
+      new Uint8Array(buffer)[39] === 63 || view.getFloat64(16, true);
       Atomics.load(new Int32Array(buffer), 0);
     };
   `);
@@ -206,10 +207,15 @@ test("an element of each kind, a DataView's too, is told by the code's kind", as
     ["writes bytes 41 to 42 of block 0", "Uint8_b0[41] 0 1", "Uint8_b0[42] 0 2"],
     ["writes Float64_b0[6] to Float64_b0[7]", "Float64_b0[6] 0 2.5", "Float64_b0[7] 0 2.5"],
     ["reads BigInt64_b0[2] = -7n"],
+    ["reads Uint8_b0[39] = 63"],
     ["load(Int32_b0, 0) = 65280"],
     ["the end: finished"],
   ]);
-  assert.ok(rows.every(({ name }) => !name.startsWith("BigUint64")), rows.map(({ name }) => name).join());
+  // Byte 39 is the name's own, so no other row has it.
+  assert.deepEqual(rows.map(({ name, cells }) => [name, cells.map(({ byte }) => byte)]), [
+    ["ratio", [32]], ["Int8_b1", [1]], ["Float32_b0_at8_x1", [8]], ["BigInt64_b0", [16]], ["Uint8Clamped_b0", [1]],
+    ["Uint8_b0", [41, 42]], ["Float64_b0", [48, 56]], ["Int32_b0", [0]],
+  ]);
 });
 
 /** The data of a kept page. @param {string} path */
