@@ -3,10 +3,12 @@
 import assert from "node:assert/strict";
 import { readFileSync, readdirSync } from "node:fs";
 import { test } from "node:test";
+import { fileURLToPath } from "node:url";
 import { callText, textRoom, viewKey, viewName } from "../lib/memory/spelling.mjs";
 import { KINDS } from "../script/kinds.mjs";
 import { firstDifference, reportText } from "../script/report.mjs";
 import { scriptText } from "../script/text.mjs";
+import { groupOf } from "./helpers/groups.mjs";
 
 const EXAMPLES = new URL("../../examples/", import.meta.url);
 const kind = (name) => KINDS.indexOf(name);
