@@ -27,7 +27,7 @@ const SMALL_SCRIPT = JSON.stringify({
 
 const [encoder, decoder] = [new TextEncoder(), new TextDecoder()];
 
-/** Room for the bytes of an input, which nothing outlives a call. Most have room here. */
+/** Room for the bytes of most inputs. The next call uses it again. */
 const ROOM = new Uint8Array(2 ** 16);
 
 // So many bytes a character of JavaScript has in UTF-8 at most.
