@@ -1,6 +1,7 @@
-// Who moves next, drawn from the seed's row among the agents that can: those that ask for a call or were woken, and now
-// and then one whose wait has a timeout, which ends it. Where nothing else can move, the end of a time is what is left.
-// How it is drawn is a strategy's affair. A call that is nobody else's affair is made without a draw.
+// Who moves next, drawn from the seed's row among the agents that can: those that ask for a call or were woken, those
+// whose time is over, and now and then one whose wait has a timeout, which ends it early. Where nothing else can move,
+// or all that can only reads the same again, the wait ends whose time is up first. How it is drawn is a strategy's
+// affair. A call that is nobody else's affair is made without a draw.
 
 import { AGENT_WORD, PHASE, WORD, wordOf } from "../memory/layout.mjs";
 import { MOST_MOVES } from "./journal.mjs";
@@ -13,11 +14,15 @@ import { PILOT_WAYS } from "./strategy/ways.mjs";
  * @typedef {object} Rules what stays the same in all runs of a group
  * @property {number} agents how many
  * @property {readonly Way[]} ways how runs are drawn: a run by the one at its seed modulo how many there are
- * @property {number} timeouts in how many draws the end of a timed wait is offered while something else can move
+ * @property {number | "never"} timeouts in how many draws the end of a timed wait is offered while something else can
+ * move; never: it isn't, and not where nothing else can move either
  * @property {number} maxMoves
  */
 
 /** @typedef {import("./strategy/ways.mjs").Way} Way */
+
+/** In place of a part of the draws: timed waits don't end by themselves. */
+export const NEVER = "never";
 
 /** What `next` answers where nobody moves any more. */
 export const NOBODY_MOVES = -1;
@@ -35,12 +40,15 @@ export class Strategy {
    * @param {import("../memory/random.mjs").Random} random
    * @param {import("../memory/known-places.mjs").KnownPlaces} places
    * @param {import("./row.mjs").Row} row
+   * @param {import("./deadlines.mjs").Deadlines} deadlines
    */
-  constructor(words, rules, random, places, row) {
+  constructor(words, rules, random, places, row, deadlines) {
     this.words = words;
     this.rules = rules;
+    this.early = rules.timeouts === NEVER ? 0 : rules.timeouts;
     this.random = random;
     this.row = row;
+    this.deadlines = deadlines;
     this.able = new Able(rules.agents);
     this.asked = new Asked(words, places);
     this.ways = this.#made(rules.ways);
@@ -134,20 +142,36 @@ export class Strategy {
    * @returns {number} one of them whose call is nobody else's affair, or `NOBODY_GOES_ON`
    */
   #gather() {
-    const { able } = this;
+    const { able, deadlines, deadlines: { spins, clock }, rules: { agents } } = this;
     able.clear();
     let timed = 0;
-    for (let agent = 0; agent < this.rules.agents; agent += 1) {
-      const phase = this.words[wordOf(agent, AGENT_WORD.PHASE)];
-      if (phase === PHASE.WAITS_TIMED) timed += 1;
-      if (phase !== PHASE.ASKS && phase !== PHASE.WOKEN) continue;
-      able.add(agent);
-      if (this.#goesOn(agent)) return agent;
+    let moving = 0;
+    for (let agent = 0; agent < agents; agent += 1) {
+      const isTimed = deadlines.isTimed(agent);
+      if (isTimed && !clock.isDue(agent)) timed += 1;
+      else if (isTimed || deadlines.isReady(agent)) {
+        able.add(agent);
+        if (this.#goesOn(agent)) return agent;
+        if (!spins.spins(agent)) moving += 1;
+      }
     }
-    if (timed === 0 || (able.count > 0 && this.random.fraction() >= this.rules.timeouts)) return NOBODY_GOES_ON;
-    for (let agent = 0; agent < this.rules.agents; agent += 1) {
-      if (this.words[wordOf(agent, AGENT_WORD.PHASE)] === PHASE.WAITS_TIMED) able.add(agent);
-    }
+    if (timed === 0) return NOBODY_GOES_ON;
+    if (moving === 0) this.#offerFirst();
+    else if (this.random.fraction() < this.early) this.#offerTimed();
     return NOBODY_GOES_ON;
+  }
+
+  /** Nothing goes on but by a time: that of the wait whose time is up first. */
+  #offerFirst() {
+    this.able.clear();
+    this.able.add(this.deadlines.first());
+  }
+
+  /** Offers the early ends of all timed waits. */
+  #offerTimed() {
+    const { able, deadlines, deadlines: { clock }, rules: { agents } } = this;
+    for (let agent = 0; agent < agents; agent += 1) {
+      if (deadlines.isTimed(agent) && !clock.isDue(agent)) able.add(agent);
+    }
   }
 }

@@ -71,7 +71,8 @@ function shownEvents(events, racing) {
  * @returns {RunData}
  */
 export function pageData(outcome, facts, module) {
-  const { seed, ending, detail, races, script = "{}", trace = "", sources = [], scriptHolds: holds = "all" } = outcome;
+  const { seed, ending, races, script = "{}", trace = "", sources = [], scriptHolds: holds = "all" } = outcome;
+  const detail = [outcome.detail, outcome.onlyIf ?? ""].filter((text) => text !== "").join("\n");
   const { blocks, views } = JSON.parse(script);
   const told = objectsOf(facts);
   // The first line may say that accesses are missing.

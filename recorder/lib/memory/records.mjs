@@ -106,6 +106,18 @@ export class Records {
     return true;
   }
 
+  /**
+   * Whether a call is the same as one of the few before it, and was answered the same.
+   * @param {number} position
+   * @returns {boolean}
+   */
+  comesAgain(position) {
+    for (let at = position - 1; at >= 0 && at >= position - SPIN_LENGTH; at -= 1) {
+      if (this.#isAlike(at, position) && this.#isAnsweredAlike(at, position)) return true;
+    }
+    return false;
+  }
+
   /** @param {number} position of a wait that joins the line */
   join(position) {
     this.words[position * WORDS_EACH + JOINED] = 1;

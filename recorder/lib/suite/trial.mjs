@@ -86,7 +86,7 @@ async function failureOf(runs, failing, passed, { out, shorten }) {
 function keptLines({ failing, outcome }, module, out, simulator) {
   try {
     const keeper = new Keeper(resolve(out ?? mkdtempSync(join(tmpdir(), "sabsim-"))), "`out`");
-    keeper.keepLowest(failing);
+    keeper.keepFirst(failing);
     if (outcome !== failing) keeper.keepShortest(failing, outcome);
     const notKept = keepPictures(keeper, outcome, { simulator, module });
     const kept = keeper.names.length === 0 ? [] : [`kept in ${keeper.folder}: ${keeper.names.join(", ")}`];
