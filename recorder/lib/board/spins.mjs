@@ -1,6 +1,6 @@
 // Which agents only read the same again: their last calls each come again within few, with the same answers, and no
-// byte has changed meanwhile. Such an agent goes on only when another one does something. It is known in runs with timed
-// waits alone, since it matters there: the time of a wait may be up beside it.
+// byte has changed meanwhile. Such an agent goes on only when another one does something. It is known in runs with
+// timed waits alone, since it matters there: the time of a wait may be up beside it.
 
 import { AGENT_WORD, WORD, wordOf } from "../memory/layout.mjs";
 

@@ -285,8 +285,9 @@ function endingsTold(order, tally) {
 }
 
 /** @param {Failing} failing @returns {NonNullable<SummaryData["firstFailing"]>} */
-function failingTold({ seed, ending, detail, onlyIf = null, noScript = null }) {
-  return { seed, ending, detail: detail === "" ? [] : detail.split("\n"), onlyIf, noScript };
+function failingTold({ seed, ending, detail, onlyIf, noScript }) {
+  const lines = detail === "" ? [] : detail.split("\n");
+  return { seed, ending, detail: lines, onlyIf: onlyIf ?? null, noScript: noScript ?? null };
 }
 
 /** @param {NonNullable<SummaryData["firstFailing"]>} told @returns {Failing} */

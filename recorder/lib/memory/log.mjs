@@ -8,8 +8,8 @@ export const READ = 4;
 export const WRITE = 5;
 
 /**
- * What an event is. `AGAIN`: an ordinary access that its agent has made before, since its last call. `ONLY_BY_TIME`: the
- * end of a wait by its time, where nothing else would have ended it though its word had changed, or nothing at all.
+ * What an event is. `AGAIN`: an ordinary access that its agent has made before, since its last call. `ONLY_BY_TIME`:
+ * the end of a wait by its time, where nothing else could move, though its word had changed or nobody else was left.
  */
 export const FLAG = Object.freeze({ READS: 1, WRITES: 2, ATOMIC: 4, WAITERS: 8, AGAIN: 16, ONLY_BY_TIME: 32 });
 

@@ -39,7 +39,7 @@ import { within } from "./within.mjs";
  * @property {string} [trace] each event as an object of JSON, a line each
  * @property {import("./source-names.mjs").SourceText[]} [sources] the code of each file that the trace names
  * @property {number[]} [row] which agent moved with each draw, in order, where that is asked for
- * @property {string} [onlyIf] of a failing run in which a timed wait has ended early: how long a time must pass for that
+ * @property {string} [onlyIf] of a failing run in which a timed wait has ended early: what time must pass for that
  * @property {import("./timed-ends.mjs").OnlyByTime[]} [onlyByTime] waits that have ended only since their time was up
  * @property {import("./timed-ends.mjs").Place[]} [served] places at which agents of the run wait, and which other
  * agents have notified or written; told with timed waits alone

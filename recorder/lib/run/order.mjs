@@ -15,7 +15,7 @@ export function comesBefore(one, other) {
   return one.seed < other.seed;
 }
 
-/** @param {{ fails: boolean, onlyIf?: string }} outcome @returns {boolean} whether no run of a higher seed can come first */
+/** @param {{ fails: boolean, onlyIf?: string }} outcome @returns {boolean} whether no higher seed can come before it */
 export const isFirstOfAll = ({ fails, onlyIf }) => fails && onlyIf === undefined;
 
 /** Notices the runs of ascending seeds that may be the first failing one. */

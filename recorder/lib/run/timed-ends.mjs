@@ -30,8 +30,9 @@ export function durationText(milliseconds) {
 export function earlyText({ milliseconds, other, isCall, more }) {
   const duration = durationText(milliseconds);
   const pass = /^1 /.test(duration) ? "passes" : "pass";
+  const next = isCall ? `agent ${other}'s next call` : `agent ${other} goes on`;
   const further = more === 0 ? "" : ` (and ${more === 1 ? "1 more wait ends" : `${more} more waits end`} early)`;
-  return `only if ${duration} ${pass} before ${isCall ? `agent ${other}'s next call` : `agent ${other} goes on`}${further}`;
+  return `only if ${duration} ${pass} before ${next}${further}`;
 }
 
 /** @param {Place} place @returns {string} by which it is known */
