@@ -77,6 +77,20 @@ describe("runs with timed waits", { concurrency: 2 }, () => {
     assert.equal((shortest?.outcome ?? plain).onlyIf, undefined, JSON.stringify(shortened));
   });
 
+  it("what a run before has left isn't told of one whose `init` fails", async (context) => {
+    let fails = false;
+    const init = () => {
+      if (fails) throw new Error("no more");
+    };
+    const group = await groupOf(context, agentsPath("timed"), { args: ["early"], init });
+    const early = await group.one({ seed: 3, whole: true });
+    assert.ok(early.outcome.onlyIf !== undefined && early.outcome.served !== undefined);
+    fails = true;
+    const { outcome } = await group.one({ seed: 4, whole: true });
+    assert.match(outcome.detail, /^init threw Error: no more/);
+    assert.deepEqual([outcome.onlyIf, outcome.onlyByTime, outcome.served], [undefined, undefined, undefined]);
+  });
+
   it("with `never` a time ends nothing, and a lost wake-up is a deadlock", async () => {
     const outcomes = await outcomesOf("lost", 20, { timeouts: "never" });
     assert.deepEqual(endingsOf(outcomes), ["deadlock", "finished"]);
@@ -179,12 +193,13 @@ describe("joined, kept and stopped", { concurrency: 2 }, () => {
     assert.ok(whole.told().early > 0 && whole.told().onlyByTime.listed.length > 0);
   });
 
-  it("the command line keeps the first one, by one job and by two, and its `never` replays", async () => {
+  it("the command line keeps the first one, by one job and by two", async () => {
     const words = [both.module, "--seeds", "1..100", "--no-shorten", "--format", "json"];
     const told = await Promise.all([1, 2].map(async (jobs) => {
       const out = join(folder, `jobs-${jobs}`);
-      const { output: stdout } = await runNode("recorder/record.mjs", [...words, "--jobs", `${jobs}`, "--out", out, "--", "both"]);
-      return { ...JSON.parse(stdout), files: readdirSync(out).sort(), texts: readdirSync(out).length };
+      const more = ["--jobs", `${jobs}`, "--out", out, "--", "both"];
+      const { output } = await runNode("recorder/record.mjs", [...words, ...more]);
+      return { ...JSON.parse(output), files: readdirSync(out).sort() };
     }));
     const [one, two] = told;
     assert.deepEqual([one.firstFailing, one.early, one.files], [two.firstFailing, two.early, two.files]);
@@ -195,12 +210,14 @@ describe("joined, kept and stopped", { concurrency: 2 }, () => {
 
   it("a script of a deadlock by `never` is replayed with the same option, and its page has it", async () => {
     const out = join(folder, "never");
-    const words = [both.module, "--timeouts", "never", "--", "lost"];
-    const { output: stdout } = await runNode("recorder/record.mjs", [...words.slice(0, 3), "--out", out, "--", "lost"]);
-    const [, seed] = /first failing seed: (\d+), deadlock/.exec(stdout) ?? assert.fail(stdout);
+    /** @param {string[]} words */
+    const ran = (words) =>
+      runNode("recorder/record.mjs", [both.module, "--timeouts", "never", ...words, "--", "lost"]);
+    const { output } = await ran(["--out", out]);
+    const [, seed] = /first failing seed: (\d+), deadlock/.exec(output) ?? assert.fail(output);
     const script = join(out, `seed-${seed}.json`);
     assert.match(readFileSync(join(out, `seed-${seed}.html`), "utf8"), /--timeouts never/);
-    const again = await runNode("recorder/record.mjs", [...words.slice(0, 3), "--replay", script, "--", "lost"]);
+    const again = await ran(["--replay", script]);
     assert.match(again.output, /1 of 1 run failed: 1 deadlock/);
     const other = await record({ ...both, args: ["lost"], seed: Number(seed), timeouts: "never" });
     assert.equal(other.ending, "deadlock");

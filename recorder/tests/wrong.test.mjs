@@ -95,6 +95,18 @@ test("of the lost wake-ups that a time hides each is reported in most of 20 seed
   }
 });
 
+test("where a time ends nothing these are deadlocks, and the pieces that wait with a time are clean", async () => {
+  const never = { ...WITHOUT_PILOTS, timeouts: "never" };
+  for (const edit of EDITS.filter(({ kind }) => kind === HIDDEN)) {
+    const { endings } = await counted(written(edit), AMOUNT, never);
+    assert.deepEqual([...endings.keys()], ["deadlock"], edit.name);
+    assert.ok(endings.get("deadlock") > 10, edit.name);
+  }
+  for (const piece of PIECES.filter((name) => name.startsWith("mailbox-"))) {
+    assert.equal((await counted(fileURLToPath(fileOf(piece)), AMOUNT, never)).failed, 0, piece);
+  }
+});
+
 test("wrong programs that fail in many runs are found in 20 seeds", async () => {
   const edits = EDITS.filter(({ name }) => OFTEN.includes(name));
   assert.equal(edits.length, OFTEN.length);

@@ -77,7 +77,6 @@ export class Board {
     this.line.begin();
     this.journal.begin();
     this.clock.begin(seed);
-    this.spins.begin();
     this.deadlines.begin();
     this.strategy.begin(seed, isPilot);
     this.turn.start(this.strategy.nextToStart());

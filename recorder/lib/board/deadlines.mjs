@@ -46,8 +46,9 @@ export class Deadlines {
     this.agents = agents;
   }
 
-  /** A run begins. */
+  /** Nobody waits, and nothing has ended. */
   begin() {
+    this.spins.begin();
     this.words[WORD.EARLY] = 0;
     this.longest[0] = 0;
   }

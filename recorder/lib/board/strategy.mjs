@@ -142,36 +142,50 @@ export class Strategy {
    * @returns {number} one of them whose call is nobody else's affair, or `NOBODY_GOES_ON`
    */
   #gather() {
-    const { able, deadlines, deadlines: { spins, clock }, rules: { agents } } = this;
+    const { able } = this;
     able.clear();
     let timed = 0;
-    let moving = 0;
-    for (let agent = 0; agent < agents; agent += 1) {
-      const isTimed = deadlines.isTimed(agent);
-      if (isTimed && !clock.isDue(agent)) timed += 1;
-      else if (isTimed || deadlines.isReady(agent)) {
-        able.add(agent);
-        if (this.#goesOn(agent)) return agent;
-        if (!spins.spins(agent)) moving += 1;
-      }
+    for (let agent = 0; agent < this.rules.agents; agent += 1) {
+      const phase = this.words[wordOf(agent, AGENT_WORD.PHASE)];
+      if (phase === PHASE.WAITS_TIMED) timed += 1;
+      if (phase !== PHASE.ASKS && phase !== PHASE.WOKEN) continue;
+      able.add(agent);
+      if (this.#goesOn(agent)) return agent;
     }
-    if (timed === 0) return NOBODY_GOES_ON;
-    if (moving === 0) this.#offerFirst();
-    else if (this.random.fraction() < this.early) this.#offerTimed();
+    if (timed > 0) this.#offerTimes(timed);
     return NOBODY_GOES_ON;
   }
 
-  /** Nothing goes on but by a time: that of the wait whose time is up first. */
-  #offerFirst() {
-    this.able.clear();
-    this.able.add(this.deadlines.first());
+  /**
+   * Adds waits whose time may be up to those that can move: what is due, and what may end early. If nothing else goes
+   * on, the wait whose time is up first is all there is.
+   * @param {number} timed how many waits have a time
+   */
+  #offerTimes(timed) {
+    const { able, deadlines } = this;
+    if (this.#addTimed(true) === timed) return;
+    if (!this.#isMoving()) {
+      able.clear();
+      able.add(deadlines.first());
+    } else if (this.random.fraction() < this.early) this.#addTimed(false);
   }
 
-  /** Offers the early ends of all timed waits. */
-  #offerTimed() {
-    const { able, deadlines, deadlines: { clock }, rules: { agents } } = this;
-    for (let agent = 0; agent < agents; agent += 1) {
-      if (deadlines.isTimed(agent) && !clock.isDue(agent)) able.add(agent);
+  /** @param {boolean} isDue whether those are added that are due, or the others @returns {number} how many they are */
+  #addTimed(isDue) {
+    const { able, deadlines } = this;
+    const before = able.count;
+    for (let agent = 0; agent < this.rules.agents; agent += 1) {
+      if (deadlines.isTimed(agent) && deadlines.clock.isDue(agent) === isDue) able.add(agent);
     }
+    return able.count - before;
+  }
+
+  /** @returns {boolean} whether somebody can move who does more than read the same again */
+  #isMoving() {
+    const { able, deadlines: { spins } } = this;
+    for (let at = 0; at < able.count; at += 1) {
+      if (!spins.spins(able.agents[at])) return true;
+    }
+    return false;
   }
 }

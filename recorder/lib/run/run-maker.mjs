@@ -166,6 +166,7 @@ export class RunMaker {
     this.log.begin();
     this.stores.begin();
     this.board.journal.begin();
+    this.board.deadlines.begin();
   }
 
   /**
