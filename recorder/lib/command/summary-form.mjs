@@ -78,7 +78,7 @@ const MEMBERS = object({
   }),
   shortened: orNull(object({
     runs: whole, changes: change, calls: change, stopped: orNull(text), unchanged: orNull(text), checked: flag,
-    detail: texts,
+    detail: texts, onlyIf: orNull(text),
   })),
   races: object({ allowed: flag, runs: whole, pairs: listed({ lines: texts }) }),
   states: object({ failing: states, passing: states }),

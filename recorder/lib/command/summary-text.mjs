@@ -44,7 +44,7 @@ function failingLines({ early, firstFailing, shortened }) {
   const { seed, ending, detail, onlyIf, noScript } = firstFailing;
   const lines = [...detail, ...(onlyIf === null ? [] : [onlyIf])];
   if (noScript !== null) lines.push(`it has no script: ${noScript}`);
-  const shown = [`first failing seed: ${seed}, ${ending}`, ...lines.map(indented), ...shortenedLines(shortened)];
+  const shown = [`first failing seed: ${seed}, ${ending}`, ...lines.map(indented), ...shortenedLines(shortened, onlyIf)];
   if (early === 0) return shown;
   const [run, fails] = early === 1 ? ["run", "fails"] : ["runs", "fail"];
   return [`${digits(early)} failing ${run} ${fails} only after the early end of a timed wait (--timeouts)`, ...shown];
