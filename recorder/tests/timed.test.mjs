@@ -65,16 +65,25 @@ describe("runs with timed waits", { concurrency: 2 }, () => {
     assert.deepEqual(endingsOf(none), ["finished"]);
   });
 
-  it("the first failing run is one without an early end, and a shorter one has none either", async (context) => {
+  it("the first failing run is one without an early end", async () => {
     const outcomes = await outcomesOf("both", 100);
     const failing = outcomes.filter(({ fails }) => fails);
     const plain = failing.find(({ onlyIf }) => onlyIf === undefined);
     assert.ok(failing[0].onlyIf !== undefined && plain.seed > failing[0].seed);
     const [first] = summaryLines(outcomes).filter((line) => line.startsWith("first failing seed"));
     assert.equal(first, `first failing seed: ${plain.seed}, failed`);
-    const group = await groupOf(context, agentsPath("timed"), { args: ["both"] });
-    const { shortest, shortened } = await shorten(group, plain);
-    assert.equal((shortest?.outcome ?? plain).onlyIf, undefined, JSON.stringify(shortened));
+  });
+
+  it("a run is shortened to one without an early end, though one that has it is shorter", async (context) => {
+    const failing = (await outcomesOf("skips", 100, { timeouts: 1 })).filter(({ fails }) => fails);
+    const group = await groupOf(context, agentsPath("timed"), { args: ["skips"], timeouts: 1 });
+    for (const isEarly of [false, true]) {
+      const found = failing.find(({ onlyIf }) => (onlyIf !== undefined) === isEarly) ?? assert.fail("no such run");
+      const { shortest, shortened } = await shorten(group, found);
+      const { onlyIf, detail } = shortest?.outcome ?? found;
+      assert.equal(onlyIf, undefined, JSON.stringify(shortened));
+      assert.match(detail, /^agent 0 threw Error: nobody has woken it/);
+    }
   });
 
   it("what a run before has left isn't told of one whose `init` fails", async (context) => {

@@ -31,6 +31,13 @@ const PROGRAMS = {
     if (agent === 1 && Atomics.load(words, 7) === 5) throw new Error("it saw 5");
     PROGRAMS.early({ words, agent });
   },
+  // Agent 1 wakes agent 0 only if it has come first; an early end fails in the same way.
+  skips: ({ words, agent }) => {
+    if (agent === 0) {
+      Atomics.store(words, 7, 1);
+      if (Atomics.wait(words, 8, 0, 5_000) === "timed-out") throw new Error("nobody has woken it");
+    } else if (Atomics.load(words, 7) === 0) while (Atomics.notify(words, 8) === 0);
+  },
   // Agent 0 spins until agent 1 has slept.
   spins: ({ words, agent }) => {
     if (agent === 0) while (Atomics.load(words, 0) === 0);
