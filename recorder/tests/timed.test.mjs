@@ -156,7 +156,8 @@ describe("what comes first of failing runs", () => {
       "only if 1 ms passes before agent 1 goes on (and 1 more wait ends early)");
     assert.equal(earlyText({ ...told, more: 3 }),
       "only if 5 s pass before agent 1's next call (and 3 more waits end early)");
-    assert.deepEqual([0.5, 999, 1_500, 60_000].map(durationText), ["0.5 ms", "999 ms", "1.5 s", "60 s"]);
+    const durations = [0.123456, 0.5, 999, 1_500, 60_000].map(durationText);
+    assert.deepEqual(durations, ["0.123 ms", "0.5 ms", "999 ms", "1.5 s", "60 s"]);
   });
 });
 

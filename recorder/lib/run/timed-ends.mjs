@@ -21,9 +21,10 @@ const { wait: WAIT, notify: NOTIFY } = CALL_NUMBERS;
 
 const SECOND = 1_000;
 
-/** @param {number} milliseconds @returns {string} as people write it: 500 ms, 5 s */
+/** @param {number} milliseconds @returns {string} as people write it, with few digits: 500 ms, 0.25 ms, 5 s */
 export function durationText(milliseconds) {
-  return milliseconds < SECOND ? `${milliseconds} ms` : `${milliseconds / SECOND} s`;
+  const [count, unit] = milliseconds < SECOND ? [milliseconds, "ms"] : [milliseconds / SECOND, "s"];
+  return `${Number(count.toPrecision(3))} ${unit}`;
 }
 
 /** @param {import("../board/deadlines.mjs").Early} early @returns {string} what a run needs, in words */
