@@ -127,10 +127,19 @@ describe("runs with timed waits", { concurrency: 2 }, () => {
     for (const name of ["early", "spins", "polls"]) assert.deepEqual(hiddenOf(await outcomesOf(name, 50)), []);
   });
 
-  it("the same seed gives the same script and the same row, with each of the rules", async () => {
-    for (const [name, timeouts] of [["polls", 0], ["spins", 0.05], ["lost", "never"], ["early", 1]]) {
-      const both = await Promise.all([1, 2].map(() => outcomesOf(name, 5, { timeouts })));
-      assert.deepEqual(both[0].map(({ script }) => script), both[1].map(({ script }) => script));
+  it("the same seed gives the same run, and so does its row, with each of the rules", async (context) => {
+    const told = ({ ending, script, onlyIf, onlyByTime, served }) => ({ ending, script, onlyIf, onlyByTime, served });
+    for (const [name, timeouts] of [["polls", 0], ["spins", 0.05], ["lost", "never"], ["lost", 0], ["early", 1]]) {
+      const found = await outcomesOf(name, 5, { timeouts });
+      const group = await groupOf(context, agentsPath("timed"), { args: [name], timeouts });
+      for (const outcome of found) {
+        const { seed } = outcome;
+        const again = await group.one({ seed, whole: true, tellsRow: true });
+        assert.deepEqual(told(again.outcome), told(outcome));
+        const { row } = again.outcome;
+        const forced = await group.one({ seed, whole: true, row, isExact: true });
+        assert.deepEqual([forced.aside.stray, told(forced.outcome)], [undefined, told(outcome)]);
+      }
     }
   });
 });
