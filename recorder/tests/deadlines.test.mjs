@@ -4,9 +4,9 @@ import assert from "node:assert/strict";
 import { test } from "node:test";
 import { Board } from "../lib/board/board.mjs";
 import { END } from "../lib/board/deadlines.mjs";
-import { SAME_CALLS } from "../lib/board/spins.mjs";
 import { waysOf } from "../lib/board/strategy/ways.mjs";
 import { PHASE, WORD } from "../lib/memory/layout.mjs";
+import { SPIN_CALLS } from "../lib/memory/records.mjs";
 
 const { ASKS, FINISHED, WAITS, WOKEN } = PHASE;
 
@@ -51,7 +51,7 @@ function order(board, count) {
 
 /** An agent that only reads the same again. */
 function spin(board, agent) {
-  for (let call = 0; call < SAME_CALLS; call += 1) board.spins.repeated(agent);
+  for (let call = 0; call < SPIN_CALLS; call += 1) board.spins.repeated(agent);
 }
 
 test("where nothing else can move the wait with the earliest deadline ends, whatever the seed and the strategy", () => {
@@ -132,7 +132,7 @@ test("where there is no wait that has a time, all that read the same again are d
 
 test("one call less, or one that finds something new, is no spin", () => {
   const board = boardAt([ASKS, timed(500)]);
-  for (let call = 1; call < SAME_CALLS; call += 1) board.spins.repeated(0);
+  for (let call = 1; call < SPIN_CALLS; call += 1) board.spins.repeated(0);
   assert.equal(next(board), 0);
   board.spins.repeated(0);
   assert.equal(next(board), 1);

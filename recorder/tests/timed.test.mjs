@@ -47,9 +47,13 @@ describe("runs with timed waits", { concurrency: 2 }, () => {
       for (const name of ["spins", "polls"]) {
         const outcomes = await outcomesOf(name, 10, { timeouts });
         assert.deepEqual(endingsOf(outcomes), ["finished"]);
-        for (const { calls } of outcomes) assert.ok(calls < 250, `${calls} calls`);
+        for (const { calls } of outcomes) assert.ok(calls < 700, `${calls} calls`);
       }
     }
+  });
+
+  it("an agent that spins for a while before it wakes another one lets no time pass", async () => {
+    assert.deepEqual(endingsOf(await outcomesOf("adaptive", 50, { timeouts: 0 })), ["finished"]);
   });
 
   it("a run that fails only after an early end says what time must pass", async () => {

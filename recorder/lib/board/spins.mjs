@@ -1,11 +1,10 @@
 // Which agents only read the same again: their last calls each come again within few, with the same answers, and no
 // byte has changed meanwhile. Such an agent goes on only when another one does something. It is known in runs with
-// timed waits alone, since it matters there: the time of a wait may be up beside it.
+// timed waits alone, since it matters there: the time of a wait may be up beside it. An agent that spins for a while
+// before it sleeps isn't one, so that many calls in a row are needed.
 
 import { AGENT_WORD, WORD, wordOf } from "../memory/layout.mjs";
-
-/** After so many such calls in a row an agent counts as one that can't move. */
-export const SAME_CALLS = 64;
+import { SPIN_CALLS } from "../memory/records.mjs";
 
 export class Spins {
   /** @param {Int32Array} words of the board @param {number} agents how many */
@@ -48,6 +47,6 @@ export class Spins {
 
   /** @param {number} agent @returns {boolean} whether it only reads the same again */
   spins(agent) {
-    return this.words[wordOf(agent, AGENT_WORD.SAME)] >= SAME_CALLS;
+    return this.words[wordOf(agent, AGENT_WORD.SAME)] >= SPIN_CALLS;
   }
 }

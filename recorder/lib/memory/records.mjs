@@ -49,8 +49,8 @@ const ANSWER = 7;
 const HAS_LIMIT = 8;
 const JOINED = 9;
 
-// Where the last so many calls each come again within so few, they are a spin.
-const SPIN_CALLS = 300;
+/** Where the last so many calls each come again within so few, they are a spin. */
+export const SPIN_CALLS = 300;
 const SPIN_LENGTH = 6;
 
 const ANSWER_VALUE = 2;

@@ -46,6 +46,13 @@ const PROGRAMS = {
       Atomics.store(words, 0, 1);
     }
   },
+  // Agent 1 spins for a while, and then wakes agent 0.
+  adaptive: ({ words, agent }) => {
+    if (agent === 0 && Atomics.wait(words, 8, 0, 5_000) === "timed-out") throw new Error("nobody has woken it");
+    if (agent === 0) return;
+    for (let turn = 0; turn < 250 && Atomics.load(words, 8) === 0; turn += 1);
+    while (Atomics.notify(words, 8) === 0);
+  },
   // It polls, a millisecond at a time.
   polls: ({ words, agent }) => {
     if (agent === 0) while (Atomics.load(words, 0) === 0) Atomics.wait(words, 9, 0, 1);
