@@ -52,6 +52,10 @@ describe("runs with timed waits", { concurrency: 2 }, () => {
     }
   });
 
+  it("an agent that has spun goes on when something has changed, and no time passes before", async () => {
+    assert.deepEqual(endingsOf(await outcomesOf("relays", 50, { agents: 3, timeouts: 0 })), ["finished"]);
+  });
+
   it("an agent that spins for a while before it wakes another one lets no time pass", async () => {
     assert.deepEqual(endingsOf(await outcomesOf("adaptive", 50, { timeouts: 0 })), ["finished"]);
   });
@@ -115,13 +119,15 @@ describe("runs with timed waits", { concurrency: 2 }, () => {
   });
 
   it("a lost wake-up that a time hides is reported with its line, and a sleep isn't", async () => {
-    for (const [name, text, agents] of [["lost", "wait(words, 8, 0, 500);\n    else Atomics.store", 2],
-      ["alone", "wait(words, 8, 0, 500);\n    else Atomics.notify", 2]]) {
-      const outcomes = await outcomesOf(name, 50, { agents });
+    const rest = "wait(words, 8, 0, 500);\n    ";
+    const programs = [["lost", 0, `${rest}else Atomics.store`], ["alone", 0, `${rest}else Atomics.notify`],
+      ["crossed", 1, `${rest}Atomics.store`]];
+    for (const [name, agent, text] of programs) {
+      const outcomes = await outcomesOf(name, 50);
       assert.deepEqual(endingsOf(outcomes), ["finished"]);
       const count = outcomes.filter(({ onlyByTime = [] }) => onlyByTime.length > 0).length;
       assert.ok(count > 0 && count < 50, `${count} runs`);
-      const line = `agent 0 went on at ${placeOf(text)} only since its 500 ms were over, in ${count} of 50 runs`;
+      const line = `agent ${agent} went on at ${placeOf(text)} only since its 500 ms were over, in ${count} of 50 runs`;
       assert.deepEqual(hiddenOf(outcomes), [line]);
     }
     const asleep = await outcomesOf("sleeps", 10);

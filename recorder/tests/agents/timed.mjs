@@ -46,6 +46,16 @@ const PROGRAMS = {
       Atomics.store(words, 0, 1);
     }
   },
+  // Agent 0 spins until agent 1 has slept, and then wakes agent 2, which has time left.
+  relays: ({ words, agent }) => {
+    if (agent === 0) {
+      while (Atomics.load(words, 0) === 0);
+      while (Atomics.notify(words, 8) === 0);
+    } else if (agent === 1) {
+      Atomics.wait(words, 9, 0, 100);
+      Atomics.store(words, 0, 1);
+    } else if (Atomics.wait(words, 8, 0, 5_000) === "timed-out") throw new Error("nobody has woken it");
+  },
   // Agent 1 spins for a while, and then wakes agent 0.
   adaptive: ({ words, agent }) => {
     if (agent === 0 && Atomics.wait(words, 8, 0, 5_000) === "timed-out") throw new Error("nobody has woken it");
@@ -65,6 +75,17 @@ const PROGRAMS = {
   lost: ({ words, agent }) => {
     if (agent === 0) while (Atomics.load(words, 8) === 0) Atomics.wait(words, 8, 0, 500);
     else Atomics.store(words, 8, 1);
+  },
+  // Nobody wakes agent 1 at once, though its word changes. Agent 0 would go on by a time, too, but much later.
+  crossed: ({ words, agent }) => {
+    if (agent === 0) {
+      Atomics.store(words, 8, 1);
+      Atomics.wait(words, 9, 0, 60_000);
+      return;
+    }
+    if (Atomics.load(words, 8) === 0) Atomics.wait(words, 8, 0, 500);
+    Atomics.store(words, 9, 1);
+    Atomics.notify(words, 9);
   },
   // Agent 1 is done, and has notified before.
   alone: ({ words, agent }) => {
