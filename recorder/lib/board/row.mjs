@@ -3,7 +3,8 @@
 //
 // Exactly: where the row names an agent that can't move, or has come to its end while an agent can, or an agent makes
 // another call than it is to make, the run strays from the row, which ends it. Leniently: what can't move is left out,
-// and behind the row's end the agent that moved last goes on as long as it can, then the next one in number.
+// and behind the row's end the agent that moved last goes on as long as it can, then the next one in number. If all that
+// can only read the same again, the wait goes on whose time is up first.
 //
 // All of it lies in shared memory. Only the thread that has the turn changes it, as the words of the board.
 
