@@ -63,8 +63,11 @@ export interface RecordOptions {
   strategy?: "mixed" | "uniform" | "partial-order" | `switch:${number}`;
   /** Whether agents are switched before each call, also where pilots have shown that none can meet another. */
   everywhere?: boolean;
-  /** From 0 to 1: in how many draws the end of a timed wait is offered while something else can move; else 0.05. */
-  timeouts?: number;
+  /**
+   * From 0 to 1: in how many of the draws the early end of a timed wait is offered while something else can move. 0:
+   * time passes only if nothing else can move. "never": no timed wait ends by itself. Else 0.05.
+   */
+  timeouts?: number | "never";
   /** How many moves the run may have, 1 to 100,000; else 100,000. */
   maxMoves?: number;
   /** For how many seconds an agent may make no call, above 0 and 3,600 at most; else 10. */
@@ -108,7 +111,7 @@ export interface ExploreOptions extends Omit<RecordOptions, "seed" | "shorten"> 
   checkEvery?: number;
   /** Whether the agents' workers are started anew for each seed; else what the module keeps in variables stays. */
   fresh?: boolean;
-  /** Whether the first failing run is the last. */
+  /** Whether the first failing run is the last, unless it fails only after the early end of a timed wait. */
   failFast?: boolean;
   /** Ends all runs when it is aborted. */
   signal?: StopSignal;
@@ -156,6 +159,15 @@ export interface Outcome {
   sources?: { file: string; text: string | null }[];
   /** Which agent moved with each draw, in order; told of the shortest run. */
   row?: number[];
+  /** Of a failing run in which a timed wait has ended early: what time must pass for that, and before what. */
+  onlyIf?: string;
+  /**
+   * Of a run that finished and has timed waits: those that ended only since their time was up. Nothing else could move,
+   * and their word had changed, or no other agent could ever go on. At a place that no run serves it is a sleep.
+   */
+  onlyByTime?: OnlyByTime[];
+  /** Of a run that has timed waits: the places at which agents wait, and that other agents have notified or written. */
+  served?: { block: number; byte: number }[];
   /** Whether sabsim has replayed the run and, if it was watched, looked for unordered accesses, and says the same. */
   checked: boolean;
   /** Why it hasn't. */
@@ -175,6 +187,18 @@ export interface Accesses {
    * read more than one element.
    */
   made: [event: number, array: number, value: string | null][];
+}
+
+/** A wait that ended only since its time was up. */
+export interface OnlyByTime {
+  agent: number;
+  /** File, line and column. */
+  line: string | null;
+  /** Its timeout, without a fraction. */
+  milliseconds: number;
+  /** Where it waited. */
+  block: number;
+  byte: number;
 }
 
 /** What the shortening of a failing run came to. */

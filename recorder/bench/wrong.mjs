@@ -1,18 +1,20 @@
 #!/usr/bin/env node
 // Counts in how many runs each wrong program is found that is made of a piece by one edit, and that no run of a piece
-// itself fails.
+// itself fails. A lost wake-up that a time hides fails no run, but must be reported of the runs that finished.
 //
 //     node recorder/bench/wrong.mjs [--seeds N] [--jobs N] [--only NAME,..]
 //
 // It prints a table of the wrong programs, one of the pieces, and the share that was found. NAME is that of a wrong
-// program or of a piece; without it all are run. The status is 1 if a run of a right program fails, or if all wrong
-// programs are run and fewer than LEAST of them are found; and 2 if the command line is refused.
+// program or of a piece; without it all are run. The status is 1 if a run of a right program fails, if a hidden wake-up
+// isn't reported or one of a right program is, or if all wrong programs are run and fewer than LEAST of them are found;
+// and 2 if the command line is refused.
 
 import { mkdtempSync, readdirSync, rmSync, writeFileSync } from "node:fs";
 import { tmpdir } from "node:os";
 import { join } from "node:path";
 import { parseArgs } from "node:util";
 import { fileURLToPath } from "node:url";
+import { OnlyByTime, hiddenWaits } from "../lib/command/only-by-time.mjs";
 import { checkedOptions } from "../lib/library/library-options.mjs";
 import { Refused } from "../lib/options/refused.mjs";
 import { Job } from "../lib/seeds/job.mjs";
@@ -33,6 +35,7 @@ const NOTES = new Map([[RIGHT, "right"], [HIDDEN, "hidden by a time"], [STARVES,
  * @property {number} failed how many of them failed
  * @property {number | undefined} first the least seed of those that failed
  * @property {Map<string, number>} endings how often each ending failed
+ * @property {number} hidden in how many runs that finished one wait ended only since its time was up
  */
 
 /**
@@ -47,22 +50,27 @@ export async function counted(module, { seeds, jobs }, further = {}) {
   const options = { ...checkedOptions({ module, ...further }, () => undefined), ...many };
   const runs = new Runs(options, jobs === 1 ? { job: new Job() } : {});
   /** @type {Counted} */
-  const told = { failed: 0, first: undefined, endings: new Map() };
-  for await (const { fails, seed, ending } of outcomesOf(runs)) {
+  const told = { failed: 0, first: undefined, endings: new Map(), hidden: 0 };
+  const onlyByTime = new OnlyByTime();
+  for await (const outcome of outcomesOf(runs)) {
+    const { fails, seed, ending } = outcome;
+    onlyByTime.add(outcome);
     if (!fails) continue;
     told.failed += 1;
     told.first ??= seed;
     told.endings.set(ending, (told.endings.get(ending) ?? 0) + 1);
   }
-  return told;
+  const [most] = hiddenWaits(onlyByTime.told());
+  return { ...told, hidden: most?.runs ?? 0 };
 }
 
 /** @param {string[]} cells */
 const printRow = (cells) => process.stdout.write(`| ${cells.join(" | ")} |\n`);
 
 /** @param {Counted} of @param {string} [note] @returns {string[]} cells */
-function cellsOf({ failed, first, endings }, note) {
+function cellsOf({ failed, first, endings, hidden }, note) {
   const shown = [...endings].sort().map(([ending, count]) => `${ending} ${count}`);
+  if (hidden > 0) shown.push(`reported ${hidden}`);
   if (note !== undefined) shown.push(note);
   return [`${failed}`, first === undefined ? "none" : `${first}`, shown.join(", ")];
 }
@@ -72,7 +80,7 @@ function cellsOf({ failed, first, endings }, note) {
  * @param {readonly import("./edits.mjs").Edit[]} edits
  * @param {{ seeds: number, jobs: number }} amount
  * @returns {Promise<{ found: number, wrong: number, red: string[] }>} how many of the wrong ones were found, and the
- * names of those that failed though they are right
+ * names of those that aren't as they must be: right ones that failed, and hidden ones that weren't reported
  */
 async function runWrong(edits, amount) {
   const folder = mkdtempSync(join(tmpdir(), "sabsim-wrong-"));
@@ -83,7 +91,8 @@ async function runWrong(edits, amount) {
       writeFileSync(module, editedText(edit));
       const of = await counted(module, amount);
       printRow([edit.name, edit.kind, ...cellsOf(of, NOTES.get(edit.kind))]);
-      if (edit.kind === RIGHT && of.failed > 0) told.red.push(edit.name);
+      if (edit.kind === RIGHT && of.failed + of.hidden > 0) told.red.push(edit.name);
+      if (edit.kind === HIDDEN && of.hidden === 0) told.red.push(edit.name);
       if (edit.kind === RIGHT || edit.kind === STARVES) continue;
       told.wrong += 1;
       if (of.failed > 0) told.found += 1;
@@ -98,14 +107,14 @@ async function runWrong(edits, amount) {
  * Runs pieces, and prints a row of each.
  * @param {string[]} pieces
  * @param {{ seeds: number, jobs: number }} amount
- * @returns {Promise<string[]>} the names of those that failed
+ * @returns {Promise<string[]>} the names of those that failed, or of which a hidden wake-up was reported
  */
 async function runPieces(pieces, amount) {
   const red = [];
   for (const piece of pieces) {
     const of = await counted(fileURLToPath(fileOf(piece)), amount);
     printRow([piece, ...cellsOf(of)]);
-    if (of.failed > 0) red.push(piece);
+    if (of.failed + of.hidden > 0) red.push(piece);
   }
   return red;
 }
@@ -149,7 +158,7 @@ async function main() {
   red.push(...await runPieces(pieces, amount));
   const share = wrong === 0 ? "" : ` (${Math.round((100 * found) / wrong)}%)`;
   process.stdout.write(`\n${found} of ${wrong} wrong programs were found in ${amount.seeds} seeds${share}\n`);
-  if (red.length > 0) process.stdout.write(`failing, though they are right: ${red.join(", ")}\n`);
+  if (red.length > 0) process.stdout.write(`not as they must be: ${red.join(", ")}\n`);
   const areEnough = edits !== EDITS || found >= LEAST;
   process.exitCode = red.length === 0 && areEnough ? 0 : 1;
 }

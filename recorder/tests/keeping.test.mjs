@@ -17,11 +17,11 @@ test("the run of the lowest seed is kept, and the files of a higher one go", (co
   const folder = join(temporaryFolder(context), "made", "here");
   const keeper = new Keeper(folder);
   assert.deepEqual(readdirSync(folder), []);
-  keeper.keepLowest(run(50, { trace: "trace 50" }));
+  keeper.keepFirst(run(50, { trace: "trace 50" }));
   assert.deepEqual(readdirSync(folder).sort(), [...filesOf(50), "seed-50.trace.jsonl"]);
-  keeper.keepLowest(run(70));
+  keeper.keepFirst(run(70));
   assert.deepEqual(readdirSync(folder).sort(), [...filesOf(50), "seed-50.trace.jsonl"]);
-  keeper.keepLowest(run(20));
+  keeper.keepFirst(run(20));
   assert.deepEqual(readdirSync(folder).sort(), filesOf(20));
   assert.deepEqual(keeper.names, filesOf(20));
   assert.equal(readFileSync(join(folder, "seed-20.json"), "utf8"), "script 20");
@@ -33,8 +33,8 @@ test("files that others have written stay", (context) => {
   const others = ["seed-30.svg", "seed-30.txt", "seed-90.json"];
   for (const name of others) writeFileSync(join(folder, name), "theirs");
   const keeper = new Keeper(folder);
-  keeper.keepLowest(run(30));
-  keeper.keepLowest(run(10));
+  keeper.keepFirst(run(30));
+  keeper.keepFirst(run(10));
   assert.deepEqual(readdirSync(folder).sort(), [...filesOf(10), ...others].sort());
   for (const name of others) assert.equal(readFileSync(join(folder, name), "utf8"), "theirs");
 });
@@ -42,12 +42,12 @@ test("files that others have written stay", (context) => {
 test("a run without a script has no file of one", (context) => {
   const folder = temporaryFolder(context);
   const keeper = new Keeper(folder);
-  keeper.keepLowest({ seed: 3, trace: "the trace" });
+  keeper.keepFirst({ seed: 3, trace: "the trace" });
   assert.deepEqual(readdirSync(folder), ["seed-3.trace.jsonl"]);
   // Of this one there is nothing to keep, so the other one stays.
-  keeper.keepLowest({ seed: 2 });
+  keeper.keepFirst({ seed: 2 });
   assert.deepEqual(readdirSync(folder), ["seed-3.trace.jsonl"]);
-  keeper.keepLowest(run(1));
+  keeper.keepFirst(run(1));
   assert.deepEqual(readdirSync(folder).sort(), filesOf(1));
 });
 
@@ -60,7 +60,7 @@ test("a link that lies at a file's name isn't followed", (context) => {
   for (const name of [`.seed-5.json.${process.pid}`, ".seed-5.json", "seed-5.json.tmp"]) {
     symlinkSync(outside, join(folder, name));
   }
-  new Keeper(folder).keepLowest(run(5));
+  new Keeper(folder).keepFirst(run(5));
   assert.equal(readFileSync(outside, "utf8"), "as it was");
   assert.equal(readFileSync(join(folder, "seed-5.json"), "utf8"), "script 5");
 });
@@ -68,9 +68,9 @@ test("a link that lies at a file's name isn't followed", (context) => {
 test("a file that can't be written is told of, with those that lie there", (context) => {
   const folder = temporaryFolder(context);
   const keeper = new Keeper(folder);
-  keeper.keepLowest(run(9));
+  keeper.keepFirst(run(9));
   mkdirSync(join(folder, "seed-4.report"));
-  assert.throws(() => keeper.keepLowest(run(4)), (error) => {
+  assert.throws(() => keeper.keepFirst(run(4)), (error) => {
     assert.ok(error instanceof NotKept);
     const there = "seed-9.json, seed-9.report, seed-4.json";
     assert.match(error.message, /seed-4\.report can't be written: /);

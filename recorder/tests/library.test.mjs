@@ -30,7 +30,7 @@ test("each option that can't be is refused, with one line that names it", async 
     args: ["abc", [1], ["a", , "b"], { 0: "a", length: 1 }, null],
     strategy: ["random", "switch:2", "switch:", "switch:-0", 0.5, null],
     everywhere: ["yes", 1, null],
-    timeouts: ["0.5", -0.1, 1.1, NaN, null],
+    timeouts: ["0.5", -0.1, 1.1, NaN, null, "Never"],
     maxMoves: [0, 100_001, 1.5, "7", null],
     seconds: [0, -1, 3_601, "5", NaN, Infinity, null],
     ordinary: ["see", "Watch", true, "toString", ["watch"], null],

@@ -132,7 +132,8 @@ test("each wrong option is refused, with one line that names it", () => {
     [["m.mjs", "--races", "ignore"], /^--races must be fail or allow, but is "ignore"$/],
     [["m.mjs", "--bounds", "Allow"], /^--bounds must be fail or allow, but is "Allow"$/],
     [["m.mjs", "--clock", "toString"], /^--clock must be run or real, but is "toString"$/],
-    [["m.mjs", "--timeouts", "1.01"], /^--timeouts must be a number from 0 to 1, but is "1.01"$/],
+    [["m.mjs", "--timeouts", "1.01"], /^--timeouts must be a number from 0 to 1, or never, but is "1.01"$/],
+    [["m.mjs", "--timeouts", "Never"], /^--timeouts must be a number from 0 to 1, or never, but is "Never"$/],
     [["m.mjs", "--timeouts", "-0"], /--timeouts/],
     [["m.mjs", "--fail-fast=1"], /--fail-fast/],
     [["m.mjs", "--out", ""], /--out/],
@@ -160,6 +161,7 @@ test("what the command line leaves out has its default", () => {
 
 test("what the command line says is taken", () => {
   const words = ["--ordinary=store", "--races", "allow", "--bounds=allow", "--clock", "real", "--timeouts", "0.25"];
+  assert.equal(optionsOf(["m.mjs", "--timeouts", "never"]).timeouts, "never");
   const { ordinary, races, bounds, clock, timeouts, failFast } = optionsOf(["m.mjs", ...words, "--fail-fast"]);
   assert.deepEqual([ordinary, races, bounds, clock], ["store", "allow", "allow", "real"]);
   assert.deepEqual([timeouts, failFast], [0.25, true]);

@@ -203,7 +203,7 @@ test("what a summary says of it", () => {
   const failing = { detail: "as found" };
   const shortest = { detail: "one\ntwo", checked: true };
   /** @param {object} found */
-  const linesOf = (found) => shortenedLines(shorteningOf(found, failing));
+  const linesOf = (found, onlyIf = null) => shortenedLines(shorteningOf(found, failing), onlyIf);
   const start = "shortened: 1,031 changes of agents to 4, 60 calls to 22, in";
   assert.deepEqual(linesOf({ shortest, shortened: about }),
     [`${start} 84 runs; sabsim says the same of it`, "  one", "  two"]);
@@ -212,6 +212,9 @@ test("what a summary says of it", () => {
     [`${start} 400 runs, the most that are made`]);
   assert.deepEqual(linesOf({ shortened: { ...about, runs: 0, unchanged: "it met a bound" } }),
     ["not shortened: it met a bound"]);
+  const needs = (onlyIf) => linesOf({ shortest: { ...failing, onlyIf }, shortened: about }, "only if 5 s pass").slice(1);
+  assert.deepEqual([needs("only if 5 s pass"), needs("only if 1 ms passes"), needs(undefined)],
+    [[], ["  only if 1 ms passes"], ["  no timed wait ends early in it"]]);
 });
 
 test("on a terminal it is said how far it is", (context) => {

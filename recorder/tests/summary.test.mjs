@@ -215,8 +215,11 @@ test("what is kept of a run doesn't grow with its bytes and its texts", () => {
 test("the object of a summary has all that its text has, and what the text leaves out", () => {
   const summary = new Summary(SEEN);
   const races = [race("ring.mjs:12:7", "ring.mjs:20:11")];
-  const failing = { ending: "race", detail: "one\ntwo", shown: ["0900", ""], races, noScript: "it is too long" };
-  const checked = { calls: 5, ordinary: 7, checked: true };
+  const noScript = "it is too long";
+  const failing = { ending: "race", detail: "one\ntwo", onlyIf: "only if", shown: ["0900", ""], races, noScript };
+  const wait = { agent: 0, line: "ring.mjs:12:7", milliseconds: 500, block: 0, byte: 8 };
+  const place = { block: 0, byte: 8 };
+  const checked = { calls: 5, ordinary: 7, checked: true, onlyByTime: [wait], served: [place] };
   for (const each of [outcome(4, failing), ...seeds(1, 2, { calls: 5, ordinary: 7 }), outcome(3, checked)]) {
     summary.add(each);
   }
@@ -231,7 +234,9 @@ test("the object of a summary has all that its text has, and what the text leave
     endings: {
       failing: [{ ending: "race", runs: 1, first: 4 }], passing: [{ ending: "finished", runs: 3, first: 1 }],
     },
-    firstFailing: { seed: 4, ending: "race", detail: ["one", "two"], noScript: "it is too long" },
+    firstFailing: { seed: 4, ending: "race", detail: ["one", "two"], onlyIf: "only if", noScript: "it is too long" },
+    early: 1,
+    onlyByTime: { listed: [{ ...wait, runs: 1, first: 3 }], others: 0, served: [place] },
     shortened: null,
     races: {
       allowed: false, runs: 1,
@@ -254,6 +259,11 @@ test("the object of a summary has all that its text has, and what the text leave
   assert.deepEqual(JSON.parse(JSON.stringify(told)), told);
   const lines = summaryText(told).split("\n");
   assert.equal(lines[0], "stopped after 4 of 9 runs");
+  assert.equal(lines[2], "1 failing run fails only after the early end of a timed wait (--timeouts)");
+  const hidden = "agent 0 went on at ring.mjs:12:7 only since its 500 ms were over, in 1 of 4 runs";
+  assert.ok(lines.includes(hidden), lines.join("\n"));
+  const asleep = { ...told, onlyByTime: { ...told.onlyByTime, served: [{ block: 1, byte: 8 }] } };
+  assert.ok(!summaryText(asleep).includes("only since"));
   assert.deepEqual(lines.slice(-3), ["kept in found: seed-4.report", "not kept: this", ""]);
   const options = { ...SEEN, args: [], preloads: false };
   const asked = { module: "m.mjs", digest: "", seeds: [], shard: null, options };
@@ -263,11 +273,15 @@ test("the object of a summary has all that its text has, and what the text leave
 /** Made-up outcomes of all kinds: which one a seed has is drawn from it. */
 function mixed(seed) {
   const draw = (seed * 7_919) % 101;
-  if (draw < 3) return outcome(seed, { ending: "deadlock", detail: `seed ${seed}`, shown: [`d${draw}`] });
+  const early = { onlyIf: "only if 5 s pass" };
+  if (draw < 3) return outcome(seed, { ending: "deadlock", detail: `seed ${seed}`, shown: [`d${draw}`], ...early });
   if (draw < 9) return outcome(seed, { ending: "bound", fails: false, noScript: `why ${draw % 2}` });
   const races = draw < 40 ? [race(`a.mjs:${draw % 5}:1`, "b.mjs:1:1"), race("c.mjs:1:1", "d.mjs:1:1")] : [];
   const shown = [`f${draw % 17}`];
-  return outcome(seed, { ending: draw < 40 ? "race" : "finished", shown, races, calls: draw, scriptHolds: "touched" });
+  const onlyByTime = [{ agent: 0, line: "a.mjs:1:1", milliseconds: 5, block: 0, byte: draw }];
+  const timed = draw < 70 ? {} : { onlyByTime, served: [{ block: 0, byte: 4 * (draw % 3) }] };
+  const parts = { shown, races, calls: draw, scriptHolds: "touched", ...timed };
+  return outcome(seed, { ending: draw < 40 ? "race" : "finished", ...parts });
 }
 
 test("summaries that are joined are the summary of all runs, in whatever order", () => {

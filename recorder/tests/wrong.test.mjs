@@ -83,6 +83,28 @@ test("an edit whose text occurs twice, or not at all, is refused", () => {
 test("no run of a piece fails in 20 seeds", async () => {
   const told = await countedOf(PIECES.map((piece) => [piece, fileURLToPath(fileOf(piece))]));
   assert.deepEqual(told.filter(([, { failed }]) => failed > 0).map(([piece]) => piece), []);
+  assert.deepEqual(told.filter(([, { hidden }]) => hidden > 0).map(([piece]) => piece), []);
+});
+
+test("of the lost wake-ups that a time hides each is reported in most of 20 seeds, and no run fails", async () => {
+  const edits = EDITS.filter(({ kind }) => kind === HIDDEN);
+  assert.deepEqual(edits.map(({ name }) => name), ["blocks-no-notify", "message-no-notify"]);
+  for (const [name, { failed, hidden }] of await countedOf(edits.map((edit) => [edit.name, written(edit)]))) {
+    assert.equal(failed, 0, name);
+    assert.ok(hidden > 10, `${name} is reported in ${hidden} runs`);
+  }
+});
+
+test("where a time ends nothing these are deadlocks, and the pieces that wait with a time are clean", async () => {
+  const never = { ...WITHOUT_PILOTS, timeouts: "never" };
+  for (const edit of EDITS.filter(({ kind }) => kind === HIDDEN)) {
+    const { endings } = await counted(written(edit), AMOUNT, never);
+    assert.deepEqual([...endings.keys()], ["deadlock"], edit.name);
+    assert.ok(endings.get("deadlock") > 10, edit.name);
+  }
+  for (const piece of PIECES.filter((name) => name.startsWith("mailbox-"))) {
+    assert.equal((await counted(fileURLToPath(fileOf(piece)), AMOUNT, never)).failed, 0, piece);
+  }
 });
 
 test("wrong programs that fail in many runs are found in 20 seeds", async () => {

@@ -83,9 +83,10 @@ export class Accesses {
    * @returns {import("../memory/memory.mjs").Change | undefined} a change that nothing stands for
    */
   take() {
-    const { memory, ordinary, stores, log } = this.table;
+    const { board, memory, ordinary, stores, log } = this.table;
     for (let block = 0; block < memory.real.length; block += 1) {
       if (!memory.hasChanged(block)) continue;
+      board.spins.news();
       if (ordinary === "watch") this.#takeSeen(block);
       if (ordinary === "store") stores.takeChanged(this.agent, log.length, block);
     }

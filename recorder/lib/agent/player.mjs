@@ -3,6 +3,7 @@
 
 import { CALL_NUMBERS, SIZES } from "../../script/kinds.mjs";
 import { SCRIPT_LIMITS } from "../../script/limits.mjs";
+import { END } from "../board/deadlines.mjs";
 import { JOIN, LEAVE, MAKE, TIME_UP } from "../board/journal.mjs";
 import { placeNumber } from "../memory/known-places.mjs";
 import { PHASE, WORD } from "../memory/layout.mjs";
@@ -105,7 +106,7 @@ export class Player {
     this.#stayInRow(call);
     this.table.records.begin(this.part.made, call);
     this.part.last = call;
-    if (call.call === WAIT) return this.#wait(call, view, source);
+    if (call.call === WAIT) return this.#wait(call, view, source, called);
     if (call.call === NOTIFY) return this.#notify(call, view, source);
     return this.#access(call, view, source);
   }
@@ -143,6 +144,7 @@ export class Player {
   /** @returns {number} what time it is in the run */
   look() {
     this.part.needsRun();
+    this.table.board.spins.found(this.agent);
     return this.table.board.clock.look();
   }
 
@@ -171,7 +173,7 @@ export class Player {
       return engineCall(call, view);
     });
     const from = byteOf(call);
-    this.table.memory.takeOver(call.block, from, from + SIZES[call.kind]);
+    if (this.table.memory.takeOver(call.block, from, from + SIZES[call.kind])) this.table.board.spins.news();
     this.#log(MAKE, call, FLAG.ATOMIC | effectOf(call, value), source);
     return this.#answer(value, MAKE);
   }
@@ -193,8 +195,9 @@ export class Player {
    * @param {Call} call
    * @param {object} view
    * @param {number} source
+   * @param {Function} called
    */
-  #wait(call, view, source) {
+  #wait(call, view, source, called) {
     const { board, canBlock, records, stores } = this.table;
     const word = this.#tried(call, source, () => {
       const from = byteOf(call);
@@ -204,6 +207,7 @@ export class Player {
       return found;
     });
     const flags = FLAG.ATOMIC | FLAG.READS | FLAG.WAITERS;
+    if (call.limit !== undefined) board.spins.watch();
     if (word === "not-equal") {
       this.#log(MAKE, call, flags, source);
       return this.#answer(word, MAKE);
@@ -211,13 +215,31 @@ export class Player {
     records.join(this.part.made);
     this.#log(JOIN, call, flags, source);
     board.did(this.agent, JOIN);
-    board.line.join(this.agent, call.block, byteOf(call), call.limit !== undefined);
-    if (call.limit !== undefined) board.clock.setDeadline(this.agent, call.milliseconds ?? call.limit);
+    const milliseconds = call.limit === undefined ? undefined : call.milliseconds ?? call.limit;
+    board.wait(this.agent, call.block, byteOf(call), milliseconds);
     this.#untilTurn();
     this.#stayInRow();
-    const end = board.timesOut(this.agent) ? TIME_UP : LEAVE;
-    this.#log(end, call, FLAG.WAITERS, source);
-    return this.#answer(end === TIME_UP ? "timed-out" : "ok", end);
+    const end = board.deadlines.end(this.agent, milliseconds ?? 0);
+    if (end === END.WOKEN) {
+      this.#log(LEAVE, call, FLAG.WAITERS, source);
+      return this.#answer("ok", LEAVE);
+    }
+    if (this.#isOnlyByTime(call, view, end)) {
+      const line = numberAbove(this.table.sources, called);
+      this.#log(TIME_UP, call, FLAG.WAITERS | FLAG.ONLY_BY_TIME, line);
+    } else this.#log(TIME_UP, call, FLAG.WAITERS, source);
+    return this.#answer("timed-out", TIME_UP);
+  }
+
+  /**
+   * Whether a wait went on only since its time was up: nothing else could move, and it hasn't seen that its word has
+   * changed, or nobody else is left who could go on.
+   * @param {Call} call
+   * @param {object} view
+   * @param {number} end one of `END`
+   */
+  #isOnlyByTime(call, view, end) {
+    return end === END.ALONE || (end === END.LAST && engineCall(call, view) === "not-equal");
   }
 
   /**
@@ -259,12 +281,20 @@ export class Player {
   #answer(answer, event) {
     const { board, records } = this.table;
     records.answer(this.part.made, answer);
+    if (board.spins.isWatching()) this.#lookForSpin(event);
     this.part.made += 1;
     board.did(this.agent, event);
     board.line.become(this.agent, PHASE.RUNS);
     this.part.goOn();
     board.turn.leave(this.agent);
     return answer;
+  }
+
+  /** @param {number} event that was logged of the agent's last call, which has its answer */
+  #lookForSpin(event) {
+    const { board: { spins }, records } = this.table;
+    if (event !== LEAVE && records.comesAgain(this.part.made)) spins.repeated(this.agent);
+    else spins.found(this.agent);
   }
 
   /** @param {Call} call that the agent asks for */

@@ -6,11 +6,13 @@ import { KnownPlaces } from "../memory/known-places.mjs";
 import { ORDER, PHASE, WORD, wordsFor } from "../memory/layout.mjs";
 import { Random } from "../memory/random.mjs";
 import { Clock } from "./clock.mjs";
+import { Deadlines } from "./deadlines.mjs";
 import { End } from "./end.mjs";
 import { Journal, MOVES } from "./journal.mjs";
 import { Line } from "./line.mjs";
 import { Row, STRAYS } from "./row.mjs";
-import { NOBODY_MOVES, Strategy } from "./strategy.mjs";
+import { Spins } from "./spins.mjs";
+import { NEVER, NOBODY_MOVES, Strategy } from "./strategy.mjs";
 import { REASON_BYTES, Turn } from "./turn.mjs";
 
 const { Int32Array, Float64Array } = globalThis;
@@ -26,6 +28,7 @@ const TEXT_BYTES = 16_384;
  * @property {SharedArrayBuffer} text
  * @property {SharedArrayBuffer} reasons
  * @property {SharedArrayBuffer} times
+ * @property {SharedArrayBuffer} early
  * @property {SharedArrayBuffer} places
  * @property {import("./row.mjs").RowMemory} row
  */
@@ -40,6 +43,7 @@ export class Board {
       text: new SharedArrayBuffer(TEXT_BYTES),
       reasons: new SharedArrayBuffer(agents * REASON_BYTES),
       times: Clock.memory(agents),
+      early: Deadlines.memory(),
       places: KnownPlaces.memory(),
       row: Row.memory(),
     };
@@ -56,9 +60,11 @@ export class Board {
     this.journal = new Journal(this.words, new Float64Array(memory.views), agents);
     this.clock = new Clock(memory.times);
     this.places = new KnownPlaces(memory.places);
-    this.row = new Row(memory.row, this.words, agents);
+    this.spins = new Spins(this.words, agents);
+    this.deadlines = new Deadlines(memory.early, this.words, this.clock, this.spins, agents);
+    this.row = new Row(memory.row, this.deadlines, this.words, agents);
     const random = new Random(new Int32Array(memory.words, WORD.RANDOM * 4, 4));
-    this.strategy = new Strategy(this.words, rules, random, this.places, this.row);
+    this.strategy = new Strategy(this.words, rules, random, this.places, this.row, this.deadlines);
   }
 
   /**
@@ -71,6 +77,7 @@ export class Board {
     this.line.begin();
     this.journal.begin();
     this.clock.begin(seed);
+    this.deadlines.begin();
     this.strategy.begin(seed, isPilot);
     this.turn.start(this.strategy.nextToStart());
   }
@@ -122,14 +129,17 @@ export class Board {
   }
 
   /**
-   * How a wait ends whose agent has the turn.
+   * An agent that has the turn joins the line of waiters.
    * @param {number} agent
-   * @returns {boolean} whether its time is up, which the clock then shows; else it was woken
+   * @param {number} block
+   * @param {number} byte
+   * @param {number | undefined} milliseconds its timeout, if it has one; one that is 0 or less ends whatever is said of
+   * timeouts, since nobody waits by it
    */
-  timesOut(agent) {
-    const isUp = this.line.phase(agent) !== PHASE.WOKEN;
-    if (isUp) this.clock.reachDeadline(agent);
-    return isUp;
+  wait(agent, block, byte, milliseconds) {
+    const isTimed = milliseconds !== undefined && !(this.rules.timeouts === NEVER && milliseconds > 0);
+    this.line.join(agent, block, byte, isTimed);
+    if (isTimed) this.clock.setDeadline(agent, milliseconds);
   }
 
   /**

@@ -8,7 +8,11 @@ export const STEP = 0.01;
 
 const NOW = 0;
 const SEED = 1;
-const FIRST_DEADLINE = 2;
+const REACHED = 2;
+const FIRST_DEADLINE = 3;
+
+// Before the run: the deadline of a wait that has no time, which is over at once.
+const AT_ONCE = -1;
 
 export class Clock {
   /** @param {number} agents how many @returns {SharedArrayBuffer} */
@@ -25,6 +29,7 @@ export class Clock {
   begin(seed) {
     this.times[NOW] = 0;
     this.times[SEED] = seed;
+    this.times[REACHED] = AT_ONCE;
   }
 
   /** @returns {number} the seed of the run */
@@ -45,7 +50,9 @@ export class Clock {
 
   /** @param {number} milliseconds for which somebody sleeps who has the turn */
   pass(milliseconds) {
-    if (milliseconds > 0) this.times[NOW] += milliseconds;
+    if (!(milliseconds > 0)) return;
+    this.times[NOW] += milliseconds;
+    this.times[REACHED] = this.times[NOW];
   }
 
   /**
@@ -54,12 +61,32 @@ export class Clock {
    * @param {number} milliseconds its timeout
    */
   setDeadline(agent, milliseconds) {
-    this.times[FIRST_DEADLINE + agent] = this.times[NOW] + (milliseconds > 0 ? milliseconds : 0);
+    this.times[FIRST_DEADLINE + agent] = milliseconds > 0 ? this.times[NOW] + milliseconds : AT_ONCE;
+  }
+
+  /** @param {number} agent that waits @returns {number} when its time is up */
+  deadline(agent) {
+    return this.times[FIRST_DEADLINE + agent];
+  }
+
+  /** @param {number} agent that waits @returns {boolean} whether its time is up by now, step by step or otherwise */
+  hasPassed(agent) {
+    return this.times[FIRST_DEADLINE + agent] <= this.times[NOW];
+  }
+
+  /**
+   * Whether a wait's time is up because the time of another wait was, or because somebody slept. Single steps don't
+   * count: they are as small as they are so that clocks go on.
+   * @param {number} agent that waits
+   */
+  isDue(agent) {
+    return this.times[FIRST_DEADLINE + agent] <= this.times[REACHED];
   }
 
   /** @param {number} agent whose wait's time is up */
   reachDeadline(agent) {
     const deadline = this.times[FIRST_DEADLINE + agent];
     if (deadline > this.times[NOW]) this.times[NOW] = deadline;
+    if (deadline > this.times[REACHED]) this.times[REACHED] = deadline;
   }
 }

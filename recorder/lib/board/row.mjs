@@ -3,7 +3,8 @@
 //
 // Exactly: where the row names an agent that can't move, or has come to its end while an agent can, or an agent makes
 // another call than it is to make, the run strays from the row, which ends it. Leniently: what can't move is left out,
-// and behind the row's end the agent that moved last goes on as long as it can, then the next one in number.
+// and behind the row's end the agent that moved last goes on as long as it can, then the next one in number. If all that
+// can only read the same again, the wait goes on whose time is up first.
 //
 // All of it lies in shared memory. Only the thread that has the turn changes it, as the words of the board.
 
@@ -99,8 +100,14 @@ export class Row {
     };
   }
 
-  /** @param {RowMemory} memory @param {Int32Array} words of the board @param {number} agents how many */
-  constructor(memory, words, agents) {
+  /**
+   * @param {RowMemory} memory
+   * @param {import("./deadlines.mjs").Deadlines} deadlines
+   * @param {Int32Array} words of the board
+   * @param {number} agents how many
+   */
+  constructor(memory, deadlines, words, agents) {
+    this.deadlines = deadlines;
     this.state = new Int32Array(memory.state);
     this.forced = new Uint8Array(memory.forced);
     this.drawn = new Uint8Array(memory.drawn);
@@ -190,7 +197,7 @@ export class Row {
       return other === NOBODY ? NOBODY : this.#stray("goes on", other);
     }
     const agent = this.forced[state[AT]];
-    if (!this.#isReady(agent) && !this.#isTimed(agent)) {
+    if (!this.#canMove(agent)) {
       return this.#stray(this.#phase(agent) === PHASE.WAITS ? "waits" : "ended", agent);
     }
     state[AT] += 1;
@@ -202,23 +209,27 @@ export class Row {
     while (state[AT] < state[LENGTH]) {
       const agent = this.forced[state[AT]];
       state[AT] += 1;
-      if (this.#isReady(agent) || this.#isTimed(agent)) return agent;
+      if (this.#canMove(agent)) return agent;
     }
     const last = state[LAST];
-    if (last !== NOBODY && state[ALIKE] < MOST_ALIKE && this.#isReady(last)) return last;
+    if (last !== NOBODY && state[ALIKE] < MOST_ALIKE && this.#isMoving(last)) return last;
     return this.#able();
   }
 
-  /** The next agent in number that can move, after the one that moved last; ends of times come behind all others. */
+  /**
+   * The next agent in number that can move, after the one that moved last. Behind all others comes the wait whose time
+   * is up first, and behind that who only reads the same again.
+   */
   #able() {
     const first = this.state[LAST] + 1;
-    let timed = NOBODY;
+    let spinning = NOBODY;
     for (let step = 0; step < this.agents; step += 1) {
       const agent = (first + step) % this.agents;
-      if (this.#isReady(agent)) return agent;
-      if (timed === NOBODY && this.#isTimed(agent)) timed = agent;
+      if (this.#isMoving(agent)) return agent;
+      if (spinning === NOBODY && this.deadlines.isReady(agent)) spinning = agent;
     }
-    return timed;
+    const timed = this.deadlines.first();
+    return timed === NOBODY ? spinning : timed;
   }
 
   /** @param {number} agent */
@@ -226,15 +237,14 @@ export class Row {
     return this.words[wordOf(agent, AGENT_WORD.PHASE)];
   }
 
-  /** @param {number} agent */
-  #isReady(agent) {
-    const phase = this.#phase(agent);
-    return phase === PHASE.ASKS || phase === PHASE.WOKEN;
+  /** @param {number} agent @returns {boolean} whether there is a move for it: also the end of a wait's time */
+  #canMove(agent) {
+    return this.deadlines.isReady(agent) || this.deadlines.isTimed(agent);
   }
 
-  /** @param {number} agent */
-  #isTimed(agent) {
-    return this.#phase(agent) === PHASE.WAITS_TIMED;
+  /** @param {number} agent @returns {boolean} whether it can move by itself, and does something new */
+  #isMoving(agent) {
+    return this.deadlines.isReady(agent) && !this.deadlines.spins.spins(agent);
   }
 
   /** @param {StrayReason} reason @param {number} agent */

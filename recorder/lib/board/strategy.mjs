@@ -1,6 +1,7 @@
-// Who moves next, drawn from the seed's row among the agents that can: those that ask for a call or were woken, and now
-// and then one whose wait has a timeout, which ends it. Where nothing else can move, the end of a time is what is left.
-// How it is drawn is a strategy's affair. A call that is nobody else's affair is made without a draw.
+// Who moves next, drawn from the seed's row among the agents that can: those that ask for a call or were woken, those
+// whose time is over, and now and then one whose wait has a timeout, which ends it early. Where nothing else can move,
+// or all that can only reads the same again, the wait ends whose time is up first. How it is drawn is a strategy's
+// affair. A call that is nobody else's affair is made without a draw.
 
 import { AGENT_WORD, PHASE, WORD, wordOf } from "../memory/layout.mjs";
 import { MOST_MOVES } from "./journal.mjs";
@@ -13,11 +14,15 @@ import { PILOT_WAYS } from "./strategy/ways.mjs";
  * @typedef {object} Rules what stays the same in all runs of a group
  * @property {number} agents how many
  * @property {readonly Way[]} ways how runs are drawn: a run by the one at its seed modulo how many there are
- * @property {number} timeouts in how many draws the end of a timed wait is offered while something else can move
+ * @property {number | "never"} timeouts in how many draws the end of a timed wait is offered while something else can
+ * move; never: it isn't, and not where nothing else can move either
  * @property {number} maxMoves
  */
 
 /** @typedef {import("./strategy/ways.mjs").Way} Way */
+
+/** In place of a part of the draws: timed waits don't end by themselves. */
+export const NEVER = "never";
 
 /** What `next` answers where nobody moves any more. */
 export const NOBODY_MOVES = -1;
@@ -35,12 +40,15 @@ export class Strategy {
    * @param {import("../memory/random.mjs").Random} random
    * @param {import("../memory/known-places.mjs").KnownPlaces} places
    * @param {import("./row.mjs").Row} row
+   * @param {import("./deadlines.mjs").Deadlines} deadlines
    */
-  constructor(words, rules, random, places, row) {
+  constructor(words, rules, random, places, row, deadlines) {
     this.words = words;
     this.rules = rules;
+    this.early = rules.timeouts === NEVER ? 0 : rules.timeouts;
     this.random = random;
     this.row = row;
+    this.deadlines = deadlines;
     this.able = new Able(rules.agents);
     this.asked = new Asked(words, places);
     this.ways = this.#made(rules.ways);
@@ -144,10 +152,40 @@ export class Strategy {
       able.add(agent);
       if (this.#goesOn(agent)) return agent;
     }
-    if (timed === 0 || (able.count > 0 && this.random.fraction() >= this.rules.timeouts)) return NOBODY_GOES_ON;
-    for (let agent = 0; agent < this.rules.agents; agent += 1) {
-      if (this.words[wordOf(agent, AGENT_WORD.PHASE)] === PHASE.WAITS_TIMED) able.add(agent);
-    }
+    if (timed > 0) this.#offerTimes(timed);
     return NOBODY_GOES_ON;
+  }
+
+  /**
+   * Adds waits whose time may be up to those that can move: what is due, and what may end early. If nothing else goes
+   * on, the wait whose time is up first is all there is.
+   * @param {number} timed how many waits have a time
+   */
+  #offerTimes(timed) {
+    const { able, deadlines } = this;
+    if (this.#addTimed(true) === timed) return;
+    if (!this.#isMoving()) {
+      able.clear();
+      able.add(deadlines.first());
+    } else if (this.random.fraction() < this.early) this.#addTimed(false);
+  }
+
+  /** @param {boolean} isDue whether those are added that are due, or the others @returns {number} how many they are */
+  #addTimed(isDue) {
+    const { able, deadlines } = this;
+    const before = able.count;
+    for (let agent = 0; agent < this.rules.agents; agent += 1) {
+      if (deadlines.isTimed(agent) && deadlines.clock.isDue(agent) === isDue) able.add(agent);
+    }
+    return able.count - before;
+  }
+
+  /** @returns {boolean} whether somebody can move who does more than read the same again */
+  #isMoving() {
+    const { able, deadlines: { spins } } = this;
+    for (let at = 0; at < able.count; at += 1) {
+      if (!spins.spins(able.agents[at])) return true;
+    }
+    return false;
   }
 }

@@ -7,6 +7,7 @@ import { Keeper } from "../keeping/keep.mjs";
 import { keepPictures, notesOn } from "../keeping/pictures.mjs";
 import { collectGarbage, onceMore, stopGrowth } from "../processes/garbage.mjs";
 import { preloads } from "../processes/preloads.mjs";
+import { isFirstOfAll } from "../run/order.mjs";
 import { Coverage } from "../seeds/coverage.mjs";
 import { Runs } from "../seeds/runs.mjs";
 import { chosenProgram, simulatorAt } from "../simulator/chosen.mjs";
@@ -106,12 +107,12 @@ export class Session {
     const { coverage, keeper, options: { failFast }, progress, summary } = this;
     summary.add(outcome);
     progress.show(summary);
-    if (outcome.fails) keeper?.keepLowest(outcome);
+    if (outcome.fails) keeper?.keepFirst(outcome);
     onceMore();
-    return coverage?.add(outcome) === true || (failFast === true && outcome.fails);
+    return coverage?.add(outcome) === true || (failFast === true && isFirstOfAll(outcome));
   }
 
-  /** The failing run of the least seed. */
+  /** The first failing run. */
   #failing() {
     // All that is reported of it is known here, where it was made.
     return /** @type {Outcome | undefined} */ (this.summary.failing);

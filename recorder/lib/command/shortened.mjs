@@ -14,6 +14,7 @@ import { counted, digits } from "../keeping/words.mjs";
  * @property {string | null} unchanged why the run is kept as it was found; null: the shortest is kept
  * @property {boolean} checked whether sabsim says the same of the shortest run
  * @property {string[]} detail of the shortest run, where it isn't that of the run as it was found
+ * @property {string | null} onlyIf what time must pass in the shortest run for the early end of a timed wait
  */
 
 /**
@@ -23,19 +24,24 @@ import { counted, digits } from "../keeping/words.mjs";
  */
 export function shorteningOf({ shortest, shortened }, failing) {
   const { runs, changes, calls, stopped = null, unchanged = null } = shortened;
-  const { detail = "", checked = false } = shortest ?? {};
+  const { detail = "", checked = false, onlyIf = null } = shortest ?? {};
   const lines = detail === "" || detail === failing?.detail ? [] : detail.split("\n");
-  return { runs, changes, calls, stopped, unchanged, checked, detail: lines };
+  return { runs, changes, calls, stopped, unchanged, checked, detail: lines, onlyIf };
 }
 
-/** @param {Shortening | null} shortening @returns {string[]} lines; the first one isn't indented */
-export function shortenedLines(shortening) {
+/**
+ * @param {Shortening | null} shortening
+ * @param {string | null} [before] what time must pass in the run as it was found
+ * @returns {string[]} lines; the first one isn't indented
+ */
+export function shortenedLines(shortening, before = null) {
   if (shortening === null) return [];
-  const { runs, changes, calls, stopped, unchanged, checked, detail } = shortening;
+  const { runs, changes, calls, stopped, unchanged, checked, detail, onlyIf } = shortening;
   const made = [`in ${counted(runs, "run")}`, ...(stopped === null ? [] : [stopped])].join(", ");
   if (unchanged !== null) return [`not shortened: ${unchanged}${runs === 0 ? "" : `, ${made}`}`];
   const changed = `${counted(changes.before, "change")} of agents to ${digits(changes.after)}`;
   const called = `${counted(calls.before, "call")} to ${digits(calls.after)}`;
   const same = checked ? "; sabsim says the same of it" : "";
-  return [`shortened: ${changed}, ${called}, ${made}${same}`, ...detail.map((line) => `  ${line}`)];
+  const needs = onlyIf === before ? [] : [onlyIf ?? "no timed wait ends early in it"];
+  return [`shortened: ${changed}, ${called}, ${made}${same}`, ...[...detail, ...needs].map((line) => `  ${line}`)];
 }

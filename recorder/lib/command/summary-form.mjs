@@ -45,6 +45,7 @@ const range = (value, place) => object({ first: whole, last: whole })(value, pla
 const change = object({ before: whole, after: whole });
 
 const COUNTS = { runs: whole, first: whole };
+const PLACE = { block: whole, byte: whole };
 
 /** @type {(members: Record<string, Check>) => Check} */
 const listed = (members) => object({ listed: list(object({ ...members, ...COUNTS })), others: whole });
@@ -67,10 +68,17 @@ const MEMBERS = object({
   runs: whole,
   failed: whole,
   endings: object({ failing: endings, passing: endings }),
-  firstFailing: orNull(object({ seed: whole, ending: text, detail: texts, noScript: orNull(text) })),
+  firstFailing: orNull(object({
+    seed: whole, ending: text, detail: texts, onlyIf: orNull(text), noScript: orNull(text),
+  })),
+  early: whole,
+  onlyByTime: object({
+    listed: list(object({ agent: whole, line: orNull(text), milliseconds: whole, ...PLACE, ...COUNTS })), others: whole,
+    served: list(object(PLACE)),
+  }),
   shortened: orNull(object({
     runs: whole, changes: change, calls: change, stopped: orNull(text), unchanged: orNull(text), checked: flag,
-    detail: texts,
+    detail: texts, onlyIf: orNull(text),
   })),
   races: object({ allowed: flag, runs: whole, pairs: listed({ lines: texts }) }),
   states: object({ failing: states, passing: states }),

@@ -2,6 +2,7 @@
 
 import { counted, digits, listed } from "../keeping/words.mjs";
 import { rangeText } from "../seeds/ranges.mjs";
+import { onlyByTimeLines } from "./only-by-time.mjs";
 import { shortenedLines } from "./shortened.mjs";
 
 /** @typedef {import("./summary.mjs").SummaryData} SummaryData */
@@ -16,7 +17,8 @@ export function summaryText(summary) {
   const lines = missing.map(missingText);
   if (stopped !== null) lines.push(`${stopped.why} after ${digits(runs)} of ${counted(stopped.wanted, "run")}`);
   if (runs > 0) {
-    lines.push(endingLine(summary), ...failingLines(summary), ...raceLines(summary), ...stateLines(summary));
+    lines.push(endingLine(summary), ...failingLines(summary), ...raceLines(summary), ...hiddenLines(summary));
+    lines.push(...stateLines(summary));
     lines.push(...coverageLines(summary), ...checkLines(summary), ...scriptLines(summary), accessLine(summary));
     lines.push(...unseen);
   }
@@ -37,11 +39,20 @@ function endingLine({ runs, failed, endings }) {
 }
 
 /** @param {SummaryData} summary */
-function failingLines({ firstFailing, shortened }) {
+function failingLines({ early, firstFailing, shortened }) {
   if (firstFailing === null) return [];
-  const { seed, ending, detail, noScript } = firstFailing;
-  const lines = noScript === null ? detail : [...detail, `it has no script: ${noScript}`];
-  return [`first failing seed: ${seed}, ${ending}`, ...lines.map(indented), ...shortenedLines(shortened)];
+  const { seed, ending, detail, onlyIf, noScript } = firstFailing;
+  const lines = [...detail, ...(onlyIf === null ? [] : [onlyIf])];
+  if (noScript !== null) lines.push(`it has no script: ${noScript}`);
+  const shown = [`first failing seed: ${seed}, ${ending}`, ...lines.map(indented), ...shortenedLines(shortened, onlyIf)];
+  if (early === 0) return shown;
+  const [run, fails] = early === 1 ? ["run", "fails"] : ["runs", "fail"];
+  return [`${digits(early)} failing ${run} ${fails} only after the early end of a timed wait (--timeouts)`, ...shown];
+}
+
+/** @param {SummaryData} summary @returns {string[]} the lost wake-ups that a time hides */
+function hiddenLines({ onlyByTime, runs }) {
+  return listed(onlyByTimeLines(onlyByTime, runs), MOST_LISTED, (line) => line);
 }
 
 /** @param {SummaryData} summary */

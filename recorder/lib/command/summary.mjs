@@ -1,7 +1,9 @@
 // What is told of many runs. It doesn't depend on the order in which their outcomes come, nor on how they were shared
 // out. Of the runs little is kept, so that there can be any number of them; the first failing one alone is kept whole.
 
+import { comesBefore } from "../run/order.mjs";
 import { Coverage } from "../seeds/coverage.mjs";
+import { OnlyByTime } from "./only-by-time.mjs";
 import { shorteningOf } from "./shortened.mjs";
 import { summaryText } from "./summary-text.mjs";
 import { Tally } from "./tally.mjs";
@@ -49,7 +51,10 @@ import { Tally } from "./tally.mjs";
  * @property {number} runs
  * @property {number} failed
  * @property {Record<"failing" | "passing", { ending: string, runs: number, first: number }[]>} endings
- * @property {{ seed: number, ending: string, detail: string[], noScript: string | null } | null} firstFailing
+ * @property {{ seed: number, ending: string, detail: string[], onlyIf: string | null, noScript: string | null } | null
+ *   } firstFailing
+ * @property {number} early how many of the failing runs fail only after the early end of a timed wait
+ * @property {import("./only-by-time.mjs").OnlyByTimeTold} onlyByTime
  * @property {import("./shortened.mjs").Shortening | null} shortened what the shortening of that run came to
  * @property {{ allowed: boolean, runs: number, pairs: Listed<{ lines: string[] }> }} races
  * @property {Record<"failing" | "passing", Listed<{ ending: string, hash: string, shown: string[] }>>} states
@@ -111,6 +116,9 @@ export class Summary {
     this.accesses = 0;
     /** How many runs had unordered accesses. */
     this.raced = 0;
+    /** How many failing runs fail only after the early end of a timed wait. */
+    this.early = 0;
+    this.onlyByTime = new OnlyByTime();
     /** How many scripts hold some of the ordinary writes only. */
     this.parts = 0;
     this.endings = { failing: new Tally(), passing: new Tally() };
@@ -119,7 +127,7 @@ export class Summary {
     /** @type {Tally<{ lines: string[] }>} */
     this.pairs = new Tally();
     this.scriptless = new Tally();
-    /** @type {Failing | undefined} the failing run of the least seed */
+    /** @type {Failing | undefined} the first failing run */
     this.failing = undefined;
     /** @type {import("../seeds/job.mjs").ShortenedByJob | undefined} what its shortening came to */
     this.shortened = undefined;
@@ -137,8 +145,10 @@ export class Summary {
     this.states[which].add(state.hash, seed, { ending, shown: state.shown });
     this.#addRaces(outcome);
     this.#addScript(outcome);
+    this.onlyByTime.add(outcome);
     if (!fails) return;
     this.failed += 1;
+    if (outcome.onlyIf !== undefined) this.early += 1;
     this.#addFailing(outcome);
   }
 
@@ -152,6 +162,8 @@ export class Summary {
     this.failed += failed;
     this.calls += calls;
     this.accesses += accesses ?? 0;
+    this.early += told.early;
+    this.onlyByTime.join(told.onlyByTime);
     this.#joinChecks(told.sabsim);
     for (const which of BOTH) {
       this.endings[which].join(told.endings[which].map(({ ending, ...entry }) => ({ ...entry, ...of(ending) })));
@@ -184,6 +196,8 @@ export class Summary {
         failing: endingsTold(FAILING, this.endings.failing), passing: endingsTold(PASSING, this.endings.passing),
       },
       firstFailing: this.failing === undefined ? null : failingTold(this.failing),
+      early: this.early,
+      onlyByTime: this.onlyByTime.told(),
       shortened: this.shortened === undefined ? null : shorteningOf(this.shortened, this.failing),
       races: {
         allowed: this.races === "allow", runs: this.raced, pairs: listedOf(this.pairs, (_, { lines }) => ({ lines })),
@@ -222,7 +236,7 @@ export class Summary {
 
   /** @param {Failing} failing */
   #addFailing(failing) {
-    if (this.failing === undefined || this.failing.seed >= failing.seed) this.failing = failing;
+    if (this.failing === undefined || !comesBefore(this.failing, failing)) this.failing = failing;
   }
 
   /** @param {CheckedBy} sabsim */
@@ -272,12 +286,15 @@ function endingsTold(order, tally) {
 }
 
 /** @param {Failing} failing @returns {NonNullable<SummaryData["firstFailing"]>} */
-function failingTold({ seed, ending, detail, noScript }) {
-  return { seed, ending, detail: detail === "" ? [] : detail.split("\n"), noScript: noScript ?? null };
+function failingTold({ seed, ending, detail, onlyIf, noScript }) {
+  const lines = detail === "" ? [] : detail.split("\n");
+  return { seed, ending, detail: lines, onlyIf: onlyIf ?? null, noScript: noScript ?? null };
 }
 
 /** @param {NonNullable<SummaryData["firstFailing"]>} told @returns {Failing} */
-function failingOf({ seed, ending, detail, noScript }) {
+function failingOf({ seed, ending, detail, onlyIf, noScript }) {
   const known = /** @type {import("../run/group.mjs").Ending} */ (ending);
-  return { seed, ending: known, detail: detail.join("\n"), noScript: noScript ?? undefined };
+  return {
+    seed, ending: known, detail: detail.join("\n"), onlyIf: onlyIf ?? undefined, noScript: noScript ?? undefined,
+  };
 }

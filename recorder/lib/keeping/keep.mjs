@@ -4,6 +4,7 @@ import { randomBytes } from "node:crypto";
 import { closeSync, mkdirSync, openSync, renameSync, rmSync, writeFileSync } from "node:fs";
 import { join } from "node:path";
 import { Refused } from "../options/refused.mjs";
+import { comesBefore } from "../run/order.mjs";
 
 /** A file couldn't be written. */
 export class NotKept extends Error {}
@@ -23,6 +24,8 @@ export class Keeper {
     this.names = [];
     /** @type {number | undefined} the seed of the failing run that is kept */
     this.seed = undefined;
+    /** @type {import("../run/order.mjs").Failing | undefined} what is kept of that run */
+    this.first = undefined;
     try {
       mkdirSync(folder, { recursive: true });
       rmSync(this.#writeAside("sabsim"));
@@ -32,17 +35,19 @@ export class Keeper {
   }
 
   /**
-   * Keeps a failing run, unless one of a lower seed is kept, or nothing is reported of this one. The files of one of a
-   * higher seed go when all those of this one are there.
+   * Keeps a failing run, unless one that comes before it is kept, or nothing is reported of this one. The files of one
+   * that comes behind it go when all those of this one are there.
    * @param {import("../run/group.mjs").Outcome} outcome
    */
-  keepLowest({ seed, script, report, trace }) {
+  keepFirst({ seed, onlyIf, script, report, trace }) {
     const texts = { json: script, report, "trace.jsonl": trace };
     const isEmpty = Object.values(texts).every((text) => text === undefined);
-    if ((this.seed !== undefined && this.seed < seed) || isEmpty) return;
+    const own = { seed, onlyIf };
+    if (isEmpty || (this.first !== undefined && comesBefore(this.first, own))) return;
     const before = this.names;
     this.keepAll(seed, texts);
     this.seed = seed;
+    this.first = own;
     this.#remove(before);
   }
 

@@ -70,7 +70,8 @@ function shownEvents(events, racing) {
  * @returns {RunData}
  */
 export function pageData(outcome, facts, module) {
-  const { seed, ending, detail, races, script = "{}", trace = "", sources = [], scriptHolds: holds = "all" } = outcome;
+  const { seed, ending, races, script = "{}", trace = "", sources = [], scriptHolds: holds = "all" } = outcome;
+  const detail = [outcome.detail, outcome.onlyIf ?? ""].filter((text) => text !== "").join("\n");
   const { blocks, views } = JSON.parse(script);
   const { arrays, made } = outcome.accesses ?? { arrays: [], made: [] };
   const accesses = new Map(made.map(([event, array, value]) => [event, { array, value: value ?? undefined }]));

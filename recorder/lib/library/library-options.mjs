@@ -23,8 +23,8 @@ import { moduleUrlOf } from "./module-url.mjs";
  * @property {string[]} [args] for the agents
  * @property {"mixed" | "uniform" | "partial-order" | `switch:${number}`} [strategy] who moves next; else "mixed"
  * @property {boolean} [everywhere] whether agents are switched before each call, also where none can meet another
- * @property {number} [timeouts] from 0 to 1: in how many of the draws the end of a timed wait is offered while
- * something else can move; else 0.05
+ * @property {number | "never"} [timeouts] from 0 to 1: in how many of the draws the early end of a timed wait is
+ * offered while something else can move; "never": no timed wait ends by itself; else 0.05
  * @property {number} [maxMoves] at most 100,000
  * @property {number} [seconds] for how long an agent may make no call
  * @property {"watch" | "store" | "refuse"} [ordinary] what is done with ordinary reads and writes; else "watch"
@@ -50,7 +50,8 @@ import { moduleUrlOf } from "./module-url.mjs";
  * @property {number} [checkEvery] every failing run is checked, and one in so many of the others; 0: none is; else 1
  * @property {boolean} [fresh] whether the agents' workers are started anew for each seed; else they are kept, with what
  * the module keeps in its variables
- * @property {boolean} [failFast] whether the first failing run is the last
+ * @property {boolean} [failFast] whether the first failing run is the last, unless it fails only after the early end of
+ * a timed wait
  * @property {AbortSignal} [signal] ends all runs when it is aborted
  */
 

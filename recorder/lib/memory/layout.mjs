@@ -24,8 +24,12 @@ export const WORD = Object.freeze({
   RANDOM: 16,
   STORES: 20,
   IS_THINNED: 21,
+  HAS_TIMED: 22,
+  EARLY: 23,
   STRATEGY: 24,
   IS_PILOT: 25,
+  EARLY_OTHER: 26,
+  EARLY_CALL: 27,
 });
 
 /** Words of each agent; each agent has a line of the processor's cache for itself. */
@@ -45,6 +49,7 @@ export const AGENT_WORD = Object.freeze({
   ASKS_HOW: 12,
   PRIVATE_CALLS: 13,
   PRIORITY: 14,
+  SAME: 15,
 });
 
 const AGENTS = 32;

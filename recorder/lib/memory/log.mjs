@@ -7,8 +7,11 @@ const { ArrayBuffer, Int32Array, SharedArrayBuffer, Uint8Array } = globalThis;
 export const READ = 4;
 export const WRITE = 5;
 
-/** What an event is. `AGAIN`: an ordinary access that its agent has made before, since its last call. */
-export const FLAG = Object.freeze({ READS: 1, WRITES: 2, ATOMIC: 4, WAITERS: 8, AGAIN: 16 });
+/**
+ * What an event is. `AGAIN`: an ordinary access that its agent has made before, since its last call. `ONLY_BY_TIME`:
+ * the end of a wait by its time, where nothing else could move, though its word had changed or nobody else was left.
+ */
+export const FLAG = Object.freeze({ READS: 1, WRITES: 2, ATOMIC: 4, WAITERS: 8, AGAIN: 16, ONLY_BY_TIME: 32 });
 
 /** Where there is no call of Atomics. */
 export const NO_CALL = 15;
@@ -184,6 +187,11 @@ export class Log {
   /** @param {number} event */
   kindAt(event) {
     return (this.events[event * EACH + HEAD] >> KIND_BITS) & 15;
+  }
+
+  /** @param {number} event @returns {number} the number of the call's function in `CALLS`, or `NO_CALL` */
+  methodAt(event) {
+    return (this.events[event * EACH + HEAD] >> CALL_BITS) & 15;
   }
 
   /** @param {number} event */

@@ -35,11 +35,18 @@ export class Memory {
    * @param {number} block
    * @param {number} from
    * @param {number} to
+   * @returns {boolean} whether one of them isn't as it was known
    */
   takeOver(block, from, to) {
     const real = this.real[block];
     const known = this.known[block];
-    for (let byte = from; byte < to; byte += 1) known[byte] = real[byte];
+    let isChanged = false;
+    for (let byte = from; byte < to; byte += 1) {
+      if (known[byte] === real[byte]) continue;
+      known[byte] = real[byte];
+      isChanged = true;
+    }
+    return isChanged;
   }
 
   /** @param {number} block @returns {boolean} whether a byte of the block isn't as it is known */

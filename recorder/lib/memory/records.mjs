@@ -49,8 +49,8 @@ const ANSWER = 7;
 const HAS_LIMIT = 8;
 const JOINED = 9;
 
-// Where the last so many calls each come again within so few, they are a spin.
-const SPIN_CALLS = 300;
+/** Where the last so many calls each come again within so few, they are a spin. */
+export const SPIN_CALLS = 300;
 const SPIN_LENGTH = 6;
 
 const ANSWER_VALUE = 2;
@@ -104,6 +104,18 @@ export class Records {
       if (again > SPIN_LENGTH) return false;
     }
     return true;
+  }
+
+  /**
+   * Whether a call is the same as one of the few before it, and was answered the same.
+   * @param {number} position
+   * @returns {boolean}
+   */
+  comesAgain(position) {
+    for (let at = position - 1; at >= 0 && at >= position - SPIN_LENGTH; at -= 1) {
+      if (this.#isAlike(at, position) && this.#isAnsweredAlike(at, position)) return true;
+    }
+    return false;
   }
 
   /** @param {number} position of a wait that joins the line */

@@ -1,6 +1,7 @@
 // What an option may be. Each kind looks at a value, as the library is given it, and at a text of the command line.
 
 import { SCRIPT_LIMITS } from "../../script/limits.mjs";
+import { NEVER } from "../board/strategy.mjs";
 import { STRATEGY_WORDS, waysOf } from "../board/strategy/ways.mjs";
 import { checkedAgents, checkedBuffers, checkedNoBlock } from "./plan.mjs";
 import { Refused } from "./refused.mjs";
@@ -51,7 +52,12 @@ export const whole = (least, most) => number(
 );
 
 export const SEED = whole(0, Number.MAX_SAFE_INTEGER);
-export const PART = number(DECIMAL, (value) => value >= 0 && value <= 1, "a number from 0 to 1");
+
+/** @param {unknown} value */
+const isPartOrNever = (value) => value === NEVER || (typeof value === "number" && value >= 0 && value <= 1);
+export const PART_OR_NEVER = that(isPartOrNever, `a number from 0 to 1, or ${NEVER}`, (text) => {
+  return DECIMAL.test(text) ? Number(text) : text;
+});
 
 /** @param {number} most */
 export const above0 = (most) =>

@@ -3,8 +3,8 @@
 
 import { DEFAULT_SECONDS, MOST_JOBS, SCRIPT_LIMITS } from "../../script/limits.mjs";
 import {
-  AGENTS, AGENTS_THAT_CANT, BUFFERS, FLAG, FUNCTION, PART, PATH_OR_URL, PROGRAM, SEED, SEEDS, SHARD, SIGNAL, STRATEGY,
-  WORDS, above0, choice, named, whole,
+  AGENTS, AGENTS_THAT_CANT, BUFFERS, FLAG, FUNCTION, PART_OR_NEVER, PATH_OR_URL, PROGRAM, SEED, SEEDS, SHARD, SIGNAL,
+  STRATEGY, WORDS, above0, choice, named, whole,
 } from "./kinds.mjs";
 
 /** @typedef {"record" | "explore" | "command"} Taker the library's two functions, and the command line */
@@ -56,8 +56,9 @@ export const OPTIONS = Object.freeze({
     + "agent moves next), partial-order (by random priorities) or mixed (by the seed one of such) (mixed)"]),
   everywhere: rule(FLAG, false,
     ["", "agents are switched before each call, also where pilot runs have shown that no other agent goes"]),
-  timeouts: rule(PART, 0.05, ["P", "in how many of the draws, from 0 to 1, the end of a timed wait is offered while "
-    + "something else can move (0.05)"]),
+  timeouts: rule(PART_OR_NEVER, 0.05, ["P", "in how many of the draws, from 0 to 1, the early end of a timed wait is "
+    + "offered while something else can move; 0: time passes only if nothing else can move; never: not even then, so "
+    + "that a lost wake-up is a deadlock (0.05)"]),
   ordinary: word(["watch", "store", "refuse"], ["HOW", "reads and writes without Atomics: watch (each is seen, and "
     + "unordered accesses are looked for), store (only what changed is found) or refuse (a byte that changed fails the "
     + "run) (watch)"]),

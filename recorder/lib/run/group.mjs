@@ -41,6 +41,10 @@ import { within } from "./within.mjs";
  * what they read
  * @property {import("./source-names.mjs").SourceText[]} [sources] the code of each file that the trace names
  * @property {number[]} [row] which agent moved with each draw, in order, where that is asked for
+ * @property {string} [onlyIf] of a failing run in which a timed wait has ended early: what time must pass for that
+ * @property {import("./timed-ends.mjs").OnlyByTime[]} [onlyByTime] waits that have ended only since their time was up
+ * @property {import("./timed-ends.mjs").Place[]} [served] places at which agents of the run wait, and which other
+ * agents have notified or written; told with timed waits alone
  */
 
 /**
@@ -93,7 +97,8 @@ import { within } from "./within.mjs";
  * @property {number[]} [noBlock] agents that can't block
  * @property {string} [strategy] how it is drawn who moves next, as `waysOf` takes it
  * @property {boolean} [everywhere] whether agents are switched before each call, also where none can meet another
- * @property {number} [timeouts] in how many draws the end of a timed wait is offered while something else can move
+ * @property {number | "never"} [timeouts] in how many draws the end of a timed wait is offered while something else can
+ * move; never: it isn't, and not where nothing else can move either
  * @property {number} maxMoves
  * @property {number} seconds for how long an agent may make no call
  * @property {boolean} fresh

@@ -5,6 +5,7 @@ import { workerData } from "node:worker_threads";
 import { WORD } from "../memory/layout.mjs";
 import { onceMore } from "../processes/garbage.mjs";
 import { Meetings } from "./meetings.mjs";
+import { FirstFailing } from "./order.mjs";
 import { PILOTS, Pilots } from "./pilots.mjs";
 import { RunMaker } from "./run-maker.mjs";
 import { RunReporter } from "./run-reporter.mjs";
@@ -30,8 +31,8 @@ class Referee {
     this.tellsAlways = options.trace || this.meetings !== undefined;
     /** Whether the next run notes its lines of code at once. If the run before raced, the next one may race too. */
     this.tellsNext = this.tellsAlways;
-    /** Whether a failing run's trace was made already, or tried. A later seed's trace isn't kept. */
-    this.isTraced = false;
+    /** The trace of a failing run is made if it may be the first one: others aren't kept. */
+    this.firstFailing = new FirstFailing();
   }
 
   /** @param {{ seeds?: Wanted[], learns?: boolean }} work */
@@ -148,10 +149,9 @@ class Referee {
   }
 
   /** @param {Wanted} wanted @param {Outcome} outcome @returns {boolean} whether a run's trace is made */
-  #isTraceWanted({ isTrial = false, tellsTrace = false }, { fails }) {
+  #isTraceWanted({ isTrial = false, tellsTrace = false }, outcome) {
     if (isTrial) return false;
-    const isFirst = fails && !this.isTraced;
-    this.isTraced ||= fails;
+    const isFirst = this.firstFailing.takes(outcome);
     return this.options.trace || tellsTrace || isFirst;
   }
 }

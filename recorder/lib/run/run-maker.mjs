@@ -167,6 +167,7 @@ export class RunMaker {
     this.log.begin();
     this.stores.begin();
     this.board.journal.begin();
+    this.board.deadlines.begin();
   }
 
   /**

@@ -10,6 +10,7 @@ import { preloads } from "../processes/preloads.mjs";
 import { accessesIn } from "./accesses.mjs";
 import { racesTold } from "./findings.mjs";
 import { fitted } from "./fitting.mjs";
+import { earlyText, onlyByTimeOf, servedOf } from "./timed-ends.mjs";
 import { UNSEEN_LINE, placesIn, traceText } from "./trace.mjs";
 import { transcriptOf, waitingText } from "./transcript.mjs";
 
@@ -37,12 +38,14 @@ export class RunReporter {
   brief({ seed }, found) {
     const { maker, options } = this;
     const { ending, detail } = found;
-    const { journal, row } = maker.board;
+    const { deadlines, journal, row } = maker.board;
     const draws = row.told();
+    const fails = ending !== "finished" && !(ending === "bound" && options.bounds === "allow");
+    const early = deadlines.early();
     return {
       seed,
       ending,
-      fails: ending !== "finished" && !(ending === "bound" && options.bounds === "allow"),
+      fails,
       detail,
       moves: journal.moves(),
       calls: maker.callCount(),
@@ -51,7 +54,21 @@ export class RunReporter {
       state: stateOf(found),
       races: [],
       ...(draws === undefined ? {} : { row: draws }),
+      ...(fails && early !== undefined ? { onlyIf: earlyText(early) } : {}),
+      ...(maker.board.spins.isWatching() ? this.#timedEnds(ending) : {}),
     };
+  }
+
+  /** @param {string} ending of a run that has timed waits @returns {Pick<Outcome, "onlyByTime" | "served">} */
+  #timedEnds(ending) {
+    const { run: { log, records }, sources, sourceNames } = this;
+    const served = servedOf(log);
+    if (ending !== "finished") return { served };
+    const lineOf = (/** @type {number} */ agent, /** @type {number} */ number) => {
+      const place = number === 0 ? "" : sources[agent].list()[number];
+      return place === "" ? null : sourceNames.nameOf(place);
+    };
+    return { onlyByTime: onlyByTimeOf(log, records, lineOf), served };
   }
 
   /**

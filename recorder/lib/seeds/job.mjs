@@ -4,6 +4,7 @@
 
 import { checkedBy } from "../check/check.mjs";
 import { Group } from "../run/group.mjs";
+import { FirstFailing } from "../run/order.mjs";
 import { shorten } from "../shorter/shorten.mjs";
 import { simulatorAt } from "../simulator/chosen.mjs";
 
@@ -15,7 +16,8 @@ import { simulatorAt } from "../simulator/chosen.mjs";
  * @property {number} checkEvery one in how many of the runs that don't fail is checked, and has a script
  * @property {boolean} checks whether runs that have a script are checked
  * @property {string} [sabsim] the path of the native program that checks them; undefined: the module does
- * @property {boolean} [isBrief] whether only the outcome of the first failing run has its long texts
+ * @property {boolean} [isBrief] whether only the outcomes of runs that may be the first failing one have their long
+ * texts
  */
 
 /**
@@ -45,7 +47,7 @@ export class Job {
 
   #every = 1;
   #isBrief = false;
-  #hasFailed = false;
+  #firstFailing = new FirstFailing();
 
   /**
    * Starts its workers.
@@ -70,10 +72,9 @@ export class Job {
     await (await this.#opened()).run(seeds, (outcome, judgement, aside) => {
       if (this.#failure !== undefined) return;
       const checked = this.#checked({ outcome, judgement, aside });
-      // A failing run is kept only if its seed is the least, and a job's seeds ascend.
-      const isLight = this.#isBrief && (!outcome.fails || this.#hasFailed);
-      this.#hasFailed ||= outcome.fails;
-      onOutcome(isLight ? lightened(checked) : checked);
+      // Only the first failing run is kept, and a job's seeds ascend.
+      const isWhole = this.#firstFailing.takes(outcome) || !this.#isBrief;
+      onOutcome(isWhole ? checked : lightened(checked));
     });
     if (this.#failure !== undefined) throw this.#failure;
   }

@@ -1,6 +1,7 @@
 // Runs of many seeds. Jobs make them side by side; their outcomes are taken one by one, in the order of the seeds. The
 // command line, the library and the tests of suites have their runs from here, and have found ones shortened.
 
+import { isFirstOfAll } from "../run/order.mjs";
 import { Delivery } from "./delivery.mjs";
 import { moreJobs } from "./more-jobs.mjs";
 import { LostJob, RemoteJob } from "./remote-job.mjs";
@@ -19,10 +20,11 @@ import { SeedQueue } from "./seed-queue.mjs";
  * @property {string | false} [sabsim] the path of the native program that checks; undefined: the module does; false:
  * nothing is checked, and the outcomes are the same as if they were
  * @property {number} [origin] the seed from which one in so many is counted; the first if it isn't given
- * @property {boolean} [failFast] whether the first failing run is the last
+ * @property {boolean} [failFast] whether the first failing run is the last, unless it fails only after an early end
  * @property {boolean} [trials] whether only their endings are wanted, which takes less time: outcomes have no script
  * @property {Omit<import("../run/group.mjs").Wanted, "seed" | "whole">} [wanted] what else is wanted of each run
- * @property {boolean} [isBrief] whether only the outcome of the first failing run has its long texts
+ * @property {boolean} [isBrief] whether only the outcomes of runs that may be the first failing one have their long
+ * texts
  * @property {number} [ahead] how far a seed that is begun may be from the next one to be taken; as far as it likes, if
  * it isn't given
  * @property {boolean} [goesOn] whether the other jobs go on when the process of one has ended; and what has come by a
@@ -72,7 +74,7 @@ export class Runs {
     try {
       for (let next = await delivery.take(); next !== undefined; next = await delivery.take()) {
         yield next;
-        if (failFast && next.fails) return;
+        if (failFast && isFirstOfAll(next)) return;
       }
     } catch (failure) {
       for (const outcome of goesOn ? delivery.left() : []) yield outcome;
@@ -207,7 +209,7 @@ export class Runs {
         this.#made += 1;
         if (outcome.checked || outcome.unchecked !== undefined) this.delivery.add(outcome);
         else differing.push(outcome);
-        if (this.options.failFast && outcome.fails) this.queue.stop();
+        if (this.options.failFast && isFirstOfAll(outcome)) this.queue.stop();
       });
     } catch (failure) {
       if (differing.length > 0) this.delivery.fail(failure);

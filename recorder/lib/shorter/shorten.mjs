@@ -1,7 +1,7 @@
-// The shortest run that fails in the same way as one that was found: the one with the fewest changes of agents, and of
-// these the one with the fewest calls. It is looked for by runs that are forced to go by rows: the found run's row in
-// another order, without some of its stretches, with two stretches of an agent joined, or with one made shorter, as
-// long as that helps.
+// The shortest run that fails in the same way as one that was found: without the early end of a timed wait, if there is
+// such a run, then the one with the fewest changes of agents, and of these the one with the fewest calls. It is looked
+// for by runs that are forced to go by rows: the found run's row in another order, without some of its stretches, with
+// two stretches of an agent joined, or with one made shorter, as long as that helps.
 
 import { areSame } from "../run/same.mjs";
 import { failsAlike } from "./alike.mjs";
@@ -48,13 +48,16 @@ const MOST_MILLISECONDS = 10_000;
 
 const NOT_AGAIN = "it couldn't be made again in the same way: its agents do something else when they run once more";
 
-/** @typedef {{ row: number[], changes: number, calls: number }} Measured */
+/** @typedef {{ row: number[], isEarly: boolean, changes: number, calls: number }} Measured */
 
-/** @param {Outcome} outcome that has its row @returns {Measured} how long a run is */
-const measured = ({ row = [], calls }) => ({ row, changes: changesOf(row), calls });
+/** @param {Outcome} outcome that has its row @returns {Measured} how long a run is, and whether a wait ends early */
+const measured = ({ row = [], onlyIf, calls }) => {
+  return { row, isEarly: onlyIf !== undefined, changes: changesOf(row), calls };
+};
 
 /** @param {Measured} one @param {Measured} other */
 function isShorter(one, other) {
+  if (one.isEarly !== other.isEarly) return other.isEarly;
   if (one.changes !== other.changes) return one.changes < other.changes;
   if (one.calls !== other.calls) return one.calls < other.calls;
   return one.row.length < other.row.length;

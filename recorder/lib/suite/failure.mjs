@@ -20,10 +20,10 @@ const MOST_CHARACTERS = 160;
  * @returns {string}
  */
 export function failureText({ outcome, passed, simulator, kept }) {
-  const { seed, ending, detail } = outcome;
+  const { seed, ending, detail, onlyIf = "" } = outcome;
   const before = passed === 0 ? "" : `; ${passed === 1 ? "the run" : `the ${digits(passed)} runs`} before it passed`;
   const parts = [
-    [`seed ${seed}: ${ending}${before}`, ...indented(detail === "" ? [] : detail.split("\n"))],
+    [`seed ${seed}: ${ending}${before}`, ...indented([...detail.split("\n"), onlyIf].filter((line) => line !== ""))],
     explainedEnd(outcome, simulator),
     kept,
   ];

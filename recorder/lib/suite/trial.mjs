@@ -4,6 +4,7 @@ import { AssertionError } from "node:assert";
 import { mkdtempSync } from "node:fs";
 import { tmpdir } from "node:os";
 import { join, resolve } from "node:path";
+import { OnlyByTime, onlyByTimeLines } from "../command/only-by-time.mjs";
 import { toldOf } from "../command/problems.mjs";
 import { replayCommand } from "../command/replay-command.mjs";
 import { modulePath, optionsText } from "../keeping/about.mjs";
@@ -12,6 +13,7 @@ import { keepPictures, notesOn } from "../keeping/pictures.mjs";
 import { counted, digits } from "../keeping/words.mjs";
 import { runsOf } from "../library/explore.mjs";
 import { checkedOwn } from "../library/library-options.mjs";
+import { comesBefore } from "../run/order.mjs";
 import { simulatorAt } from "../simulator/chosen.mjs";
 import { failureText } from "./failure.mjs";
 
@@ -37,28 +39,54 @@ class AgentsFailed extends AssertionError {
   }
 }
 
+/** What the runs of a trial that passed have in common. */
+class Passed {
+  count = 0;
+  checked = 0;
+  unchecked = "";
+  onlyByTime = new OnlyByTime();
+
+  /** @param {Outcome} outcome of a run that passed */
+  add(outcome) {
+    this.count += 1;
+    if (outcome.checked) this.checked += 1;
+    else this.unchecked = outcome.unchecked ?? "";
+    this.onlyByTime.add(outcome);
+  }
+
+  /** @returns {string} what is to be said if no run failed */
+  text() {
+    const checks = this.checked > 0 ? `${digits(this.checked)} checked by sabsim` : `none checked: ${this.unchecked}`;
+    const passed = `${counted(this.count, "run")} passed, ${checks}`;
+    return [passed, ...onlyByTimeLines(this.onlyByTime.told(), this.count)].join("\n");
+  }
+}
+
 /**
- * Makes runs until one fails.
+ * Makes runs until one fails. If it fails only after the early end of a timed wait, runs are made until one fails
+ * without that.
  * @param {TrialOptions} given
  * @param {Caller} caller
  * @returns {Promise<string>} what is to be said where none failed; fails with an AssertionError where one did
  */
 export async function tried(given, { folder, place }) {
   const { out, shorten = true, ...options } = checkedOwn(given);
-  let [passed, checked, unchecked] = [0, 0, ""];
+  const passed = new Passed();
+  /** @type {{ outcome: Outcome, before: number } | undefined} the first failing run, and how many passed before it */
+  let first;
   const runs = runsOf({ ...options, failFast: true }, folder);
   try {
     for await (const outcome of runs.outcomes()) {
-      if (outcome.fails) throw new AgentsFailed(await failureOf(runs, outcome, passed, { out, shorten }), place);
-      passed += 1;
-      if (outcome.checked) checked += 1;
-      else unchecked = outcome.unchecked ?? "";
+      if (!outcome.fails) passed.add(outcome);
+      else if (first === undefined || comesBefore(outcome, first.outcome)) first = { outcome, before: passed.count };
+    }
+    if (first !== undefined) {
+      throw new AgentsFailed(await failureOf(runs, first.outcome, first.before, { out, shorten }), place);
     }
   } finally {
     await runs.close();
   }
-  const checks = checked > 0 ? `${digits(checked)} checked by sabsim` : `none checked: ${unchecked}`;
-  return `${counted(passed, "run")} passed, ${checks}`;
+  return passed.text();
 }
 
 /**
@@ -89,7 +117,7 @@ async function failureOf(runs, failing, passed, { out, shorten }) {
 function keptLines({ failing, outcome }, options, out, simulator) {
   try {
     const keeper = new Keeper(resolve(out ?? mkdtempSync(join(tmpdir(), "sabsim-"))), "`out`");
-    keeper.keepLowest(failing);
+    keeper.keepFirst(failing);
     if (outcome !== failing) keeper.keepShortest(failing, outcome);
     const notKept = keepPictures(keeper, outcome, { simulator, ...howMade(options) });
     const kept = keeper.names.length === 0 ? [] : [`kept in ${keeper.folder}: ${keeper.names.join(", ")}`];

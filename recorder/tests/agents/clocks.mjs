@@ -57,10 +57,10 @@ const PROGRAMS = {
     Atomics.store(words, 3, AT_LOADING[0] - EPOCH);
     Atomics.store(words, 4, AT_LOADING[1]);
   },
-  // Agent 0 waits again and again, for what never comes; agent 1 makes calls.
+  // Agent 0 waits again and again, for what never comes; agent 1 makes calls, each of which does something new.
   naps: ({ words, agent }) => {
     for (let time = 0; time < 600; time += 1) {
-      if (agent === 1) Atomics.load(words, 0);
+      if (agent === 1) Atomics.store(words, 0, time);
       else if (Atomics.wait(words, 15, 0, 5) !== "timed-out") throw new Error("who woke it?");
     }
   },

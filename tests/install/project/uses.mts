@@ -2,7 +2,7 @@
 
 import { explore, record, Difference, LostJob, NoSabsim, Refused } from "sabsim";
 import type { Agent, AgentRun, Ending, ExploreOptions, Outcome, Race, RaceSide } from "sabsim";
-import type { Kind, NamedPlace, RecordOptions, Setup, Shortened, WithBuffers } from "sabsim";
+import type { Kind, NamedPlace, OnlyByTime, RecordOptions, Setup, Shortened, WithBuffers } from "sabsim";
 
 const kind: Kind = "Uint8";
 const slots: NamedPlace = [kind, 1];
@@ -26,7 +26,7 @@ const options: RecordOptions = {
 const { seed, shorten, ...rest } = options;
 export const seeds = { ...rest, seeds: "1..20", jobs: 1, checkEvery: 5, fresh: false, failFast: true };
 const range = { first: 1, last: seed ?? 2 };
-export const many: ExploreOptions[] = [seeds, { ...rest, seeds: 20 }, { ...rest, seeds: range }];
+export const many: ExploreOptions[] = [seeds, { ...rest, seeds: 20 }, { ...rest, seeds: range, timeouts: "never" }];
 
 // @ts-expect-error: what has many seeds has no one
 export const both: ExploreOptions = { module: "./lock.mjs", seed: 7 };
@@ -44,13 +44,18 @@ const raceText = ({ lines, text, sides: [first, second] }: Race): string =>
 const shortening = ({ runs, changes, calls, stopped = "", unchanged = "" }: Shortened): string =>
   [runs, changes.before - changes.after, calls.before - calls.after, stopped, unchanged, shorten].join(" ");
 
+const waitText = ({ agent, line, milliseconds, block, byte }: OnlyByTime): string =>
+  [agent, line ?? "unknown", milliseconds, block, byte].join(" ");
+
 function summary(outcome: Outcome): string {
   const ending: Ending = outcome.ending;
   const { seed, fails, detail, moves, calls, ordinary, progress, state, races } = outcome;
   const numbers = [seed, moves, calls, ordinary, ...progress.map(({ returned, calls }) => calls - returned)];
   const texts = [ending, String(fails), detail, state.hash, ...state.shown, ...races.map(raceText)];
   const { bytes = [], answers = [], script, scriptHolds = "all", noScript = "", report = "", trace = "" } = outcome;
-  const answered = answers.flat().map((answer) => answer ?? "waits");
+  const { onlyIf = "", onlyByTime = [], served = [] } = outcome;
+  const timed = [onlyIf, ...onlyByTime.map(waitText), ...served.map(({ block, byte }) => `${block} ${byte}`)];
+  const answered = [...timed, ...answers.flat().map((answer) => answer ?? "waits")];
   return [...numbers, ...texts, ...bytes, ...answered, script?.length, scriptHolds, noScript, report, trace].join(" ");
 }
 

@@ -1,0 +1,72 @@
+// Lost wake-ups that a time hides: waits that ended only since their time was up, of all runs that finished. A wait at
+// a place that nobody else notifies or writes in any run is a sleep, and isn't reported.
+
+import { counted, digits } from "../keeping/words.mjs";
+import { durationText, placeKey } from "../run/timed-ends.mjs";
+import { Tally } from "./tally.mjs";
+
+/** @typedef {import("../run/timed-ends.mjs").OnlyByTime} Wait */
+/** @typedef {import("../run/timed-ends.mjs").Place} Place */
+
+/**
+ * @typedef {object} OnlyByTimeTold as JSON
+ * @property {(Wait & { runs: number, first: number })[]} listed waits that ended only since their time was up, sleeps
+ * among them
+ * @property {number} others how many runs are counted under what isn't listed
+ * @property {Place[]} served the places at which agents wait, and that others notify or write in some run
+ */
+
+/** @param {Wait} wait */
+const keyOf = ({ agent, line, milliseconds, block, byte }) => JSON.stringify([agent, line, milliseconds, block, byte]);
+
+export class OnlyByTime {
+  constructor() {
+    /** @type {Tally<Wait>} */
+    this.waits = new Tally();
+    /** @type {Map<string, Place>} */
+    this.served = new Map();
+  }
+
+  /** @param {import("../run/group.mjs").Outcome} outcome of a run */
+  add({ seed, onlyByTime = [], served = [] }) {
+    for (const wait of onlyByTime) this.waits.add(keyOf(wait), seed, wait);
+    for (const place of served) this.served.set(placeKey(place), place);
+  }
+
+  /** @param {OnlyByTimeTold} told of other runs */
+  join({ listed, others, served }) {
+    this.waits.join(listed.map(({ runs, first, ...about }) => ({ key: keyOf(about), runs, first, about })), others);
+    for (const place of served) this.served.set(placeKey(place), place);
+  }
+
+  /** @returns {OnlyByTimeTold} */
+  told() {
+    const listed = this.waits.sorted().map(({ about, runs, first }) => ({ ...about, runs, first }));
+    const served = [...this.served.values()].sort((one, other) => one.block - other.block || one.byte - other.byte);
+    return { listed, others: this.waits.others, served };
+  }
+}
+
+/**
+ * The waits that are no sleeps.
+ * @param {OnlyByTimeTold} told
+ * @returns {OnlyByTimeTold["listed"]} those of most runs first
+ */
+export function hiddenWaits({ listed, served }) {
+  const places = new Set(served.map(placeKey));
+  return listed.filter((wait) => places.has(placeKey(wait)));
+}
+
+/**
+ * @param {OnlyByTimeTold} told
+ * @param {number} runs how many there are
+ * @returns {string[]} a line for each wait that is no sleep
+ */
+export function onlyByTimeLines(told, runs) {
+  return hiddenWaits(told).map((wait) => {
+    const { agent, line, milliseconds, block, byte } = wait;
+    const where = line ?? `byte ${byte} of block ${block}`;
+    const since = `only since its ${durationText(milliseconds)} ${milliseconds === 1 ? "was" : "were"} over`;
+    return `agent ${agent} went on at ${where} ${since}, in ${digits(wait.runs)} of ${counted(runs, "run")}`;
+  });
+}
