@@ -97,6 +97,12 @@ export function sourceHere() {
 }
 
 /**
+ * Whether the agents' code has called a function, and not the recorder or node.
+ * @param {Function} called
+ */
+export const isCalledByAgents = (called) => isAgents(framesHere(called, 1)[0]?.getFileName() ?? null);
+
+/**
  * The number of where the agent's code is.
  * @param {Sources} sources of the agent
  * @returns {number} `UNKNOWN` where no frame of it is found, or there is no room for it

@@ -4,7 +4,7 @@ import { relative } from "node:path";
 import { OPTIONS } from "../options/table.mjs";
 
 // What a run by a row of draws depends on, besides the module and the agents' arguments.
-const NAMES = /** @type {const} */ (["ordinary", "races", "bounds", "clock"]);
+const NAMES = /** @type {const} */ (["ordinary", "races", "bounds", "unrecorded", "clock"]);
 
 /**
  * A word as a shell takes it.

@@ -10,6 +10,7 @@ import { keepPictures } from "../keeping/pictures.mjs";
 import { counted, digits } from "../keeping/words.mjs";
 import { runsOf } from "../library/explore.mjs";
 import { checkedOwn } from "../library/library-options.mjs";
+import { rememberingText } from "../seeds/first-again.mjs";
 import { simulatorAt } from "../simulator/chosen.mjs";
 import { failureText } from "./failure.mjs";
 
@@ -44,6 +45,10 @@ class AgentsFailed extends AssertionError {
 export async function tried(given, { folder, place }) {
   const { out, shorten = true, ...options } = checkedOwn(given);
   let [passed, checked, unchecked] = [0, 0, ""];
+  /** @type {string[]} */
+  let besides = [];
+  /** @type {Set<string>} */
+  const used = new Set();
   const runs = runsOf({ ...options, failFast: true }, folder);
   try {
     for await (const outcome of runs.outcomes()) {
@@ -51,12 +56,21 @@ export async function tried(given, { folder, place }) {
       passed += 1;
       if (outcome.checked) checked += 1;
       else unchecked = outcome.unchecked ?? "";
+      for (const what of outcome.unrecorded ?? []) used.add(what);
     }
+    besides = await rememberingLines(runs);
   } finally {
     await runs.close();
   }
   const checks = checked > 0 ? `${digits(checked)} checked by sabsim` : `none checked: ${unchecked}`;
-  return `${counted(passed, "run")} passed, ${checks}`;
+  if (used.size > 0) besides.unshift(`agents used what isn't recorded, which is allowed: ${[...used].join(", ")}`);
+  return [`${counted(passed, "run")} passed, ${checks}`, ...besides].join("; ");
+}
+
+/** @param {Runs} runs @returns {Promise<string[]>} how the first seed's run differed when it was made once more */
+async function rememberingLines(runs) {
+  const found = await runs.firstAgain();
+  return found === undefined ? [] : [rememberingText(found)];
 }
 
 /**
@@ -70,8 +84,9 @@ export async function tried(given, { folder, place }) {
 async function failureOf(runs, failing, passed, { out, shorten }) {
   const { module, sabsim } = runs.options;
   const simulator = simulatorAt(sabsim || undefined);
+  const besides = await rememberingLines(runs);
   const outcome = shorten ? (await runs.shorten(failing)).shortest ?? failing : failing;
-  const kept = keptLines({ failing, outcome }, module, out, simulator);
+  const kept = [...besides, ...keptLines({ failing, outcome }, module, out, simulator)];
   return failureText({ outcome, passed, simulator, kept });
 }
 
