@@ -2,7 +2,6 @@
 // sleeps, where nobody else uses that memory: it takes only the run's time. All else is noted.
 
 import { apply, create } from "../primordials.mjs";
-import { Unseen } from "./unseen.mjs";
 
 const { isNaN } = Number;
 const { toPrimitive } = Symbol;
@@ -14,7 +13,7 @@ const { toPrimitive } = Symbol;
  * @property {() => boolean} isRecording whether the agent's part in a run goes on
  * @property {boolean} simulatesTime whether a run has a time of its own
  * @property {(milliseconds: number) => void} sleep lets the run's time pass in a wait that nobody can end
- * @property {Unseen} unseen where their use is noted
+ * @property {import("./unseen.mjs").Unseen} unseen where their use is noted
  * @property {() => never} endUnseen ends the run for what was noted
  */
 
@@ -24,10 +23,10 @@ const isEndless = (timeout) => isNaN(timeout) || timeout === Infinity;
 /**
  * Counts a call.
  * @param {Elsewhere} how
- * @param {unknown} buffer
+ * @param {object} buffer
  */
 function count({ unseen, endUnseen }, buffer) {
-  if (Unseen.isShared(buffer) && unseen.use(buffer, "calls")) endUnseen();
+  if (unseen.use(buffer, "calls")) endUnseen();
 }
 
 /**
@@ -57,7 +56,7 @@ function engineTime(how, buffer, timeout) {
  * @param {Functions} engine
  * @param {Elsewhere} how
  * @param {any[]} given
- * @param {any} buffer
+ * @param {object} buffer
  */
 function wait(engine, how, given, buffer) {
   const { unseen, simulatesTime, sleep, endUnseen } = how;
@@ -90,7 +89,7 @@ function wait(engine, how, given, buffer) {
  * @param {unknown} buffer on which it is made; undefined if it is made on no array of integers
  */
 export function callElsewhere(engine, how, name, given, buffer) {
-  if (!how.isRecording() || buffer === undefined) return apply(engine[name], engine, given);
+  if (!how.isRecording() || !how.unseen.isTheirs(buffer)) return apply(engine[name], engine, given);
   if (name === "wait") return wait(engine, how, given, buffer);
   count(how, buffer);
   return apply(engine[name], engine, given);

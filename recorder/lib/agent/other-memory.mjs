@@ -1,7 +1,7 @@
 // Shared memory that the agents' code makes itself. Where it makes some is remembered, so that a message can say so.
 
 import { apply, construct, getOwnPropertyDescriptor, put, uncurried, weakGet, weakSet } from "../primordials.mjs";
-import { sourceHere } from "./frames.mjs";
+import { isCalledByAgents, sourceHere } from "./frames.mjs";
 import { Unseen } from "./unseen.mjs";
 
 const { Proxy: EngineProxy, WeakMap: EngineWeakMap, Object: EngineObject } = globalThis;
@@ -25,7 +25,7 @@ export function isWatchable(buffer, note) {
   return false;
 }
 
-/** @typedef {(made: any) => void} Noting gets what a constructor has made */
+/** @typedef {(made: any, isAgents: boolean) => void} Noting gets what a constructor has made, and whether for agents */
 
 /**
  * Puts a constructor in the place of an engine's own one, which reports what it makes.
@@ -40,7 +40,7 @@ function noteMaking(owner, name, note) {
     /** @param {Function} target @param {unknown[]} given @param {Function} asked */
     construct(target, given, asked) {
       const made = construct(target, given, asked === StandIn ? target : asked);
-      note(made);
+      note(made, isCalledByAgents(traps.construct));
       return made;
     },
   };
@@ -73,7 +73,7 @@ function noteWebAssembly(unseen) {
     get() {
       const all = apply(exported, this, []);
       const list = values(all);
-      for (let at = 0; at < list.length; at += 1) if (list[at] instanceof EngineMemory) note(list[at]);
+      for (let at = 0; at < list.length; at += 1) if (list[at] instanceof EngineMemory) note(list[at], true);
       return all;
     },
   });
@@ -84,8 +84,9 @@ function noteWebAssembly(unseen) {
  * @param {Unseen} unseen
  */
 export function watchMaking(unseen) {
-  noteMaking(globalThis, "SharedArrayBuffer", (buffer) => {
-    unseen.remember(buffer, isGrowable(buffer) === true ? "a growable SharedArrayBuffer" : "a SharedArrayBuffer");
+  noteMaking(globalThis, "SharedArrayBuffer", (buffer, isAgents) => {
+    if (!isAgents) unseen.exclude(buffer);
+    else unseen.remember(buffer, isGrowable(buffer) === true ? "a growable SharedArrayBuffer" : "a SharedArrayBuffer");
   });
   noteWebAssembly(unseen);
 }

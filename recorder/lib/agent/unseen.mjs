@@ -2,7 +2,7 @@
 // noted, with its lines, for the referee.
 
 import { Notes } from "../memory/notes.mjs";
-import { weakGet, weakSet } from "../primordials.mjs";
+import { ownKeys, weakGet, weakSet } from "../primordials.mjs";
 import { sourceHere } from "./frames.mjs";
 
 /** @typedef {import("../memory/notes.mjs").Note} Note */
@@ -26,11 +26,44 @@ export class Unseen {
     this.notes = undefined;
     /** @type {WeakMap<object, Memory>} by their buffers */
     this.memories = new EngineWeakMap();
+    /** @type {WeakMap<object, boolean>} buffers that aren't watched: whether they are the recorder's or node's, or copies */
+    this.others = new EngineWeakMap();
     /** @type {Note[]} what stays from run to run */
     this.lasting = [];
     /** @type {Note[]} of the run that goes on */
     this.found = [];
     this.run = 0;
+  }
+
+  /** @param {object} memory that has a copy of bytes, and that nobody else has */
+  addCopy(memory) {
+    weakSet(this.others, memory, false);
+  }
+
+  /**
+   * Leaves memory of the recorder's own, or of node's, out.
+   * @param {any} memory buffers, in lists and objects
+   */
+  exclude(memory) {
+    if (memory instanceof EngineShared) {
+      weakSet(this.others, memory, true);
+      return;
+    }
+    const keys = ownKeys(memory);
+    for (let at = 0; at < keys.length; at += 1) {
+      const value = memory[keys[at]];
+      if (typeof value === "object") this.exclude(value);
+    }
+  }
+
+  /** @param {unknown} buffer @returns {boolean} whether ordinary accesses to it are noted */
+  isWatched(buffer) {
+    return Unseen.isShared(buffer) && weakGet(this.others, buffer) === undefined;
+  }
+
+  /** @param {unknown} buffer @returns {buffer is SharedArrayBuffer} whether calls of Atomics on it are noted */
+  isTheirs(buffer) {
+    return Unseen.isShared(buffer) && weakGet(this.others, buffer) !== true;
   }
 
   /** A run begins. */
@@ -101,10 +134,20 @@ export class Unseen {
     const known = weakGet(this.memories, buffer);
     const { kind = "memory", what = "a SharedArrayBuffer", place } = known?.note ?? {};
     if (known?.run === this.run) return known.note;
+    const alike = this.#madeAt(what, place);
     /** @type {Note} */
-    const note = { kind, what, place, calls: 0, accesses: 0, first: sourceHere() };
+    const note = alike ?? { kind, what, place, calls: 0, accesses: 0, first: sourceHere() };
     weakSet(this.memories, buffer, { note, run: this.run });
-    this.add(note);
+    if (alike === undefined) this.add(note);
     return note;
+  }
+
+  /** @param {string} what @param {string | undefined} place @returns {Note | undefined} of memory made there before */
+  #madeAt(what, place) {
+    for (let at = 0; at < this.found.length; at += 1) {
+      const note = this.found[at];
+      if (note.kind === "memory" && note.what === what && note.place === place) return note;
+    }
+    return undefined;
   }
 }

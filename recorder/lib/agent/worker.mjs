@@ -21,7 +21,7 @@ import { Stores } from "../memory/stores.mjs";
 import { ownKeys, put, uncurried } from "../primordials.mjs";
 import { onceMore } from "../processes/garbage.mjs";
 import { recordedAtomics } from "./atomics.mjs";
-import { sourceHere } from "./frames.mjs";
+import { isCalledByAgents, sourceHere } from "./frames.mjs";
 import { Later } from "./later.mjs";
 import { Messages } from "./messages.mjs";
 import { blockNumber } from "./ordinary/context.mjs";
@@ -211,8 +211,10 @@ const watching = {
     const { player } = self;
     if (player !== undefined && player.isPlaying) player.seen(place, from, to, writes);
   },
-  isOther: (buffer) => Unseen.isShared(buffer) && isWatchable(buffer, seenOther),
+  isOther: (buffer) => unseen.isWatched(buffer) && isWatchable(buffer, seenOther),
   seenOther,
+  copied: (memory) => unseen.addCopy(memory),
+  isCalledByAgents,
   given: (what) => unseen.add({ kind: "given", what, place: sourceHere() }, true),
   refuse: (why) => {
     if (isRecording()) return refuse("did something", why);
@@ -321,6 +323,7 @@ async function loaded(load) {
  */
 function playerOf({ memory, plan, rules }, { later, messages }) {
   later.enable();
+  unseen.exclude(memory);
   unseen.notes = new Notes(memory.notes[self.agent]);
   const board = new Board(memory.board, rules);
   const buffers = new Memory(memory.buffers, memory.copies);

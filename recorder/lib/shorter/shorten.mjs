@@ -67,8 +67,9 @@ function isShorter(one, other) {
  * @param {RunSummary} told
  * @returns {string | undefined}
  */
-function whyNot({ ending, detail, noScript }) {
+function whyNot({ ending, detail, calls, noScript }) {
   if (noScript === NO_SCRIPT) return NO_SCRIPT;
+  if (calls === 0) return "it has no call of Atomics that could be left out, or come at another time";
   if (ending === "bound") return "it met a bound";
   if (ending === "failed" && /^agent \d+'s worker died: /.test(detail)) return "an agent's worker died";
   return undefined;

@@ -22,6 +22,8 @@ export const OTHER = SCRIPT_LIMITS.blocks;
  *   they are read or written; it may throw, and then nothing was done
  * @property {(buffer: unknown) => boolean} [isOther] whether a buffer is shared memory that isn't recorded
  * @property {(memory: object) => void} [seenOther] gets such memory before it is read or written
+ * @property {(memory: object) => void} [copied] gets new memory with a copy of bytes, which is no memory of the program's
+ * @property {(called: Function) => boolean} [isCalledByAgents] whether their code has called a function, and not node
  * @property {(what: string) => void} [given] gets what has given such memory, or a port, to another thread
  * @property {(why: string) => never} refuse ends the run
  */
@@ -32,6 +34,8 @@ export const watching = {
   seen: () => {},
   isOther: () => false,
   seenOther: () => {},
+  copied: () => {},
+  isCalledByAgents: () => true,
   given: () => {},
   refuse: (why) => {
     throw new Error(why);

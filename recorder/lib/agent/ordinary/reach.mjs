@@ -38,7 +38,8 @@ export const isOther = (value) => anyWatchedOf(value)?.place.block === OTHER;
 export const isRecorded = (value) => isWatched(value) && !isOther(value);
 
 /** @param {unknown} value @returns {boolean} whether a value has nothing in it that a function would look at */
-const isLeaf = (value) => !isObject(value) || tagOf(value) !== undefined || isView(value);
+const isLeaf = (value) =>
+  !isObject(value) || tagOf(value) !== undefined || isView(value) || anyWatchedOf(value) !== undefined;
 
 /**
  * What stands in an object, one after the other: the values of its own properties, and what a Map or Set has.
@@ -156,12 +157,8 @@ function copyExtras(from, to) {
   for (let at = first; at < keys.length; at += 1) copyProperty(to, from, keys[at]);
 }
 
-/** @param {any} array on memory that isn't recorded @returns {object} the engine's own, which is reported as read */
-function engineArray(array) {
-  const watched = /** @type {import("./watched.mjs").Watched} */ (anyWatchedOf(array));
-  tellAll(watched, false);
-  return watched.real;
-}
+/** @param {any} array on memory that isn't recorded @returns {object} the engine's own */
+const engineArray = (array) => /** @type {import("./watched.mjs").Watched} */ (anyWatchedOf(array)).real;
 
 /** @typedef {{ isIt: Test, copyOf: (value: any) => object }} Mirroring what is replaced, and by what */
 

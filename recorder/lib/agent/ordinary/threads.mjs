@@ -89,10 +89,14 @@ function handedOn(what, given, staysHere = false) {
   return revealed(given);
 }
 
-/** @type {(what: string) => import("./patch.mjs").Standing} */
-const handing = (what) => (engine) => methodOf((self, given) => {
-  return apply(engine, self, isStarting ? given : handedOn(what, given, peerOf(self) !== undefined));
-});
+/** @type {(what: string) => import("./patch.mjs").Standing} what node posts itself is none of the agents' memory */
+const handing = (what) => (engine) => {
+  const method = methodOf((self, given) => {
+    const isAgents = !isStarting && watching.isCalledByAgents(method);
+    return apply(engine, self, isAgents ? handedOn(what, given, peerOf(self) !== undefined) : given);
+  });
+  return method;
+};
 
 /**
  * Puts a class in the place of one of node's.
