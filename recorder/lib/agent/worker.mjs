@@ -9,7 +9,6 @@ import fs from "node:fs";
 import { syncBuiltinESMExports } from "node:module";
 import { Writable } from "node:stream";
 import threads from "node:worker_threads";
-import { shown } from "../../script/operands.mjs";
 import { Board } from "../board/board.mjs";
 import { ORDER, WORD } from "../memory/layout.mjs";
 import { Log } from "../memory/log.mjs";
@@ -18,9 +17,10 @@ import { Notes } from "../memory/notes.mjs";
 import { Records } from "../memory/records.mjs";
 import { Sources } from "../memory/sources.mjs";
 import { Stores } from "../memory/stores.mjs";
-import { ownKeys, put, uncurried } from "../primordials.mjs";
+import { ownKeys, put } from "../primordials.mjs";
 import { onceMore } from "../processes/garbage.mjs";
 import { recordedAtomics } from "./atomics.mjs";
+import { described } from "./described.mjs";
 import { isCalledByAgents, sourceHere } from "./frames.mjs";
 import { Later } from "./later.mjs";
 import { Messages } from "./messages.mjs";
@@ -28,80 +28,10 @@ import { blockNumber } from "./ordinary/context.mjs";
 import { watchOrdinary, watchOthers } from "./ordinary/watch.mjs";
 import { isWatchable, watchMaking } from "./other-memory.mjs";
 import { Player } from "./player.mjs";
-import { withoutOwn } from "./stack.mjs";
 import { Chance, simulateChance, simulateTime } from "./time.mjs";
 import { Unseen } from "./unseen.mjs";
 
 const { Error: EngineError, String: text, structuredClone: cloned } = globalThis;
-const includes = uncurried(String.prototype.includes);
-const plainTitle = uncurried(Error.prototype.toString);
-
-/**
- * An error's title as its own `toString` returns it, or as the engine does where the agents' code has broken that.
- * @param {Error} error
- * @returns {string}
- */
-function titleOf(error) {
-  const plain = plainTitle(error);
-  try {
-    const own = text(error);
-    return includes(own, text(error.message)) ? own : plain;
-  } catch {
-    return plain;
-  }
-}
-
-/**
- * An error's stack without the recorder's frames, where its code has left it one.
- * @param {Error} error
- */
-function stackOf(error) {
-  try {
-    return withoutOwn(text(error.stack ?? ""));
-  } catch {
-    return "";
-  }
-}
-
-/**
- * Something else than an error of this realm, with its message where it has one.
- * @param {any} thrown
- */
-function shownWithMessage(thrown) {
-  const message = typeof thrown === "object" && thrown !== null ? thrown.message : undefined;
-  return typeof message === "string" ? `an object with the message "${message}"` : shown(thrown);
-}
-
-// A cause has a cause in turn, perhaps without an end.
-const MOST_CAUSES = 3;
-
-/**
- * What an error was caused by, where it says so.
- * @param {Error} error
- * @param {number} depth how many came before
- */
-function causeOf(error, depth) {
-  const { cause } = error;
-  return cause === undefined || depth === MOST_CAUSES ? "" : `\ncaused by ${described(cause, depth + 1)}`;
-}
-
-/**
- * What was thrown, with its stack and its causes where it has them.
- * @param {unknown} thrown
- * @param {number} [depth] how many errors have it as their cause
- * @returns {string}
- */
-function described(thrown, depth = 0) {
-  try {
-    if (!(thrown instanceof EngineError)) return shownWithMessage(thrown);
-    const title = titleOf(thrown);
-    const stack = stackOf(thrown);
-    const whole = includes(stack, title) ? stack : `${title}\n${stack}`;
-    return `${stack === "" ? title : whole}${causeOf(thrown, depth)}`;
-  } catch {
-    return "a value that can't be shown";
-  }
-}
 
 // A worker's own streams are written by its event loop, which never comes to its turn again. What agents print goes to
 // standard error at once: standard output is the recorder's.
