@@ -168,7 +168,7 @@ export interface Outcome {
   /** Why it hasn't. */
   unchecked?: string;
   /** The run as its seed makes it, where the outcome is that of a shorter one. */
-  original?: Omit<Outcome, "original" | "shortened">;
+  original?: Omit<Outcome, "original" | "shortened" | "remembers">;
   /** What came of the option `shorten`, where the run failed. */
   shortened?: Shortened;
 }

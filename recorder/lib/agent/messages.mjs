@@ -77,10 +77,14 @@ export class Messages {
       if (found?.set === undefined) continue;
       const { set } = found;
       const listens = (/** @type {object} */ port) => this.#listens(`${this.#nameOf(port)}.${name}`);
-      found.set = { /** @param {unknown} listener */ set(listener) {
-        if (listener !== null && listener !== undefined) listens(this);
-        return apply(set, this, [listener]);
-      } }.set;
+      const setter = {
+        /** @param {unknown} listener */
+        set(listener) {
+          if (listener !== null && listener !== undefined) listens(this);
+          return apply(set, this, [listener]);
+        },
+      };
+      found.set = setter.set;
       defineProperty(prototype, name, found);
     }
   }
@@ -130,10 +134,14 @@ export class Messages {
   #replace(owner, name, ask) {
     const engine = owner[name];
     if (typeof engine !== "function") return;
-    const { [name]: method } = { /** @param {any[]} given */ [name](...given) {
-      if (isCalledByAgents(method)) ask(this, given[0]);
-      return apply(engine, this, given);
-    } };
+    /** @type {Record<string, Function>} */
+    const { [name]: method } = {
+      /** @param {any[]} given */
+      [name](...given) {
+        if (isCalledByAgents(method)) ask(this, given[0]);
+        return apply(engine, this, given);
+      },
+    };
     put(owner, name, method);
   }
 

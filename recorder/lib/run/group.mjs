@@ -39,7 +39,6 @@ import { within } from "./within.mjs";
  * @property {string} [trace] each event as an object of JSON, a line each
  * @property {import("./source-names.mjs").SourceText[]} [sources] the code of each file that the trace names
  * @property {number[]} [row] which agent moved with each draw, in order, where that is asked for
- * @property {string} [acts] a digest of script and report, where that is asked for
  * @property {string[]} [unrecorded] which shared memory and which threads agents used that aren't recorded, if any
  */
 

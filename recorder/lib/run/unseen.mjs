@@ -61,7 +61,8 @@ const NEVER_ALLOWED = ["message", "listener"];
  */
 export function unseenText(notes, unrecorded, nameOf) {
   const failing = unrecorded === "fail" ? notes : notes.filter(({ kind }) => NEVER_ALLOWED.includes(kind));
-  const sorted = failing.toSorted((one, other) => Number(other.waits !== undefined) - Number(one.waits !== undefined));
+  const sorted = [...failing];
+  sorted.sort((one, other) => Number(other.waits !== undefined) - Number(one.waits !== undefined));
   return sorted.map((note) => TEXTS[note.kind](note, nameOf)).join("\n");
 }
 

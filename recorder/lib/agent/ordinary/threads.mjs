@@ -12,6 +12,7 @@ import { anyWatchedOf } from "./watched.mjs";
 
 const EngineShared = SharedArrayBuffer;
 const EngineMemory = WebAssembly.Memory;
+/** @type {Function} */
 const EnginePort = MessagePort;
 const EngineProxy = Proxy;
 const { isView } = ArrayBuffer;
@@ -67,7 +68,7 @@ function givesAway(given) {
   let isFound = false;
   anyReaches(given, WHOLLY, false, (value) => {
     const isPort = value instanceof EnginePort;
-    if (isPort) giveAway(value);
+    if (isPort) giveAway(/** @type {object} */ (value));
     isFound ||= isPort || isShared(value);
     return false;
   });
