@@ -39,6 +39,7 @@ export class Messages {
 
   /** A run begins. */
   begin() {
+    if (this.ports.length === 0) return;
     this.waiting = new EngineWeakMap();
     this.ports = [];
   }

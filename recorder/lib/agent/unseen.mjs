@@ -69,16 +69,17 @@ export class Unseen {
   /** A run begins. */
   begin() {
     this.run += 1;
-    this.found = [];
+    if (this.found.length > 0) this.found = [];
     if (this.lasting.length > 0) this.write();
   }
 
   /** Writes down all that was noted. */
   write() {
+    if (this.found.length === 0 && this.lasting.length === 0) return;
     const all = [];
     for (let at = 0; at < this.found.length; at += 1) all[all.length] = this.found[at];
     for (let at = 0; at < this.lasting.length; at += 1) all[all.length] = this.lasting[at];
-    if (all.length > 0) this.notes?.write(all);
+    this.notes?.write(all);
   }
 
   /**

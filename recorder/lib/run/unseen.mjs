@@ -60,6 +60,7 @@ const NEVER_ALLOWED = ["message", "listener"];
  * @returns {string} a line for each note, those of agents that would wait first; empty if it doesn't fail for them
  */
 export function unseenText(notes, unrecorded, nameOf) {
+  if (notes.length === 0) return "";
   const failing = unrecorded === "fail" ? notes : notes.filter(({ kind }) => NEVER_ALLOWED.includes(kind));
   const sorted = [...failing];
   sorted.sort((one, other) => Number(other.waits !== undefined) - Number(one.waits !== undefined));
@@ -73,6 +74,7 @@ export function unseenText(notes, unrecorded, nameOf) {
  * @returns {string[]} each once
  */
 export function unrecordedIn(notes, nameOf) {
+  if (notes.length === 0) return [];
   const texts = notes.flatMap(({ kind, what, place }) => {
     if (NEVER_ALLOWED.includes(kind)) return [];
     if (kind === "memory" || kind === "wasm") return [madeAt(what, place, nameOf)];
