@@ -36,6 +36,7 @@ import { unseenText } from "./unseen.mjs";
  * @property {boolean} fresh
  * @property {boolean} trace
  * @property {boolean} [tellsMeetings]
+ * @property {boolean} [isBrief] whether of a run that passes no bytes and answers are told
  * @property {"watch" | "store" | "refuse"} ordinary
  * @property {"fail" | "allow"} races
  * @property {"fail" | "allow"} bounds
