@@ -81,6 +81,11 @@ export interface RecordOptions {
   races?: "fail" | "allow";
   /** Whether a run that meets a bound fails; else "fail". */
   bounds?: "fail" | "allow";
+  /**
+   * Whether a run fails in which agents use shared memory that isn't recorded, as a SharedArrayBuffer that their code
+   * makes itself; else "fail".
+   */
+  unrecorded?: "fail" | "allow";
   /** The time that clocks tell agents: the run's own or the machine's; else "run". */
   clock?: "run" | "real";
   /** Fills the buffers before the run, in place of the module's `init`. */
@@ -168,12 +173,16 @@ export interface Outcome {
   onlyByTime?: OnlyByTime[];
   /** Of a run that has timed waits: the places at which agents wait, and that other agents have notified or written. */
   served?: { block: number; byte: number }[];
+  /** Which shared memory and which threads agents used that aren't recorded, if any. */
+  unrecorded?: string[];
+  /** Of the last outcome of `explore`: how the run of the first seed differed when it was made once more, if it did. */
+  remembers?: { seed: number; differs: string; was: string; is: string };
   /** Whether sabsim has replayed the run and, if it was watched, looked for unordered accesses, and says the same. */
   checked: boolean;
   /** Why it hasn't. */
   unchecked?: string;
   /** The run as its seed makes it, where the outcome is that of a shorter one. */
-  original?: Omit<Outcome, "original" | "shortened">;
+  original?: Omit<Outcome, "original" | "shortened" | "remembers">;
   /** What came of the option `shorten`, where the run failed. */
   shortened?: Shortened;
 }

@@ -33,7 +33,8 @@ describe("each argument at each place gives what the engine gives", () => {
   async function foundByAgent(context, whose, kinds) {
     const file = join(temporaryFolder(context), "found.json");
     const buffers = kinds.slice(0, 4).map(() => 64);
-    const outcome = await record({ ...HOW, buffers, module: agentsPath("conversions"), args: [whose, file, ...kinds] });
+    const own = { module: agentsPath("conversions"), args: [whose, file, ...kinds], unrecorded: "allow" };
+    const outcome = await record({ ...HOW, buffers, ...own });
     assert.equal(outcome.ending, "finished", outcome.detail);
     return { outcome, results: JSON.parse(readFileSync(file, "utf8")) };
   }

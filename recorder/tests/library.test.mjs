@@ -36,6 +36,7 @@ test("each option that can't be is refused, with one line that names it", async 
     ordinary: ["see", "Watch", true, "toString", ["watch"], null],
     races: ["ignore", true, null],
     bounds: ["ignore", false, null],
+    unrecorded: ["ignore", true, null],
     clock: ["simulated", 0, null],
     init: [true, "init", null],
     check: ["yes", 1, true, false, null],

@@ -131,6 +131,7 @@ test("each wrong option is refused, with one line that names it", () => {
     [["m.mjs", "--ordinary", ""], /^--ordinary must be watch, store or refuse, but is ""$/],
     [["m.mjs", "--races", "ignore"], /^--races must be fail or allow, but is "ignore"$/],
     [["m.mjs", "--bounds", "Allow"], /^--bounds must be fail or allow, but is "Allow"$/],
+    [["m.mjs", "--unrecorded", "ignore"], /^--unrecorded must be fail or allow, but is "ignore"$/],
     [["m.mjs", "--clock", "toString"], /^--clock must be run or real, but is "toString"$/],
     [["m.mjs", "--timeouts", "1.01"], /^--timeouts must be a number from 0 to 1, or never, but is "1.01"$/],
     [["m.mjs", "--timeouts", "Never"], /^--timeouts must be a number from 0 to 1, or never, but is "Never"$/],
@@ -155,6 +156,7 @@ test("what the command line leaves out has its default", () => {
   assert.deepEqual([path, checkEvery], [undefined, 1]);
   const { ordinary, races, bounds, clock, timeouts, failFast, everywhere, untilCovered } = optionsOf(["m.mjs"]);
   assert.deepEqual([ordinary, races, bounds, clock], ["watch", "fail", "fail", "run"]);
+  assert.equal(optionsOf(["m.mjs"]).unrecorded, "fail");
   assert.deepEqual([timeouts, failFast, everywhere, untilCovered], [0.05, false, false, false]);
   assert.equal(optionsOf(["m.mjs", "--seeds", "8"]).last, 8);
 });
@@ -165,6 +167,7 @@ test("what the command line says is taken", () => {
   const { ordinary, races, bounds, clock, timeouts, failFast } = optionsOf(["m.mjs", ...words, "--fail-fast"]);
   assert.deepEqual([ordinary, races, bounds, clock], ["store", "allow", "allow", "real"]);
   assert.deepEqual([timeouts, failFast], [0.25, true]);
+  assert.equal(optionsOf(["m.mjs", "--unrecorded=allow"]).unrecorded, "allow");
   const strategyOf = (...more) => optionsOf(["m.mjs", ...more]).strategy;
   assert.equal(strategyOf("--strategy", "partial-order"), "partial-order");
   assert.equal(strategyOf("--strategy", "switch:0.25"), "switch:0.25");
@@ -178,7 +181,7 @@ test("help names each option that there is", () => {
   const refused = (word) => why(word).startsWith("there is no option");
   const named = [...USAGE.matchAll(/^ {2}(--[a-z-]+)/gm)].map(([, word]) => word);
   assert.deepEqual(named.filter(refused), []);
-  for (const option of ["strategy", "everywhere", "until-covered", "ordinary", "races", "bounds", "clock", "timeouts", "fail-fast", "out", "jobs", "buffers",
+  for (const option of ["strategy", "everywhere", "until-covered", "ordinary", "races", "bounds", "unrecorded", "clock", "timeouts", "fail-fast", "out", "jobs", "buffers",
     "check", "help"]) {
     assert.ok(named.includes(`--${option}`), option);
   }

@@ -222,9 +222,19 @@ test("messages to whoever started the worker change nothing", async (context) =>
   const options = { sabsim: CHECKER };
   const expected = await recordText(context, text("", ""), options);
   assert.equal(expected.ending, "finished");
-  const cases = [[posts, ""], ["", posts], ["", "parentPort.close();"], ["parentPort.on('message', () => {});", posts]];
+  const cases = [[posts, ""], ["", "parentPort.close();"], ["parentPort.on('close', () => {});", ""]];
   const outcomes = await madeOfEach(cases, ([top, body]) => recordText(context, text(top, body), options));
   for (const outcome of outcomes) assert.deepEqual(outcome, expected);
+  // In an agent nobody takes them, which is no pass, and else they change nothing.
+  const named = [
+    [["", posts], /^agent 0 calls parentPort\.postMessage at agents\.mjs:5:18, but nobody takes its messages: /],
+    [["parentPort.on('message', () => {});", ""], /^agent 0 listens for messages, by parentPort\.on at agents\.mjs:3:16, /],
+  ];
+  const failing = await madeOfEach(named, ([[top, body]]) => recordText(context, text(top, body), options));
+  failing.forEach(({ ending, detail }, at) => {
+    assert.equal(ending, "failed");
+    assert.match(detail, named[at][1]);
+  });
 });
 
 describe("arrays of the program's own", () => {
@@ -234,7 +244,7 @@ describe("arrays of the program's own", () => {
       const words = new Int32Array(buffers[0]);
       Atomics.add(words, 0, 1);
       const told = (() => { ${body} })();
-      throw new Error("told " + JSON.stringify(told));`, { agents: 1, ...options });
+      throw new Error("told " + JSON.stringify(told));`, { agents: 1, unrecorded: "allow", ...options });
     const [, told] = /^agent 0 threw Error: told (.*)$/m.exec(outcome.detail) ?? assert.fail(outcome.detail);
     return { told: JSON.parse(told), outcome };
   }
@@ -270,7 +280,8 @@ describe("arrays of the program's own", () => {
     const { told, outcome } = await answersOf(context, `
       const from = performance.now();
       const own = new Int32Array(new SharedArrayBuffer(4));
-      return [Atomics.wait(own, 0, 0, 60_000), Atomics.wait(own, 0, 1, 60_000), performance.now() - from >= 60_000];`);
+      return [Atomics.wait(own, 0, 0, 60_000), Atomics.wait(own, 0, 1, 60_000), performance.now() - from >= 60_000];`,
+    { unrecorded: "fail" });
     assert.deepEqual(told, ["timed-out", "not-equal", true]);
     assert.deepEqual(outcome.answers, [["0"]]);
     assert.ok(performance.now() - began < 30_000);
@@ -290,7 +301,7 @@ describe("arrays of the program's own", () => {
         const slept = Atomics.wait(own, 0, 1, 50);
         const time = Date.now() - from;
         throw new Error("told " + JSON.stringify([woken, slept, time >= 140 && time < 4_000]));
-      }`, { agents: 1, clock: "real", seconds: 10 });
+      }`, { agents: 1, clock: "real", unrecorded: "allow", seconds: 10 });
     assert.match(outcome.detail, /^agent 0 threw Error: told \["ok","timed-out",true\]$/m);
   });
 

@@ -242,6 +242,8 @@ test("the object of a summary has all that its text has, and what the text leave
       allowed: false, runs: 1,
       pairs: { listed: [{ lines: ["ring.mjs:12:7", "ring.mjs:20:11"], runs: 1, first: 4 }], others: 0 },
     },
+    unrecorded: { allowed: false, runs: 0, used: { listed: [], others: 0 } },
+    remembers: null,
     states: {
       failing: { listed: [{ ending: "race", hash: "race 0900 ", shown: ["0900", ""], runs: 1, first: 4 }], others: 0 },
       passing: { listed: [{ ending: "finished", hash: "finished 01", shown: ["01"], runs: 3, first: 1 }], others: 0 },
@@ -265,9 +267,9 @@ test("the object of a summary has all that its text has, and what the text leave
   const asleep = { ...told, onlyByTime: { ...told.onlyByTime, served: [{ block: 1, byte: 8 }] } };
   assert.ok(!summaryText(asleep).includes("only since"));
   assert.deepEqual(lines.slice(-3), ["kept in found: seed-4.report", "not kept: this", ""]);
-  const options = { ...SEEN, args: [], preloads: false };
+  const options = { ...SEEN, unrecorded: "fail", args: [], preloads: false };
   const asked = { module: "m.mjs", digest: "", seeds: [], shard: null, options };
-  assert.equal(whyNoSummary({ summary: 2, asked, seeds: [], ...told }), undefined);
+  assert.equal(whyNoSummary({ summary: 3, asked, seeds: [], ...told }), undefined);
 });
 
 /** Made-up outcomes of all kinds: which one a seed has is drawn from it. */

@@ -58,6 +58,11 @@ declare module "node:worker_threads" {
   export const parentPort: MessagePort | null;
   export const workerData: any;
   export function receiveMessageOnPort(port: MessagePort): { message: any } | undefined;
-  const threads: Record<"MessagePort" | "BroadcastChannel" | "Worker", Function>;
+  type Class = "MessagePort" | "MessageChannel" | "BroadcastChannel" | "Worker";
+  const threads: Record<Class, Function> & {
+    parentPort: MessagePort | null;
+    workerData: any;
+    receiveMessageOnPort(port: MessagePort): { message: any } | undefined;
+  };
   export default threads;
 }

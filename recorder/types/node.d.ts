@@ -121,7 +121,11 @@ declare class AbortController {
 declare const process: NodeJS.Process;
 declare const performance: { now(): number; readonly timeOrigin: number };
 declare const console: Record<"log" | "error", (...given: unknown[]) => void> & { Console: Function };
+declare const MessagePort: Function;
 declare namespace WebAssembly {
+  class Memory {
+    readonly buffer: ArrayBuffer | SharedArrayBuffer;
+  }
   class Module {
     constructor(bytes: Uint8Array);
   }

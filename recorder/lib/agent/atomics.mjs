@@ -3,27 +3,25 @@
 
 import { CALLS, CALL_NUMBERS, kindOf } from "../../script/kinds.mjs";
 import { isWhole } from "../../script/operands.mjs";
-import { apply, bufferOf, create, likeEngine, lengthOf, offsetOf, put } from "../primordials.mjs";
+import { bufferOf, likeEngine, lengthOf, offsetOf, put } from "../primordials.mjs";
 import { countFrom, indexFrom, limitOf, operandFrom, timeoutFrom } from "./conversions.mjs";
+import { callElsewhere } from "./elsewhere.mjs";
 import { unwrapped } from "./ordinary/watched.mjs";
 
 const { wait: WAIT, notify: NOTIFY } = CALL_NUMBERS;
-const { isNaN } = Number;
-const { toPrimitive } = Symbol;
 
 /** @typedef {import("../memory/records.mjs").Call} Call */
-/** @typedef {Record<string, any>} Functions an Atomics: its functions by their names */
+/** @typedef {import("./elsewhere.mjs").Functions} Functions */
 
 /**
- * @typedef {object} Asking how the calls of one agent are made
+ * @typedef {object} Own how the calls of one agent are made
  * @property {(buffer: unknown) => number} blockOf the position of a buffer among those that are recorded, or -1
- * @property {() => boolean} isRecording whether the agent's part in a run goes on
  * @property {(call: Call, view: object, called: Function) => unknown} make blocks until it is the agent's turn; above
  * what was called stands the agent's own frame
- * @property {boolean} simulatesTime whether a run has a time of its own
- * @property {(milliseconds: number) => void} sleep lets the run's time pass in a wait that nobody can end
  * @property {(why: string) => never} refuse ends the run, for a call that no script can have
  */
+
+/** @typedef {Own & import("./elsewhere.mjs").Elsewhere} Asking */
 
 /**
  * What a script has for a call. What the language converts is converted here, in its order.
@@ -56,47 +54,6 @@ function callOf(call, given, view, kind, block, refuse) {
   return asked;
 }
 
-/** @param {number} timeout @returns {number} for how long the engine waits, where the run's time goes on instead */
-const engineTime = (timeout) => (isNaN(timeout) || timeout === Infinity ? timeout : 0);
-
-/**
- * A call on an array of the program's own. A wait there that has a timeout is how code sleeps; nobody else has the
- * array, so it takes only the run's time.
- * @param {Functions} engine
- * @param {Asking} asking
- * @param {string} name
- * @param {any[]} given
- */
-function privately(engine, asking, name, given) {
-  const timeout = given[3];
-  const sleeps = name === "wait" && timeout !== undefined && asking.simulatesTime && asking.isRecording();
-  if (!sleeps) return apply(engine[name], engine, given);
-  if (typeof timeout !== "number") return waitConverting(engine, asking, given);
-  const answer = apply(engine.wait, engine, [given[0], given[1], given[2], engineTime(timeout)]);
-  if (answer === "timed-out") asking.sleep(timeout);
-  return answer;
-}
-
-/**
- * A wait there whose timeout is converted: once, by the engine, after the index and the value.
- * @param {Functions} engine
- * @param {Asking} asking
- * @param {any[]} given
- */
-function waitConverting(engine, asking, given) {
-  const timeout = given[3];
-  let milliseconds = 0;
-  const converted = create(null);
-  converted[toPrimitive] = () => {
-    milliseconds = +timeout;
-    return engineTime(milliseconds);
-  };
-  given[3] = converted;
-  const answer = apply(engine.wait, engine, given);
-  if (answer === "timed-out") asking.sleep(milliseconds);
-  return answer;
-}
-
 /**
  * One function of the agents' Atomics.
  * @param {Functions} engine
@@ -113,7 +70,7 @@ function recorded(engine, asking, call) {
     const block = kind < 0 ? -1 : asking.blockOf(bufferOf(view));
     if (block < 0 || !asking.isRecording()) {
       given[0] = view;
-      return privately(engine, asking, name, given);
+      return callElsewhere(engine, asking, name, given, kind < 0 ? undefined : bufferOf(view));
     }
     return asking.make(callOf(call, given, view, kind, block, refuse), view, made);
   };
@@ -130,10 +87,11 @@ function recorded(engine, asking, call) {
 function outside(engine, asking, name) {
   return (...given) => {
     const view = unwrapped(given[0]);
-    const isRecorded = kindOf(view) >= 0 && asking.blockOf(bufferOf(view)) >= 0;
+    const buffer = kindOf(view) < 0 ? undefined : bufferOf(view);
+    const isRecorded = buffer !== undefined && asking.blockOf(buffer) >= 0;
     if (isRecorded) return asking.refuse(`Atomics.${name}: no script can have this function: use Atomics.wait`);
     given[0] = view;
-    return apply(engine[name], engine, given);
+    return callElsewhere(engine, asking, name, given, buffer);
   };
 }
 

@@ -18,7 +18,8 @@ const MOST_FRAMES = 100;
 
 // The recorder's own files, and node's.
 const RECORDER = new URL("../../", import.meta.url).href;
-const OWN = [`${RECORDER}lib/`, `${RECORDER}script/`, "node:"];
+const LIBRARY = `${RECORDER}lib/`;
+const OWN = [LIBRARY, `${RECORDER}script/`, "node:"];
 
 /** @type {(error: Error, frames: NodeJS.CallSite[]) => NodeJS.CallSite[]} */
 const sites = (_error, frames) => frames;
@@ -94,6 +95,19 @@ function agentsFrame(from) {
 export function sourceHere() {
   const frame = agentsFrame(sourceHere);
   return frame && `${frame.getFileName()}:${frame.getLineNumber()}:${frame.getColumnNumber()}`;
+}
+
+/**
+ * Whether the agents' code has called a function, perhaps by functions of the recorder, and not node.
+ * @param {Function} called
+ */
+export function isCalledByAgents(called) {
+  const frames = framesHere(called, SOME_FRAMES);
+  for (let at = 0; at < frames.length; at += 1) {
+    const file = frames[at].getFileName();
+    if (typeof file !== "string" || !begins(file, LIBRARY)) return isAgents(file);
+  }
+  return false;
 }
 
 /**

@@ -122,6 +122,15 @@ export class Player {
   }
 
   /**
+   * Ends the run for something that was noted, since nobody sees it.
+   * @returns {never}
+   */
+  endUnseen() {
+    this.part.enter();
+    return this.part.end("failed", "");
+  }
+
+  /**
    * Notes an ordinary access that is about to be made.
    * @param {Place} place
    * @param {number} from its first byte in the block
@@ -155,9 +164,11 @@ export class Player {
   }
 
   #begin() {
-    const { board, stores, later, chance } = this.table;
+    const { board, stores, later, messages, unseen, chance } = this.table;
     clearMap(this.views);
     this.part.begin();
+    messages.begin();
+    unseen.begin();
     stores.join();
     chance.begin(board.clock.seed());
     later.begin();
@@ -314,8 +325,10 @@ export class Player {
 
   /** @param {string | undefined} problem why the agent's code ended, where it didn't come to its end */
   #finish(problem) {
-    const { board, later } = this.table;
+    const { board, later, messages, unseen } = this.table;
     later.end();
+    if (problem === undefined && !this.part.isOver) messages.noteLeft();
+    unseen.write();
     board.journal.countOrdinary(this.agent, this.part.accesses.count);
     let hasTurn = false;
     try {

@@ -8,6 +8,8 @@
  * @property {import("../memory/records.mjs").Records} records of its own calls
  * @property {import("../memory/sources.mjs").Sources} sources of its own code
  * @property {import("./later.mjs").Later} later
+ * @property {import("./messages.mjs").Messages} messages
+ * @property {import("./unseen.mjs").Unseen} unseen
  * @property {import("./time.mjs").Chance} chance
  * @property {number[]} lengths of the buffers
  * @property {boolean} canBlock

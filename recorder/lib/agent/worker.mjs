@@ -8,94 +8,30 @@
 import fs from "node:fs";
 import { syncBuiltinESMExports } from "node:module";
 import { Writable } from "node:stream";
-import { workerData } from "node:worker_threads";
-import { shown } from "../../script/operands.mjs";
+import threads from "node:worker_threads";
 import { Board } from "../board/board.mjs";
 import { ORDER, WORD } from "../memory/layout.mjs";
 import { Log } from "../memory/log.mjs";
 import { Memory } from "../memory/memory.mjs";
+import { Notes } from "../memory/notes.mjs";
 import { Records } from "../memory/records.mjs";
 import { Sources } from "../memory/sources.mjs";
 import { Stores } from "../memory/stores.mjs";
-import { ownKeys, put, uncurried } from "../primordials.mjs";
+import { ownKeys, put } from "../primordials.mjs";
 import { onceMore } from "../processes/garbage.mjs";
 import { recordedAtomics } from "./atomics.mjs";
+import { described } from "./described.mjs";
+import { isCalledByAgents, sourceHere } from "./frames.mjs";
 import { Later } from "./later.mjs";
-import { watchOrdinary } from "./ordinary/watch.mjs";
+import { Messages } from "./messages.mjs";
+import { blockNumber } from "./ordinary/context.mjs";
+import { watchOrdinary, watchOthers } from "./ordinary/watch.mjs";
+import { isWatchable, watchMaking } from "./other-memory.mjs";
 import { Player } from "./player.mjs";
-import { withoutOwn } from "./stack.mjs";
 import { Chance, simulateChance, simulateTime } from "./time.mjs";
+import { Unseen } from "./unseen.mjs";
 
 const { Error: EngineError, String: text, structuredClone: cloned } = globalThis;
-const includes = uncurried(String.prototype.includes);
-const plainTitle = uncurried(Error.prototype.toString);
-
-/**
- * An error's title as its own `toString` returns it, or as the engine does where the agents' code has broken that.
- * @param {Error} error
- * @returns {string}
- */
-function titleOf(error) {
-  const plain = plainTitle(error);
-  try {
-    const own = text(error);
-    return includes(own, text(error.message)) ? own : plain;
-  } catch {
-    return plain;
-  }
-}
-
-/**
- * An error's stack without the recorder's frames, where its code has left it one.
- * @param {Error} error
- */
-function stackOf(error) {
-  try {
-    return withoutOwn(text(error.stack ?? ""));
-  } catch {
-    return "";
-  }
-}
-
-/**
- * Something else than an error of this realm, with its message where it has one.
- * @param {any} thrown
- */
-function shownWithMessage(thrown) {
-  const message = typeof thrown === "object" && thrown !== null ? thrown.message : undefined;
-  return typeof message === "string" ? `an object with the message "${message}"` : shown(thrown);
-}
-
-// A cause has a cause in turn, perhaps without an end.
-const MOST_CAUSES = 3;
-
-/**
- * What an error was caused by, where it says so.
- * @param {Error} error
- * @param {number} depth how many came before
- */
-function causeOf(error, depth) {
-  const { cause } = error;
-  return cause === undefined || depth === MOST_CAUSES ? "" : `\ncaused by ${described(cause, depth + 1)}`;
-}
-
-/**
- * What was thrown, with its stack and its causes where it has them.
- * @param {unknown} thrown
- * @param {number} [depth] how many errors have it as their cause
- * @returns {string}
- */
-function described(thrown, depth = 0) {
-  try {
-    if (!(thrown instanceof EngineError)) return shownWithMessage(thrown);
-    const title = titleOf(thrown);
-    const stack = stackOf(thrown);
-    const whole = includes(stack, title) ? stack : `${title}\n${stack}`;
-    return `${stack === "" ? title : whole}${causeOf(thrown, depth)}`;
-  } catch {
-    return "a value that can't be shown";
-  }
-}
 
 // A worker's own streams are written by its event loop, which never comes to its turn again. What agents print goes to
 // standard error at once: standard output is the recorder's.
@@ -132,6 +68,7 @@ const NO_AGENT = "it has no function as its default export, as `export default f
  * @property {string[]} args
  * @property {"watch" | "store" | "refuse"} ordinary
  * @property {"run" | "real"} clock
+ * @property {"fail" | "allow"} unrecorded
  * @property {string} module the URL of the agents' module
  */
 
@@ -142,7 +79,7 @@ const NO_AGENT = "it has no function as its default export, as `export default f
  * @property {import("../board/strategy.mjs").Rules} rules
  */
 
-const { port, args, ordinary, clock, module: file } = /** @type {Given} */ (workerData);
+const { port, args, ordinary, clock, unrecorded, module: file } = /** @type {Given} */ (threads.workerData);
 
 /**
  * Which agent it is, and how its calls are made; none can be while its module is being loaded.
@@ -150,6 +87,7 @@ const { port, args, ordinary, clock, module: file } = /** @type {Given} */ (work
  */
 const self = { agent: 0, player: undefined, buffers: [] };
 const chance = new Chance();
+const unseen = new Unseen(unrecorded === "allow");
 
 /** @param {unknown} buffer */
 const blockOf = (buffer) => {
@@ -176,14 +114,24 @@ function playing() {
 const refuse = (what, why) =>
   playing().refuse(`${what} that the recorder can't record: ${described(new EngineError(why))}`);
 
+const endUnseen = () => playing().endUnseen();
+
 /** @type {import("./atomics.mjs").Asking} */
 const asking = {
-  blockOf,
+  // A clone of a buffer has its memory.
+  blockOf: blockNumber,
   isRecording,
   make: (call, view, called) => playing().make(call, view, called),
   simulatesTime: clock === "run",
   sleep: (milliseconds) => playing().doze(milliseconds),
   refuse: (why) => refuse("made a call", why),
+  unseen,
+  endUnseen,
+};
+
+/** @param {object} memory that isn't recorded, before an ordinary access to it */
+const seenOther = (memory) => {
+  if (isRecording() && unseen.use(memory, "accesses")) endUnseen();
 };
 
 /** @type {import("./ordinary/context.mjs").Watching} */
@@ -193,24 +141,34 @@ const watching = {
     const { player } = self;
     if (player !== undefined && player.isPlaying) player.seen(place, from, to, writes);
   },
+  isOther: (buffer) => unseen.isWatched(buffer) && isWatchable(buffer, seenOther),
+  seenOther,
+  copied: (memory) => unseen.addCopy(memory),
+  isCalledByAgents,
+  given: (what) => unseen.add({ kind: "given", what, place: sourceHere() }, true),
   refuse: (why) => {
     if (isRecording()) return refuse("did something", why);
     throw new EngineError(why);
   },
 };
 
+/** @typedef {{ later: Later, messages: Messages }} Noting */
+
 /**
  * Replaces what shows an agent the world.
- * @returns {Later} what notes from now on what is left for later
+ * @returns {Noting} what notes from now on what is left for later, and what nobody serves
  */
 function furnish() {
   printAtOnce();
   if (clock === "run") simulateTime(() => (isRecording() ? playing().look() : 0));
   simulateChance(chance);
   if (ordinary === "watch") watchOrdinary(watching);
+  else watchOthers(watching);
+  watchMaking(unseen);
+  const messages = new Messages(unseen, { isPlaying: isRecording, end: endUnseen }, threads);
   globalThis.Atomics = recordedAtomics(Atomics, asking);
   syncBuiltinESMExports();
-  return new Later();
+  return { later: new Later(), messages };
 }
 
 /**
@@ -291,10 +249,12 @@ async function loaded(load) {
 /**
  * The agent's player, over the memory that the group shares.
  * @param {Handed} handed
- * @param {Later} later
+ * @param {Noting} noting
  */
-function playerOf({ memory, plan, rules }, later) {
+function playerOf({ memory, plan, rules }, { later, messages }) {
   later.enable();
+  unseen.exclude(memory);
+  unseen.notes = new Notes(memory.notes[self.agent]);
   const board = new Board(memory.board, rules);
   const buffers = new Memory(memory.buffers, memory.copies);
   return new Player(self.agent, {
@@ -305,6 +265,8 @@ function playerOf({ memory, plan, rules }, later) {
     records: new Records(memory.records[self.agent]),
     sources: new Sources(memory.sources[self.agent]),
     later,
+    messages,
+    unseen,
     chance,
     lengths: plan.buffers,
     canBlock: plan.canBlock[self.agent],
@@ -349,7 +311,7 @@ const nextMessage = () => new Promise((done) => {
 /** @param {(url: string) => Promise<any>} load imports a module */
 export async function main(load) {
   const numbered = nextMessage();
-  const later = furnish();
+  const noting = furnish();
   port.postMessage({ begun: true });
   self.agent = (await numbered).agent;
   chance.agent = self.agent;
@@ -363,7 +325,7 @@ export async function main(load) {
   }
   const given = await handed;
   self.buffers = given.memory.buffers;
-  self.player = playerOf(given, later);
+  self.player = playerOf(given, noting);
   port.postMessage({ ready: true });
   serve(module, given.plan.agents);
 }

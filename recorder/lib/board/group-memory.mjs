@@ -1,6 +1,7 @@
 // The memory that the threads of a group share: the agents' buffers, and what the recorder writes down of a run.
 
 import { Log } from "../memory/log.mjs";
+import { Notes } from "../memory/notes.mjs";
 import { Records } from "../memory/records.mjs";
 import { Sources } from "../memory/sources.mjs";
 import { Stores } from "../memory/stores.mjs";
@@ -20,5 +21,6 @@ export function memoryOf({ agents, buffers }, logEvents) {
     buffers: buffers.map((bytes) => new SharedArrayBuffer(bytes)),
     copies: buffers.map((bytes) => new SharedArrayBuffer(bytes)),
     records: Array.from({ length: agents }, () => Records.memory()),
+    notes: Array.from({ length: agents }, () => Notes.memory()),
   };
 }

@@ -69,8 +69,8 @@ export function merged(parts) {
   needsFitting(parts);
   const summaries = parts.map(({ summary }) => summary).sort((one, other) => firstSeed(one) - firstSeed(other));
   const [{ asked }] = summaries;
-  const { ordinary, races, preloads } = /** @type {any} */ (asked.options);
-  const joined = new Summary({ ordinary, races, preloads });
+  const { ordinary, races, unrecorded, preloads } = /** @type {any} */ (asked.options);
+  const joined = new Summary({ ordinary, races, unrecorded, preloads });
   for (const summary of summaries) joined.join(summary);
   const askedSeeds = united(summaries.flatMap((summary) => summary.asked.seeds));
   const seeds = united(summaries.flatMap((summary) => summary.seeds));

@@ -126,7 +126,8 @@ function replayOf({ replay: file, seeds, out }) {
 
 /**
  * @typedef {import("../run/group.mjs").GroupOptions & Omit<import("../seeds/runs.mjs").OfRuns, "sabsim"> & Own
- * & { ordinary: "watch" | "store" | "refuse", races: "fail" | "allow" }} Options
+ * & { ordinary: "watch" | "store" | "refuse", races: "fail" | "allow",
+ * unrecorded: "fail" | "allow" }} Options
  */
 
 /** @param {string[]} words after the program's name @returns {Options | { help: true }} what a command line asks for */

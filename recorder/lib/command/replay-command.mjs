@@ -6,7 +6,7 @@ import { quoted, shortPath } from "../keeping/about.mjs";
 import { OPTIONS } from "../options/table.mjs";
 
 // What a run by a row of draws depends on, besides the module and the agents' arguments.
-const NAMES = /** @type {const} */ (["timeouts", "ordinary", "races", "bounds", "clock"]);
+const NAMES = /** @type {const} */ (["timeouts", "ordinary", "races", "bounds", "unrecorded", "clock"]);
 
 const PROGRAM = join(fileURLToPath(new URL("../../", import.meta.url)), "record.mjs");
 

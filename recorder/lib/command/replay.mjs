@@ -95,7 +95,8 @@ export class Replay {
     const difference = script === undefined ? undefined : differenceText(this.kept, keptScript(script, "the run"));
     if (difference !== undefined) throw new NoLongerTheSame(difference);
     const summary = new Summary({
-      ordinary: options.ordinary, races: options.races, checkedBy: simulator?.version, preloads: preloads(),
+      ordinary: options.ordinary, races: options.races, unrecorded: options.unrecorded,
+      checkedBy: simulator?.version, preloads: preloads(),
     });
     summary.add(outcome);
     await print(`${this.#title()}\n${summary.text()}`);

@@ -40,7 +40,8 @@ export class Session {
     this.coverage = options.untilCovered ? new Coverage() : undefined;
     this.keeper = options.out === undefined ? undefined : new Keeper(options.out);
     this.summary = new Summary({
-      ordinary: options.ordinary, races: options.races, preloads: isPreloaded, coverage: this.coverage,
+      ordinary: options.ordinary, races: options.races, unrecorded: options.unrecorded, preloads: isPreloaded,
+      coverage: this.coverage,
       checkedBy: isChecked ? this.simulator.version : undefined,
     });
     /** @type {string[]} what isn't kept though there is a script to make it from, and why */
@@ -88,6 +89,7 @@ export class Session {
     const { runs, summary } = this;
     try {
       for await (const outcome of runs.outcomes()) if (this.#isLast(outcome)) break;
+      summary.remembers = await runs.firstAgain();
       const found = this.#toShorten();
       if (found === undefined) return;
       summary.shortened = await runs.shorten(found, (tried) => this.progress.showShortening(found.seed, tried));

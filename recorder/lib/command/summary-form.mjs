@@ -7,7 +7,7 @@
  */
 
 /** The number of this form: another one has another. */
-export const FORM = 2;
+export const FORM = 3;
 
 /** @typedef {(value: unknown, place: string) => string | undefined} Check it answers where a value isn't right */
 
@@ -59,7 +59,8 @@ const MEMBERS = object({
     module: text, digest: text, seeds: list(range), shard: orNull(object({ number: whole, of: whole })),
     options: object({
       ordinary: that((value) => ["watch", "store", "refuse"].includes(value)),
-      races: that((value) => ["fail", "allow"].includes(value)), preloads: flag, args: anything,
+      races: that((value) => ["fail", "allow"].includes(value)),
+      unrecorded: that((value) => ["fail", "allow"].includes(value)), preloads: flag, args: anything,
     }),
   }),
   seeds: list(range),
@@ -81,6 +82,8 @@ const MEMBERS = object({
     detail: texts, onlyIf: orNull(text),
   })),
   races: object({ allowed: flag, runs: whole, pairs: listed({ lines: texts }) }),
+  unrecorded: object({ allowed: flag, runs: whole, used: listed({ what: text }) }),
+  remembers: orNull(object({ seed: whole, differs: text, was: text, is: text })),
   states: object({ failing: states, passing: states }),
   sabsim: object({ asked: flag, versions: texts, checked: whole, judges: flag }),
   scripts: object({ parts: whole, none: listed({ why: text }) }),

@@ -1,6 +1,7 @@
 // The plain text of a summary. It is made from the object that `--format json` prints, and from nothing else.
 
 import { counted, digits, listed } from "../keeping/words.mjs";
+import { rememberingText } from "../seeds/first-again.mjs";
 import { rangeText } from "../seeds/ranges.mjs";
 import { onlyByTimeLines } from "./only-by-time.mjs";
 import { shortenedLines } from "./shortened.mjs";
@@ -18,7 +19,7 @@ export function summaryText(summary) {
   if (stopped !== null) lines.push(`${stopped.why} after ${digits(runs)} of ${counted(stopped.wanted, "run")}`);
   if (runs > 0) {
     lines.push(endingLine(summary), ...failingLines(summary), ...raceLines(summary), ...hiddenLines(summary));
-    lines.push(...stateLines(summary));
+    lines.push(...unrecordedLines(summary), ...rememberingLines(summary), ...stateLines(summary));
     lines.push(...coverageLines(summary), ...checkLines(summary), ...scriptLines(summary), accessLine(summary));
     lines.push(...unseen);
   }
@@ -65,6 +66,18 @@ function raceLines({ races: { allowed, runs, pairs } }) {
   const many = countedOf(pairs.listed.length, "pair", pairs.others);
   return [`${title}: ${counted(runs, "run")}, ${many} of lines`, ...lines.map(indented), ...othersLines(pairs.others)];
 }
+
+/** @param {SummaryData} summary */
+function unrecordedLines({ unrecorded: { allowed, runs, used } }) {
+  if (runs === 0) return [];
+  const lines = listed(used.listed, MOST_LISTED, ({ what, runs: each, first }) =>
+    `seed ${first} the first, ${counted(each, "run")}: ${what}`);
+  const title = `agents used what isn't recorded${allowed ? ", which is allowed" : ""}: ${counted(runs, "run")}`;
+  return [title, ...lines.map(indented), ...othersLines(used.others)];
+}
+
+/** @param {SummaryData} summary */
+const rememberingLines = ({ remembers }) => (remembers === null ? [] : [rememberingText(remembers)]);
 
 /** @param {SummaryData} summary */
 function stateLines({ states: { failing, passing } }) {

@@ -16,6 +16,7 @@ import { Tally } from "./tally.mjs";
  * @typedef {object} SummaryOptions
  * @property {"watch" | "store" | "refuse"} ordinary how ordinary reads and writes were seen
  * @property {"fail" | "allow"} races
+ * @property {"fail" | "allow"} [unrecorded]
  * @property {string} [checkedBy] which simulator checks runs; undefined: they aren't checked
  * @property {boolean} [preloads] whether node's own words load code before the recorder
  * @property {import("../seeds/coverage.mjs").Coverage} [coverage] which pairs of lines the runs have shown, where that
@@ -57,6 +58,10 @@ import { Tally } from "./tally.mjs";
  * @property {import("./only-by-time.mjs").OnlyByTimeTold} onlyByTime
  * @property {import("./shortened.mjs").Shortening | null} shortened what the shortening of that run came to
  * @property {{ allowed: boolean, runs: number, pairs: Listed<{ lines: string[] }> }} races
+ * @property {{ allowed: boolean, runs: number, used: Listed<{ what: string }> }} unrecorded shared memory and threads
+ * that aren't recorded, and that agents used
+ * @property {import("../seeds/first-again.mjs").Remembering | null} remembers how the run of the first seed differed
+ * when it was made once more
  * @property {Record<"failing" | "passing", Listed<{ ending: string, hash: string, shown: string[] }>>} states
  * @property {CheckedBy} sabsim
  * @property {{ parts: number, none: Listed<{ why: string }> }} scripts
@@ -102,8 +107,9 @@ const BOTH = ["failing", "passing"];
 
 export class Summary {
   /** @param {SummaryOptions} options */
-  constructor({ ordinary, races, checkedBy, preloads = false, coverage }) {
+  constructor({ ordinary, races, unrecorded = "fail", checkedBy, preloads = false, coverage }) {
     this.ordinary = ordinary;
+    this.unrecorded = unrecorded;
     this.coverage = coverage;
     this.preloads = preloads;
     this.races = races;
@@ -127,6 +133,11 @@ export class Summary {
     /** @type {Tally<{ lines: string[] }>} */
     this.pairs = new Tally();
     this.scriptless = new Tally();
+    /** In how many runs agents used what isn't recorded. */
+    this.unseenRuns = 0;
+    this.used = new Tally();
+    /** @type {import("../seeds/first-again.mjs").Remembering | undefined} */
+    this.remembers = undefined;
     /** @type {Failing | undefined} the first failing run */
     this.failing = undefined;
     /** @type {import("../seeds/job.mjs").ShortenedByJob | undefined} what its shortening came to */
@@ -146,6 +157,7 @@ export class Summary {
     this.#addRaces(outcome);
     this.#addScript(outcome);
     this.onlyByTime.add(outcome);
+    this.#addUnrecorded(outcome);
     if (!fails) return;
     this.failed += 1;
     if (outcome.onlyIf !== undefined) this.early += 1;
@@ -177,6 +189,10 @@ export class Summary {
     const { parts, none } = told.scripts;
     this.parts += parts;
     this.scriptless.join(none.listed.map(({ why, ...entry }) => ({ ...entry, ...of(why) })), none.others);
+    this.unseenRuns += told.unrecorded.runs;
+    const { used } = told.unrecorded;
+    this.used.join(used.listed.map(({ what, ...entry }) => ({ ...entry, ...of(what) })), used.others);
+    if (told.remembers !== null) this.#addRemembering(told.remembers);
     if (told.coverage !== null) this.coverage = Coverage.joined(this.coverage, told.coverage);
     if (firstFailing !== null) this.#addFailing(failingOf(firstFailing));
   }
@@ -202,6 +218,10 @@ export class Summary {
       races: {
         allowed: this.races === "allow", runs: this.raced, pairs: listedOf(this.pairs, (_, { lines }) => ({ lines })),
       },
+      unrecorded: {
+        allowed: this.unrecorded === "allow", runs: this.unseenRuns, used: listedOf(this.used, (what) => ({ what })),
+      },
+      remembers: this.remembers ?? null,
       states: { failing: statesTold(this.states.failing), passing: statesTold(this.states.passing) },
       sabsim: this.#checksTold(),
       scripts: { parts: this.parts, none: listedOf(this.scriptless, (why) => ({ why })) },
@@ -232,6 +252,17 @@ export class Summary {
   #addScript({ seed, noScript, scriptHolds }) {
     if (noScript !== undefined) this.scriptless.add(noScript, seed);
     if (scriptHolds === "touched") this.parts += 1;
+  }
+
+  /** @param {Outcome} outcome */
+  #addUnrecorded({ seed, unrecorded = [] }) {
+    if (unrecorded.length > 0) this.unseenRuns += 1;
+    for (const what of unrecorded) this.used.add(what, seed);
+  }
+
+  /** @param {import("../seeds/first-again.mjs").Remembering} found that of the least seed is told */
+  #addRemembering(found) {
+    if (this.remembers === undefined || this.remembers.seed > found.seed) this.remembers = found;
   }
 
   /** @param {Failing} failing */

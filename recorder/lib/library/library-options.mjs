@@ -30,6 +30,8 @@ import { moduleUrlOf } from "./module-url.mjs";
  * @property {"watch" | "store" | "refuse"} [ordinary] what is done with ordinary reads and writes; else "watch"
  * @property {"fail" | "allow"} [races] whether a run with unordered accesses fails; else "fail"
  * @property {"fail" | "allow"} [bounds] whether a run that meets a bound fails; else "fail"
+ * @property {"fail" | "allow"} [unrecorded] whether a run fails in which agents use shared memory that isn't recorded;
+ * else "fail"
  * @property {"run" | "real"} [clock] the time that clocks tell agents: the run's own or the machine's; else "run"
  * @property {WithBuffers} [init] fills the buffers before the run
  * @property {WithBuffers} [check] is called after a run that finished; what it throws fails the run, as does `false`

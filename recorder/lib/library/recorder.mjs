@@ -7,7 +7,8 @@ import { checkedOptions } from "./library-options.mjs";
 import { folderOfCaller } from "./module-url.mjs";
 
 /** @typedef {import("../check/check.mjs").Check} Check */
-/** @typedef {import("../run/group.mjs").Outcome & Check & Shortening} Outcome */
+/** @typedef {{ remembers?: import("../seeds/first-again.mjs").Remembering }} Again of the last of many runs */
+/** @typedef {import("../run/group.mjs").Outcome & Check & Shortening & Again} Outcome */
 /** @typedef {import("./library-options.mjs").RecordOptions} RecordOptions */
 
 /**

@@ -68,6 +68,9 @@ export const OPTIONS = Object.freeze({
     + "reported only (fail)"]),
   bounds: word(["fail", "allow"],
     ["HOW", "fail: a run that meets a bound, as a spin does, fails; allow: it is only reported (fail)"]),
+  unrecorded: word(["fail", "allow"],
+    ["HOW", "shared memory that isn't recorded, as a SharedArrayBuffer that the code makes itself. fail: a run in which "
+    + "agents use some fails; allow: it is only reported (fail)"]),
   clock: word(["run", "real"],
     ["WHICH", "the time that clocks tell agents: run (the run's own, which comes from the seed) or real (run)"]),
   maxMoves: rule(whole(1, SCRIPT_LIMITS.moves), SCRIPT_LIMITS.moves,

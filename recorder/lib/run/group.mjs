@@ -45,6 +45,7 @@ import { within } from "./within.mjs";
  * @property {import("./timed-ends.mjs").OnlyByTime[]} [onlyByTime] waits that have ended only since their time was up
  * @property {import("./timed-ends.mjs").Place[]} [served] places at which agents of the run wait, and which other
  * agents have notified or written; told with timed waits alone
+ * @property {string[]} [unrecorded] which shared memory and which threads agents used that aren't recorded, if any
  */
 
 /**
@@ -61,6 +62,7 @@ import { within } from "./within.mjs";
  * @property {boolean} [isTrial] whether only its ending is wanted: no answers, script, report or trace is told
  * @property {boolean} [tellsLines] whether a trial tells the lines of its races
  * @property {boolean} [tellsTrace] whether the trace is told in any case
+ * @property {boolean} [tellsActs] whether the outcome has a digest of all that was done
  * @property {boolean} [isFresh] whether the agents' workers are started anew before
  */
 
@@ -105,6 +107,7 @@ import { within } from "./within.mjs";
  * @property {"watch" | "store" | "refuse"} [ordinary] what is done with ordinary reads and writes
  * @property {"fail" | "allow"} [races] whether a run that finishes and has unordered accesses fails
  * @property {"fail" | "allow"} [bounds] whether a run that meets a bound fails
+ * @property {"fail" | "allow"} [unrecorded] whether a run fails in which agents use shared memory that isn't recorded
  * @property {"run" | "real"} [clock] which time agents are told
  * @property {boolean} [trace] whether each run's trace is told
  * @property {boolean} [tellsMeetings] whether the lines are told that came one after the other at a place
@@ -281,14 +284,14 @@ export class Group {
 
   /** @param {number} count how many agents' workers are to have begun */
   #beginUpTo(count) {
-    const { module, args, ordinary, clock } = this.options;
+    const { module, args, ordinary, clock, unrecorded } = this.options;
     const begun = Array.from({ length: count - this.begun.length }, () => this.#thread());
     // They are read while the workers begin.
     const modules = ownModules(AGENT_MODULE);
     /** @type {((thread: Thread) => void)[]} */
     const awaited = [];
     for (const thread of begun) {
-      thread.post({ modules, module, args, ordinary, clock });
+      thread.post({ modules, module, args, ordinary, clock, unrecorded });
       this.begun.push(new Promise((done) => awaited.push(done)));
       void thread.next().then(() => awaited.shift()?.(thread));
     }
@@ -299,14 +302,15 @@ export class Group {
    * @param {{ hasInit: boolean, hasCheck: boolean }} module
    */
   #refereeOptions({ hasInit, hasCheck }) {
-    const { module, seconds, fresh, init, check, trace, tellsMeetings, isBrief, ordinary, races, bounds } = this.options;
+    const { init, check, module, seconds, fresh, trace, tellsMeetings, isBrief, ordinary } = this.options;
+    const { races, bounds, unrecorded } = this.options;
     /** @type {(own: OfBuffers | undefined, isTheirs: boolean) => "library" | "module" | undefined} */
     const whose = (own, isTheirs) => {
       if (own !== undefined) return "library";
       return isTheirs ? "module" : undefined;
     };
     const asked = { init: whose(init, hasInit), check: whose(check, hasCheck) };
-    return { module, seconds, fresh, trace, tellsMeetings, isBrief, ordinary, races, bounds, ...asked };
+    return { module, seconds, fresh, trace, tellsMeetings, isBrief, ordinary, races, bounds, unrecorded, ...asked };
   }
 
   /**

@@ -97,6 +97,7 @@ class Referee {
     found = await maker.judged(found);
     const outcome = reporter.brief(wanted, found);
     if (wanted.whole || outcome.fails) reporter.addScript(outcome, found);
+    if (wanted.tellsActs) Object.assign(outcome, { acts: reporter.acts(outcome, found) });
     // Here the log has all events. The log of a run that is made once more, with lines of code, may lack some reads.
     const judgement = reporter.judgement(outcome, found);
     await this.#replace(found);
@@ -127,6 +128,7 @@ class Referee {
    */
   async #addSources(wanted, outcome, found, hasSources) {
     const { maker, reporter } = this;
+    if (found.isUnseen) return;
     const wantsTrace = this.#isTraceWanted(wanted, outcome);
     if (!found.racy && !wantsTrace) return;
     if (hasSources) {

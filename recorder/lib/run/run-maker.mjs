@@ -6,10 +6,12 @@ import { strayText } from "../board/row.mjs";
 import { ORDER, WORD } from "../memory/layout.mjs";
 import { Log } from "../memory/log.mjs";
 import { Memory } from "../memory/memory.mjs";
+import { Notes } from "../memory/notes.mjs";
 import { Stores } from "../memory/stores.mjs";
 import { initialStores } from "./initial.mjs";
 import { PILOT_SECONDS } from "./pilots.mjs";
 import { isRacy } from "./races.mjs";
+import { unseenText } from "./unseen.mjs";
 
 /** @typedef {import("./group.mjs").Wanted} Wanted */
 
@@ -22,6 +24,8 @@ import { isRacy } from "./races.mjs";
  * @property {boolean} racy
  * @property {import("../memory/stores.mjs").Store[]} initial what filled the buffers at first
  * @property {{ agent: number, block: number, byte: number }[]} waiting who waits where, in order of arrival
+ * @property {import("./unseen.mjs").AgentsNote[]} unseen what agents did that nobody saw
+ * @property {boolean} [isUnseen] whether it fails for that
  * @property {import("../board/row.mjs").Stray} [stray] how it has strayed from the row that it was to go by
  */
 
@@ -36,6 +40,7 @@ import { isRacy } from "./races.mjs";
  * @property {"watch" | "store" | "refuse"} ordinary
  * @property {"fail" | "allow"} races
  * @property {"fail" | "allow"} bounds
+ * @property {"fail" | "allow"} unrecorded
  * @property {"library" | "module" | undefined} init whose it is, if there is one
  * @property {"library" | "module" | undefined} check whose it is, if there is one
  */
@@ -53,7 +58,7 @@ import { isRacy } from "./races.mjs";
 const GRACE_MILLISECONDS = 200;
 const ENDLESS = "didn't come to its end";
 
-const NOTHING_TRIED = "no agent has made a call of Atomics on the recorded buffers: nothing was tried";
+const NOTHING_TRIED = "no agent has made a call of Atomics, or another access that is seen, on the recorded buffers: nothing was tried";
 
 export class RunMaker {
   /** @param {Given} given @param {import("./source-names.mjs").SourceNames} sourceNames */
@@ -66,6 +71,7 @@ export class RunMaker {
     this.memory = new Memory(memory.buffers, memory.copies);
     this.log = new Log(memory.log, this.board.words, WORD.EVENTS);
     this.stores = new Stores(memory.stores, this.board.words, this.memory);
+    this.notes = memory.notes.map((each) => new Notes(each));
     this.agents = plan.canBlock.map((_, agent) => agent);
   }
 
@@ -81,7 +87,7 @@ export class RunMaker {
     const problem = options.init === undefined ? "" : await this.#asked("init");
     const initial = options.init === undefined ? [] : initialStores(memory, plan.agents);
     if (problem !== "") {
-      const nothing = { bytes: memory.hex(), gone: [], racy: false, initial, waiting: [] };
+      const nothing = { bytes: memory.hex(), gone: [], racy: false, initial, waiting: [], unseen: [] };
       return { ending: "failed", detail: `init ${problem}`, ...nothing };
     }
     board.words[WORD.TELLS_SOURCES] = tellsSources ? 1 : 0;
@@ -95,14 +101,17 @@ export class RunMaker {
     const racy = options.ordinary === "watch" && isRacy(this.log, plan.agents);
     const named = told.ending === "bound" ? sourceNames.withNames(told.detail) : told.detail;
     const detail = stray === undefined ? named : strayText(stray, named);
-    return { ending: told.ending, detail, bytes, gone, racy, initial, waiting, stray };
+    const unseen = this.agents.flatMap((agent) => this.notes[agent].read().map((note) => ({ ...note, agent })));
+    return { ending: told.ending, detail, bytes, gone, racy, initial, waiting, unseen, stray };
   }
 
   /** @param {Made} found @returns {Promise<Made>} how a run ends, with what is known when its agents are home */
   async judged(found) {
-    const { check, races } = this.options;
+    const { check, races, unrecorded } = this.options;
+    const unseen = unseenText(found.unseen, unrecorded, this.sourceNames.placeName);
+    if (unseen !== "" && found.stray === undefined) return failedFor(unseen, found);
     if (found.ending !== "finished") return found;
-    if (this.callCount() === 0) return { ...found, ending: "failed", detail: NOTHING_TRIED };
+    if (this.#triedNothing()) return { ...found, ending: "failed", detail: NOTHING_TRIED };
     const problem = check === undefined ? "" : await this.#asked("check");
     if (problem !== "") return { ...found, ending: "check", detail: `check ${problem}` };
     return found.racy && races === "fail" ? { ...found, ending: "race" } : found;
@@ -147,6 +156,11 @@ export class RunMaker {
     if (gone.length > 0) await this.#answered({ replace: gone });
   }
 
+  /** Whether agents made no call and no access, as far as it is seen, on recorded memory. */
+  #triedNothing() {
+    return this.callCount() === 0 && this.accessCount() === 0 && this.board.words[WORD.STORES] === 0;
+  }
+
   /** How many calls of Atomics were begun. */
   callCount() {
     return this.agents.reduce((sum, agent) => sum + this.board.journal.progress(agent).calls, 0);
@@ -168,6 +182,7 @@ export class RunMaker {
     this.stores.begin();
     this.board.journal.begin();
     this.board.deadlines.begin();
+    for (const notes of this.notes) notes.clear();
   }
 
   /**
@@ -198,4 +213,16 @@ export class RunMaker {
       this.port.postMessage(message);
     });
   }
+}
+
+/**
+ * How a run ends in which agents did what nobody saw. What an agent threw stands behind that; another ending isn't
+ * known.
+ * @param {string} unseen
+ * @param {Made} found
+ * @returns {Made}
+ */
+function failedFor(unseen, found) {
+  const own = found.ending === "failed" && found.detail !== "" ? `\n${found.detail}` : "";
+  return { ...found, ending: "failed", detail: `${unseen}${own}`, racy: false, waiting: [], isUnseen: true };
 }

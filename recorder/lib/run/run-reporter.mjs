@@ -13,6 +13,7 @@ import { fitted } from "./fitting.mjs";
 import { earlyText, onlyByTimeOf, servedOf } from "./timed-ends.mjs";
 import { UNSEEN_LINE, placesIn, traceText } from "./trace.mjs";
 import { transcriptOf, waitingText } from "./transcript.mjs";
+import { NO_SCRIPT, unrecordedIn } from "./unseen.mjs";
 
 /** @typedef {import("./group.mjs").Outcome} Outcome */
 /** @typedef {import("./run-maker.mjs").Made} Made */
@@ -40,6 +41,7 @@ export class RunReporter {
     const { ending, detail } = found;
     const { deadlines, journal, row } = maker.board;
     const draws = row.told();
+    const unrecorded = unrecordedIn(found.unseen, this.sourceNames.placeName);
     const fails = ending !== "finished" && !(ending === "bound" && options.bounds === "allow");
     const early = deadlines.early();
     return {
@@ -54,6 +56,7 @@ export class RunReporter {
       state: stateOf(found),
       races: [],
       ...(draws === undefined ? {} : { row: draws }),
+      ...(unrecorded.length === 0 ? {} : { unrecorded }),
       ...(fails && early !== undefined ? { onlyIf: earlyText(early) } : {}),
       ...(maker.board.spins.isWatching() ? this.#timedEnds(ending) : {}),
     };
@@ -77,6 +80,10 @@ export class RunReporter {
    * @param {Made} found
    */
   addScript(outcome, found) {
+    if (found.isUnseen) {
+      outcome.noScript = NO_SCRIPT;
+      return;
+    }
     const { maker: { stores, agents }, options, run } = this;
     const whole = { ...run, isOrdinary: this.#isOrdinary() };
     const { transcript, script, holds, bytes = [], noScript } = fitted(whole, stores, found.initial, found.bytes);
@@ -93,6 +100,18 @@ export class RunReporter {
     outcome.script = script;
     outcome.scriptHolds = holds;
     outcome.report = reportText(transcript, bytes);
+  }
+
+  /**
+   * A digest of all that was done, for a comparison with another run.
+   * @param {Outcome} outcome
+   * @param {Made} found
+   * @returns {string}
+   */
+  acts(outcome, found) {
+    const told = { ...outcome };
+    if (told.script === undefined && told.noScript === undefined) this.addScript(told, found);
+    return createHash("sha256").update(`${told.script} ${told.report} ${told.noScript}`).digest("base64");
   }
 
   /**

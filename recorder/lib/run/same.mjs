@@ -1,7 +1,7 @@
 // Whether two runs did the same.
 
 /** @typedef {import("./group.mjs").Outcome} Outcome */
-/** @typedef {Pick<Outcome, "seed" | "ending" | "detail" | "moves" | "calls" | "state">} RunSummary */
+/** @typedef {Pick<Outcome, "seed" | "ending" | "detail" | "moves" | "calls" | "state" | "noScript">} RunSummary */
 
 /**
  * Whether two runs of a seed did the same, as far as is told of every run.

@@ -34,6 +34,9 @@ export class SourceNames {
     return name;
   }
 
+  /** @param {string} [source] as `nameOf` takes it @returns {string} its name, also where the place isn't known */
+  placeName = (source) => (source === undefined ? "a place that isn't known" : this.nameOf(source));
+
   /** @param {string} text @returns {string} a text in which places of the code are named so */
   withNames(text) {
     return text.replace(/(?:file:\/\/)?\/[^\s:]+:\d+:\d+/g, (source) => this.nameOf(source));

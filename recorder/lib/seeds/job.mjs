@@ -9,7 +9,8 @@ import { shorten } from "../shorter/shorten.mjs";
 import { simulatorAt } from "../simulator/chosen.mjs";
 
 /** @typedef {import("../run/group.mjs").Outcome} Outcome */
-/** @typedef {Outcome & import("../check/check.mjs").Check & { stray?: import("../board/row.mjs").Stray }} Checked */
+/** @typedef {{ stray?: import("../board/row.mjs").Stray, acts?: string }} Besides `acts` is a digest of what was done */
+/** @typedef {Outcome & import("../check/check.mjs").Check & Besides} Checked */
 
 /**
  * @typedef {object} CheckOptions

@@ -3,6 +3,7 @@
 
 import { isFirstOfAll } from "../run/order.mjs";
 import { Delivery } from "./delivery.mjs";
+import { differenceBetween } from "./first-again.mjs";
 import { moreJobs } from "./more-jobs.mjs";
 import { LostJob, RemoteJob } from "./remote-job.mjs";
 import { SeedQueue } from "./seed-queue.mjs";
@@ -34,7 +35,8 @@ import { SeedQueue } from "./seed-queue.mjs";
 /** @typedef {import("../run/group.mjs").GroupOptions & OfRuns} RunsOptions */
 
 /** @param {Outcome} outcome @returns {import("../run/same.mjs").RunSummary} */
-const briefly = ({ seed, ending, detail, moves, calls, state }) => ({ seed, ending, detail, moves, calls, state });
+const briefly = ({ seed, ending, detail, moves, calls, state, noScript }) =>
+  ({ seed, ending, detail, moves, calls, state, noScript });
 
 export class Runs {
   /** @type {Promise<void>[]} of each job, settled when it has made its last run */
@@ -42,6 +44,9 @@ export class Runs {
 
   /** How many outcomes have come. */
   #made = 0;
+
+  /** @type {{ job: AnyJob, outcome: Outcome } | undefined} the first seed's run, and who has made it */
+  #first;
 
   /** @type {AbortController} aborted when no more runs are wanted */
   #end = new AbortController();
@@ -88,7 +93,44 @@ export class Runs {
    * @param {(tried: import("../shorter/shorten.mjs").Tried) => void} [onTry] is called with each run that this takes
    * @returns {Promise<import("./job.mjs").ShortenedByJob>}
    */
-  async shorten(found, onTry = () => {}) {
+  shorten(found, onTry = () => {}) {
+    return this.#atRest(() => this.jobs[0].shorten(briefly(found), onTry));
+  }
+
+  /**
+   * Makes the run of the first seed once more, by who has made it, when there were others and workers are kept.
+   * @returns {Promise<import("./first-again.mjs").Remembering | undefined>} how it differed, if it did
+   */
+  async firstAgain() {
+    const { fresh, wanted } = this.options;
+    const first = this.#first;
+    if (first === undefined || fresh || this.#made < 2 || isLost(first.job)) return undefined;
+    const { job, outcome: { seed } } = first;
+    /** @type {Outcome | undefined} */
+    let again;
+    try {
+      await this.#atRest(() => job.run([{ ...wanted, seed, whole: false, tellsActs: true }], (outcome) => {
+        again = outcome;
+      }));
+    } catch (failure) {
+      if (!(failure instanceof LostJob)) throw failure;
+      return { seed, differs: "ending", was: first.outcome.ending, is: "the end of its job's process" };
+    }
+    return again && differenceBetween(first.outcome, again);
+  }
+
+  /** @param {Outcome} outcome @returns {boolean} whether no other one comes behind it */
+  isLast({ seed, fails }) {
+    return seed === this.options.last || (fails && this.options.failFast === true);
+  }
+
+  /**
+   * Does something when no job makes runs any more.
+   * @template T
+   * @param {() => Promise<T>} act
+   * @returns {Promise<T>} fails by the signal
+   */
+  async #atRest(act) {
     this.#stopTaking();
     const { signal } = this;
     const stopped = new Promise((_, fail) => {
@@ -96,7 +138,7 @@ export class Runs {
       signal?.addEventListener("abort", () => fail(signal.reason));
     });
     await Promise.race([Promise.allSettled(this.#working), stopped]);
-    return Promise.race([this.jobs[0].shorten(briefly(found), onTry), stopped]);
+    return /** @type {Promise<T>} */ (Promise.race([act(), stopped]));
   }
 
   /** Ends all that was started. */
@@ -207,6 +249,10 @@ export class Runs {
       await job.run(seeds, (outcome) => {
         made += 1;
         this.#made += 1;
+        if (outcome.acts !== undefined) {
+          this.#first = { job, outcome: { ...outcome } };
+          delete outcome.acts;
+        }
         if (outcome.checked || outcome.unchecked !== undefined) this.delivery.add(outcome);
         else differing.push(outcome);
         if (this.options.failFast && isFirstOfAll(outcome)) this.queue.stop();
@@ -223,14 +269,21 @@ export class Runs {
   }
 }
 
+/** @param {AnyJob} job @returns {boolean} whether its process is no more */
+const isLost = (job) => job instanceof RemoteJob && job.lost !== undefined;
+
 /**
  * All outcomes of some runs. When no more are taken, all that was started is ended.
  * @param {Runs} runs
- * @returns {AsyncGenerator<Outcome, void, void>}
+ * @returns {AsyncGenerator<Outcome & { remembers?: import("./first-again.mjs").Remembering }, void, void>} the last one
+ * says how the first seed's run differed when it was made once more, if it did
  */
 export async function* outcomesOf(runs) {
   try {
-    yield* runs.outcomes();
+    for await (const outcome of runs.outcomes()) {
+      const remembers = runs.isLast(outcome) ? await runs.firstAgain() : undefined;
+      yield remembers === undefined ? outcome : { ...outcome, remembers };
+    }
   } finally {
     await runs.close();
   }

@@ -7,8 +7,10 @@ export const BATCH = 16;
 
 export class SeedQueue {
   /** @param {import("./runs.mjs").RunsOptions} options */
-  constructor({ first, last, jobs = 1, checkEvery, origin = first, trials = false, failFast = false, wanted }) {
+  constructor({ first, last, jobs = 1, checkEvery, origin = first, trials = false, failFast = false, wanted, fresh }) {
     this.next = first;
+    /** The seed whose run is to be compared with another one of it, if there is one. */
+    this.compared = fresh || trials || first === last ? undefined : first;
     this.last = last;
     this.every = checkEvery;
     this.origin = origin;
@@ -23,7 +25,8 @@ export class SeedQueue {
     const seeds = [];
     while (this.left > 0 && seeds.length < this.batch) {
       const whole = this.every > 0 && (this.next - this.origin) % this.every === 0;
-      seeds.push({ ...this.wanted, seed: this.next, whole });
+      const how = this.next === this.compared ? { ...this.wanted, tellsActs: true } : this.wanted;
+      seeds.push({ ...how, seed: this.next, whole });
       this.next += 1;
     }
     return seeds;

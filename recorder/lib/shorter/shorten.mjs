@@ -4,6 +4,7 @@
 // two stretches of an agent joined, or with one made shorter, as long as that helps.
 
 import { areSame } from "../run/same.mjs";
+import { NO_SCRIPT } from "../run/unseen.mjs";
 import { failsAlike } from "./alike.mjs";
 import { inOneGo } from "./in-one-go.mjs";
 import { keptScript } from "./kept-script.mjs";
@@ -69,7 +70,9 @@ function isShorter(one, other) {
  * @param {RunSummary} told
  * @returns {string | undefined}
  */
-function whyNot({ ending, detail }) {
+function whyNot({ ending, detail, calls, noScript }) {
+  if (noScript === NO_SCRIPT) return NO_SCRIPT;
+  if (calls === 0) return "it has no call of Atomics that could be left out, or come at another time";
   if (ending === "bound") return "it met a bound";
   if (ending === "failed" && /^agent \d+'s worker died: /.test(detail)) return "an agent's worker died";
   return undefined;

@@ -14,6 +14,7 @@ import { counted, digits } from "../keeping/words.mjs";
 import { runsOf } from "../library/explore.mjs";
 import { checkedOwn } from "../library/library-options.mjs";
 import { comesBefore } from "../run/order.mjs";
+import { rememberingText } from "../seeds/first-again.mjs";
 import { simulatorAt } from "../simulator/chosen.mjs";
 import { failureText } from "./failure.mjs";
 
@@ -44,6 +45,8 @@ class Passed {
   count = 0;
   checked = 0;
   unchecked = "";
+  /** @type {Set<string>} what agents used that isn't recorded */
+  used = new Set();
   onlyByTime = new OnlyByTime();
 
   /** @param {Outcome} outcome of a run that passed */
@@ -51,14 +54,17 @@ class Passed {
     this.count += 1;
     if (outcome.checked) this.checked += 1;
     else this.unchecked = outcome.unchecked ?? "";
+    for (const what of outcome.unrecorded ?? []) this.used.add(what);
     this.onlyByTime.add(outcome);
   }
 
-  /** @returns {string} what is to be said if no run failed */
-  text() {
+  /** @param {string[]} besides further sentences @returns {string} what is to be said if no run failed */
+  text(besides) {
     const checks = this.checked > 0 ? `${digits(this.checked)} checked by sabsim` : `none checked: ${this.unchecked}`;
-    const passed = `${counted(this.count, "run")} passed, ${checks}`;
-    return [passed, ...onlyByTimeLines(this.onlyByTime.told(), this.count)].join("\n");
+    const used = [...this.used].join(", ");
+    const unseen = used === "" ? [] : [`agents used what isn't recorded, which is allowed: ${used}`];
+    const line = [`${counted(this.count, "run")} passed, ${checks}`, ...unseen, ...besides].join("; ");
+    return [line, ...onlyByTimeLines(this.onlyByTime.told(), this.count)].join("\n");
   }
 }
 
@@ -74,6 +80,8 @@ export async function tried(given, { folder, place }) {
   const passed = new Passed();
   /** @type {{ outcome: Outcome, before: number } | undefined} the first failing run, and how many passed before it */
   let first;
+  /** @type {string[]} */
+  let besides = [];
   const runs = runsOf({ ...options, failFast: true }, folder);
   try {
     for await (const outcome of runs.outcomes()) {
@@ -83,10 +91,17 @@ export async function tried(given, { folder, place }) {
     if (first !== undefined) {
       throw new AgentsFailed(await failureOf(runs, first.outcome, first.before, { out, shorten }), place);
     }
+    besides = await rememberingLines(runs);
   } finally {
     await runs.close();
   }
-  return passed.text();
+  return passed.text(besides);
+}
+
+/** @param {Runs} runs @returns {Promise<string[]>} how the first seed's run differed when it was made once more */
+async function rememberingLines(runs) {
+  const found = await runs.firstAgain();
+  return found === undefined ? [] : [rememberingText(found)];
 }
 
 /**
@@ -101,8 +116,9 @@ async function failureOf(runs, failing, passed, { out, shorten }) {
   const { options } = runs;
   const { sabsim } = options;
   const simulator = simulatorAt(sabsim || undefined);
+  const besides = await rememberingLines(runs);
   const outcome = shorten ? (await runs.shorten(failing)).shortest ?? failing : failing;
-  const kept = keptLines({ failing, outcome }, options, out, simulator);
+  const kept = [...besides, ...keptLines({ failing, outcome }, options, out, simulator)];
   return failureText({ outcome, passed, simulator, kept });
 }
 

@@ -214,18 +214,22 @@ const BUFFER = {
   ],
 };
 
-/** What ends the run. */
-const REFUSED = {
-  "structuredClone of an object": [words, (array) => structuredClone({ array })],
-  "structuredClone of a list with a buffer": [whole, (buffer) => structuredClone([[buffer]])],
+/** What gives memory to other threads ends the run, whatever is done with ordinary accesses. */
+const ABROAD = {
   "postMessage of a port": [words, (array) => new MessageChannel().port1.postMessage(array)],
   "postMessage of a buffer": [whole, (buffer) => new MessageChannel().port1.postMessage({ a: new Map([[1, buffer]]) })],
   "postMessage of a getter": [
     whole, (buffer) => new MessageChannel().port1.postMessage({ get a() { return buffer; } }),
   ],
-  "a Buffer's method, of larger elements,": [words, (array) => Buffer.prototype.latin1Slice.call(array, 1, 3)],
   "BroadcastChannel": [words, (array) => new BroadcastChannel("x").postMessage([array])],
   "workerData": [whole, (buffer) => new Worker("", { eval: true, workerData: { buffer } })],
+};
+
+/** What ends the run. */
+const REFUSED = {
+  "structuredClone of an object": [words, (array) => structuredClone({ array })],
+  "structuredClone of a list with a buffer": [whole, (buffer) => structuredClone([[buffer]])],
+  "a Buffer's method, of larger elements,": [words, (array) => Buffer.prototype.latin1Slice.call(array, 1, 3)],
   "fs.write": [bytes, (array) => fs.write(1, array, () => {})],
   "fs.promises.writeFile": [bytes, (array) => fs.promises.writeFile("/dev/null", array)],
   "fs.writeFile of a DataView": [view, (array) => fs.writeFile("/dev/null", array, () => {})],
@@ -289,5 +293,8 @@ export function cases() {
     made[name] = () => difference(make, body, wanted);
   }
   for (const [name, [make, body]] of Object.entries(REFUSED)) made[`${name} is refused`] = () => notRefused(make, body);
+  for (const [name, [make, body]] of Object.entries(ABROAD)) {
+    made[`${name} is refused, without a way out`] = () => notRefused(make, body, false);
+  }
   return made;
 }

@@ -170,15 +170,17 @@ export function difference(make, body, wanted) {
  * Tries something on a recorded buffer that has to be refused.
  * @param {(buffer: SharedArrayBuffer) => any} make
  * @param {(made: any, buffer: SharedArrayBuffer) => unknown} body
+ * @param {boolean} [hasWayOut] whether another option lets it pass, which must be named then, and else mustn't
  * @returns {string | undefined} what is wrong
  */
-export function notRefused(make, body) {
+export function notRefused(make, body, hasWayOut = true) {
   try {
     const { answer } = tried(true, make, body);
     return `wasn't refused: ${answer}`;
   } catch (error) {
     if (!(error instanceof Refusal)) return `${error}`;
-    return error.message.includes("--ordinary store") ? undefined : `tells no way out: ${error.message}`;
+    if (error.message.includes("--ordinary store") === hasWayOut) return undefined;
+    return `tells ${hasWayOut ? "no" : "a"} way out: ${error.message}`;
   }
 }
 

@@ -20,7 +20,7 @@ const filled: WithBuffers = ([buffer], { agents, args }) => {
 const options: RecordOptions = {
   module: "./lock.mjs", agents: 2, buffers: [8], noBlock: [0], seed: 7, args: ["counting"], strategy: "switch:0.5",
   timeouts: 0.1, maxMoves: 1_000, seconds: 2, ordinary: "watch", races: "allow", bounds: "fail", clock: "run",
-  init: filled, check: ([buffer]) => buffer!.byteLength === 8, sabsim: false, trace: true, shorten: true,
+  unrecorded: "fail", init: filled, check: ([buffer]) => buffer!.byteLength === 8, sabsim: false, trace: true, shorten: true,
 };
 
 const { seed, shorten, ...rest } = options;
@@ -53,10 +53,11 @@ function summary(outcome: Outcome): string {
   const numbers = [seed, moves, calls, ordinary, ...progress.map(({ returned, calls }) => calls - returned)];
   const texts = [ending, String(fails), detail, state.hash, ...state.shown, ...races.map(raceText)];
   const { bytes = [], answers = [], script, scriptHolds = "all", noScript = "", report = "", trace = "" } = outcome;
-  const { onlyIf = "", onlyByTime = [], served = [] } = outcome;
+  const { onlyIf = "", onlyByTime = [], served = [], unrecorded = [], remembers } = outcome;
   const timed = [onlyIf, ...onlyByTime.map(waitText), ...served.map(({ block, byte }) => `${block} ${byte}`)];
   const answered = [...timed, ...answers.flat().map((answer) => answer ?? "waits")];
-  return [...numbers, ...texts, ...bytes, ...answered, script?.length, scriptHolds, noScript, report, trace].join(" ");
+  return [...numbers, ...texts, ...bytes, ...answered, script?.length, scriptHolds, noScript, report, trace,
+    ...unrecorded, remembers?.seed, remembers?.differs, remembers?.was, remembers?.is].join(" ");
 }
 
 export async function told(): Promise<string> {

@@ -7,7 +7,7 @@ import {
   offsetOf, ownKeys, put, setPrototypeOf, tagOf, uncurried,
 } from "../../primordials.mjs";
 import { ANSWERING } from "./answering.mjs";
-import { blockNumber, refused } from "./context.mjs";
+import { blockNumber, memoryNumber, refused } from "./context.mjs";
 import { lastAsked, wrapped } from "./elements.mjs";
 import { constructing, madePrivate } from "./guards.mjs";
 import { needsFunction } from "./numbers.mjs";
@@ -42,7 +42,7 @@ function madeOf(kind, first, second, third, target) {
     const Engine = ENGINE[kind];
     const isOwn = target === Engine;
     const made = isOwn ? new Engine(first, second, third) : construct(Engine, [first, second, third], target);
-    return wrapped(made, blockNumber(first));
+    return wrapped(made, memoryNumber(first));
   }
   if (source.big === BIG[kind]) tellAll(source, false);
   return construct(ENGINE[kind], [source.real], target);

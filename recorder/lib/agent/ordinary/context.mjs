@@ -1,6 +1,10 @@
 // Who is asked and told in a watched realm: which buffers are recorded, who hears of accesses, and who ends a run.
 
+import { SCRIPT_LIMITS } from "../../../script/limits.mjs";
 import { weakGet, weakSet } from "../../primordials.mjs";
+
+/** The number that shared memory has as its block where it isn't recorded. */
+export const OTHER = SCRIPT_LIMITS.blocks;
 
 /**
  * @typedef {object} Place what a watched array stands on; one object for each watched array, made once
@@ -8,6 +12,7 @@ import { weakGet, weakSet } from "../../primordials.mjs";
  * @property {number} kind its number in KINDS, KINDS.length for a DataView, KINDS.length + 1 for a whole buffer
  * @property {number} offset byteOffset of the view
  * @property {number} length its elements; bytes for a DataView or a whole buffer
+ * @property {object} [memory] the buffer, where it isn't recorded
  */
 
 /**
@@ -15,13 +20,23 @@ import { weakGet, weakSet } from "../../primordials.mjs";
  * @property {(buffer: unknown) => number} blockOf position among the recorded buffers, or -1
  * @property {(place: Place, from: number, to: number, writes: boolean) => void} seen gets bytes of the block before
  *   they are read or written; it may throw, and then nothing was done
+ * @property {(buffer: unknown) => boolean} [isOther] whether a buffer is shared memory that isn't recorded
+ * @property {(memory: object) => void} [seenOther] gets such memory before it is read or written
+ * @property {(memory: object) => void} [copied] gets new memory with a copy of bytes, which is no memory of the program's
+ * @property {(called: Function) => boolean} [isCalledByAgents] whether their code has called a function, and not node
+ * @property {(what: string) => void} [given] gets what has given such memory, or a port, to another thread
  * @property {(why: string) => never} refuse ends the run
  */
 
-/** @type {Watching} the module's own: a realm is patched once, and its patches look here */
+/** @type {Required<Watching>} the module's own: a realm is patched once, and its patches look here */
 export const watching = {
   blockOf: () => -1,
   seen: () => {},
+  isOther: () => false,
+  seenOther: () => {},
+  copied: () => {},
+  isCalledByAgents: () => true,
+  given: () => {},
   refuse: (why) => {
     throw new Error(why);
   },
@@ -53,6 +68,32 @@ export function blockNumber(buffer) {
   if (block >= 0) return block;
   const original = weakGet(others, buffer);
   return original === undefined ? -1 : watching.blockOf(original);
+}
+
+/**
+ * The same where memory that isn't recorded has a number too.
+ * @param {unknown} buffer
+ * @returns {number}
+ */
+export function memoryNumber(buffer) {
+  const block = blockNumber(buffer);
+  return block < 0 && watching.isOther(originalOf(/** @type {object} */ (buffer))) ? OTHER : block;
+}
+
+let hasOthers = false;
+
+/** @returns {boolean} whether arrays were made on memory that isn't recorded */
+export const anyOthers = () => hasOthers;
+
+/** Reports accesses to memory that isn't recorded from now on. Until then those to recorded memory cost no look. */
+export function tellOthers() {
+  if (hasOthers) return;
+  hasOthers = true;
+  const { seen } = watching;
+  watching.seen = (place, from, to, writes) => {
+    if (place.memory === undefined) seen(place, from, to, writes);
+    else watching.seenOther(place.memory);
+  };
 }
 
 /**

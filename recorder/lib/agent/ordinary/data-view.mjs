@@ -5,7 +5,7 @@ import {
   apply, construct, copyProperty, create, getPrototypeOf, likeEngine, ownKeys, put,
   uncurried, viewBufferOf, viewLengthOf, viewOffsetOf,
 } from "../../primordials.mjs";
-import { blockNumber, refused } from "./context.mjs";
+import { memoryNumber, refused } from "./context.mjs";
 import { byteIndexOf, elementOf } from "./numbers.mjs";
 import { methodOf, replace, replaceGetter } from "./patch.mjs";
 import { registerView, tell, viewOn, watchedView } from "./watched.mjs";
@@ -122,7 +122,7 @@ export function watchDataView() {
   const StandIn = function (buffer, offset, length) {
     if (new.target === undefined) throw new EngineTypeError("Constructor DataView requires 'new'");
     const target = new.target === StandIn ? EngineDataView : new.target;
-    return wrappedView(construct(EngineDataView, [buffer, offset, length], target), blockNumber(buffer));
+    return wrappedView(construct(EngineDataView, [buffer, offset, length], target), memoryNumber(buffer));
   };
   likeEngine(StandIn, EngineDataView);
   copyProperty(StandIn, EngineDataView, "prototype");

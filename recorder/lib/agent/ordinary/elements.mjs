@@ -4,7 +4,7 @@
 import {
   bufferOf, defineProperty, get, getOwnPropertyDescriptor, hasOwn, set, setPrototypeOf,
 } from "../../primordials.mjs";
-import { blockNumber, watching } from "./context.mjs";
+import { memoryNumber, watching } from "./context.mjs";
 import { elementOf, indexIn } from "./numbers.mjs";
 import { Watched, arrayOn, registerArray } from "./watched.mjs";
 
@@ -124,7 +124,7 @@ export function wrapped(real, block) {
 }
 
 /** @param {object} real @returns {any} what agents get for an array, whatever its buffer is */
-export const wrappedArray = (real) => wrapped(real, blockNumber(bufferOf(real)));
+export const wrappedArray = (real) => wrapped(real, memoryNumber(bufferOf(real)));
 
 /**
  * The elements of a watched array alone, for the engine's iterators: its length is the array's own, whatever a class

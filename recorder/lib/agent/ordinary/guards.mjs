@@ -1,9 +1,9 @@
 // Functions of node and the engine that see through no watched array: what is done where recorded memory is given them.
 
 import { apply, construct, isArray, put, setPrototypeOf } from "../../primordials.mjs";
-import { refused } from "./context.mjs";
+import { anyOthers, refused } from "./context.mjs";
 import { methodOf } from "./patch.mjs";
-import { SHALLOW, WHOLLY, mirrored, reaches } from "./reach.mjs";
+import { REVEALING, SHALLOW, WHOLLY, isRecorded, mirrored, reaches } from "./reach.mjs";
 import { anyWatchedOf, tellAll, unwrapped } from "./watched.mjs";
 
 /** @typedef {import("./patch.mjs").Standing} Standing */
@@ -12,16 +12,29 @@ const EngineMap = Map;
 const EngineProxy = Proxy;
 
 /**
- * Whether any of what is given is recorded memory, or has some in it.
+ * Whether any of what is given is watched memory, or has some in it.
  * @param {unknown[]} given
  * @param {number} depth
  * @param {boolean} [suspicious]
+ * @param {import("./reach.mjs").Test} [isIt] which memory is looked for
  */
-function anyReaches(given, depth, suspicious) {
+export function anyReaches(given, depth, suspicious, isIt) {
   for (let at = 0; at < given.length; at += 1) {
-    if (reaches(given[at], depth, suspicious)) return true;
+    if (reaches(given[at], depth, suspicious, isIt)) return true;
   }
   return false;
+}
+
+/**
+ * Puts the engine's own arrays in the place of those on memory that isn't recorded.
+ * @param {unknown[]} given
+ * @returns {unknown[]}
+ */
+export function revealed(given) {
+  if (!anyOthers()) return given;
+  const made = new EngineMap();
+  for (let at = 0; at < given.length; at += 1) given[at] = mirrored(given[at], made, REVEALING);
+  return given;
 }
 
 /**
@@ -90,8 +103,8 @@ export const looking = (engine) => methodOf((self, given) => {
  * @returns {Standing}
  */
 export const refusing = (what, depth = SHALLOW, suspicious = false) => (engine) => methodOf((self, given) => {
-  if (anyReaches(given, depth, suspicious)) refused(`${what} was given recorded memory`);
-  return apply(engine, self, given);
+  if (anyReaches(given, depth, suspicious, isRecorded)) refused(`${what} was given recorded memory`);
+  return apply(engine, self, revealed(given));
 });
 
 /**
@@ -118,6 +131,6 @@ export const constructing = (engine, make) => {
  * @returns {(given: unknown[]) => unknown[]}
  */
 export const refusingGiven = (what) => (given) => {
-  if (anyReaches(given, WHOLLY, true)) refused(`${what} was given recorded memory`);
-  return given;
+  if (anyReaches(given, WHOLLY, true, isRecorded)) refused(`${what} was given recorded memory`);
+  return revealed(given);
 };

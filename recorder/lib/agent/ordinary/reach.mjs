@@ -4,7 +4,7 @@ import {
   copyProperty, create, defineProperty, getOwnPropertyDescriptor, getPrototypeOf, hasOwn, isArray, lengthOf, mapGet,
   mapSet, ownKeys, setPrototypeOf, sharedLengthOf, tagOf, uncurried,
 } from "../../primordials.mjs";
-import { blockNumber, watching } from "./context.mjs";
+import { OTHER, blockNumber, watching } from "./context.mjs";
 import { DATA_VIEW, ENGINE, WHOLE_BUFFER, anyWatchedOf, tellAll } from "./watched.mjs";
 
 const EngineMap = Map;
@@ -26,11 +26,20 @@ export const WHOLLY = Infinity;
 /** @param {unknown} value @returns {value is object} */
 const isObject = (value) => (typeof value === "object" && value !== null) || typeof value === "function";
 
-/** @param {unknown} value @returns {boolean} whether a value is itself recorded memory */
-export const isRecorded = (value) => anyWatchedOf(value) !== undefined || blockNumber(value) >= 0;
+/** @typedef {(value: unknown) => boolean} Test what is looked for */
+
+/** @type {Test} whether a value is itself memory whose accesses are noted: recorded memory, or an array on other one */
+export const isWatched = (value) => anyWatchedOf(value) !== undefined || blockNumber(value) >= 0;
+
+/** @type {Test} whether a value is an array on shared memory that isn't recorded */
+export const isOther = (value) => anyWatchedOf(value)?.place.block === OTHER;
+
+/** @type {Test} whether a value is itself recorded memory */
+export const isRecorded = (value) => isWatched(value) && !isOther(value);
 
 /** @param {unknown} value @returns {boolean} whether a value has nothing in it that a function would look at */
-const isLeaf = (value) => !isObject(value) || tagOf(value) !== undefined || isView(value);
+const isLeaf = (value) =>
+  !isObject(value) || tagOf(value) !== undefined || isView(value) || anyWatchedOf(value) !== undefined;
 
 /**
  * What stands in an object, one after the other: the values of its own properties, and what a Map or Set has.
@@ -58,19 +67,20 @@ function eachWithin(object, visit) {
 }
 
 /**
- * Whether recorded memory can be reached from a value.
+ * Whether memory can be reached from a value.
  * @param {unknown} value
  * @param {number} depth how many objects deep is looked
  * @param {boolean} [suspicious] whether a getter counts too
+ * @param {Test} [isIt] which memory is looked for
  * @returns {boolean}
  */
-export function reaches(value, depth, suspicious = false) {
-  if (isRecorded(value)) return true;
+export function reaches(value, depth, suspicious = false, isIt = isWatched) {
+  if (isIt(value)) return true;
   if (depth === 0 || isLeaf(value)) return false;
   const met = new EngineSet();
   /** @type {(inner: any, left: number) => boolean} */
   const look = (inner, left) => {
-    if (isRecorded(inner)) return true;
+    if (isIt(inner)) return true;
     if (left === 0 || isLeaf(inner) || typeof inner === "function" || setHas(met, inner)) return false;
     setAdd(met, inner);
     let found = false;
@@ -147,24 +157,36 @@ function copyExtras(from, to) {
   for (let at = first; at < keys.length; at += 1) copyProperty(to, from, keys[at]);
 }
 
+/** @param {any} array on memory that isn't recorded @returns {object} the engine's own */
+const engineArray = (array) => /** @type {import("./watched.mjs").Watched} */ (anyWatchedOf(array)).real;
+
+/** @typedef {{ isIt: Test, copyOf: (value: any) => object }} Mirroring what is replaced, and by what */
+
+/** @type {Mirroring} */
+const COPYING = { isIt: isWatched, copyOf: privateCopy };
+
+/** @type {Mirroring} */
+export const REVEALING = { isIt: isOther, copyOf: engineArray };
+
 /**
- * A value with private copies of all recorded memory that it reaches. What reaches none is itself.
+ * A value with private copies of all watched memory that it reaches. What reaches none is itself.
  * @param {any} value
  * @param {Map<object, object>} made the copies of objects, so that each has one
+ * @param {Mirroring} [how]
  * @returns {any}
  */
-export function mirrored(value, made) {
+export function mirrored(value, made, how = COPYING) {
   const known = isObject(value) ? mapGet(made, value) : undefined;
   if (known !== undefined) return known;
-  if (isRecorded(value)) {
-    const copy = privateCopy(value);
+  if (how.isIt(value)) {
+    const copy = how.copyOf(value);
     mapSet(made, value, copy);
     return copy;
   }
-  if (!reaches(value, WHOLLY)) return value;
+  if (!reaches(value, WHOLLY, false, how.isIt)) return value;
   const copy = emptyLike(value);
   mapSet(made, value, copy);
-  fillMirror(value, copy, made);
+  fillMirror(value, copy, made, how);
   return copy;
 }
 
@@ -182,19 +204,21 @@ function setPrototyped(copy, value) {
   return copy;
 }
 
-/** @param {object} value @param {object} copy @param {Map<object, object>} made */
-function fillMirror(value, copy, made) {
+/** @param {object} value @param {object} copy @param {Map<object, object>} made @param {Mirroring} how */
+function fillMirror(value, copy, made, how) {
+  /** @param {unknown} inner */
+  const mirror = (inner) => mirrored(inner, made, how);
   if (value instanceof EngineMap) {
-    /** @type {(inner: unknown, key: unknown) => void} */
-    const put = (inner, key) => mapSet(copy, mirrored(key, made), mirrored(inner, made));
-    mapEach(value, put);
+    mapEach(value, (/** @type {unknown} */ inner, /** @type {unknown} */ key) => {
+      mapSet(copy, mirror(key), mirror(inner));
+    });
   }
-  if (value instanceof EngineSet) setEach(value, (/** @type {unknown} */ inner) => setAdd(copy, mirrored(inner, made)));
+  if (value instanceof EngineSet) setEach(value, (/** @type {unknown} */ inner) => setAdd(copy, mirror(inner)));
   const keys = ownKeys(value);
   for (let at = 0; at < keys.length; at += 1) {
     const found = getOwnPropertyDescriptor(value, keys[at]);
     if (found === undefined) continue;
-    if (hasOwn(found, "value")) found.value = mirrored(found.value, made);
+    if (hasOwn(found, "value")) found.value = mirror(found.value);
     defineProperty(copy, keys[at], found);
   }
 }

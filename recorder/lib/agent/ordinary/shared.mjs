@@ -59,6 +59,7 @@ export function watchBuffers() {
     const to = positionOf(given[1], length, length);
     const count = from < to ? to - from : 0;
     const made = answered(self, count);
+    watching.copied(made);
     tellBytes(self, from, to, false);
     tellBytes(made, 0, count, true);
     setElements(new EngineBytes(made), new EngineBytes(self, from, count));

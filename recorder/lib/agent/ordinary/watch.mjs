@@ -6,12 +6,13 @@ import { syncBuiltinESMExports } from "node:module";
 import threads from "node:worker_threads";
 import { watchArrays } from "./arrays.mjs";
 import { watchNodeBuffer } from "./buffer.mjs";
-import { watchCloning } from "./clone.mjs";
+import { learnClones, watchCloning } from "./clone.mjs";
 import { begin } from "./context.mjs";
 import { watchDataView } from "./data-view.mjs";
 import { watchInspection } from "./inspect.mjs";
 import { watchNatives } from "./natives.mjs";
 import { watchBuffers } from "./shared.mjs";
+import { watchThreads } from "./threads.mjs";
 
 /**
  * Patches this realm's globals and node's modules. It is called once, before any of the agents' code is loaded.
@@ -23,8 +24,20 @@ export function watchOrdinary(watching) {
   watchDataView();
   watchBuffers();
   watchNodeBuffer(buffer);
-  watchCloning(threads);
+  watchCloning();
+  watchThreads(threads);
   watchInspection();
   watchNatives();
+  syncBuiltinESMExports();
+}
+
+/**
+ * Patches what gives recorded memory to other threads, in a realm whose arrays are the engine's own.
+ * @param {import("./context.mjs").Watching} watching
+ */
+export function watchOthers(watching) {
+  begin(watching);
+  learnClones();
+  watchThreads(threads);
   syncBuiltinESMExports();
 }

@@ -5,7 +5,7 @@ import {
   bufferOf, create, getPrototypeOf, lengthOf, offsetOf, setPrototypeOf, tagOf, viewBufferOf, viewLengthOf, viewOffsetOf,
   weakGet, weakSet,
 } from "../../primordials.mjs";
-import { originalOf, refused, watching } from "./context.mjs";
+import { OTHER, originalOf, refused, tellOthers, watching } from "./context.mjs";
 
 /** The numbers of places that are no typed array. */
 export const DATA_VIEW = KINDS.length;
@@ -97,6 +97,17 @@ function onOriginal(real, buffer, Engine, offset, length) {
 }
 
 /**
+ * What an array stands on.
+ * @param {import("./context.mjs").Place} place
+ * @param {object} buffer
+ */
+function placed(place, buffer) {
+  if (place.block !== OTHER) return place;
+  tellOthers();
+  return { ...place, memory: originalOf(buffer) };
+}
+
+/**
  * @template {Watched} Kept
  * @param {object} real one of the typed arrays
  * @param {number} block
@@ -105,8 +116,8 @@ function onOriginal(real, buffer, Engine, offset, length) {
 export function arrayOn(real, block, Kind) {
   const kind = kindNumbers[tagOf(real)];
   if (kind === undefined) refused(`a ${tagOf(real)} was made on a recorded buffer`);
-  const place = { block, kind, offset: offsetOf(real), length: lengthOf(real) };
   const buffer = bufferOf(real);
+  const place = placed({ block, kind, offset: offsetOf(real), length: lengthOf(real) }, buffer);
   const watched = new Kind(onOriginal(real, buffer, ENGINE[kind], place.offset, place.length), place, sizes[kind]);
   watched.buffer = buffer;
   return watched;
@@ -114,8 +125,8 @@ export function arrayOn(real, block, Kind) {
 
 /** @param {DataView} real @param {number} block */
 export function viewOn(real, block) {
-  const place = { block, kind: DATA_VIEW, offset: viewOffsetOf(real), length: viewLengthOf(real) };
   const buffer = viewBufferOf(real);
+  const place = placed({ block, kind: DATA_VIEW, offset: viewOffsetOf(real), length: viewLengthOf(real) }, buffer);
   const watched = new Watched(onOriginal(real, buffer, EngineView, place.offset, place.length), place, 1);
   watched.buffer = buffer;
   return watched;
