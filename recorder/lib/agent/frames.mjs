@@ -58,8 +58,8 @@ function isOwn(file) {
 /** @type {Map<string, boolean>} for each file whether it is one of the agents' code */
 const agentsFiles = new EngineMap();
 
-/** @param {string | null} file */
-function isAgents(file) {
+/** @param {string | null} file @returns {boolean} whether it is one of the agents' code, and not the recorder's */
+export function isAgentsFile(file) {
   if (typeof file !== "string") return false;
   const known = mapGet(agentsFiles, file);
   if (known !== undefined) return known;
@@ -74,7 +74,7 @@ function isAgents(file) {
  */
 function firstOfAgents(frames) {
   for (let at = 0; at < frames.length; at += 1) {
-    if (isAgents(frames[at].getFileName())) return frames[at];
+    if (isAgentsFile(frames[at].getFileName())) return frames[at];
   }
   return undefined;
 }
@@ -114,7 +114,7 @@ export function numberHere(sources) {
  */
 export function numberAbove(sources, called) {
   const frame = framesHere(called, 1)[0];
-  return frame !== undefined && isAgents(frame.getFileName()) ? numberOf(sources, frame) : numberHere(sources);
+  return frame !== undefined && isAgentsFile(frame.getFileName()) ? numberOf(sources, frame) : numberHere(sources);
 }
 
 /** @param {Sources} sources @param {NodeJS.CallSite} frame */

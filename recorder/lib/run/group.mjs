@@ -2,6 +2,7 @@
 
 import { SCRIPT_LIMITS } from "../../script/limits.mjs";
 import { foundBy, leftOpen } from "../agent/answer.mjs";
+import { isAgentsFile } from "../agent/frames.mjs";
 import { Board } from "../board/board.mjs";
 import { memoryOf } from "../board/group-memory.mjs";
 import { waysOf } from "../board/strategy/ways.mjs";
@@ -9,6 +10,7 @@ import { needsRightNames, planOf } from "../options/plan.mjs";
 import { Refused } from "../options/refused.mjs";
 import { defaultsOf } from "../options/table.mjs";
 import { ownModules } from "../processes/own-modules.cjs";
+import { framesOf } from "../processes/place-of-thread.mjs";
 import { FIRST_THREADS, begunThread } from "../processes/thread.mjs";
 import { within } from "./within.mjs";
 
@@ -206,7 +208,15 @@ export class Group {
         referee.post({ replaced: true });
       }
       if (message.ask) referee.post({ problem: this.#askedHere(message.ask) });
+      if (message.locate !== undefined) referee.post({ place: await this.#placeOf(message.locate) });
     }
+  }
+
+  /** @param {number} agent whose code goes on @returns {Promise<string | undefined>} file, line and column, if known */
+  async #placeOf(agent) {
+    const frames = await framesOf(this.agents[agent].worker);
+    const own = frames.find(({ file }) => file !== "" && isAgentsFile(file));
+    return own && `${own.file}:${own.line}:${own.column}`;
   }
 
   /**

@@ -10,7 +10,7 @@ import { preloads } from "../processes/preloads.mjs";
 import { racesTold } from "./findings.mjs";
 import { fitted } from "./fitting.mjs";
 import { UNSEEN_LINE, placesIn, traceText } from "./trace.mjs";
-import { transcriptOf, waitingText } from "./transcript.mjs";
+import { askingLines, transcriptOf, waitingLines } from "./transcript.mjs";
 
 /** @typedef {import("./group.mjs").Outcome} Outcome */
 /** @typedef {import("./run-maker.mjs").Made} Made */
@@ -62,7 +62,8 @@ export class RunReporter {
     const { maker: { stores, agents }, run } = this;
     const whole = { ...run, isOrdinary: this.#isOrdinary() };
     const { transcript, script, holds, bytes = [], noScript } = fitted(whole, stores, found.initial, found.bytes);
-    if (outcome.ending === "deadlock") outcome.detail = waitingText(found.waiting, transcript);
+    const stands = this.#standsIn(found, transcript);
+    if (stands.length > 0) outcome.detail = [outcome.detail, ...stands].filter((line) => line !== "").join("\n");
     outcome.bytes = found.bytes;
     const own = agents.map((agent) => transcript.calls[agent].filter(({ isOwn }) => isOwn));
     outcome.answers = own.map((calls) => calls.map(({ answer }) => answer));
@@ -113,6 +114,21 @@ export class RunReporter {
     if (script === undefined || this.options.ordinary !== "watch") return undefined;
     // The stores of `init` are none of the run's accesses, and ordinary reads are in no script.
     return { racy, events: this.run.log.taken(), isInScript: !this.#isOrdinary() && initial.length === 0 };
+  }
+
+  /**
+   * Where agents wait, or ask for a call, in a run that ended by a deadlock or at a limit.
+   * @param {Made} found
+   * @param {import("../../script/text.mjs").Transcript} transcript
+   * @returns {string[]} lines
+   */
+  #standsIn({ waiting, asking }, transcript) {
+    /** @param {number} agent */
+    const whereOf = (agent) => {
+      const place = this.sources[agent].marked();
+      return place === "" ? "" : `, at ${this.sourceNames.nameOf(place)}`;
+    };
+    return [...waitingLines(waiting, transcript, whereOf), ...askingLines(asking, transcript, whereOf)];
   }
 
   /** @returns {boolean} whether ordinary accesses were made, or may have been made unseen */
