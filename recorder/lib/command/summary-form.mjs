@@ -1,13 +1,13 @@
 // The form of a summary as JSON (docs/FORMATS.md): whether what a file has is one.
 
 /**
- * @typedef {import("./summary.mjs").SummaryData & {
+ * @typedef {import("./summary-data.mjs").SummaryData & {
  *   summary: number, asked: import("./asked.mjs").Asked, seeds: import("../seeds/ranges.mjs").Range[],
  * }} WholeSummary what is told of many runs, and what was asked for
  */
 
 /** The number of this form: another one has another. */
-export const FORM = 2;
+export const FORM = 3;
 
 /** @typedef {(value: unknown, place: string) => string | undefined} Check it answers where a value isn't right */
 
@@ -50,7 +50,7 @@ const COUNTS = { runs: whole, first: whole };
 const listed = (members) => object({ listed: list(object({ ...members, ...COUNTS })), others: whole });
 
 const endings = list(object({ ending: text, ...COUNTS }));
-const states = listed({ ending: text, hash: text, shown: texts });
+const states = listed({ ending: text, hash: text, shown: texts, named: orNull(text) });
 
 const MEMBERS = object({
   summary: whole,
@@ -68,6 +68,8 @@ const MEMBERS = object({
   failed: whole,
   endings: object({ failing: endings, passing: endings }),
   firstFailing: orNull(object({ seed: whole, ending: text, detail: texts, noScript: orNull(text) })),
+  threw: whole,
+  failures: listed({ ending: text, message: texts, sources: texts }),
   shortened: orNull(object({
     runs: whole, changes: change, calls: change, stopped: orNull(text), unchanged: orNull(text), checked: flag,
     detail: texts,

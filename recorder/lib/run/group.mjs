@@ -27,8 +27,7 @@ import { within } from "./within.mjs";
  * @property {number} calls of Atomics that were begun
  * @property {number} ordinary how many ordinary reads and writes were seen
  * @property {{ returned: number, calls: number }[]} progress of each agent: calls that returned, and that began
- * @property {{ hash: string, shown: string[] }} state of the end: a hash of how it ended and of all bytes, and the
- * beginnings of each buffer in hexadecimal digits
+ * @property {import("./final-state.mjs").FinalState} state of the end
  * @property {import("./findings.mjs").RaceReport[]} races the unordered accesses, each pair of lines of code once
  * @property {string[]} [bytes] of each buffer as it was left, in hexadecimal digits; this and what follows is told of
  * runs that fail, and where it is asked for
@@ -37,8 +36,10 @@ import { within } from "./within.mjs";
  * @property {"all" | "touched"} [scriptHolds] which ordinary writes stand in the script: all, or those of bytes that
  * some call of Atomics touches
  * @property {string} [noScript] why there is no script
+ * @property {import("./failure.mjs").Failure} [failure] what a run that fails failed by, in short; a race is in `races`
  * @property {string} [report] what sabsim must answer
  * @property {string} [trace] each event as an object of JSON, a line each
+ * @property {string} [noTrace] why there is no trace, though one was to be made
  * @property {import("./source-names.mjs").SourceText[]} [sources] the code of each file that the trace names
  * @property {number[]} [row] which agent moved with each draw, in order, where that is asked for
  */

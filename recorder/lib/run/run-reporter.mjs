@@ -1,21 +1,21 @@
 // Makes the outcome of the run that was made last. Each outcome is brief; to some it adds the script, the report, the
 // unordered accesses and the trace.
 
-import { createHash } from "node:crypto";
 import { reportText } from "../../script/report.mjs";
 import { Records } from "../memory/records.mjs";
 import { Sources } from "../memory/sources.mjs";
 import { Names } from "../options/names.mjs";
 import { preloads } from "../processes/preloads.mjs";
+import { standstillOf, thrownIn } from "./failure.mjs";
 import { racesTold } from "./findings.mjs";
+import { FinalStates } from "./final-state.mjs";
 import { fitted } from "./fitting.mjs";
+import { askingLines, waitText, waitsOf } from "./standing.mjs";
 import { UNSEEN_LINE, placesIn, traceText } from "./trace.mjs";
-import { askingLines, transcriptOf, waitingLines } from "./transcript.mjs";
+import { transcriptOf } from "./transcript.mjs";
 
 /** @typedef {import("./group.mjs").Outcome} Outcome */
 /** @typedef {import("./run-maker.mjs").Made} Made */
-
-const SHOWN_DIGITS = 48;
 
 export class RunReporter {
   /** @param {import("./run-maker.mjs").Given} given @param {import("./run-maker.mjs").RunMaker} maker */
@@ -28,6 +28,7 @@ export class RunReporter {
       log: maker.log, records: memory.records.map((each) => new Records(each)), lengths: plan.buffers,
       canBlock: plan.canBlock, names: new Names(plan.names),
     };
+    this.states = new FinalStates(plan.names);
     /** Whether each ordinary access is seen: code from before the recorder may make some that aren't watched. */
     this.seesAll = options.ordinary === "watch" && !preloads();
   }
@@ -47,7 +48,7 @@ export class RunReporter {
       calls: maker.callCount(),
       ordinary: maker.accessCount(),
       progress: maker.agents.map((agent) => journal.progress(agent)),
-      state: stateOf(found),
+      state: this.states.of(ending, found.bytes),
       races: [],
       ...(draws === undefined ? {} : { row: draws }),
     };
@@ -62,8 +63,7 @@ export class RunReporter {
     const { maker: { stores, agents }, run } = this;
     const whole = { ...run, isOrdinary: this.#isOrdinary() };
     const { transcript, script, holds, bytes = [], noScript } = fitted(whole, stores, found.initial, found.bytes);
-    const stands = this.#standsIn(found, transcript);
-    if (stands.length > 0) outcome.detail = [outcome.detail, ...stands].filter((line) => line !== "").join("\n");
+    this.#addFailure(outcome, found, transcript);
     outcome.bytes = found.bytes;
     const own = agents.map((agent) => transcript.calls[agent].filter(({ isOwn }) => isOwn));
     outcome.answers = own.map((calls) => calls.map(({ answer }) => answer));
@@ -117,32 +117,29 @@ export class RunReporter {
   }
 
   /**
-   * Where agents wait, or ask for a call, in a run that ended by a deadlock or at a limit.
+   * Adds what a run failed by, and to the detail of a deadlock or a limit where agents wait, or ask for a call.
+   * @param {Outcome} outcome
    * @param {Made} found
    * @param {import("../../script/text.mjs").Transcript} transcript
-   * @returns {string[]} lines
    */
-  #standsIn({ waiting, asking }, transcript) {
+  #addFailure(outcome, { waiting, asking }, transcript) {
+    const { sources, sourceNames } = this;
+    const { ending, fails, detail } = outcome;
     /** @param {number} agent */
-    const whereOf = (agent) => {
-      const place = this.sources[agent].marked();
-      return place === "" ? "" : `, at ${this.sourceNames.nameOf(place)}`;
+    const sourceOf = (agent) => {
+      const place = sources[agent].marked();
+      return place === "" ? "" : sourceNames.nameOf(place);
     };
-    return [...waitingLines(waiting, transcript, whereOf), ...askingLines(asking, transcript, whereOf)];
+    const waits = waitsOf(waiting, transcript, sourceOf);
+    const stands = [...waits.map(waitText), ...askingLines(asking, transcript, sourceOf)];
+    outcome.detail = [detail, ...stands].filter((line) => line !== "").join("\n");
+    if (!fails || ending === "race") return;
+    const isThrown = ending === "failed" || ending === "check";
+    outcome.failure = isThrown ? thrownIn(detail, sourceNames) : standstillOf(detail, waits);
   }
 
   /** @returns {boolean} whether ordinary accesses were made, or may have been made unseen */
   #isOrdinary() {
     return !this.seesAll || this.run.log.hasOrdinary();
   }
-}
-
-/**
- * The bytes at the end: their hash, with the ending's, and their beginnings.
- * @param {Made} found
- */
-function stateOf({ ending, bytes }) {
-  const hash = createHash("sha256").update(`${ending} ${bytes.join(" ")}`).digest("base64");
-  const shown = bytes.map((hex) => (hex.length > SHOWN_DIGITS ? `${hex.slice(0, SHOWN_DIGITS)}…` : hex));
-  return { hash, shown };
 }

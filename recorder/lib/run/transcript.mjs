@@ -179,34 +179,3 @@ export function transcriptOf(run, stores, initial = []) {
 export function ownCalls(transcript, agent) {
   return transcript.calls[agent].map((call, inScript) => ({ ...call, inScript })).filter((call) => call.isOwn);
 }
-
-/**
- * Who waits where, a line for each.
- * @param {{ agent: number, block: number, byte: number }[]} waiting in order of arrival
- * @param {Transcript} transcript
- * @param {(agent: number) => string} whereOf the line of code at which an agent is, as ", at lock.mjs:3:5"; empty if
- * it isn't known
- * @returns {string[]}
- */
-export function waitingLines(waiting, transcript, whereOf) {
-  return waiting.map(({ agent, block, byte }) => {
-    const calls = ownCalls(transcript, agent);
-    const number = calls.length - 1;
-    const { text, inScript, name = `byte ${byte} of block ${block}` } = calls[number];
-    const there = inScript === number ? "" : `, which is ${inScript} in the script`;
-    return `agent ${agent} waits at ${name}: its call ${number}, ${text}${there}${whereOf(agent)}`;
-  });
-}
-
-/**
- * Which agents asked for a call, a line for each whose line of code is known.
- * @param {number[]} asking
- * @param {Transcript} transcript
- * @param {(agent: number) => string} whereOf as above
- * @returns {string[]}
- */
-export function askingLines(asking, transcript, whereOf) {
-  return asking.filter((agent) => whereOf(agent) !== "").map((agent) => {
-    return `agent ${agent} asks for its call ${ownCalls(transcript, agent).length}${whereOf(agent)}`;
-  });
-}
