@@ -2,6 +2,7 @@
 
 import { isStandIn } from "../schedule/report.mjs";
 import { labelOf, sizeOf } from "./elements.mjs";
+import { endingText } from "./endings.mjs";
 import { callText, entryText, standingText, valueText } from "./words.mjs";
 
 /** @typedef {import("../schedule/report.mjs").Entry} Entry */
@@ -92,7 +93,8 @@ export class Stepper {
   }
 
   #end() {
-    const { ending, standings } = this.data;
+    const { detail, standings } = this.data;
+    const ending = endingText(this.data.ending, detail);
     const stands = standings.map(({ agent, standing }) => `Agent ${agent} ${standingText(standing)}.`);
     this.#add({ what: "end", text: `the end: ${ending}`, sentence: [`The run ends: ${ending}.`, ...stands].join(" ") });
   }

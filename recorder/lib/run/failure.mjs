@@ -30,7 +30,7 @@ export function thrownIn(detail, sourceNames) {
   const lines = detail.split("\n");
   const first = lines.findIndex((line) => IS_FRAME.test(line));
   const message = lines.slice(0, first < 0 ? lines.length : first).filter((line) => line.trim() !== "");
-  const places = lines.map((line) => FRAME.exec(line)?.[1]).filter((place) => place !== undefined);
+  const places = lines.flatMap((line) => FRAME.exec(line)?.[1] ?? []);
   const place = places.find((each) => !each.startsWith("node:"));
   return { message: shortened(message), sources: place === undefined ? [] : [sourceNames.nameOf(place)] };
 }

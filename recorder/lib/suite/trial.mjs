@@ -1,17 +1,16 @@
 // A trial of a module of agents in somebody's test suite: it fails as an assertion does where a run fails.
 
 import { AssertionError } from "node:assert";
-import { mkdtempSync } from "node:fs";
-import { tmpdir } from "node:os";
-import { join, resolve } from "node:path";
-import { toldOf } from "../command/problems.mjs";
-import { Keeper } from "../keeping/keep.mjs";
+import { resolve } from "node:path";
+import { isExpected, toldOf } from "../command/problems.mjs";
+import { Keeper, missingFiles } from "../keeping/keep.mjs";
 import { keepPictures } from "../keeping/pictures.mjs";
 import { counted, digits } from "../keeping/words.mjs";
 import { runsOf } from "../library/explore.mjs";
 import { checkedOwn } from "../library/library-options.mjs";
 import { simulatorAt } from "../simulator/chosen.mjs";
 import { failureText } from "./failure.mjs";
+import { keptFolder } from "./kept-folder.mjs";
 
 /** @typedef {import("../library/recorder.mjs").Outcome} Outcome */
 /** @typedef {import("../seeds/runs.mjs").Runs} Runs */
@@ -21,6 +20,7 @@ import { failureText } from "./failure.mjs";
  * @typedef {object} Caller whose code asks for the trial
  * @property {() => string | undefined} folder from which a relative path of the module is taken
  * @property {string | undefined} place file, line and column
+ * @property {string} [name] of the test; undefined: it is told from others by its place
  */
 
 /** A run of agents has failed: the message says all of it. */
@@ -36,18 +36,40 @@ class AgentsFailed extends AssertionError {
 }
 
 /**
+ * What is thrown for a problem. The recorder's own frames say nothing about one that is expected.
+ * @param {unknown} problem
+ * @param {string | undefined} place where the trial is asked for
+ */
+function atCaller(problem, place) {
+  if (!(problem instanceof Error) || place === undefined || !isExpected(problem)) return problem;
+  problem.stack = `${problem.name}: ${problem.message}\n    at ${place}`;
+  return problem;
+}
+
+/**
  * Makes runs until one fails.
  * @param {TrialOptions} given
  * @param {Caller} caller
  * @returns {Promise<string>} what is to be said where none failed; fails with an AssertionError where one did
  */
-export async function tried(given, { folder, place }) {
+export async function tried(given, caller) {
+  try {
+    return await passedOf(given, caller);
+  } catch (problem) {
+    throw atCaller(problem, caller.place);
+  }
+}
+
+/** @param {TrialOptions} given @param {Caller} caller @returns {Promise<string>} as above */
+async function passedOf(given, caller) {
   const { out, shorten = true, ...options } = checkedOwn(given);
   let [passed, checked, unchecked] = [0, 0, ""];
-  const runs = runsOf({ ...options, failFast: true }, folder);
+  const runs = runsOf({ ...options, failFast: true }, caller.folder);
   try {
     for await (const outcome of runs.outcomes()) {
-      if (outcome.fails) throw new AgentsFailed(await failureOf(runs, outcome, passed, { out, shorten }), place);
+      if (outcome.fails) {
+        throw new AgentsFailed(await failureOf(runs, outcome, passed, { out, shorten, caller }), caller.place);
+      }
       passed += 1;
       if (outcome.checked) checked += 1;
       else unchecked = outcome.unchecked ?? "";
@@ -64,31 +86,37 @@ export async function tried(given, { folder, place }) {
  * @param {Runs} runs
  * @param {Outcome} failing
  * @param {number} passed how many runs of lower seeds passed
- * @param {{ out?: string, shorten: boolean }} about
+ * @param {{ out?: string, shorten: boolean, caller: Caller }} about
  * @returns {Promise<string>}
  */
-async function failureOf(runs, failing, passed, { out, shorten }) {
+async function failureOf(runs, failing, passed, { out, shorten, caller }) {
   const { module, sabsim } = runs.options;
   const simulator = simulatorAt(sabsim || undefined);
   const outcome = shorten ? (await runs.shorten(failing)).shortest ?? failing : failing;
-  const kept = keptLines({ failing, outcome }, module, out, simulator);
-  return failureText({ outcome, passed, simulator, kept });
+  const folder = () => out ?? keptFolder(module, testOf(caller));
+  const kept = keptLines({ failing, outcome }, module, folder, simulator);
+  return failureText({ outcome, passed, simulator, module, kept });
+}
+
+/** @param {Caller} caller @returns {string} what tells its test from others: a line may move, unless it has no name */
+function testOf({ name, place = "" }) {
+  return name === undefined ? place : `${place.replace(/(?::\d+){2}$/, "")}\n${name}`;
 }
 
 /**
  * Keeps a run.
  * @param {{ failing: Outcome, outcome: Outcome }} runs the one that has failed, and the shortest that fails so
  * @param {string} module its URL
- * @param {string | undefined} out where; undefined: in a new folder for temporary files
+ * @param {() => string} folder where
  * @param {import("../simulator/chosen.mjs").Simulator} simulator
  * @returns {string[]} what lies where, and what doesn't
  */
-function keptLines({ failing, outcome }, module, out, simulator) {
+function keptLines({ failing, outcome }, module, folder, simulator) {
   try {
-    const keeper = new Keeper(resolve(out ?? mkdtempSync(join(tmpdir(), "sabsim-"))), "`out`");
+    const keeper = new Keeper(resolve(folder()), "`out`");
     keeper.keepLowest(failing);
     if (outcome !== failing) keeper.keepShortest(failing, outcome);
-    const notKept = keepPictures(keeper, outcome, { simulator, module });
+    const notKept = [...keepPictures(keeper, outcome, { simulator, module }), ...missingFiles(outcome)];
     const kept = keeper.names.length === 0 ? [] : [`kept in ${keeper.folder}: ${keeper.names.join(", ")}`];
     return [...kept, ...notKept];
   } catch (problem) {
