@@ -174,7 +174,7 @@ test("files that are no summaries, or don't fit together, are refused with one l
     [[write("text", "15 of 200 runs failed\n")], /^merge: line 1 of .*text is no summary .*: it is no JSON\n/],
     [[write("number", "5")], /it isn't what `record\.mjs --format json` writes\n/],
     [[write("null", "null")], /it isn't what `record\.mjs --format json` writes\n/],
-    [[changed("form", { summary: 99 })], /it is of form 99, and this recorder writes and reads form 2\n/],
+    [[changed("form", { summary: 99 })], /it is of form 99, and this recorder writes and reads form 3\n/],
     [[changed("runs", { runs: "5" })], /its member runs is missing, or isn't what it must be\n/],
     [[changed("endings", { endings: { failing: [{ ending: "race", runs: 1 }], passing: [] } })],
       /its member endings\.failing\[0\]\.first is missing/],
@@ -262,6 +262,6 @@ test("what shards have covered is joined, and with it of how many accesses the l
 
 test("each part of a file is named by its line", (context) => {
   const folder = temporaryFolder(context);
-  writeFileSync(join(folder, "two"), '{"summary":2}\n{"summary":3}\n');
+  writeFileSync(join(folder, "two"), '{"summary":3}\n{"summary":2}\n');
   assert.throws(() => partsOf(join(folder, "two")), /^Error: line 1 of .*two is no summary .*: its member asked is /);
 });

@@ -9,7 +9,7 @@ import { CONSTRUCTORS, SIZES } from "../../script/kinds.mjs";
  * @typedef {object} FinalState
  * @property {string} hash of how the run ended and of all bytes
  * @property {string[]} shown the beginnings of each buffer in hexadecimal digits
- * @property {string | null} named the values of all that has a name, and the same beginnings if other bytes aren't zero;
+ * @property {string | null} named the values of all that has a name, and the beginnings too if other bytes aren't zero;
  * null if nothing has a name
  */
 

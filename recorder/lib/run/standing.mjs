@@ -32,8 +32,9 @@ export function waitsOf(waiting, transcript, sourceOf) {
 
 /** @param {Wait} wait @returns {string} */
 export function waitText({ agent, name, call, text, inScript, source }) {
+  const where = source === "" ? "" : `, at ${source}`;
   const there = inScript === call ? "" : `, which is ${inScript} in the script`;
-  return `agent ${agent} waits at ${name}: its call ${call}, ${text}${there}${source === "" ? "" : `, at ${source}`}`;
+  return `agent ${agent} waits at ${name}: its call ${call}, ${text}${where}${there}`;
 }
 
 /**
