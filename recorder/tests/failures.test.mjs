@@ -21,13 +21,15 @@ test("what was thrown goes by its first lines, and the innermost line of code th
   assert.deepEqual(thrownIn([message, ...stack].join("\n"), names), {
     message: ["check threw AssertionError: these differ:", "1 !== 2"], sources: ["src/lock.mjs:7:3"],
   });
-  const last = ["agent 1 threw Error: no", "    at eval (eval at agent (file:///a.mjs:3:1), <anonymous>:1:7)", stack[2]];
+  const evaluated = "    at eval (eval at agent (file:///a.mjs:3:1), <anonymous>:1:7)";
+  const last = ["agent 1 threw Error: no", evaluated, stack[2]];
   assert.deepEqual(thrownIn(last.join("\n"), names), { message: [last[0]], sources: ["lock.agents.mjs:9:1"] });
   assert.deepEqual(thrownIn("check answered false", names), { message: ["check answered false"], sources: [] });
 });
 
 test("of a long message three lines are kept, and 160 characters of each", () => {
-  const { message } = thrownIn(["a".repeat(1_000_000), "b", "c", "d", "    at f (file:///a.mjs:1:1)"].join("\n"), names);
+  const lines = ["a".repeat(1_000_000), "b", "c", "d", "    at f (file:///a.mjs:1:1)"];
+  const { message } = thrownIn(lines.join("\n"), names);
   assert.deepEqual(message, ["a".repeat(160), "b", "c"]);
 });
 
@@ -81,11 +83,11 @@ test("an outcome has what its run failed by", async (context) => {
   ].join("\n"));
   const failureOf = async (way) => (await record({ module, agents: 1, buffers: [8], args: [way] })).failure;
   assert.deepEqual(await failureOf("throws"), {
-    message: ["agent 0 threw RangeError: no such luck"], sources: ["agents.mjs:3:34"],
+    message: ["agent 0 threw RangeError: no such luck"], sources: ["agents.mjs:3:33"],
   });
   assert.deepEqual(await failureOf("waits"), {
-    message: ["an agent waits at byte 0 of block 0"], sources: ["agents.mjs:4:37"],
+    message: ["an agent waits at byte 0 of block 0"], sources: ["agents.mjs:4:34"],
   });
-  assert.deepEqual((await failureOf("spins")).sources, ["agents.mjs:5:44"]);
+  assert.deepEqual((await failureOf("spins")).sources, ["agents.mjs:5:41"]);
   assert.equal(await failureOf("ends"), undefined);
 });

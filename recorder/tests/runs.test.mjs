@@ -131,7 +131,7 @@ test("an agent that makes no call comes to the bound of seconds", async () => {
 
 test("more typed arrays than a script can have are a bound", async () => {
   const outcome = await recordCase("manyViews", { sabsim: CHECKER, agents: 1, buffers: [70] });
-  const detail = "more than 64 different typed arrays were used: agent 0 is at cases.mjs:76:60";
+  const detail = "more than 64 different typed arrays were used: agent 0 is at cases.mjs:76:54";
   assert.deepEqual([outcome.ending, outcome.detail], ["bound", detail]);
   assert.equal(JSON.parse(outcome.script).views.length, 64);
 });

@@ -11,7 +11,7 @@ import { pageData } from "../keeping/page.mjs";
 /** @typedef {{ at: number, text: string, isMarked: boolean }} Act with its number among the steps of the run */
 
 const COLUMNS = "the move, the agent, how many of its calls had returned";
-const TITLE = `Its last acts, as sabsim explains them (${COLUMNS}), with their lines of code:`;
+const TITLE = `Its last acts, as sabsim explains them (${COLUMNS}), and their lines:`;
 const TITLE_OF_RACE = `${TITLE.slice(0, -1)}; > marks two accesses that nothing orders:`;
 
 // How many acts are shown, and how many characters of a line.
