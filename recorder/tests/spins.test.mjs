@@ -71,8 +71,7 @@ describe("agents that go on and on", () => {
   });
 
   it("a limit says who sleeps, where, and at which line", async () => {
-    const ways = { module: agentsPath("sleeps-beside"), args: [] };
-    const [{ ending, detail, failure }] = await recorded(ways);
+    const [{ ending, detail, failure }] = await recorded({ module: agentsPath("sleeps-beside"), timeouts: 0 });
     assert.equal(ending, "bound");
     const [spin, ...sleepers] = detail.split("\n");
     const at = (text) => {
@@ -107,7 +106,7 @@ describe("agents that go on and on", () => {
     const [outcome] = await recorded({ module: agentsPath("spins"), args: ["load"], bounds: "allow" });
     assert.deepEqual([outcome.ending, outcome.fails, outcome.detail], ["bound", false, outcomes.load.detail]);
     const [first, ...others] = summaryLines([outcome]);
-    assert.equal(first, "1 run: 1 bound (allowed)");
+    assert.equal(first, "1 run: 1 limit met (allowed)");
     assert.ok(!others.some((line) => line.includes("first failing seed")));
   });
 });

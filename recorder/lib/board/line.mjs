@@ -74,7 +74,8 @@ export class Line {
 
   /** @param {number} agent @returns {boolean} whether there is a move for it: also the end of a wait's time */
   canMove(agent) {
-    return this.asks(agent) || this.phase(agent) === PHASE.WAITS_TIMED;
+    const phase = this.phase(agent);
+    return phase === PHASE.ASKS || phase === PHASE.WOKEN || phase === PHASE.WAITS_TIMED;
   }
 
   /** @param {number} agent @returns {boolean} whether it asks for a call, or was woken */

@@ -12,7 +12,7 @@ const writeText = uncurried(Buffer.prototype.write);
 export const REASON_BYTES = 4_096;
 
 // How long an agent that was silent may take to say where it is.
-const MILLISECONDS_TO_ANSWER = 100;
+const MILLISECONDS_TO_ANSWER = 1_000;
 
 export class Turn {
   /**

@@ -6,7 +6,7 @@ import { createRequire } from "node:module";
 /** @typedef {import("node:inspector").Session} Session */
 
 // How long it is awaited that the worker pauses. Code of the engine's own can't be paused.
-const MILLISECONDS = 2_000;
+const MILLISECONDS = 5_000;
 
 /** @returns {Session | undefined} undefined if this node has no inspector */
 function connected() {

@@ -125,11 +125,9 @@ export class RunReporter {
   #addFailure(outcome, { waiting, asking }, transcript) {
     const { sources, sourceNames } = this;
     const { ending, fails, detail } = outcome;
+    const places = waiting.length + asking.length === 0 ? [] : sources.map((each) => each.marked());
     /** @param {number} agent */
-    const sourceOf = (agent) => {
-      const place = sources[agent].marked();
-      return place === "" ? "" : sourceNames.nameOf(place);
-    };
+    const sourceOf = (agent) => (places[agent] === "" ? "" : sourceNames.nameOf(places[agent]));
     const waits = waitsOf(waiting, transcript, sourceOf);
     const stands = [...waits.map(waitText), ...askingLines(asking, transcript, sourceOf)];
     outcome.detail = [detail, ...stands].filter((line) => line !== "").join("\n");
