@@ -240,6 +240,6 @@ test("a debugger of the process stops in the agents, and the time of agents isn'
   // Once, since the agents run once: there are no pilots, and no second run for the lines of code.
   const stops = stderr.split("\n").filter((text) => text.startsWith("stopped in ") && text.endsWith(" in agent"));
   assert.deepEqual(stops, [`stopped in relay.mjs at line ${line}, in agent`]);
-  assert.match(stdout, /^1 of 1 run failed: 1 check$/m);
+  assert.match(stdout, /^1 of 1 run failed: 1 check failed$/m);
   assert.ok(readFileSync(join(folder, "relay.mjs"), "utf8") === CODE);
 });
