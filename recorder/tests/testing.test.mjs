@@ -5,7 +5,6 @@ import { spawn } from "node:child_process";
 import {
   existsSync, mkdirSync, readFileSync, readdirSync, rmSync, symlinkSync, writeFileSync,
 } from "node:fs";
-import { tmpdir } from "node:os";
 import { join } from "node:path";
 import { test } from "node:test";
 import { fileURLToPath } from "node:url";
@@ -158,7 +157,10 @@ test("the failing test of a race marks its two accesses among the last acts, wit
 test("a test's failing run is kept in the same folder each time, which no link leads out of", (the) => {
   const { TMPDIR } = process.env;
   process.env.TMPDIR = temporaryFolder(the);
-  the.after(() => Object.assign(process.env, { TMPDIR: TMPDIR ?? tmpdir() }));
+  the.after(() => {
+    if (TMPDIR === undefined) delete process.env.TMPDIR;
+    else process.env.TMPDIR = TMPDIR;
+  });
   const module = "file:///home/me/lock%20agents.mjs?one";
   const folder = keptFolder(module, "one");
   assert.match(folder, /[\\/]sabsim--?\d+[\\/]lock_20agents\.mjs-[0-9a-f]{12}$/);
