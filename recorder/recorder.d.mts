@@ -140,8 +140,11 @@ export interface Outcome {
   ordinary: number;
   /** Of each agent: how many of its calls returned, and how many began. */
   progress: { returned: number; calls: number }[];
-  /** Of the end: a hash of how it ended and of all bytes, and the beginnings of each buffer in hexadecimal digits. */
-  state: { hash: string; shown: string[] };
+  /**
+   * Of the end: a hash of how it ended and of all bytes; the beginnings of each buffer in hexadecimal digits; the values
+   * of all that has a name, and null if nothing has one.
+   */
+  state: { hash: string; shown: string[]; named: string | null };
   /** The unordered accesses, each pair of lines of code once. Each data race of ECMA-262 is one of them. */
   races: Race[];
   /** Of each buffer as it was left, in hexadecimal digits. */
@@ -156,10 +159,18 @@ export interface Outcome {
   noScript?: string;
   /** What sabsim must answer. */
   report?: string;
+  /**
+   * What a failing run failed by, in short: the first lines of what was thrown or what agents were at, and the lines of
+   * code. Runs that fail alike have the same lines of code, and the same message up to its numbers. A run that ended as
+   * `race` has its `races`.
+   */
+  failure?: { message: string[]; sources: string[] };
   /** Each event as an object of JSON, a line each. The first line may say that accesses are missing (`unseen`). */
   trace?: string;
   /** By which arrays the trace's ordinary accesses were made, and what they read. */
   accesses?: Accesses;
+  /** Why there is no trace, though one was to be made. */
+  noTrace?: string;
   /** The code of each file that the trace names; null where it can't be read, or is longer than 2^20 characters. */
   sources?: { file: string; text: string | null }[];
   /** Which agent moved with each draw, in order; told of the shortest run. */

@@ -5,6 +5,7 @@ import { whyNotOnCode } from "../schedule/on-code.mjs";
 import { showAbout } from "./about.mjs";
 import { Changeable } from "./changeable.mjs";
 import { by, made } from "./dom.mjs";
+import { endingText } from "./endings.mjs";
 import { Run } from "./model.mjs";
 import { simulateBy } from "./simulate.mjs";
 
@@ -15,7 +16,7 @@ const SHORT_DETAIL_LINES = 2;
 /** @param {RunData} data */
 function showHead({ seed, module, ending, detail, isWhole }) {
   by("failing").hidden = false;
-  by("ending").textContent = ending;
+  by("ending").textContent = endingText(ending, detail);
   by("ending").className = `ending ${ending}`;
   by("what").textContent = `seed ${seed} of ${module}`;
   if (!isWhole) by("timeline-title").textContent = "Timeline, without ordinary accesses: there are too many";

@@ -4,6 +4,7 @@ import { isStandIn } from "../schedule/report.mjs";
 import { storedBytes } from "../script/values.mjs";
 import { labelOf, writtenView } from "../script/written.mjs";
 import { changesBy, sizeOf } from "./elements.mjs";
+import { endingText } from "./endings.mjs";
 import { callText, changesText, entryText, standingText, valueText } from "./words.mjs";
 
 /** @typedef {import("../schedule/report.mjs").Entry} Entry */
@@ -108,7 +109,8 @@ export class Stepper {
   }
 
   #end() {
-    const { ending, standings } = this.data;
+    const { detail, standings } = this.data;
+    const ending = endingText(this.data.ending, detail);
     const stands = standings.map(({ agent, standing }) => `Agent ${agent} ${standingText(standing)}.`);
     this.#add({ what: "end", text: `the end: ${ending}`, sentence: [`The run ends: ${ending}.`, ...stands].join(" ") });
   }

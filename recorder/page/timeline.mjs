@@ -1,6 +1,7 @@
 // The timeline of a run in a browser: a row for each step, with a lane for each agent.
 
 import { badge, by, made, spoken } from "./dom.mjs";
+import { endingText } from "./endings.mjs";
 
 /** @typedef {import("./model.mjs").Run} Run */
 /** @typedef {import("./steps.mjs").Step} Step */
@@ -117,7 +118,7 @@ export class Timeline {
     const { failing, racing, data, steps } = this.run;
     if (racing.some((pair) => pair.includes(index))) return ["races"];
     if (!failing.includes(index) || index === steps.length - 1) return [];
-    return [data.ending === "deadlock" ? "waits for ever" : data.ending];
+    return [data.ending === "deadlock" ? "waits for ever" : endingText(data.ending, data.detail)];
   }
 
   /** @param {Step} step @param {number} index */

@@ -35,7 +35,7 @@ describe("init and check", { concurrency: 2 }, () => {
       execFile(process.execPath, words, (error, text) => done({ code: error?.code, stdout: text }));
     });
     assert.equal(code, 1);
-    const [, seed] = /^first failing seed: (\d+), check\n {2}check threw Error: counted to 1$/m.exec(stdout);
+    const [, seed] = /^first failing seed: (\d+), check failed\n {2}check threw Error: counted to 1$/m.exec(stdout);
     const kept = (ending) => readFileSync(join(out, `seed-${seed}.${ending}`), "utf8");
     assert.deepEqual(readdirSync(out).sort(), [
       "explained", "html", "json", "original.json", "original.report", "original.trace.jsonl", "report", "svg",

@@ -216,7 +216,7 @@ test("a run that failed is told of, also if the next one ends the job's process 
   const { status, stdout } = run([...words, "--seeds", "1..10", "--everywhere"]);
   assert.equal(status, 3);
   // The first one is made twice, for the lines of its accesses.
-  assert.match(stdout, /^stopped after 6 of 10 runs\n6 of 6 runs failed: 6 failed\n/);
+  assert.match(stdout, /^stopped after 6 of 10 runs\n6 of 6 runs failed: 6 stopped\n/);
 });
 
 test("where one job of several is killed, the others go on", onLinux, async (context) => {
@@ -266,7 +266,7 @@ test("a call of native code that takes long holds nothing, nor does what it has 
   const { status, stdout } = run(words, [], { env: { ...process.env, RECORDER_TEST: mark } });
   const took = performance.now() - begun;
   assert.equal(status, 1);
-  assert.match(stdout, /^1 of 1 run failed: 1 bound\n/);
+  assert.match(stdout, /^1 of 1 run failed: 1 limit met\n/);
   assert.ok(took < 30_000, `it took ${took} ms`);
   assert.deepEqual(processesWith(mark), []);
 });

@@ -127,7 +127,8 @@ describe("ordinary accesses in each mode", () => {
     for (const { ending, detail, progress, calls, answers } of [...watch, ...store]) {
       assert.equal(ending, "deadlock");
       const own = 'agent 0 waits at byte 0 of block 0: its call 2, ["wait", "Int32_b0", 0, 0]';
-      assert.equal(detail, `${own}, which is 4 in the script`);
+      const [{ line, column }] = placesOf("modes", "wait(words, 0, 0)");
+      assert.equal(detail, `${own}, at modes.mjs:${line}:${column}, which is 4 in the script`);
       assert.deepEqual([progress[0], calls, answers[0]], [{ returned: 2, calls: 3 }, 4, ["0", "0", null]]);
     }
   });
@@ -141,5 +142,5 @@ function tellsWhatIsNotSeen(watch, store, refuse) {
   const unseen = /^ordinary reads were not seen, .* so unordered accesses were not looked for$/;
   assert.match(lines(store, "store").at(-1), unseen);
   assert.match(lines(refuse, "refuse").at(-1), unseen);
-  assert.equal(lines(refuse, "refuse")[0], "6 of 6 runs failed: 6 failed");
+  assert.equal(lines(refuse, "refuse")[0], "6 of 6 runs failed: 6 stopped");
 }

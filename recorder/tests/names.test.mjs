@@ -210,7 +210,7 @@ test("a deadlock and a race are told by names", async (context) => {
     else Atomics.load(words, 0);
   `);
   assert.deepEqual([deadlock.ending, deadlock.detail], [
-    "deadlock", 'agent 0 waits at WAKE: its call 0, ["wait", "WAKE", 0, 0]',
+    "deadlock", 'agent 0 waits at WAKE: its call 0, ["wait", "WAKE", 0, 0], at agents.mjs:5:30',
   ]);
   const races = await recordedModule(context, setup, `
     const words = new Int32Array(buffers[0]);

@@ -56,7 +56,8 @@ test("pilots that meet a bound, that fail or that don't end let the runs be made
   const spins = await recordCase("spins", {});
   assert.deepEqual([spins.ending, /has made 1000 calls/.test(spins.detail)], ["bound", true]);
   const endless = await recordCase("loops", { seconds: 3 });
-  assert.deepEqual([endless.ending, endless.detail], ["bound", "agent 1 has made no call for 3 s"]);
+  const silent = "agent 1 has made no call for 3 s: it is at cases.mjs:40:5";
+  assert.deepEqual([endless.ending, endless.detail], ["bound", silent]);
   // Two seconds are spent on a pilot, and three on the run.
   assert.ok(performance.now() - begun < 30_000);
   const init = () => {

@@ -86,7 +86,9 @@ test("nothing is written outside of --out, and without it nothing at all", (cont
   for (const place of places) mkdirSync(join(folder, place));
   const [cwd, HOME, TMPDIR] = places.map((place) => join(folder, place));
   const options = { cwd, env: { PATH: process.env.PATH, HOME, TMPDIR } };
-  assert.equal(run(cases("waitsForEver", "--seeds", "1..3", ...CHECKING), options).status, 1);
+  const { status, stdout } = run(cases("waitsForEver", "--seeds", "1..3", ...CHECKING), options);
+  assert.equal(status, 1);
+  assert.ok(stdout.endsWith("\nnot kept: the run of seed 1; --out DIR keeps it, with a page that shows it\n"), stdout);
   assert.equal(run(cases("waitsForEver", "--seeds", "1..3", "--out", "kept", ...CHECKING), options).status, 1);
   assert.deepEqual(places.map((place) => readdirSync(join(folder, place))), [["kept"], [], []]);
   assert.deepEqual(readdirSync(folder).sort(), places);

@@ -71,12 +71,12 @@ test("a kept run is made again, and the simulator says the same of it", async (c
   const lines = stdout.trimEnd().split("\n");
   assert.deepEqual(lines.slice(0, 6), [
     `replayed ${file}, with the clocks and random numbers of seed 4`,
-    "1 of 1 run failed: 1 check",
-    "first failing seed: 4, check",
+    "1 of 1 run failed: 1 check failed",
+    "first failing seed: 4, check failed",
     "  check answered false",
     "1 final state: how it ended, and the bytes",
     // What agent 1 has added is a random number of the seed.
-    `  1 run check, seed 4 the first: ${outcome.bytes[0].slice(0, 48)}…`,
+    `  1 run check failed, seed 4 the first: ${outcome.bytes[0].slice(0, 48)}…`,
   ]);
   assert.match(lines[6], /^every run was replayed and judged by sabsim \(\w+\): it says the same$/);
 });
@@ -240,6 +240,6 @@ test("a debugger of the process stops in the agents, and the time of agents isn'
   // Once, since the agents run once: there are no pilots, and no second run for the lines of code.
   const stops = stderr.split("\n").filter((text) => text.startsWith("stopped in ") && text.endsWith(" in agent"));
   assert.deepEqual(stops, [`stopped in relay.mjs at line ${line}, in agent`]);
-  assert.match(stdout, /^1 of 1 run failed: 1 check$/m);
+  assert.match(stdout, /^1 of 1 run failed: 1 check failed$/m);
   assert.ok(readFileSync(join(folder, "relay.mjs"), "utf8") === CODE);
 });

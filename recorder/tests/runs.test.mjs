@@ -8,6 +8,7 @@ import { Difference, NoSabsim, Refused, record } from "../recorder.mjs";
 import { NAMES } from "./agents/refused.mjs";
 import { agentsOf, agentsPath, recordCase, temporaryFolder } from "./helpers/common.mjs";
 import { CHECKER } from "./helpers/needs.mjs";
+import { placesOf } from "./helpers/recorded.mjs";
 
 /** Records a module of the tests. Sabsim checks the run where it is given. */
 function recordChecked(name, options) {
@@ -64,7 +65,9 @@ test("a run in which no agent calls Atomics is no pass, and its script has no ca
 test("a wait that nobody ends is a deadlock, which tells who waits where", async () => {
   const outcome = await recordCase("waitsForEver", { sabsim: CHECKER });
   assert.equal(outcome.ending, "deadlock");
-  assert.equal(outcome.detail, 'agent 0 waits at byte 4 of block 0: its call 0, ["wait", "Int32", 1, 0]');
+  const [{ line, column }] = placesOf("cases", "wait(words(buffers), 1, 0)");
+  const where = `at cases.mjs:${line}:${column}`;
+  assert.equal(outcome.detail, `agent 0 waits at byte 4 of block 0: its call 0, ["wait", "Int32", 1, 0], ${where}`);
   assert.deepEqual(outcome.answers, [[null], ["0"]]);
   assert.deepEqual(outcome.progress[0], { returned: 0, calls: 1 });
 });
@@ -108,26 +111,36 @@ test("an agent that answers a promise fails the run", async () => {
 test("an agent that spins for ever comes to the bound of calls, or of moves", async () => {
   const calls = await recordCase("spins", { sabsim: CHECKER });
   assert.equal(calls.ending, "bound");
-  assert.match(calls.detail, /^agent [01] spins at cases\.mjs:\d+:\d+: it has made 1000 calls, and goes on$/);
+  const [spin, other] = calls.detail.split("\n");
+  assert.match(spin, /^agent [01] spins at cases\.mjs:35:\d+: it has made 1000 calls, and goes on$/);
+  assert.match(other, /^agent [01] asks for its call \d+, at cases\.mjs:35:\d+$/);
   assert.equal(Math.max(...calls.progress.map((agent) => agent.calls)), 1_000);
   const moves = await recordCase("spins", { sabsim: CHECKER, maxMoves: 100 });
-  assert.deepEqual([moves.ending, moves.detail, moves.moves], ["bound", "more than 100 moves would be made", 99]);
+  const [limit, ...agents] = moves.detail.split("\n");
+  assert.deepEqual([moves.ending, limit, moves.moves], ["bound", "more than 100 moves would be made", 99]);
+  assert.deepEqual(agents.map((line) => line.replace(/call \d+/, "call N")), [
+    "agent 0 asks for its call N, at cases.mjs:35:20", "agent 1 asks for its call N, at cases.mjs:35:20",
+  ]);
 });
 
 test("an agent that makes no call comes to the bound of seconds", async () => {
   const outcome = await recordCase("loops", { sabsim: CHECKER, seconds: 1.5 });
-  assert.deepEqual([outcome.ending, outcome.detail], ["bound", "agent 1 has made no call for 1.5 s"]);
+  const detail = "agent 1 has made no call for 1.5 s: it is at cases.mjs:40:5";
+  assert.deepEqual([outcome.ending, outcome.detail], ["bound", detail]);
 });
 
 test("more typed arrays than a script can have are a bound", async () => {
   const outcome = await recordCase("manyViews", { sabsim: CHECKER, agents: 1, buffers: [70] });
-  assert.deepEqual([outcome.ending, outcome.detail], ["bound", "more than 64 different typed arrays were used"]);
+  const detail = "more than 64 different typed arrays were used: agent 0 is at cases.mjs:76:54";
+  assert.deepEqual([outcome.ending, outcome.detail], ["bound", detail]);
   assert.equal(JSON.parse(outcome.script).views.length, 64);
 });
 
 test("a script that would be too long is a bound", async () => {
   const outcome = await recordCase("longCalls", { sabsim: CHECKER, agents: 16, buffers: [65_536] });
-  assert.deepEqual([outcome.ending, outcome.detail], ["bound", "the script would be longer than 1048576 bytes"]);
+  const [limit] = outcome.detail.split("\n");
+  assert.equal(outcome.ending, "bound");
+  assert.match(limit, /^the script would be longer than 1048576 bytes: agent \d+ is at cases\.mjs:81:\d+$/);
   assert.ok(outcome.script.length > 900_000 && outcome.script.length <= 1_048_576, `${outcome.script.length} bytes`);
 });
 

@@ -135,9 +135,9 @@ test("it ends after so many runs, or so much time, and says so", async (context)
   assert.equal(tries.at(-1).changes, shortened.changes.after);
 });
 
-test("a run that met a bound, or whose worker died, isn't shortened", async (context) => {
+test("a run that met a limit, or whose worker died, isn't shortened", async (context) => {
   const bound = await shorten(undefined, { seed: 1, ending: "bound", detail: "agent 0 spins", calls: 1_000 });
-  assert.deepEqual([bound.shortest, bound.shortened.runs, bound.shortened.unchanged], [undefined, 0, "it met a bound"]);
+  assert.deepEqual([bound.shortest, bound.shortened.runs, bound.shortened.unchanged], [undefined, 0, "it met a limit"]);
   const group = await groupOf(context, MODULE, { args: ["dies"] });
   const { shortest, shortened } = await shorten(group, await firstFailing(group));
   assert.deepEqual([shortest, shortened.unchanged], [undefined, "an agent's worker died"]);
@@ -157,6 +157,7 @@ test("a run that can't be made again stays as it was found", async (context) => 
   const why = "it couldn't be made again in the same way: its agents do something else when they run once more";
   assert.ok(stdout.includes(`\nnot shortened: ${why}, in 1 run\n`), stdout);
   // Nor can it be made again for its trace.
+  assert.ok(stdout.includes("\nnot kept: seed-3.trace.jsonl: the run went another way when it was made once more "));
   const endings = ["explained", "html", "json", "report", "svg"];
   assert.deepEqual(readdirSync(out).sort(), endings.map((ending) => `seed-3.${ending}`));
 });
@@ -210,8 +211,8 @@ test("what a summary says of it", () => {
   const stopped = { ...about, runs: 400, stopped: "the most that are made" };
   assert.deepEqual(linesOf({ shortest: failing, shortened: stopped }),
     [`${start} 400 runs, the most that are made`]);
-  assert.deepEqual(linesOf({ shortened: { ...about, runs: 0, unchanged: "it met a bound" } }),
-    ["not shortened: it met a bound"]);
+  assert.deepEqual(linesOf({ shortened: { ...about, runs: 0, unchanged: "it met a limit" } }),
+    ["not shortened: it met a limit"]);
   const needs = (onlyIf) => linesOf({ shortest: { ...failing, onlyIf }, shortened: about }, "only if 5 s pass").slice(1);
   assert.deepEqual([needs("only if 5 s pass"), needs("only if 1 ms passes"), needs(undefined)],
     [[], ["  only if 1 ms passes"], ["  no timed wait ends early in it"]]);

@@ -28,7 +28,7 @@ const { calls: MOST } = SCRIPT_LIMITS;
 /** An agent that comes on has met the bound of calls at a place. */
 function meetsBound({ ending, detail, progress }, text) {
   assert.equal(ending, "bound");
-  assert.equal(detail, `agent 1 has made ${MOST} calls, and goes on at ${placeOf(text)}`);
+  assert.equal(firstLine(detail), `agent 1 has made ${MOST} calls, and goes on at ${placeOf(text)}`);
   assert.deepEqual(progress[1], { returned: MOST, calls: MOST });
 }
 
@@ -50,7 +50,7 @@ describe("agents that go on and on", () => {
   for (const [way, [text, what]] of Object.entries(SPINS)) {
     it(`a spin is told with its place: ${way}`, () => {
       const { ending, fails, detail } = outcomes[way];
-      const [, place, rest] = /^agent 1 spins at (\S+:\d+:\d+): (.*)$/.exec(detail) ?? assert.fail(detail);
+      const [, place, rest] = /^agent 1 spins at (\S+:\d+:\d+): (.*)$/m.exec(detail) ?? assert.fail(detail);
       assert.deepEqual([ending, fails, rest], ["bound", true, what]);
       assert.equal(withoutColumn(place), withoutColumn(placeOf(text)));
     });
@@ -59,13 +59,32 @@ describe("agents that go on and on", () => {
   it("who reads several elements in turn is asked where it is when its time is up", () => {
     const { ending, detail } = outcomes.alternately;
     assert.equal(ending, "bound");
-    const [, place] = /^agent 1 spins at (\S+): it has made no call for too long$/.exec(detail) ?? assert.fail(detail);
+    const [, place] = /^agent 1 spins at (\S+): it has made no call for too long$/m.exec(detail) ?? assert.fail(detail);
     assert.equal(withoutColumn(place), withoutColumn(placeOf("[at] === 0")));
   });
 
-  it("of who accesses nothing no place is known, and it isn't called a spin", () => {
+  it("an agent that accesses nothing is found by the inspector, and it isn't called a spin", () => {
     const { ending, fails, detail } = outcomes.nothing;
-    assert.deepEqual([ending, fails, detail], ["bound", true, "agent 1 has made no call for 0.5 s"]);
+    assert.deepEqual([ending, fails], ["bound", true]);
+    const [, place] = /^agent 1 has made no call for 0.5 s: it is at (\S+)$/m.exec(detail) ?? assert.fail(detail);
+    assert.equal(withoutColumn(place), withoutColumn(placeOf("for (let turns = 0; ; turns += 1)")));
+  });
+
+  it("a limit says who sleeps, where, and at which line", async () => {
+    const [{ ending, detail, failure }] = await recorded({ module: agentsPath("sleeps-beside"), timeouts: 0 });
+    assert.equal(ending, "bound");
+    const [spin, ...sleepers] = detail.split("\n");
+    const at = (text) => {
+      const [{ line, column }] = placesOf("sleeps-beside", text);
+      return `sleeps-beside.mjs:${line}:${column}`;
+    };
+    assert.equal(spin, `agent 1 spins at ${at("load(words, 1) === 0")}: it has made ${MOST} calls, and goes on`);
+    assert.deepEqual(sleepers.sort(), [
+      `agent 0 waits at BELL: its call 0, ["wait", "BELL", 0, 0], at ${at("wait(words, 0, 0)")}`,
+      `agent 2 waits at LATE: its call 0, ["wait", "LATE", 0, 0, 100000000], at ${at("wait(words, 2, 0, 1e8)")}`,
+    ]);
+    assert.deepEqual(failure.message.slice(1), ["an agent waits at BELL", "an agent waits at LATE"]);
+    assert.deepEqual(failure.sources.length, 3);
   });
 
   it("who comes on from one to the next meets the bound of calls, and doesn't spin", () => {
@@ -87,9 +106,12 @@ describe("agents that go on and on", () => {
     const [outcome] = await recorded({ module: agentsPath("spins"), args: ["load"], bounds: "allow" });
     assert.deepEqual([outcome.ending, outcome.fails, outcome.detail], ["bound", false, outcomes.load.detail]);
     const [first, ...others] = summaryLines([outcome]);
-    assert.equal(first, "1 run: 1 bound (allowed)");
+    assert.equal(first, "1 run: 1 limit met (allowed)");
     assert.ok(!others.some((line) => line.includes("first failing seed")));
   });
 });
 
 const withoutColumn = (place) => place.replace(/:\d+$/, "");
+
+/** @param {string} text */
+const firstLine = (text) => text.split("\n", 1)[0];

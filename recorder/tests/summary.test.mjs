@@ -18,8 +18,9 @@ const checkedLine = (which) => `${which} replayed and judged by sabsim (module):
  * @param {number} seed
  * @param {object} [parts]
  */
-function outcome(seed, { ending = "finished", fails = ending !== "finished", shown = ["01"], ...rest } = {}) {
-  const state = { hash: `${ending} ${shown.join(" ")}`, shown };
+function outcome(seed, parts = {}) {
+  const { ending = "finished", fails = ending !== "finished", shown = ["01"], named = null, ...rest } = parts;
+  const state = { hash: `${ending} ${shown.join(" ")}`, shown, named };
   return { seed, ending, fails, detail: "", moves: 6, calls: 2, ordinary: 0, progress: [], state, races: [], ...rest };
 }
 
@@ -76,20 +77,20 @@ test("where no run failed, the first line says how they ended", () => {
   assert.equal(linesOf([outcome(5)])[0], "1 run: 1 finished");
   const allowed = [...seeds(1, 197), ...seeds(198, 200, { ending: "bound", fails: false })];
   const lines = linesOf(allowed);
-  assert.equal(lines[0], "200 runs: 197 finished, 3 bound (allowed)");
-  assert.ok(lines.includes("  3 runs bound (allowed), seed 198 the first: 01"));
+  assert.equal(lines[0], "200 runs: 197 finished, 3 limit met (allowed)");
+  assert.ok(lines.includes("  3 runs limit met (allowed), seed 198 the first: 01"));
   assert.ok(!lines.some((line) => line.includes("first failing seed")));
 });
 
 test("where all runs failed, none is said to have finished", () => {
-  assert.equal(linesOf([outcome(5, { ending: "failed" })])[0], "1 of 1 run failed: 1 failed");
+  assert.equal(linesOf([outcome(5, { ending: "failed" })])[0], "1 of 1 run failed: 1 stopped");
   const both = [outcome(1, { ending: "check" }), outcome(2, { ending: "bound", detail: "too much" })];
-  assert.equal(linesOf(both)[0], "2 of 2 runs failed: 1 check, 1 bound");
+  assert.equal(linesOf(both)[0], "2 of 2 runs failed: 1 check failed, 1 limit met");
 });
 
 test("bounds that are allowed stand behind the runs that finished, and those that fail before", () => {
   const mixed = [outcome(1), outcome(2, { ending: "bound", fails: false }), outcome(3, { ending: "race" })];
-  assert.equal(linesOf(mixed)[0], "1 of 3 runs failed: 1 race; 1 finished, 1 bound (allowed)");
+  assert.equal(linesOf(mixed)[0], "1 of 3 runs failed: 1 race; 1 finished, 1 limit met (allowed)");
 });
 
 test("failing states come before finished ones, eight at most", () => {
@@ -105,7 +106,7 @@ test("failing states come before finished ones, eight at most", () => {
 });
 
 test("a state is told by its hash: two that begin alike are two, and an empty buffer is a dash", () => {
-  const alike = (seed, hash) => ({ ...outcome(seed), state: { hash, shown: ["00…", ""] } });
+  const alike = (seed, hash) => ({ ...outcome(seed), state: { hash, shown: ["00…", ""], named: null } });
   const lines = linesOf([alike(1, "x"), alike(2, "y"), alike(3, "y")]);
   assert.deepEqual(lines.slice(1, 4), [
     "2 final states: how it ended, and the bytes",
@@ -146,7 +147,7 @@ test("scripts that hold a part, and runs that have none, are told", () => {
   const none = { ending: "bound", detail: "it is too long", noScript: "it would have 2,000 calls" };
   const lines = linesOf([outcome(1, holding), outcome(2, holding), outcome(3, whole), outcome(4, none)]);
   assert.deepEqual(lines.slice(1, 4), [
-    "first failing seed: 4, bound", "  it is too long", "  it has no script: it would have 2,000 calls",
+    "first failing seed: 4, limit met", "  it is too long", "  it has no script: it would have 2,000 calls",
   ]);
   const checked = lines.indexOf(checkedLine("1 of 4 runs was"));
   assert.deepEqual(lines.slice(checked + 1, checked + 3), [
@@ -237,6 +238,8 @@ test("the object of a summary has all that its text has, and what the text leave
     firstFailing: { seed: 4, ending: "race", detail: ["one", "two"], onlyIf: "only if", noScript: "it is too long" },
     early: 1,
     onlyByTime: { listed: [{ ...wait, runs: 1, first: 3 }], others: 0, served: [place] },
+    threw: 0,
+    failures: { listed: [], others: 0 },
     shortened: null,
     races: {
       allowed: false, runs: 1,
@@ -245,8 +248,13 @@ test("the object of a summary has all that its text has, and what the text leave
     unrecorded: { allowed: false, runs: 0, used: { listed: [], others: 0 } },
     remembers: null,
     states: {
-      failing: { listed: [{ ending: "race", hash: "race 0900 ", shown: ["0900", ""], runs: 1, first: 4 }], others: 0 },
-      passing: { listed: [{ ending: "finished", hash: "finished 01", shown: ["01"], runs: 3, first: 1 }], others: 0 },
+      failing: {
+        listed: [{ ending: "race", hash: "race 0900 ", shown: ["0900", ""], named: null, runs: 1, first: 4 }],
+        others: 0,
+      },
+      passing: {
+        listed: [{ ending: "finished", hash: "finished 01", shown: ["01"], named: null, runs: 3, first: 1 }], others: 0,
+      },
     },
     sabsim: { asked: true, versions: ["module 123"], checked: 1, judges: true },
     scripts: { parts: 0, none: { listed: [{ why: "it is too long", runs: 1, first: 4 }], others: 0 } },
@@ -272,11 +280,86 @@ test("the object of a summary has all that its text has, and what the text leave
   assert.equal(whyNoSummary({ summary: 3, asked, seeds: [], ...told }), undefined);
 });
 
+/** An outcome of a run that threw. @param {number} seed @param {{ message: string[], sources: string[] }} failure */
+const thrown = (seed, failure, ending = "failed") =>
+  outcome(seed, { ending, detail: failure.message.join("\n"), failure });
+
+test("failures are told by message and line, those of most runs first, with their counts and first seeds", () => {
+  const inside = (number) => ({ message: [`agent ${number} threw Error: ${number} inside`], sources: ["a.mjs:15:9"] });
+  const other = { message: ["agent 0 threw Error: 7 inside"], sources: ["a.mjs:16:9"] };
+  const check = { message: ["check threw Error: permits must be back", "1 !== 2"], sources: ["a.mjs:22:11"] };
+  const waits = { message: ["an agent waits at BELL"], sources: ["b.mjs:3:1", "b.mjs:4:1"] };
+  const spin = { message: ["agent 1 spins at c.mjs:5:18: it goes on"], sources: ["c.mjs:5:18"] };
+  const outcomes = [
+    ...seeds(1, 4), thrown(9, inside(1)), thrown(8, inside(0)), thrown(10, other), thrown(11, check, "check"),
+    thrown(12, check, "check"), thrown(13, check, "check"), thrown(14, waits, "deadlock"), thrown(15, spin, "bound"),
+  ];
+  const expected = [
+    "8 of 12 runs failed: 1 deadlock, 3 threw, 3 check failed, 1 limit met; 4 finished",
+    "first failing seed: 8, threw",
+    "  agent 0 threw Error: 0 inside",
+    "5 kinds of failure, by message and line of code",
+    "  3 runs check failed, seed 11 the first, at a.mjs:22:11",
+    "    check threw Error: permits must be back",
+    "    1 !== 2",
+    "  2 runs threw, seed 8 the first, at a.mjs:15:9",
+    "    agent 0 threw Error: 0 inside",
+    "  1 run threw, seed 10 the first, at a.mjs:16:9",
+    "    agent 0 threw Error: 7 inside",
+    "  1 run deadlock, seed 14 the first, at b.mjs:3:1 and b.mjs:4:1",
+    "    an agent waits at BELL",
+    "  1 run limit met, seed 15 the first",
+    "    agent 1 spins at c.mjs:5:18: it goes on",
+  ];
+  assert.deepEqual(linesOf(outcomes).slice(0, expected.length), expected);
+  assert.deepEqual(linesOf(outcomes.toReversed()).slice(0, expected.length), expected);
+});
+
+test("what the first failing run says alone isn't told twice, and what it doesn't say is told", () => {
+  const failure = { message: ["agent 0 threw Error: one"], sources: [] };
+  const alone = linesOf([thrown(3, failure), thrown(4, failure)]);
+  assert.ok(!alone.some((line) => line.includes("kind")), alone.join("\n"));
+  const behind = linesOf([outcome(2, { ending: "race" }), thrown(3, failure)]);
+  assert.ok(behind.includes("1 kind of failure, by message and line of code"));
+});
+
+test("a run that ended as `failed` threw, or was stopped", () => {
+  const promise = outcome(1, { ending: "failed", detail: "agent 0 goes on later, by a promise" });
+  const init = outcome(2, { ending: "failed", detail: "init threw Error: no" });
+  const lines = linesOf([promise, init]);
+  assert.deepEqual(lines.slice(0, 2), ["2 of 2 runs failed: 2 threw or stopped", "first failing seed: 1, stopped"]);
+  assert.ok(lines.includes("  2 runs threw or stopped, seed 1 the first: 01"));
+  assert.equal(linesOf([init])[0], "1 of 1 run failed: 1 threw");
+});
+
+test("final states are told by names where there are some", () => {
+  const lines = linesOf([outcome(1, { named: "LOCK 0, COUNT 8" }), outcome(2, { shown: ["02"], named: "LOCK 2" })]);
+  assert.deepEqual(lines.slice(1, 4), [
+    "2 final states: how it ended, and the values",
+    "  1 run finished, seed 1 the first: LOCK 0, COUNT 8",
+    "  1 run finished, seed 2 the first: LOCK 2",
+  ]);
+});
+
+test("any number of kinds of failures take a bounded room, and what is left out is told", () => {
+  const summary = new Summary(SEEN);
+  const count = 3 * MOST_KEYS;
+  for (let seed = 1; seed <= count; seed += 1) {
+    summary.add(thrown(seed, { message: ["agent 0 threw Error"], sources: [`a.mjs:${seed}:1`] }));
+    assert.ok(summary.failures.entries.size <= 2 * MOST_KEYS);
+  }
+  const { listed, others } = summary.told().failures;
+  assert.deepEqual([listed.length, others], [MOST_KEYS, count - MOST_KEYS]);
+  assert.ok(summary.text().includes("\nover 4,096 kinds of failure, by message and line of code\n"));
+  assert.ok(summary.text().includes("\n  and those of 8,192 runs besides\n"));
+});
+
 /** Made-up outcomes of all kinds: which one a seed has is drawn from it. */
 function mixed(seed) {
   const draw = (seed * 7_919) % 101;
   const early = { onlyIf: "only if 5 s pass" };
   if (draw < 3) return outcome(seed, { ending: "deadlock", detail: `seed ${seed}`, shown: [`d${draw}`], ...early });
+  if (draw > 90) return thrown(seed, { message: [`agent 0 threw Error: ${seed}`], sources: [`a.mjs:${draw % 3}:1`] });
   if (draw < 9) return outcome(seed, { ending: "bound", fails: false, noScript: `why ${draw % 2}` });
   const races = draw < 40 ? [race(`a.mjs:${draw % 5}:1`, "b.mjs:1:1"), race("c.mjs:1:1", "d.mjs:1:1")] : [];
   const shown = [`f${draw % 17}`];

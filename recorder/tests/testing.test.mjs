@@ -2,9 +2,13 @@
 
 import assert from "node:assert/strict";
 import { spawn } from "node:child_process";
-import { existsSync, mkdirSync, readFileSync, readdirSync, writeFileSync } from "node:fs";
+import {
+  existsSync, mkdirSync, readFileSync, readdirSync, rmSync, symlinkSync, writeFileSync,
+} from "node:fs";
 import { join } from "node:path";
 import { test } from "node:test";
+import { fileURLToPath } from "node:url";
+import { keptFolder } from "../lib/suite/kept-folder.mjs";
 import { assertAgents } from "../testing.mjs";
 import { WITHOUT_SABSIM, agentsPath, temporaryFolder } from "./helpers/common.mjs";
 
@@ -37,6 +41,15 @@ async function suite(context, code, env = {}, reporter = "spec") {
   return { folder, temporary, output, status };
 }
 
+/** Where a failing run is kept whose test names no folder. @param {string} temporary */
+function keptIn(temporary) {
+  const [own] = readdirSync(temporary);
+  assert.match(own, /^sabsim-\d+$/);
+  const tests = readdirSync(join(temporary, own));
+  assert.equal(tests.length, 1);
+  return join(temporary, own, tests[0]);
+}
+
 // All that can move are alike, before each call.
 const ALIKE = 'module: "./agents.mjs", strategy: "uniform", everywhere: true';
 const AGENTS = `testAgents("no wake-up is lost", { ${ALIKE}, seeds: "1..200", shorten: false });`;
@@ -44,9 +57,7 @@ const AGENTS = `testAgents("no wake-up is lost", { ${ALIKE}, seeds: "1..200", sh
 test("a failing test shows seed, ending, its explained end, and where its files lie", async (the) => {
   const { folder, temporary, output, status } = await suite(the, AGENTS);
   assert.equal(status, 1);
-  const [made] = readdirSync(temporary);
-  assert.match(made, /^sabsim-/);
-  const place = join(temporary, made);
+  const place = keptIn(temporary);
   const names = ["json", "report", "trace.jsonl", "explained", "svg", "html"].map((ending) => `seed-29.${ending}`);
   assert.deepEqual(readdirSync(place).sort(), [...names].sort());
   const explained = readFileSync(join(place, "seed-29.explained"), "utf8").split("\n");
@@ -56,13 +67,14 @@ test("a failing test shows seed, ending, its explained end, and where its files 
   const from = lines.indexOf("AssertionError [ERR_ASSERTION]: seed 29: deadlock; the 28 runs before it passed");
   assert.notEqual(from, -1, output);
   assert.deepEqual(lines.slice(from + 1, from + 4), [
-    '  agent 0 waits at byte 4 of block 0: its call 19, ["wait", "Int32", 1, 0]', "",
-    "Its last acts, as sabsim explains them (the move, the agent, how many of its calls had returned):",
+    '  agent 0 waits at byte 4 of block 0: its call 19, ["wait", "Int32", 1, 0], at agents.mjs:12:60', "",
+    "Its last acts, as sabsim explains them (the move, the agent, how many of its calls had returned), and their lines:",
   ]);
   const end = lines.indexOf("", from + 4);
   assert.deepEqual(lines.slice(end - shown.length, end), shown.map((line) => `  ${line}`));
   const last = lines[end - shown.length - 1];
-  assert.match(last, /^ {2}173 0 19 wait +wait\(Int32, 1, 0\) waits at Int32\[1\], first in line$/);
+  const wait = "wait\\(Int32, 1, 0\\) waits at Int32\\[1\\], first in line, at agents\\.mjs:12:60";
+  assert.match(last, new RegExp(`^ {2}173 0 19 wait +${wait}$`));
   assert.equal(end - shown.length - (from + 4), 16);
   assert.deepEqual(lines.slice(end, end + 4), [
     "", `kept in ${place}: ${names.join(", ")}`, "", `    at file://${join(folder, "lock.test.mjs")}:2:1`,
@@ -97,8 +109,9 @@ test("a chosen program that isn't there fails the test", async (the) => {
 test("the shortest run that fails so is shown and kept, with the original beside it", async (the) => {
   const { temporary, output, status } = await suite(the, `testAgents("shorter", { ${ALIKE}, seeds: "29" });`);
   assert.equal(status, 1);
-  assert.match(output, /^ +agent 0 waits at byte 4 of block 0: its call 1, \["wait", "Int32", 1, 0\]$/m);
-  const place = join(temporary, readdirSync(temporary)[0]);
+  const waits = /^ +agent 0 waits at byte 4 of block 0: its call 1, \["wait", "Int32", 1, 0\], at agents\.mjs:12:60$/m;
+  assert.match(output, waits);
+  const place = keptIn(temporary);
   const texts = ["json", "report", "trace.jsonl"];
   const endings = [...texts, ...texts.map((ending) => `original.${ending}`), "explained", "svg", "html"];
   assert.deepEqual(readdirSync(place).sort(), endings.map((ending) => `seed-29.${ending}`).sort());
@@ -117,10 +130,50 @@ test("options that can't be fail their test, and others go on", async (the) => {
     assert.ok(output.includes(why), output);
   }
   assert.match(output, /error: .*there is no file .*none\.mjs/);
+  // Each has the line of its own test, and none of the recorder's.
+  for (const line of [3, 4, 5]) assert.match(output, new RegExp(`^ +file://.*lock\\.test\\.mjs:${line}:5$`, "m"));
+  const lines = output.split("\n").filter((line) => !line.includes("location:"));
+  assert.deepEqual(lines.filter((line) => line.includes("/recorder/lib/")), []);
   assert.match(output, /^ok 4 - right$/m);
   assert.match(output, /^# 20 runs passed, 20 checked by sabsim$/m);
   assert.match(output, /^# fail 3$/m);
   assert.deepEqual(readdirSync(temporary), []);
+});
+
+test("the failing test of a race marks its two accesses among the last acts, with their lines", async (the) => {
+  const module = fileURLToPath(new URL("known/ring-frees-first.mjs", import.meta.url));
+  const { output } = await suite(the, `testAgents("ring", { module: "${module}", seeds: "3", shorten: false });`);
+  const lines = output.split("\n").map((line) => line.trim());
+  assert.ok(lines.some((line) => line.endsWith("and their lines; > marks two accesses that nothing orders:")));
+  // The reporter shows a failure twice.
+  const [read, write, ...more] = new Set(lines.filter((line) => line.startsWith("> ")));
+  assert.match(read, /^> - 1 \d+ read +reads slots\[0\], without Atomics, at ring-frees-first\.mjs:32:17$/);
+  assert.match(write, /^> \d+ 0 \d+ write +writes slots\[0\], without Atomics: .*, at ring-frees-first\.mjs:21:32$/);
+  assert.deepEqual(more, []);
+  const load = /^\d+ \d \d+ act .* load\(TAIL, 0\) .*, at ring-frees-first\.mjs:\d+:\d+$/;
+  assert.ok(lines.some((line) => load.test(line)), output);
+});
+
+test("a test's failing run is kept in the same folder each time, which no link leads out of", (the) => {
+  const { TMPDIR } = process.env;
+  process.env.TMPDIR = temporaryFolder(the);
+  the.after(() => {
+    if (TMPDIR === undefined) delete process.env.TMPDIR;
+    else process.env.TMPDIR = TMPDIR;
+  });
+  const module = "file:///home/me/lock%20agents.mjs?one";
+  const folder = keptFolder(module, "one");
+  assert.match(folder, /[\\/]sabsim--?\d+[\\/]lock_20agents\.mjs-[0-9a-f]{12}$/);
+  mkdirSync(folder);
+  writeFileSync(join(folder, "seed-1.json"), "{}");
+  assert.equal(keptFolder(module, "one"), folder);
+  assert.ok(!existsSync(folder));
+  assert.notEqual(keptFolder(module, "two"), folder);
+  assert.notEqual(keptFolder("file:///home/me/lock.mjs", "one"), folder);
+  const own = join(folder, "..");
+  rmSync(own, { recursive: true });
+  symlinkSync(temporaryFolder(the), own);
+  assert.throws(() => keptFolder(module, "one"), /isn't a folder of this user: `out` can name another one$/);
 });
 
 test("assertAgents fails as an assertion does, in any test", async (the) => {

@@ -9,7 +9,6 @@ import { test } from "node:test";
 import { pathToFileURL } from "node:url";
 import { modulePath, optionsText, shortPath } from "../lib/keeping/about.mjs";
 import { pageData } from "../lib/keeping/page.mjs";
-import { linesAsWritten } from "../lib/keeping/written-lines.mjs";
 import { Run } from "../page/model.mjs";
 import { KINDS } from "../script/kinds.mjs";
 import { elementText, storedBytes } from "../script/values.mjs";
@@ -69,13 +68,7 @@ test("a script has ordinary writes under the code's names and kinds, and the bit
   assert.ok(stores.length > 1);
   const { status, output } = simulated(["replay", "--format", "explained", "--acts"], script);
   assert.equal(status, 0);
-  const lines = output.split("\n");
-  const written = linesAsWritten(lines, script);
-  const [before, after] = [lines, written].map((all) => all.find((line) => line.includes("samples[0]")));
-  assert.match(before, /^\d+ 0 \d+ act \d+n +store\(ordinary_samples, 0, 4598175219545276416n\) changes /);
-  assert.match(after, /^\d+ 0 \d+ write +samples\[0\] from 0 to 0\.25$/);
-  assert.equal(written.filter((line, at) => line !== lines[at]).length, stores.length);
-  assert.ok(written.every((line) => !line.includes("ordinary_")), written.join("\n"));
+  assert.match(output, /^\d+ 0 \d+ act \d+n +store\(ordinary_samples, 0, 4598175219545276416n\) changes /m);
 });
 
 test("a test that fails, and --replay, have the values of the code", async (context) => {
@@ -85,7 +78,7 @@ test("a test that fails, and --replay, have the values of the code", async (cont
   const out = join(folder, "found");
   await assert.rejects(assertAgents({ module, seeds: "1..40", strategy: "uniform", out, jobs: 1 }), ({ message }) => {
     const [, acts] = message.split("Its last acts");
-    assert.match(acts, /^ +\d+ 0 \d+ write +samples\[[01]\] from [\d.]+ to \d\.25$/m);
+    assert.match(acts, /^[ >]+\d+ 0 \d+ write +writes samples\[[01]\], .+ from [\d.]+ to \d\.25, at .+$/m);
     assert.doesNotMatch(message, /ordinary_|\d{12}n/);
     assert.match(message, /\nin seed-\d+\.explained and seed-\d+\.svg a float [^\n]+ has its bits$/);
     return true;

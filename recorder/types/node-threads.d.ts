@@ -52,6 +52,7 @@ declare module "node:worker_threads" {
     once(event: string, listener: (...given: any[]) => void): this;
     off(event: string, listener: (...given: any[]) => void): this;
     postMessage(message: unknown): void;
+    readonly threadId: number;
     terminate(): Promise<number>;
     unref(): void;
   }

@@ -73,6 +73,12 @@ declare interface ErrorConstructor {
 declare interface Error { readonly code?: string }
 
 declare module "node:inspector" {
+  export class Session {
+    connect(): void;
+    disconnect(): void;
+    on(event: string, listener: (message: { params: any }) => void): this;
+    post(method: string, params: object, done?: (error: Error | null) => void): void;
+  }
   const inspector: { url(): string | undefined };
   export default inspector;
 }
@@ -225,6 +231,8 @@ declare module "node:crypto" {
 
 declare module "node:fs" {
   interface Stats {
+    uid: number;
+    isDirectory(): boolean;
     isFile(): boolean;
   }
   export const constants: { readonly X_OK: number };
@@ -232,8 +240,8 @@ declare module "node:fs" {
   export function accessSync(path: string, mode: number): void;
   export function closeSync(file: number): void;
   export function existsSync(path: string | URL): boolean;
-  export function mkdtempSync(prefix: string): string;
-  export function mkdirSync(path: string, options: { recursive: true }): void;
+  export function lstatSync(path: string): Stats;
+  export function mkdirSync(path: string, options: { recursive: true; mode?: number }): void;
   export function openSync(path: string, flags: string): number;
   export function readFileSync(file: string | URL | number, encoding: "base64" | "latin1" | "utf8"): string;
   export function readFileSync(file: string | URL | number): Buffer;
@@ -266,6 +274,7 @@ declare module "node:os" {
   export function availableParallelism(): number;
   export function cpus(): { times: { idle: number } }[];
   export function tmpdir(): string;
+  export function userInfo(): { uid: number };
   export const constants: { readonly signals: Record<NodeJS.Signals, number> };
 }
 

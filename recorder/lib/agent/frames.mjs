@@ -59,8 +59,8 @@ function isOwn(file) {
 /** @type {Map<string, boolean>} for each file whether it is one of the agents' code */
 const agentsFiles = new EngineMap();
 
-/** @param {string | null} file */
-function isAgents(file) {
+/** @param {string | null} file @returns {boolean} whether it is one of the agents' code, and not the recorder's */
+export function isAgentsFile(file) {
   if (typeof file !== "string") return false;
   const known = mapGet(agentsFiles, file);
   if (known !== undefined) return known;
@@ -75,7 +75,7 @@ function isAgents(file) {
  */
 function firstOfAgents(frames) {
   for (let at = 0; at < frames.length; at += 1) {
-    if (isAgents(frames[at].getFileName())) return frames[at];
+    if (isAgentsFile(frames[at].getFileName())) return frames[at];
   }
   return undefined;
 }
@@ -105,7 +105,7 @@ export function isCalledByAgents(called) {
   const frames = framesHere(called, SOME_FRAMES);
   for (let at = 0; at < frames.length; at += 1) {
     const file = frames[at].getFileName();
-    if (typeof file !== "string" || !begins(file, LIBRARY)) return isAgents(file);
+    if (typeof file !== "string" || !begins(file, LIBRARY)) return isAgentsFile(file);
   }
   return false;
 }
@@ -128,7 +128,7 @@ export function numberHere(sources) {
  */
 export function numberAbove(sources, called) {
   const frame = framesHere(called, 1)[0];
-  return frame !== undefined && isAgents(frame.getFileName()) ? numberOf(sources, frame) : numberHere(sources);
+  return frame !== undefined && isAgentsFile(frame.getFileName()) ? numberOf(sources, frame) : numberHere(sources);
 }
 
 /** @param {Sources} sources @param {NodeJS.CallSite} frame */

@@ -1,8 +1,9 @@
 // An agent's part in a run: how far the agent has come, and how it ends the run.
 
 import { SCRIPT_LIMITS } from "../../script/limits.mjs";
+import { UNKNOWN } from "../memory/sources.mjs";
 import { Accesses } from "./accesses.mjs";
-import { sourceHere } from "./frames.mjs";
+import { numberHere, sourceHere } from "./frames.mjs";
 import { changeText, laterText } from "./undone.mjs";
 
 /** @typedef {import("../memory/records.mjs").Call} Call */
@@ -44,6 +45,7 @@ export class Part {
     this.made = 0;
     this.isInside = false;
     this.accesses.begin();
+    this.table.sources.mark(UNKNOWN);
     this.isPlaying = true;
     this.isOver = false;
   }
@@ -94,6 +96,12 @@ export class Part {
     return this.end("bound", detail);
   }
 
+  /** @param {string} limit that is met, to which it is added where the agent is @returns {never} */
+  meetsLimit(limit) {
+    const where = whereText();
+    return this.bound(where === "" ? limit : `${limit}: agent ${this.agent} is${where}`);
+  }
+
   /** The run has ended while this agent's code went on, or the referee asks where it is. */
   interrupted() {
     const { board } = this.table;
@@ -115,6 +123,17 @@ export class Part {
   end(ending, detail) {
     this.table.board.journal.countOrdinary(this.agent, this.accesses.count);
     this.table.board.end.end(ending, detail);
+    return this.over();
+  }
+
+  /** The run has ended while the agent asked for a call or waited. It notes where that is. @returns {never} */
+  sentHome() {
+    const { sources } = this.table;
+    try {
+      sources.mark(numberHere(sources));
+    } catch {
+      // The stack has come to its end: then it isn't known.
+    }
     return this.over();
   }
 

@@ -142,7 +142,7 @@ export class Player {
     if (part.isOver || this.table.board.words[WORD.ENDED] !== 0) part.interrupted();
     const noted = part.accesses.note(place, from, to, writes, part.made);
     if (noted === NOTED.SPINS) part.spins("it reads the same bytes again and again without a call of Atomics");
-    if (noted === NOTED.FULL) part.bound(`more than ${this.table.log.most} reads and writes were made that differ`);
+    if (noted === NOTED.FULL) part.meetsLimit(`more than ${this.table.log.most} reads and writes were made that differ`);
   }
 
   /** @returns {boolean} whether what is done now is done to learn from alone */
@@ -320,7 +320,7 @@ export class Player {
   #untilTurn() {
     const { board } = this.table;
     if (!board.pass(this.agent)) board.turn.sleep(this.agent);
-    if (board.end.isOver()) this.part.over();
+    if (board.end.isOver()) this.part.sentHome();
   }
 
   /** @param {string | undefined} problem why the agent's code ended, where it didn't come to its end */
@@ -358,11 +358,11 @@ export class Player {
     if (this.part.made >= calls) this.part.meetsMostCalls();
     const key = viewKey(call);
     if (!mapHas(this.views, key)) {
-      if (!board.journal.registers(key)) this.part.bound(`more than ${views} different typed arrays were used`);
+      if (!board.journal.registers(key)) this.part.meetsLimit(`more than ${views} different typed arrays were used`);
       mapSet(this.views, key, viewName(lengths, call).length);
     }
     if (!board.journal.takesText(textRoom(mapGet(this.views, key), call))) {
-      this.part.bound(`the script would be longer than ${text} bytes`);
+      this.part.meetsLimit(`the script would be longer than ${text} bytes`);
     }
   }
 

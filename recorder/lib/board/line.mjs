@@ -78,6 +78,12 @@ export class Line {
     return phase === PHASE.ASKS || phase === PHASE.WOKEN || phase === PHASE.WAITS_TIMED;
   }
 
+  /** @param {number} agent @returns {boolean} whether it asks for a call, or was woken */
+  asks(agent) {
+    const phase = this.phase(agent);
+    return phase === PHASE.ASKS || phase === PHASE.WOKEN;
+  }
+
   /** @param {number} agent */
   waits(agent) {
     const phase = this.words[wordOf(agent, AGENT_WORD.PHASE)];

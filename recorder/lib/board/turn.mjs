@@ -12,7 +12,7 @@ const writeText = uncurried(Buffer.prototype.write);
 export const REASON_BYTES = 4_096;
 
 // How long an agent that was silent may take to say where it is.
-const MILLISECONDS_TO_ANSWER = 100;
+const MILLISECONDS_TO_ANSWER = 1_000;
 
 export class Turn {
   /**
@@ -26,6 +26,8 @@ export class Turn {
     this.reasons = reasons;
     this.end = end;
     this.agents = agents;
+    /** The agent whose own code made no call for too long, so that the run was ended; else `NOBODY`. */
+    this.silent = NOBODY;
   }
 
   /** Nobody has the turn yet, and nobody is to wake up. */
@@ -143,6 +145,7 @@ export class Turn {
   awaitEnd(seconds) {
     const { words } = this;
     let isSilent = false;
+    this.silent = NOBODY;
     let ticks = load(words, WORD.TICKS);
     let since = performance.now();
     while (!this.end.hasEnded()) {
@@ -205,7 +208,11 @@ export class Turn {
     if (turn === NOBODY || compareExchange(this.words, WORD.TURN, turn, NOBODY) !== turn) return;
     const agent = agentOf(turn);
     // An agent whose stack came to its end amid a call never comes out of it.
-    if (turn === inCode(agent)) this.end.close("bound", `agent ${agent} has made no call for ${seconds} s`);
-    else this.end.close("failed", `agent ${agent} didn't come out of a call of Atomics for ${seconds} s`);
+    if (turn !== inCode(agent)) {
+      this.end.close("failed", `agent ${agent} didn't come out of a call of Atomics for ${seconds} s`);
+      return;
+    }
+    this.silent = agent;
+    this.end.close("bound", `agent ${agent} has made no call for ${seconds} s`);
   }
 }

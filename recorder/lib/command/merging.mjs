@@ -106,7 +106,7 @@ function needsFitting(parts) {
 
 /**
  * @param {WholeSummary[]} summaries
- * @returns {import("./summary.mjs").Stop | null} that not all of their runs were made
+ * @returns {import("./summary-data.mjs").Stop | null} that not all of their runs were made
  */
 function stoppedOf(summaries) {
   const whys = summaries.flatMap(({ stopped }) => (stopped === null ? [] : [stopped.why]));
@@ -118,7 +118,7 @@ function stoppedOf(summaries) {
 /**
  * What the run of the first failing seed has left: its files, and what belongs to it alone.
  * @param {WholeSummary[]} summaries
- * @param {import("./summary.mjs").SummaryData} told of all
+ * @param {import("./summary-data.mjs").SummaryData} told of all
  * @returns {Pick<WholeSummary, "shortened" | "kept" | "notKept">}
  */
 function keptOf(summaries, { firstFailing }) {

@@ -11,8 +11,11 @@ import { NotPrinted } from "./print.mjs";
 /** What can go wrong without a defect of the recorder: a sentence says all of it. */
 const EXPECTED = [Refused, Difference, NoSabsim, LostJob, NoLongerTheSame, NotKept, NotPrinted];
 
+/** @param {unknown} problem @returns {boolean} whether its message says all of it */
+export const isExpected = (problem) => EXPECTED.some((kind) => problem instanceof kind);
+
 /** @param {unknown} problem @returns {string} a sentence; of a defect all that is known */
 export function toldOf(problem) {
   if (!(problem instanceof Error)) return String(problem);
-  return EXPECTED.some((kind) => problem instanceof kind) ? problem.message : problem.stack ?? String(problem);
+  return isExpected(problem) ? problem.message : problem.stack ?? String(problem);
 }

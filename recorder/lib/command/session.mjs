@@ -3,7 +3,7 @@
 import { resolve } from "node:path";
 import { Difference } from "../check/check.mjs";
 import { modulePath, optionsText } from "../keeping/about.mjs";
-import { Keeper } from "../keeping/keep.mjs";
+import { Keeper, missingFiles } from "../keeping/keep.mjs";
 import { keepPictures, notesOn } from "../keeping/pictures.mjs";
 import { collectGarbage, onceMore, stopGrowth } from "../processes/garbage.mjs";
 import { preloads } from "../processes/preloads.mjs";
@@ -22,6 +22,9 @@ import { FORM } from "./summary-form.mjs";
 import { Summary } from "./summary.mjs";
 
 /** @typedef {import("../seeds/job.mjs").Checked} Outcome */
+
+/** @param {number} seed of the first failing run, where none is kept */
+const notKeptText = (seed) => `not kept: the run of seed ${seed}; --out DIR keeps it, with a page that shows it`;
 
 export class Session {
   /**
@@ -44,7 +47,7 @@ export class Session {
       coverage: this.coverage,
       checkedBy: isChecked ? this.simulator.version : undefined,
     });
-    /** @type {string[]} what isn't kept though there is a script to make it from, and why */
+    /** @type {string[]} what isn't kept, and why */
     this.leftOut = [];
     /** @type {string[]} what a reader of the kept files must know */
     this.notes = [];
@@ -135,7 +138,10 @@ export class Session {
   #keepMore(stopped) {
     const { keeper, summary: { shortened } } = this;
     const failing = this.#failing();
-    if (keeper === undefined) return;
+    if (keeper === undefined) {
+      if (failing !== undefined) this.leftOut.push(notKeptText(failing.seed));
+      return;
+    }
     if (stopped instanceof Difference) {
       const { outcome: { seed, script, report, trace }, replayed, judged } = stopped;
       const theirs = { "sabsim-report": replayed, "sabsim-verdict": judged };
@@ -145,8 +151,10 @@ export class Session {
       const { module } = this.options;
       const command = replayCommand({ ...this.options, module: modulePath(module) });
       const how = { simulator: this.simulator, module, options: optionsText(this.options), command };
-      this.leftOut.push(...keepPictures(keeper, outcome, how));
+      this.leftOut.push(...keepPictures(keeper, outcome, how), ...missingFiles(outcome));
       this.notes.push(...notesOn(keeper, outcome));
+    } else if (failing !== undefined) {
+      this.leftOut.push(...missingFiles(failing));
     }
   }
 
@@ -160,7 +168,7 @@ export class Session {
   }
 
   /**
-   * @param {import("./summary.mjs").Stop | null} stopped
+   * @param {import("./summary-data.mjs").Stop | null} stopped
    * @param {unknown[]} problems
    * @returns {import("./summary-form.mjs").WholeSummary}
    */

@@ -1,7 +1,7 @@
 // The form of a summary as JSON (docs/FORMATS.md): whether what a file has is one.
 
 /**
- * @typedef {import("./summary.mjs").SummaryData & {
+ * @typedef {import("./summary-data.mjs").SummaryData & {
  *   summary: number, asked: import("./asked.mjs").Asked, seeds: import("../seeds/ranges.mjs").Range[],
  * }} WholeSummary what is told of many runs, and what was asked for
  */
@@ -51,7 +51,7 @@ const PLACE = { block: whole, byte: whole };
 const listed = (members) => object({ listed: list(object({ ...members, ...COUNTS })), others: whole });
 
 const endings = list(object({ ending: text, ...COUNTS }));
-const states = listed({ ending: text, hash: text, shown: texts });
+const states = listed({ ending: text, hash: text, shown: texts, named: orNull(text) });
 
 const MEMBERS = object({
   summary: whole,
@@ -77,6 +77,8 @@ const MEMBERS = object({
     listed: list(object({ agent: whole, line: orNull(text), milliseconds: whole, ...PLACE, ...COUNTS })), others: whole,
     served: list(object(PLACE)),
   }),
+  threw: whole,
+  failures: listed({ ending: text, message: texts, sources: texts }),
   shortened: orNull(object({
     runs: whole, changes: change, calls: change, stopped: orNull(text), unchanged: orNull(text), checked: flag,
     detail: texts, onlyIf: orNull(text),

@@ -1,14 +1,16 @@
 // The plain text of a summary. It is made from the object that `--format json` prints, and from nothing else.
 
+import { endingText, endingsText } from "../../page/endings.mjs";
 import { counted, digits, listed } from "../keeping/words.mjs";
+import { bytesText } from "../run/final-state.mjs";
 import { rememberingText } from "../seeds/first-again.mjs";
 import { rangeText } from "../seeds/ranges.mjs";
 import { onlyByTimeLines } from "./only-by-time.mjs";
 import { shortenedLines } from "./shortened.mjs";
 
-/** @typedef {import("./summary.mjs").SummaryData} SummaryData */
+/** @typedef {import("./summary-data.mjs").SummaryData} SummaryData */
 
-/** @template T @typedef {import("./summary.mjs").Listed<T>} Listed */
+/** @template T @typedef {import("./summary-data.mjs").Listed<T>} Listed */
 
 const MOST_LISTED = 8;
 
@@ -18,8 +20,9 @@ export function summaryText(summary) {
   const lines = missing.map(missingText);
   if (stopped !== null) lines.push(`${stopped.why} after ${digits(runs)} of ${counted(stopped.wanted, "run")}`);
   if (runs > 0) {
-    lines.push(endingLine(summary), ...failingLines(summary), ...raceLines(summary), ...hiddenLines(summary));
-    lines.push(...unrecordedLines(summary), ...rememberingLines(summary), ...stateLines(summary));
+    lines.push(endingLine(summary), ...failingLines(summary), ...failureLines(summary), ...raceLines(summary));
+    lines.push(...hiddenLines(summary), ...unrecordedLines(summary), ...rememberingLines(summary));
+    lines.push(...stateLines(summary));
     lines.push(...coverageLines(summary), ...checkLines(summary), ...scriptLines(summary), accessLine(summary));
     lines.push(...unseen);
   }
@@ -31,12 +34,19 @@ export function summaryText(summary) {
 export const missingText = (range) => `no summary has the ${rangeText(range)}`;
 
 /** @param {SummaryData} summary */
-function endingLine({ runs, failed, endings }) {
-  const failing = endings.failing.map((each) => `${digits(each.runs)} ${each.ending}`).join(", ");
+function endingLine(summary) {
+  const { runs, failed, endings } = summary;
+  const counts = failedCounts(summary);
+  const failing = endings.failing.map((each) => `${digits(each.runs)} ${endingsText(each.ending, counts)}`).join(", ");
   const passing = endings.passing.map((each) => `${digits(each.runs)} ${passingText(each.ending)}`).join(", ");
   if (failed === 0) return `${counted(runs, "run")}: ${passing}`;
   const first = `${digits(failed)} of ${counted(runs, "run")} failed: ${failing}`;
   return failed === runs ? first : `${first}; ${passing}`;
+}
+
+/** @param {SummaryData} summary how many runs ended as `failed`, and how many of these threw */
+function failedCounts({ endings, threw }) {
+  return { failed: endings.failing.find(({ ending }) => ending === "failed")?.runs ?? 0, threw };
 }
 
 /** @param {SummaryData} summary */
@@ -45,7 +55,8 @@ function failingLines({ early, firstFailing, shortened }) {
   const { seed, ending, detail, onlyIf, noScript } = firstFailing;
   const lines = [...detail, ...(onlyIf === null ? [] : [onlyIf])];
   if (noScript !== null) lines.push(`it has no script: ${noScript}`);
-  const shown = [`first failing seed: ${seed}, ${ending}`, ...lines.map(indented), ...shortenedLines(shortened, onlyIf)];
+  const how = endingText(ending, detail.join("\n"));
+  const shown = [`first failing seed: ${seed}, ${how}`, ...lines.map(indented), ...shortenedLines(shortened, onlyIf)];
   if (early === 0) return shown;
   const [run, fails] = early === 1 ? ["run", "fails"] : ["runs", "fail"];
   return [`${digits(early)} failing ${run} ${fails} only after the early end of a timed wait (--timeouts)`, ...shown];
@@ -54,6 +65,20 @@ function failingLines({ early, firstFailing, shortened }) {
 /** @param {SummaryData} summary @returns {string[]} the lost wake-ups that a time hides */
 function hiddenLines({ onlyByTime, runs }) {
   return listed(onlyByTimeLines(onlyByTime, runs), MOST_LISTED, (line) => line);
+}
+
+/** @param {SummaryData} summary what runs failed by, if that isn't what the first failing one says alone */
+function failureLines({ firstFailing, failures }) {
+  if (failures.listed.every(({ first }) => first === firstFailing?.seed)) return [];
+  const lines = listed(failures.listed, MOST_LISTED, ({ runs, first, ending, message, sources }) => {
+    const how = endingText(ending, message.join("\n"));
+    const places = sources.filter((source) => !message.some((line) => line.includes(source)));
+    const where = places.length === 0 ? "" : `, at ${places.join(" and ")}`;
+    return [`${counted(runs, "run")} ${how}, seed ${first} the first${where}`, ...message.map(indented)].join("\n");
+  });
+  const many = countedOf(failures.listed.length, "kind", failures.others);
+  const all = lines.flatMap((line) => line.split("\n").map(indented));
+  return [`${many} of failure, by message and line of code`, ...all, ...othersLines(failures.others)];
 }
 
 /** @param {SummaryData} summary */
@@ -80,15 +105,17 @@ function unrecordedLines({ unrecorded: { allowed, runs, used } }) {
 const rememberingLines = ({ remembers }) => (remembers === null ? [] : [rememberingText(remembers)]);
 
 /** @param {SummaryData} summary */
-function stateLines({ states: { failing, passing } }) {
-  const passed = passing.listed.map((state) => ({ ...state, ending: passingText(state.ending) }));
-  const lines = listed([...failing.listed, ...passed], MOST_LISTED, ({ runs, first, ending, shown }) => {
-    const bytes = shown.map((hex) => (hex === "" ? "-" : hex)).join(" | ");
-    return `${counted(runs, "run")} ${ending}, seed ${first} the first: ${bytes}`;
-  });
+function stateLines(summary) {
+  const { failing, passing } = summary.states;
+  const counts = failedCounts(summary);
+  const failed = failing.listed.map((state) => ({ ...state, how: endingsText(state.ending, counts) }));
+  const passed = passing.listed.map((state) => ({ ...state, how: passingText(state.ending) }));
+  const lines = listed([...failed, ...passed], MOST_LISTED, ({ runs, first, how, shown, named }) =>
+    `${counted(runs, "run")} ${how}, seed ${first} the first: ${named ?? bytesText(shown)}`);
   const others = failing.others + passing.others;
-  const many = countedOf(failing.listed.length + passed.length, "final state", others);
-  return [`${many}: how it ended, and the bytes`, ...lines.map(indented), ...othersLines(others)];
+  const many = countedOf(failed.length + passed.length, "final state", others);
+  const what = [...failed, ...passed].some(({ named }) => named !== null) ? "the values" : "the bytes";
+  return [`${many}: how it ended, and ${what}`, ...lines.map(indented), ...othersLines(others)];
 }
 
 /** @param {SummaryData} summary */
@@ -155,4 +182,4 @@ const indented = (line) => `  ${line}`;
  * An ending of a run that doesn't fail.
  * @param {string} ending
  */
-const passingText = (ending) => (ending === "finished" ? ending : `${ending} (allowed)`);
+const passingText = (ending) => (ending === "finished" ? ending : `${endingText(ending, "")} (allowed)`);

@@ -1,16 +1,25 @@
 // What is told of many runs. It doesn't depend on the order in which their outcomes come, nor on how they were shared
 // out. Of the runs little is kept, so that there can be any number of them; the first failing one alone is kept whole.
 
+import { hasThrown } from "../../page/endings.mjs";
 import { comesBefore } from "../run/order.mjs";
 import { Coverage } from "../seeds/coverage.mjs";
 import { OnlyByTime } from "./only-by-time.mjs";
 import { shorteningOf } from "./shortened.mjs";
+import {
+  endingsTold, failingOf, failingTold, failureKey, listedOf, of, pairKey, statesTold,
+} from "./summary-data.mjs";
 import { summaryText } from "./summary-text.mjs";
 import { Tally } from "./tally.mjs";
 
-/** @typedef {import("../run/group.mjs").Outcome & { checked?: boolean }} Outcome */
-
-/** @typedef {Pick<Outcome, "seed" | "ending" | "detail" | "noScript"> & Partial<Outcome>} Failing */
+/** @typedef {import("./summary-data.mjs").CheckedBy} CheckedBy */
+/** @typedef {import("./summary-data.mjs").Ending} Ending */
+/** @typedef {import("./summary-data.mjs").Failing} Failing */
+/** @typedef {import("./summary-data.mjs").Failure} Failure */
+/** @typedef {import("./summary-data.mjs").Outcome} Outcome */
+/** @typedef {import("./summary-data.mjs").State} State */
+/** @typedef {import("./summary-data.mjs").Stop} Stop */
+/** @typedef {import("./summary-data.mjs").SummaryData} SummaryData */
 
 /**
  * @typedef {object} SummaryOptions
@@ -21,70 +30,6 @@ import { Tally } from "./tally.mjs";
  * @property {boolean} [preloads] whether node's own words load code before the recorder
  * @property {import("../seeds/coverage.mjs").Coverage} [coverage] which pairs of lines the runs have shown, where that
  * is looked for
- */
-
-/**
- * @typedef {object} Stop that not all runs were made
- * @property {string} why
- * @property {number} wanted how many runs there were to be
- */
-
-/**
- * @template T
- * @typedef {object} Listed what runs have in common
- * @property {(T & { runs: number, first: number })[]} listed with how many runs have it, and the least of their seeds
- * @property {number} others how many runs are counted under what isn't listed
- */
-
-/**
- * @typedef {object} Kept
- * @property {string} folder as it was given
- * @property {string} path
- * @property {string[]} files
- * @property {string[]} [notes] what their readers must know; an older recorder tells none
- */
-
-/**
- * @typedef {object} SummaryData what a summary says of many runs: an object of JSON, whose members docs/FORMATS.md
- * explains
- * @property {Stop | null} stopped
- * @property {import("../seeds/ranges.mjs").Range[]} missing seeds that were asked for, and of which nothing is known
- * @property {number} runs
- * @property {number} failed
- * @property {Record<"failing" | "passing", { ending: string, runs: number, first: number }[]>} endings
- * @property {{ seed: number, ending: string, detail: string[], onlyIf: string | null, noScript: string | null } | null
- *   } firstFailing
- * @property {number} early how many of the failing runs fail only after the early end of a timed wait
- * @property {import("./only-by-time.mjs").OnlyByTimeTold} onlyByTime
- * @property {import("./shortened.mjs").Shortening | null} shortened what the shortening of that run came to
- * @property {{ allowed: boolean, runs: number, pairs: Listed<{ lines: string[] }> }} races
- * @property {{ allowed: boolean, runs: number, used: Listed<{ what: string }> }} unrecorded shared memory and threads
- * that aren't recorded, and that agents used
- * @property {import("../seeds/first-again.mjs").Remembering | null} remembers how the run of the first seed differed
- * when it was made once more
- * @property {Record<"failing" | "passing", Listed<{ ending: string, hash: string, shown: string[] }>>} states
- * @property {CheckedBy} sabsim
- * @property {{ parts: number, none: Listed<{ why: string }> }} scripts
- * @property {import("../seeds/coverage.mjs").Covered | null} coverage null: it wasn't looked for
- * @property {number} calls
- * @property {number | null} accesses null: they weren't seen
- * @property {string[]} unseen
- * @property {Kept | null} kept
- * @property {string[]} notKept
- * @property {string[]} problems
- */
-
-/**
- * @typedef {object} CheckedBy
- * @property {boolean} asked whether runs were to be checked by it
- * @property {string[]} versions of the module and of the programs that were asked, as `module 87759d9a6ee9`
- * @property {number} checked how many runs it says the same of
- * @property {boolean} judges whether it has judged too which of these have unordered accesses
- */
-
-/**
- * How all ended.
- * @typedef {Partial<Pick<SummaryData, "stopped" | "missing" | "kept" | "notKept" | "problems">>} Ending
  */
 
 // In the order in which they are told.
@@ -128,7 +73,11 @@ export class Summary {
     /** How many scripts hold some of the ordinary writes only. */
     this.parts = 0;
     this.endings = { failing: new Tally(), passing: new Tally() };
-    /** @type {Record<"failing" | "passing", Tally<{ ending: string, shown: string[] }>>} by their hashes */
+    /** How many of the runs that ended as `failed` threw. */
+    this.threw = 0;
+    /** @type {Tally<Failure>} */
+    this.failures = new Tally();
+    /** @type {Record<"failing" | "passing", Tally<State>>} by their hashes */
     this.states = { failing: new Tally(), passing: new Tally() };
     /** @type {Tally<{ lines: string[] }>} */
     this.pairs = new Tally();
@@ -153,7 +102,7 @@ export class Summary {
     this.accesses += ordinary;
     if (outcome.checked) this.checked += 1;
     this.endings[which].add(ending, seed);
-    this.states[which].add(state.hash, seed, { ending, shown: state.shown });
+    this.states[which].add(state.hash, seed, { ending, shown: state.shown, named: state.named });
     this.#addRaces(outcome);
     this.#addScript(outcome);
     this.onlyByTime.add(outcome);
@@ -161,6 +110,7 @@ export class Summary {
     if (!fails) return;
     this.failed += 1;
     if (outcome.onlyIf !== undefined) this.early += 1;
+    this.#addFailure(outcome);
     this.#addFailing(outcome);
   }
 
@@ -180,9 +130,11 @@ export class Summary {
     for (const which of BOTH) {
       this.endings[which].join(told.endings[which].map(({ ending, ...entry }) => ({ ...entry, ...of(ending) })));
       const { listed, others } = told.states[which];
-      const entries = listed.map(({ hash, ending, shown, ...entry }) => ({ ...entry, ...of(hash, { ending, shown }) }));
+      const entries = listed.map(({ hash, ending, shown, named, ...entry }) =>
+        ({ ...entry, ...of(hash, { ending, shown, named }) }));
       this.states[which].join(entries, others);
     }
+    this.#joinFailures(told);
     this.raced += told.races.runs;
     const { listed, others } = told.races.pairs;
     this.pairs.join(listed.map(({ lines, ...entry }) => ({ ...entry, ...of(pairKey(lines), { lines }) })), others);
@@ -214,6 +166,8 @@ export class Summary {
       firstFailing: this.failing === undefined ? null : failingTold(this.failing),
       early: this.early,
       onlyByTime: this.onlyByTime.told(),
+      threw: this.threw,
+      failures: listedOf(this.failures, (_, { ending, message, sources }) => ({ ending, message, sources })),
       shortened: this.shortened === undefined ? null : shorteningOf(this.shortened, this.failing),
       races: {
         allowed: this.races === "allow", runs: this.raced, pairs: listedOf(this.pairs, (_, { lines }) => ({ lines })),
@@ -265,6 +219,21 @@ export class Summary {
     if (this.remembers === undefined || this.remembers.seed > found.seed) this.remembers = found;
   }
 
+  /** @param {Outcome} outcome that fails */
+  #addFailure({ seed, ending, detail, failure }) {
+    if (hasThrown(ending, detail)) this.threw += 1;
+    if (failure === undefined) return;
+    const about = { ending, ...failure };
+    this.failures.add(failureKey(about), seed, about);
+  }
+
+  /** @param {SummaryData} told */
+  #joinFailures({ threw, failures: { listed, others } }) {
+    this.threw += threw;
+    const entries = listed.map(({ runs, first, ...about }) => ({ runs, first, ...of(failureKey(about), about) }));
+    this.failures.join(entries, others);
+  }
+
   /** @param {Failing} failing */
   #addFailing(failing) {
     if (this.failing === undefined || !comesBefore(this.failing, failing)) this.failing = failing;
@@ -281,51 +250,4 @@ export class Summary {
     const { checked, versions, ordinary } = this;
     return { asked: versions.size > 0, versions: [...versions].sort(), checked, judges: ordinary === "watch" };
   }
-}
-
-/** @param {string[]} lines of code that race */
-const pairKey = (lines) => lines.join(" and ");
-
-/**
- * Parts of a tally's entry.
- * @template T
- * @param {string} key
- * @param {T} [about]
- */
-const of = (key, about) => ({ key, about: /** @type {T} */ (about) });
-
-/**
- * What a tally has, as it is told.
- * @template T
- * @template {object} Part
- * @param {Tally<T>} tally
- * @param {(key: string, about: T) => Part} parts
- * @returns {Listed<Part>}
- */
-const listedOf = (tally, parts) => ({
-  listed: tally.sorted().map(({ key, runs, first, about }) => ({ ...parts(key, about), runs, first })),
-  others: tally.others,
-});
-
-/** @param {Tally<{ ending: string, shown: string[] }>} tally */
-const statesTold = (tally) => listedOf(tally, (hash, { ending, shown }) => ({ ending, hash, shown }));
-
-/** @param {string[]} order @param {Tally<unknown>} tally */
-function endingsTold(order, tally) {
-  const entries = listedOf(tally, (ending) => ({ ending })).listed;
-  return entries.sort((one, other) => order.indexOf(one.ending) - order.indexOf(other.ending));
-}
-
-/** @param {Failing} failing @returns {NonNullable<SummaryData["firstFailing"]>} */
-function failingTold({ seed, ending, detail, onlyIf, noScript }) {
-  const lines = detail === "" ? [] : detail.split("\n");
-  return { seed, ending, detail: lines, onlyIf: onlyIf ?? null, noScript: noScript ?? null };
-}
-
-/** @param {NonNullable<SummaryData["firstFailing"]>} told @returns {Failing} */
-function failingOf({ seed, ending, detail, onlyIf, noScript }) {
-  const known = /** @type {import("../run/group.mjs").Ending} */ (ending);
-  return {
-    seed, ending: known, detail: detail.join("\n"), onlyIf: onlyIf ?? undefined, noScript: noScript ?? undefined,
-  };
 }

@@ -9,6 +9,19 @@ import { comesBefore } from "../run/order.mjs";
 /** A file couldn't be written. */
 export class NotKept extends Error {}
 
+/**
+ * Why files of a run that is to be kept aren't there.
+ * @param {import("../run/group.mjs").Outcome} outcome
+ * @returns {string[]} a sentence each
+ */
+export function missingFiles({ seed, script, noScript, trace, noTrace }) {
+  const noneOf = (/** @type {string} */ ending, /** @type {string} */ why) => `not kept: seed-${seed}.${ending}: ${why}`;
+  return [
+    ...(script === undefined && noScript !== undefined ? [noneOf("json", noScript)] : []),
+    ...(trace === undefined && noTrace !== undefined ? [noneOf("trace.jsonl", noTrace)] : []),
+  ];
+}
+
 /** @param {unknown} error of node's */
 const messageOf = (error) => /** @type {Error} */ (error).message;
 

@@ -2,6 +2,7 @@
 // stand in the folder `page`; here they are joined with what sabsim prints of the run, its trace and the agents' code,
 // and with the simulator, where its module is there.
 
+import { endingText } from "../../page/endings.mjs";
 import { builtSimulator, documentOf } from "./document.mjs";
 
 /** @typedef {import("../run/group.mjs").Outcome} Outcome */
@@ -106,7 +107,7 @@ export function pageData(outcome, facts, module) {
 export function pageOf(data, simulator) {
   const { script, ...rest } = data;
   const shown = simulator === undefined ? rest : data;
-  return documentOf("page", `seed ${data.seed} of ${data.module}: ${data.ending}`, shown, simulator);
+  return documentOf("page", `seed ${data.seed} of ${data.module}: ${endingText(data.ending, data.detail)}`, shown, simulator);
 }
 
 /**

@@ -18,6 +18,11 @@ const BYTES = 2 ** 20;
 /** The number of a position that isn't known, or that there is no room for. */
 export const UNKNOWN = 0;
 
+// Before the text stand how many of its bytes are used, and the position that the agent has marked.
+const USED = 0;
+const MARKED = 1;
+const WORDS = 2;
+
 // A line's number in that of a position; below it stands its column.
 const COLUMNS = 2 ** 24;
 
@@ -29,14 +34,14 @@ export class Sources {
 
   /** @param {SharedArrayBuffer} memory of one agent */
   constructor(memory) {
-    this.used = new Int32Array(memory, 0, 1);
-    this.text = new Uint8Array(memory, 4);
+    this.words = new Int32Array(memory, 0, WORDS);
+    this.text = new Uint8Array(memory, WORDS * 4);
     /** @type {Map<string, Map<number, number>>} the numbers of each file's positions */
     this.files = new EngineMap();
     /** @type {Map<string, number>} the numbers of those that are written down, by their lines */
     this.lines = new EngineMap();
     this.count = 0;
-    this.#takeOver(bufferFrom(memory, 4, this.used[0]));
+    this.#takeOver(bufferFrom(memory, WORDS * 4, this.words[USED]));
   }
 
   /**
@@ -71,6 +76,17 @@ export class Sources {
     return number;
   }
 
+  /** @param {number} number of the position at which the agent is when its run is over; `UNKNOWN`: none is known */
+  mark(number) {
+    this.words[MARKED] = number;
+  }
+
+  /** @returns {string} the position that is marked; empty if none is known */
+  marked() {
+    const number = this.words[MARKED];
+    return number === UNKNOWN ? "" : this.list()[number] ?? "";
+  }
+
   /** @param {string | null} file */
   #numbersOf(file) {
     const known = mapGet(this.files, file);
@@ -86,11 +102,11 @@ export class Sources {
    * @returns {number} its number
    */
   #added(line) {
-    const room = this.text.length - this.used[0];
+    const room = this.text.length - this.words[USED];
     // A character takes three bytes at most.
     if (line.length * 3 > room) return UNKNOWN;
-    const { written } = encode(encoder, line, apply(subarray, this.text, [this.used[0]]));
-    this.used[0] += written;
+    const { written } = encode(encoder, line, apply(subarray, this.text, [this.words[USED]]));
+    this.words[USED] += written;
     this.count += 1;
     mapSet(this.lines, line, this.count);
     return this.count;
@@ -98,7 +114,7 @@ export class Sources {
 
   /** @returns {string[]} each position by its number; that of 0 is empty */
   list() {
-    const text = Buffer.from(this.text.slice(0, this.used[0])).toString("utf8");
+    const text = Buffer.from(this.text.slice(0, this.words[USED])).toString("utf8");
     return ["", ...text.split("\n").slice(0, -1)];
   }
 }

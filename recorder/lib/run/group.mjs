@@ -2,6 +2,7 @@
 
 import { SCRIPT_LIMITS } from "../../script/limits.mjs";
 import { foundBy, leftOpen } from "../agent/answer.mjs";
+import { isAgentsFile } from "../agent/frames.mjs";
 import { Board } from "../board/board.mjs";
 import { memoryOf } from "../board/group-memory.mjs";
 import { waysOf } from "../board/strategy/ways.mjs";
@@ -9,6 +10,7 @@ import { needsRightNames, planOf } from "../options/plan.mjs";
 import { Refused } from "../options/refused.mjs";
 import { defaultsOf } from "../options/table.mjs";
 import { ownModules } from "../processes/own-modules.cjs";
+import { framesOf } from "../processes/place-of-thread.mjs";
 import { FIRST_THREADS, begunThread } from "../processes/thread.mjs";
 import { within } from "./within.mjs";
 
@@ -25,8 +27,7 @@ import { within } from "./within.mjs";
  * @property {number} calls of Atomics that were begun
  * @property {number} ordinary how many ordinary reads and writes were seen
  * @property {{ returned: number, calls: number }[]} progress of each agent: calls that returned, and that began
- * @property {{ hash: string, shown: string[] }} state of the end: a hash of how it ended and of all bytes, and the
- * beginnings of each buffer in hexadecimal digits
+ * @property {import("./final-state.mjs").FinalState} state of the end
  * @property {import("./findings.mjs").RaceReport[]} races the unordered accesses, each pair of lines of code once
  * @property {string[]} [bytes] of each buffer as it was left, in hexadecimal digits; this and what follows is told of
  * runs that fail, and where it is asked for
@@ -35,10 +36,12 @@ import { within } from "./within.mjs";
  * @property {"all" | "touched"} [scriptHolds] which ordinary writes stand in the script: all, or those of bytes that
  * some call of Atomics touches
  * @property {string} [noScript] why there is no script
+ * @property {import("./failure.mjs").Failure} [failure] what a run that fails failed by, in short; a race is in `races`
  * @property {string} [report] what sabsim must answer
  * @property {string} [trace] each event as an object of JSON, a line each
  * @property {import("./accesses.mjs").Accesses} [accesses] by which arrays the trace's ordinary accesses were made, and
  * what they read
+ * @property {string} [noTrace] why there is no trace, though one was to be made
  * @property {import("./source-names.mjs").SourceText[]} [sources] the code of each file that the trace names
  * @property {number[]} [row] which agent moved with each draw, in order, where that is asked for
  * @property {string} [onlyIf] of a failing run in which a timed wait has ended early: what time must pass for that
@@ -217,7 +220,15 @@ export class Group {
         referee.post({ replaced: true });
       }
       if (message.ask) referee.post({ problem: this.#askedHere(message.ask) });
+      if (message.locate !== undefined) referee.post({ place: await this.#placeOf(message.locate) });
     }
+  }
+
+  /** @param {number} agent whose code goes on @returns {Promise<string | undefined>} file, line and column, if known */
+  async #placeOf(agent) {
+    const frames = await framesOf(this.agents[agent].worker);
+    const own = frames.find(({ file }) => file !== "" && isAgentsFile(file));
+    return own && `${own.file}:${own.line}:${own.column}`;
   }
 
   /**

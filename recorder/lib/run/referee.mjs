@@ -17,6 +17,15 @@ import { SourceNames } from "./source-names.mjs";
 /** @typedef {import("./group.mjs").Wanted} Wanted */
 /** @typedef {import("./run-maker.mjs").Made} Made */
 
+const ANOTHER_WAY = "the run went another way when it was made once more to learn its lines of code: its agents do " +
+  "something else then, as where a module keeps something in its own variables";
+
+/** @param {number[]} gone agents that didn't come back, or whose workers died */
+function goneText(gone) {
+  const who = gone.length === 1 ? `agent ${gone[0]}` : `the agents ${gone.join(" and ")}`;
+  return `${who} didn't come to an end after the run, so the run wasn't made once more to learn its lines of code`;
+}
+
 class Referee {
   /** @param {import("./run-maker.mjs").Given} given */
   constructor(given) {
@@ -138,11 +147,15 @@ class Referee {
     // If the second run isn't the same, this is all that is known.
     outcome.races = found.racy ? reporter.races(false) : [];
     // An agent that didn't come back made no call for long, and would take as long again.
-    if (found.gone.length > 0) return;
+    if (found.gone.length > 0) {
+      if (wantsTrace) outcome.noTrace = goneText(found.gone);
+      return;
+    }
     const again = await maker.made(wanted, true);
     const same = areSame(reporter.brief(wanted, await maker.judgedAgain(again, found)), outcome);
     await this.#replace(again);
     if (same) reporter.addSources(outcome, wantsTrace);
+    else if (wantsTrace) outcome.noTrace = ANOTHER_WAY;
   }
 
   /** @param {Made} run after which workers that can't run again are started anew, or all if the option says so */

@@ -3,7 +3,7 @@
 
 import { Board } from "../board/board.mjs";
 import { strayText } from "../board/row.mjs";
-import { ORDER, WORD } from "../memory/layout.mjs";
+import { NOBODY, ORDER, WORD } from "../memory/layout.mjs";
 import { Log } from "../memory/log.mjs";
 import { Memory } from "../memory/memory.mjs";
 import { Notes } from "../memory/notes.mjs";
@@ -23,7 +23,9 @@ import { unseenText } from "./unseen.mjs";
  * @property {number[]} gone agents that can't run again
  * @property {boolean} racy
  * @property {import("../memory/stores.mjs").Store[]} initial what filled the buffers at first
- * @property {{ agent: number, block: number, byte: number }[]} waiting who waits where, in order of arrival
+ * @property {{ agent: number, block: number, byte: number }[]} waiting who waits where, in order of arrival, in a run
+ * that ended by a deadlock or at a limit
+ * @property {number[]} asking agents that asked for a call when a run met a limit
  * @property {import("./unseen.mjs").AgentsNote[]} unseen what agents did that nobody saw
  * @property {boolean} [isUnseen] whether it fails for that
  * @property {import("../board/row.mjs").Stray} [stray] how it has strayed from the row that it was to go by
@@ -87,22 +89,23 @@ export class RunMaker {
     const problem = options.init === undefined ? "" : await this.#asked("init");
     const initial = options.init === undefined ? [] : initialStores(memory, plan.agents);
     if (problem !== "") {
-      const nothing = { bytes: memory.hex(), gone: [], racy: false, initial, waiting: [], unseen: [] };
+      const nothing = { bytes: memory.hex(), gone: [], racy: false, initial, waiting: [], asking: [], unseen: [] };
       return { ending: "failed", detail: `init ${problem}`, ...nothing };
     }
     board.words[WORD.TELLS_SOURCES] = tellsSources ? 1 : 0;
     board.begin(wanted.seed);
-    board.turn.awaitEnd(options.seconds);
-    const told = board.end.told();
+    const told = await this.#ended();
     const stray = board.row.strayed();
     const bytes = memory.hex();
-    const waiting = told.ending === "deadlock" ? board.line.waiting() : [];
+    const isBound = told.ending === "bound";
+    const waiting = isBound || told.ending === "deadlock" ? board.line.waiting() : [];
+    const asking = isBound ? this.agents.filter((agent) => board.line.asks(agent)) : [];
     const gone = this.#sentHome();
     const racy = options.ordinary === "watch" && isRacy(this.log, plan.agents);
-    const named = told.ending === "bound" ? sourceNames.withNames(told.detail) : told.detail;
+    const named = isBound ? sourceNames.withNames(told.detail) : told.detail;
     const detail = stray === undefined ? named : strayText(stray, named);
     const unseen = this.agents.flatMap((agent) => this.notes[agent].read().map((note) => ({ ...note, agent })));
-    return { ending: told.ending, detail, bytes, gone, racy, initial, waiting, unseen, stray };
+    return { ending: told.ending, detail, bytes, gone, racy, initial, waiting, asking, unseen, stray };
   }
 
   /** @param {Made} found @returns {Promise<Made>} how a run ends, with what is known when its agents are home */
@@ -194,10 +197,22 @@ export class RunMaker {
     const { board, options } = this;
     if (options[name] === "library") return (await this.#answered({ ask: name })).problem;
     board.order(name === "init" ? ORDER.INIT : ORDER.CHECK);
-    board.turn.awaitEnd(options.seconds);
-    const { ending, detail } = board.end.told();
+    const { ending, detail } = await this.#ended();
     if (!board.turn.isBack(0, GRACE_MILLISECONDS)) await this.replace([0]);
-    return ending === "finished" ? detail : `${ENDLESS}: ${detail}`;
+    return ending === "finished" ? detail : `${ENDLESS}: ${this.sourceNames.withNames(detail)}`;
+  }
+
+  /**
+   * Waits for the end. Of an agent that made no call for too long the main thread finds out where it is.
+   * @returns {Promise<ReturnType<Board["end"]["told"]>>}
+   */
+  async #ended() {
+    const { end, turn } = this.board;
+    turn.awaitEnd(this.options.seconds);
+    const told = end.told();
+    if (turn.silent === NOBODY) return told;
+    const { place } = await this.#answered({ locate: turn.silent });
+    return place === undefined ? told : { ...told, detail: `${told.detail}: it is at ${place}` };
   }
 
   /** Sends the agents home. @returns {number[]} those that can't run again */

@@ -8,17 +8,18 @@ import { Sources } from "../memory/sources.mjs";
 import { Names } from "../options/names.mjs";
 import { preloads } from "../processes/preloads.mjs";
 import { accessesIn } from "./accesses.mjs";
+import { standstillOf, thrownIn } from "./failure.mjs";
 import { racesTold } from "./findings.mjs";
+import { FinalStates } from "./final-state.mjs";
 import { fitted } from "./fitting.mjs";
+import { askingLines, waitText, waitsOf } from "./standing.mjs";
 import { earlyText, onlyByTimeOf, servedOf } from "./timed-ends.mjs";
 import { UNSEEN_LINE, placesIn, traceText } from "./trace.mjs";
-import { transcriptOf, waitingText } from "./transcript.mjs";
+import { transcriptOf } from "./transcript.mjs";
 import { NO_SCRIPT, unrecordedIn } from "./unseen.mjs";
 
 /** @typedef {import("./group.mjs").Outcome} Outcome */
 /** @typedef {import("./run-maker.mjs").Made} Made */
-
-const SHOWN_DIGITS = 48;
 
 export class RunReporter {
   /** @param {import("./run-maker.mjs").Given} given @param {import("./run-maker.mjs").RunMaker} maker */
@@ -31,6 +32,7 @@ export class RunReporter {
       log: maker.log, records: memory.records.map((each) => new Records(each)), lengths: plan.buffers,
       canBlock: plan.canBlock, names: new Names(plan.names),
     };
+    this.states = new FinalStates(plan.names);
     /** Whether each ordinary access is seen: code from before the recorder may make some that aren't watched. */
     this.seesAll = options.ordinary === "watch" && !preloads();
   }
@@ -53,7 +55,7 @@ export class RunReporter {
       calls: maker.callCount(),
       ordinary: maker.accessCount(),
       progress: maker.agents.map((agent) => journal.progress(agent)),
-      state: stateOf(found),
+      state: this.states.of(ending, found.bytes),
       races: [],
       ...(draws === undefined ? {} : { row: draws }),
       ...(unrecorded.length === 0 ? {} : { unrecorded }),
@@ -87,7 +89,7 @@ export class RunReporter {
     const { maker: { stores, agents }, options, run } = this;
     const whole = { ...run, isOrdinary: this.#isOrdinary() };
     const { transcript, script, holds, bytes = [], noScript } = fitted(whole, stores, found.initial, found.bytes);
-    if (outcome.ending === "deadlock") outcome.detail = waitingText(found.waiting, transcript);
+    this.#addFailure(outcome, found, transcript);
     if (outcome.fails || !options.isBrief) {
       outcome.bytes = found.bytes;
       const own = agents.map((agent) => transcript.calls[agent].filter(({ isOwn }) => isOwn));
@@ -155,18 +157,28 @@ export class RunReporter {
     return { racy, events: this.run.log.taken(), isInScript: !this.#isOrdinary() && initial.length === 0 };
   }
 
+  /**
+   * Adds what a run failed by, and to the detail of a deadlock or a limit where agents wait, or ask for a call.
+   * @param {Outcome} outcome
+   * @param {Made} found
+   * @param {import("../../script/text.mjs").Transcript} transcript
+   */
+  #addFailure(outcome, { waiting, asking }, transcript) {
+    const { sources, sourceNames } = this;
+    const { ending, fails, detail } = outcome;
+    const places = waiting.length + asking.length === 0 ? [] : sources.map((each) => each.marked());
+    /** @param {number} agent */
+    const sourceOf = (agent) => (places[agent] === "" ? "" : sourceNames.nameOf(places[agent]));
+    const waits = waitsOf(waiting, transcript, sourceOf);
+    const stands = [...waits.map(waitText), ...askingLines(asking, transcript, sourceOf)];
+    outcome.detail = [detail, ...stands].filter((line) => line !== "").join("\n");
+    if (!fails || ending === "race") return;
+    const isThrown = ending === "failed" || ending === "check";
+    outcome.failure = isThrown ? thrownIn(detail, sourceNames) : standstillOf(detail, waits);
+  }
+
   /** @returns {boolean} whether ordinary accesses were made, or may have been made unseen */
   #isOrdinary() {
     return !this.seesAll || this.run.log.hasOrdinary();
   }
-}
-
-/**
- * The bytes at the end: their hash, with the ending's, and their beginnings.
- * @param {Made} found
- */
-function stateOf({ ending, bytes }) {
-  const hash = createHash("sha256").update(`${ending} ${bytes.join(" ")}`).digest("base64");
-  const shown = bytes.map((hex) => (hex.length > SHOWN_DIGITS ? `${hex.slice(0, SHOWN_DIGITS)}…` : hex));
-  return { hash, shown };
 }

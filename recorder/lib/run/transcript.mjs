@@ -184,20 +184,3 @@ export function transcriptOf(run, stores, initial = []) {
 export function ownCalls(transcript, agent) {
   return transcript.calls[agent].map((call, inScript) => ({ ...call, inScript })).filter((call) => call.isOwn);
 }
-
-/**
- * Who waits where, a line for each.
- * @param {{ agent: number, block: number, byte: number }[]} waiting in order of arrival
- * @param {Transcript} transcript
- * @returns {string}
- */
-export function waitingText(waiting, transcript) {
-  const lines = waiting.map(({ agent, block, byte }) => {
-    const calls = ownCalls(transcript, agent);
-    const number = calls.length - 1;
-    const { text, inScript, name = `byte ${byte} of block ${block}` } = calls[number];
-    const there = inScript === number ? "" : `, which is ${inScript} in the script`;
-    return `agent ${agent} waits at ${name}: its call ${number}, ${text}${there}`;
-  });
-  return lines.join("\n");
-}

@@ -65,7 +65,7 @@ function isShorter(one, other) {
 }
 
 /**
- * Why a failing run isn't shortened, if so. How far a run gets that meets a bound says little; and where a worker dies
+ * Why a failing run isn't shortened, if so. How far a run gets that meets a limit says little; and where a worker dies
  * in each run that is tried, it takes too long.
  * @param {RunSummary} told
  * @returns {string | undefined}
@@ -73,7 +73,7 @@ function isShorter(one, other) {
 function whyNot({ ending, detail, calls, noScript }) {
   if (noScript === NO_SCRIPT) return NO_SCRIPT;
   if (calls === 0) return "it has no call of Atomics that could be left out, or come at another time";
-  if (ending === "bound") return "it met a bound";
+  if (ending === "bound") return "it met a limit";
   if (ending === "failed" && /^agent \d+'s worker died: /.test(detail)) return "an agent's worker died";
   return undefined;
 }

@@ -13,7 +13,7 @@ import { tried } from "./trial.mjs";
  * @returns {Promise<void>} as `test` of node:test answers it
  */
 export function testAgents(name, options) {
-  const caller = callerOf(testAgents);
+  const caller = { ...callerOf(testAgents), name };
   return test(name, {}, async (context) => {
     context.diagnostic(await tried({ signal: context.signal, ...options }, caller));
   });

@@ -1,14 +1,12 @@
 // A trial of a module of agents in somebody's test suite: it fails as an assertion does where a run fails.
 
 import { AssertionError } from "node:assert";
-import { mkdtempSync } from "node:fs";
-import { tmpdir } from "node:os";
-import { join, resolve } from "node:path";
+import { resolve } from "node:path";
 import { OnlyByTime, onlyByTimeLines } from "../command/only-by-time.mjs";
-import { toldOf } from "../command/problems.mjs";
+import { isExpected, toldOf } from "../command/problems.mjs";
 import { replayCommand } from "../command/replay-command.mjs";
 import { modulePath, optionsText } from "../keeping/about.mjs";
-import { Keeper } from "../keeping/keep.mjs";
+import { Keeper, missingFiles } from "../keeping/keep.mjs";
 import { keepPictures, notesOn } from "../keeping/pictures.mjs";
 import { counted, digits } from "../keeping/words.mjs";
 import { runsOf } from "../library/explore.mjs";
@@ -17,6 +15,7 @@ import { comesBefore } from "../run/order.mjs";
 import { rememberingText } from "../seeds/first-again.mjs";
 import { simulatorAt } from "../simulator/chosen.mjs";
 import { failureText } from "./failure.mjs";
+import { keptFolder } from "./kept-folder.mjs";
 
 /** @typedef {import("../library/recorder.mjs").Outcome} Outcome */
 /** @typedef {import("../seeds/runs.mjs").Runs} Runs */
@@ -26,6 +25,7 @@ import { failureText } from "./failure.mjs";
  * @typedef {object} Caller whose code asks for the trial
  * @property {() => string | undefined} folder from which a relative path of the module is taken
  * @property {string | undefined} place file, line and column
+ * @property {string} [name] of the test; undefined: it is told from others by its place
  */
 
 /** A run of agents has failed: the message says all of it. */
@@ -69,27 +69,48 @@ class Passed {
 }
 
 /**
+ * What is thrown for a problem. The recorder's own frames say nothing about one that is expected.
+ * @param {unknown} problem
+ * @param {string | undefined} place where the trial is asked for
+ */
+function atCaller(problem, place) {
+  if (!(problem instanceof Error) || place === undefined || !isExpected(problem)) return problem;
+  problem.stack = `${problem.name}: ${problem.message}\n    at ${place}`;
+  return problem;
+}
+
+/**
  * Makes runs until one fails. If it fails only after the early end of a timed wait, runs are made until one fails
  * without that.
  * @param {TrialOptions} given
  * @param {Caller} caller
  * @returns {Promise<string>} what is to be said where none failed; fails with an AssertionError where one did
  */
-export async function tried(given, { folder, place }) {
+export async function tried(given, caller) {
+  try {
+    return await passedOf(given, caller);
+  } catch (problem) {
+    throw atCaller(problem, caller.place);
+  }
+}
+
+/** @param {TrialOptions} given @param {Caller} caller @returns {Promise<string>} as above */
+async function passedOf(given, caller) {
   const { out, shorten = true, ...options } = checkedOwn(given);
   const passed = new Passed();
   /** @type {{ outcome: Outcome, before: number } | undefined} the first failing run, and how many passed before it */
   let first;
   /** @type {string[]} */
   let besides = [];
-  const runs = runsOf({ ...options, failFast: true }, folder);
+  const runs = runsOf({ ...options, failFast: true }, caller.folder);
   try {
     for await (const outcome of runs.outcomes()) {
       if (!outcome.fails) passed.add(outcome);
       else if (first === undefined || comesBefore(outcome, first.outcome)) first = { outcome, before: passed.count };
     }
     if (first !== undefined) {
-      throw new AgentsFailed(await failureOf(runs, first.outcome, first.before, { out, shorten }), place);
+      const text = await failureOf(runs, first.outcome, first.before, { out, shorten, caller });
+      throw new AgentsFailed(text, caller.place);
     }
     besides = await rememberingLines(runs);
   } finally {
@@ -109,33 +130,39 @@ async function rememberingLines(runs) {
  * @param {Runs} runs
  * @param {Outcome} failing
  * @param {number} passed how many runs of lower seeds passed
- * @param {{ out?: string, shorten: boolean }} about
+ * @param {{ out?: string, shorten: boolean, caller: Caller }} about
  * @returns {Promise<string>}
  */
-async function failureOf(runs, failing, passed, { out, shorten }) {
+async function failureOf(runs, failing, passed, { out, shorten, caller }) {
   const { options } = runs;
-  const { sabsim } = options;
+  const { module, sabsim } = options;
   const simulator = simulatorAt(sabsim || undefined);
   const besides = await rememberingLines(runs);
   const outcome = shorten ? (await runs.shorten(failing)).shortest ?? failing : failing;
-  const kept = [...besides, ...keptLines({ failing, outcome }, options, out, simulator)];
-  return failureText({ outcome, passed, simulator, kept });
+  const folder = () => out ?? keptFolder(module, testOf(caller));
+  const kept = [...besides, ...keptLines({ failing, outcome }, options, folder, simulator)];
+  return failureText({ outcome, passed, simulator, module, kept });
+}
+
+/** @param {Caller} caller @returns {string} what tells its test from others: a line may move, unless it has no name */
+function testOf({ name, place = "" }) {
+  return name === undefined ? place : `${place.replace(/(?::\d+){2}$/, "")}\n${name}`;
 }
 
 /**
  * Keeps a run.
  * @param {{ failing: Outcome, outcome: Outcome }} runs the one that has failed, and the shortest that fails so
  * @param {Runs["options"]} options of the runs
- * @param {string | undefined} out where; undefined: in a new folder for temporary files
+ * @param {() => string} folder where
  * @param {import("../simulator/chosen.mjs").Simulator} simulator
  * @returns {string[]} what lies where, and what doesn't
  */
-function keptLines({ failing, outcome }, options, out, simulator) {
+function keptLines({ failing, outcome }, options, folder, simulator) {
   try {
-    const keeper = new Keeper(resolve(out ?? mkdtempSync(join(tmpdir(), "sabsim-"))), "`out`");
+    const keeper = new Keeper(resolve(folder()), "`out`");
     keeper.keepFirst(failing);
     if (outcome !== failing) keeper.keepShortest(failing, outcome);
-    const notKept = keepPictures(keeper, outcome, { simulator, ...howMade(options) });
+    const notKept = [...keepPictures(keeper, outcome, { simulator, ...howMade(options) }), ...missingFiles(outcome)];
     const kept = keeper.names.length === 0 ? [] : [`kept in ${keeper.folder}: ${keeper.names.join(", ")}`];
     return [...kept, ...notesOn(keeper, outcome), ...notKept];
   } catch (problem) {

@@ -1,0 +1,135 @@
+// What a summary has, as an object of JSON, and the parts of it that tallies make.
+
+/** @template T @typedef {import("./tally.mjs").Tally<T>} Tally */
+
+/** @typedef {import("../run/group.mjs").Outcome & { checked?: boolean }} Outcome */
+
+/** @typedef {Pick<Outcome, "seed" | "ending" | "detail" | "noScript" | "onlyIf"> & Partial<Outcome>} Failing */
+
+/** @typedef {{ ending: string, shown: string[], named: string | null }} State how a run ended, and its bytes */
+
+/** @typedef {{ ending: string, message: string[], sources: string[] }} Failure what runs failed by, in short */
+
+/**
+ * @typedef {object} Stop that not all runs were made
+ * @property {string} why
+ * @property {number} wanted how many runs there were to be
+ */
+
+/**
+ * @template T
+ * @typedef {object} Listed what runs have in common
+ * @property {(T & { runs: number, first: number })[]} listed with how many runs have it, and the least of their seeds
+ * @property {number} others how many runs are counted under what isn't listed
+ */
+
+/**
+ * @typedef {object} Kept
+ * @property {string} folder as it was given
+ * @property {string} path
+ * @property {string[]} files
+ * @property {string[]} [notes] what their readers must know; an older recorder tells none
+ */
+
+/**
+ * @typedef {object} SummaryData what a summary says of many runs: an object of JSON, whose members docs/FORMATS.md
+ * explains
+ * @property {Stop | null} stopped
+ * @property {import("../seeds/ranges.mjs").Range[]} missing seeds that were asked for, and of which nothing is known
+ * @property {number} runs
+ * @property {number} failed
+ * @property {Record<"failing" | "passing", { ending: string, runs: number, first: number }[]>} endings
+ * @property {{ seed: number, ending: string, detail: string[], onlyIf: string | null, noScript: string | null } | null
+ *   } firstFailing
+ * @property {number} early how many of the failing runs fail only after the early end of a timed wait
+ * @property {import("./only-by-time.mjs").OnlyByTimeTold} onlyByTime
+ * @property {number} threw how many of the runs that ended as `failed` threw
+ * @property {Listed<Failure>} failures those of all failing runs that have no ending `race`
+ * @property {import("./shortened.mjs").Shortening | null} shortened what the shortening of that run came to
+ * @property {{ allowed: boolean, runs: number, pairs: Listed<{ lines: string[] }> }} races
+ * @property {{ allowed: boolean, runs: number, used: Listed<{ what: string }> }} unrecorded shared memory and threads
+ * that aren't recorded, and that agents used
+ * @property {import("../seeds/first-again.mjs").Remembering | null} remembers how the run of the first seed differed
+ * when it was made once more
+ * @property {Record<"failing" | "passing", Listed<State & { hash: string }>>} states
+ * @property {CheckedBy} sabsim
+ * @property {{ parts: number, none: Listed<{ why: string }> }} scripts
+ * @property {import("../seeds/coverage.mjs").Covered | null} coverage null: it wasn't looked for
+ * @property {number} calls
+ * @property {number | null} accesses null: they weren't seen
+ * @property {string[]} unseen
+ * @property {Kept | null} kept
+ * @property {string[]} notKept
+ * @property {string[]} problems
+ */
+
+/**
+ * @typedef {object} CheckedBy
+ * @property {boolean} asked whether runs were to be checked by it
+ * @property {string[]} versions of the module and of the programs that were asked, as `module 87759d9a6ee9`
+ * @property {number} checked how many runs it says the same of
+ * @property {boolean} judges whether it has judged too which of these have unordered accesses
+ */
+
+/**
+ * How all ended.
+ * @typedef {Partial<Pick<SummaryData, "stopped" | "missing" | "kept" | "notKept" | "problems">>} Ending
+ */
+
+/** @param {string[]} lines of code that race */
+export const pairKey = (lines) => lines.join(" and ");
+
+// A number, with its sign and its fraction.
+const NUMBERS = /-?\d+(\.\d+)?/g;
+
+/**
+ * What is the same in runs that fail alike: the ending, the message up to its numbers, and the lines of code.
+ * @param {Failure} failure
+ */
+export const failureKey = ({ ending, message, sources }) =>
+  [ending, ...message.map((line) => line.replaceAll(NUMBERS, "0")), ...sources].join("\n");
+
+/**
+ * Parts of a tally's entry.
+ * @template T
+ * @param {string} key
+ * @param {T} [about]
+ */
+export const of = (key, about) => ({ key, about: /** @type {T} */ (about) });
+
+/**
+ * What a tally has, as it is told.
+ * @template T
+ * @template {object} Part
+ * @param {Tally<T>} tally
+ * @param {(key: string, about: T) => Part} parts
+ * @returns {Listed<Part>}
+ */
+export const listedOf = (tally, parts) => ({
+  listed: tally.sorted().map(({ key, runs, first, about }) => ({ ...parts(key, about), runs, first })),
+  others: tally.others,
+});
+
+/** @param {Tally<State>} tally */
+export const statesTold = (tally) =>
+  listedOf(tally, (hash, { ending, shown, named }) => ({ ending, hash, shown, named }));
+
+/** @param {string[]} order @param {Tally<unknown>} tally */
+export function endingsTold(order, tally) {
+  const entries = listedOf(tally, (ending) => ({ ending })).listed;
+  return entries.sort((one, other) => order.indexOf(one.ending) - order.indexOf(other.ending));
+}
+
+/** @param {Failing} failing @returns {NonNullable<SummaryData["firstFailing"]>} */
+export function failingTold({ seed, ending, detail, onlyIf, noScript }) {
+  const lines = detail === "" ? [] : detail.split("\n");
+  return { seed, ending, detail: lines, onlyIf: onlyIf ?? null, noScript: noScript ?? null };
+}
+
+/** @param {NonNullable<SummaryData["firstFailing"]>} told @returns {Failing} */
+export function failingOf({ seed, ending, detail, onlyIf, noScript }) {
+  const known = /** @type {import("../run/group.mjs").Ending} */ (ending);
+  return {
+    seed, ending: known, detail: detail.join("\n"), onlyIf: onlyIf ?? undefined, noScript: noScript ?? undefined,
+  };
+}

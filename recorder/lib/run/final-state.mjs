@@ -1,0 +1,98 @@
+// The bytes at the end of a run: their hash, their beginnings in hexadecimal digits, and what has a name by its name.
+
+import { createHash } from "node:crypto";
+import { CONSTRUCTORS, SIZES } from "../../script/kinds.mjs";
+
+/** @typedef {import("../options/names.mjs").Name} Name */
+
+/**
+ * @typedef {object} FinalState
+ * @property {string} hash of how the run ended and of all bytes
+ * @property {string[]} shown the beginnings of each buffer in hexadecimal digits
+ * @property {string | null} named the values of all that has a name, and the beginnings too if other bytes aren't zero;
+ * null if nothing has a name
+ */
+
+const SHOWN_DIGITS = 48;
+
+// So many elements of an array are named, and so many characters of all.
+const MOST_ELEMENTS = 8;
+const MOST_CHARACTERS = 240;
+
+/** How many states are remembered: runs mostly end in few. */
+const MOST_REMEMBERED = 256;
+
+/** @param {string} text @param {number} most */
+const cut = (text, most) => (text.length > most ? `${text.slice(0, most)}…` : text);
+
+/** @param {number | bigint} value */
+const valueText = (value) => (Object.is(value, -0) ? "-0" : String(value));
+
+/**
+ * The values of an array or a word.
+ * @param {Name} name
+ * @param {string[]} bytes of each buffer, in hexadecimal digits
+ */
+function namedText({ name, kind, block, offset, length }, bytes) {
+  const shown = Math.min(length, MOST_ELEMENTS);
+  const from = Buffer.from(bytes[block].slice(2 * offset, 2 * (offset + shown * SIZES[kind])), "hex");
+  // A copy begins at a multiple of each element's size.
+  const values = [...new CONSTRUCTORS[kind](Uint8Array.from(from).buffer)].map(valueText);
+  if (length === 1) return `${name} ${values[0]}`;
+  return `${name} [${values.join(", ")}${length > shown ? ", …" : ""}]`;
+}
+
+/**
+ * @param {string[]} shown the beginnings of each buffer in hexadecimal digits
+ * @returns {string} all of them on one line; a dash for an empty one
+ */
+export const bytesText = (shown) => shown.map((hex) => (hex === "" ? "-" : hex)).join(" | ");
+
+/**
+ * Whether any byte that no name has isn't zero.
+ * @param {string[]} bytes of each buffer, in hexadecimal digits
+ * @param {Name[]} names
+ * @returns {boolean}
+ */
+function hasMore(bytes, names) {
+  return bytes.some((hex, block) => {
+    const rest = Buffer.from(hex, "hex");
+    for (const { block: own, offset, length, kind } of names) {
+      if (own === block) rest.fill(0, offset, offset + length * SIZES[kind]);
+    }
+    return rest.some((byte) => byte !== 0);
+  });
+}
+
+export class FinalStates {
+  /** @param {Name[]} names of words and arrays */
+  constructor(names) {
+    this.names = names;
+    /** @type {Map<string, FinalState>} by their hashes */
+    this.known = new Map();
+  }
+
+  /**
+   * @param {string} ending
+   * @param {string[]} bytes of each buffer, in hexadecimal digits
+   * @returns {FinalState}
+   */
+  of(ending, bytes) {
+    const hash = createHash("sha256").update(`${ending} ${bytes.join(" ")}`).digest("base64");
+    const known = this.known.get(hash);
+    if (known !== undefined) return known;
+    const shown = bytes.map((hex) => cut(hex, SHOWN_DIGITS));
+    const state = { hash, shown, named: this.#named(bytes, shown) };
+    if (this.known.size === MOST_REMEMBERED) this.known.clear();
+    this.known.set(hash, state);
+    return state;
+  }
+
+  /** @param {string[]} bytes @param {string[]} shown their beginnings */
+  #named(bytes, shown) {
+    const { names } = this;
+    if (names.length === 0) return null;
+    const text = cut(names.map((name) => namedText(name, bytes)).join(", "), MOST_CHARACTERS);
+    return hasMore(bytes, names) ? `${text}; all bytes: ${bytesText(shown)}` : text;
+  }
+}
