@@ -150,6 +150,8 @@ export interface Outcome {
   report?: string;
   /** Each event as an object of JSON, a line each. The first line may say that accesses are missing (`unseen`). */
   trace?: string;
+  /** Why there is no trace, though it was wanted. */
+  noTrace?: string;
   /** The code of each file that the trace names; null where it can't be read, or is longer than 2^20 characters. */
   sources?: { file: string; text: string | null }[];
   /** Which agent moved with each draw, in order; told of the shortest run. */

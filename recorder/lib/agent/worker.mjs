@@ -102,8 +102,7 @@ function described(thrown, depth = 0) {
 function printAtOnce() {
   /** @param {string | Uint8Array} chunk */
   const printed = (chunk) => {
-    // Nothing is printed of runs that are made to learn from.
-    if (self.player?.isPilot() === true) return true;
+    if (self.player?.isSilent() === true) return true;
     try {
       fs.writeSync(2, chunk);
     } catch {

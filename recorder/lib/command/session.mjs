@@ -162,7 +162,7 @@ export class Session {
     const told = this.summary.told({
       stopped,
       kept: isKept ? { folder: keeper.folder, path: resolve(keeper.folder), files: keeper.names } : null,
-      notKept: this.leftOut,
+      notKept: isKept ? [...keeper.untraced, ...this.leftOut] : this.leftOut,
       problems: problems.filter((problem) => !(problem instanceof Interrupted)).map(toldOf),
     });
     return { summary: FORM, asked: this.asked, seeds: [{ first, last }], ...told };

@@ -11,6 +11,14 @@ export class NotKept extends Error {}
 /** @param {unknown} error of node's */
 const messageOf = (error) => /** @type {Error} */ (error).message;
 
+/**
+ * @param {import("../run/group.mjs").Outcome} outcome of a run that is kept
+ * @param {string} ending of the name of its trace
+ * @returns {string[]} why the trace isn't kept, if so
+ */
+const untraced = ({ seed, noTrace }, ending) =>
+  (noTrace === undefined ? [] : [`not kept: seed-${seed}.${ending}: ${noTrace}`]);
+
 export class Keeper {
   /**
    * Makes the folder where it isn't there, and tries whether a file can be written.
@@ -21,6 +29,8 @@ export class Keeper {
     this.folder = folder;
     /** @type {string[]} the files that lie there by this keeper */
     this.names = [];
+    /** @type {string[]} which traces it hasn't got, and why */
+    this.untraced = [];
     /** @type {number | undefined} the seed of the failing run that is kept */
     this.seed = undefined;
     try {
@@ -36,13 +46,15 @@ export class Keeper {
    * higher seed go when all those of this one are there.
    * @param {import("../run/group.mjs").Outcome} outcome
    */
-  keepLowest({ seed, script, report, trace }) {
+  keepLowest(outcome) {
+    const { seed, script, report, trace } = outcome;
     const texts = { json: script, report, "trace.jsonl": trace };
     const isEmpty = Object.values(texts).every((text) => text === undefined);
     if ((this.seed !== undefined && this.seed < seed) || isEmpty) return;
     const before = this.names;
     this.keepAll(seed, texts);
     this.seed = seed;
+    this.untraced = untraced(outcome, "trace.jsonl");
     this.#remove(before);
   }
 
@@ -51,8 +63,10 @@ export class Keeper {
    * @param {import("../run/group.mjs").Outcome} original that is kept
    * @param {import("../run/group.mjs").Outcome} shortest
    */
-  keepShortest(original, { script, report, trace }) {
+  keepShortest(original, shortest) {
     const { seed } = original;
+    const { script, report, trace } = shortest;
+    this.untraced = [...untraced(original, "original.trace.jsonl"), ...untraced(shortest, "trace.jsonl")];
     this.keepAll(seed, {
       "original.json": original.script, "original.report": original.report, "original.trace.jsonl": original.trace,
     });

@@ -37,6 +37,7 @@ import { within } from "./within.mjs";
  * @property {string} [noScript] why there is no script
  * @property {string} [report] what sabsim must answer
  * @property {string} [trace] each event as an object of JSON, a line each
+ * @property {string} [noTrace] why there is no trace, though it was wanted
  * @property {import("./source-names.mjs").SourceText[]} [sources] the code of each file that the trace names
  * @property {number[]} [row] which agent moved with each draw, in order, where that is asked for
  */

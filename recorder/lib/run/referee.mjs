@@ -125,7 +125,7 @@ class Referee {
    * @param {boolean} hasSources whether its accesses have noted their lines
    */
   async #addSources(wanted, outcome, found, hasSources) {
-    const { maker, reporter } = this;
+    const { reporter } = this;
     const wantsTrace = this.#isTraceWanted(wanted, outcome);
     if (!found.racy && !wantsTrace) return;
     if (hasSources) {
@@ -134,12 +134,26 @@ class Referee {
     }
     // If the second run isn't the same, this is all that is known.
     outcome.races = found.racy ? reporter.races(false) : [];
-    // An agent that didn't come back made no call for long, and would take as long again.
-    if (found.gone.length > 0) return;
+    const why = found.once ?? await this.#addSourcesAgain(wanted, outcome, found, wantsTrace);
+    if (wantsTrace && why !== undefined) outcome.noTrace = why;
+  }
+
+  /**
+   * Makes a run once more, by which its accesses note their lines.
+   * @param {Wanted} wanted
+   * @param {Outcome} outcome
+   * @param {Made} found
+   * @param {boolean} wantsTrace
+   * @returns {Promise<string | undefined>} why nothing was added to the outcome, if so
+   */
+  async #addSourcesAgain(wanted, outcome, found, wantsTrace) {
+    const { maker, reporter } = this;
     const again = await maker.made(wanted, true);
     const same = areSame(reporter.brief(wanted, await maker.judgedAgain(again, found)), outcome);
     await this.#replace(again);
-    if (same) reporter.addSources(outcome, wantsTrace);
+    if (!same) return "the run was made once more to learn the lines of code, and went another way";
+    reporter.addSources(outcome, wantsTrace);
+    return undefined;
   }
 
   /** @param {Made} run after which workers that can't run again are started anew, or all if the option says so */

@@ -90,7 +90,7 @@ function keptLines({ failing, outcome }, module, out, simulator) {
     if (outcome !== failing) keeper.keepShortest(failing, outcome);
     const notKept = keepPictures(keeper, outcome, { simulator, module });
     const kept = keeper.names.length === 0 ? [] : [`kept in ${keeper.folder}: ${keeper.names.join(", ")}`];
-    return [...kept, ...notKept];
+    return [...kept, ...keeper.untraced, ...notKept];
   } catch (problem) {
     return [`not kept: ${toldOf(problem)}`];
   }
