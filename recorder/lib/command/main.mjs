@@ -43,7 +43,7 @@ async function run(words, job) {
     }
     const module = existing(asked.module);
     if (asked.replay === undefined) return await new Session(asked, module, job).run();
-    return await new Replay({ ...asked, module }, asked.replay).run();
+    return await new Replay(asked, module, asked.replay).run();
   } catch (problem) {
     return { failed: false, problems: [problem] };
   } finally {

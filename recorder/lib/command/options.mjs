@@ -100,9 +100,8 @@ function shardFrom(asked, shard) {
  * @param {Record<string, any>} given
  * @returns {{ file: string, seed: number | undefined } | undefined} its seed where that is given
  */
-function replayOf({ replay: file, seeds, out }) {
+function replayOf({ replay: file, seeds }) {
   if (file === undefined) return undefined;
-  if (out !== undefined) throw new Refused("--replay keeps nothing: leave --out away");
   if (seeds === undefined) return { file, seed: undefined };
   const { first, last } = seeds;
   if (first !== last) throw new Refused(`--replay makes one run: --seeds must be one seed, but is "${first}..${last}"`);

@@ -1,6 +1,5 @@
 // What the command line does: many runs, a summary of them, and the first failing one kept.
 
-import { resolve } from "node:path";
 import { Difference } from "../check/check.mjs";
 import { Keeper } from "../keeping/keep.mjs";
 import { keepPictures } from "../keeping/pictures.mjs";
@@ -158,11 +157,11 @@ export class Session {
    */
   #told(stopped, problems) {
     const { keeper, options: { first, last } } = this;
-    const isKept = keeper !== undefined && keeper.names.length > 0;
+    const kept = keeper?.told() ?? null;
     const told = this.summary.told({
       stopped,
-      kept: isKept ? { folder: keeper.folder, path: resolve(keeper.folder), files: keeper.names } : null,
-      notKept: isKept ? [...keeper.untraced, ...this.leftOut] : this.leftOut,
+      kept,
+      notKept: [...keeper?.untraced ?? [], ...this.leftOut],
       problems: problems.filter((problem) => !(problem instanceof Interrupted)).map(toldOf),
     });
     return { summary: FORM, asked: this.asked, seeds: [{ first, last }], ...told };

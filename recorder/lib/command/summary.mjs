@@ -34,13 +34,6 @@ import { Tally } from "./tally.mjs";
  */
 
 /**
- * @typedef {object} Kept
- * @property {string} folder as it was given
- * @property {string} path
- * @property {string[]} files
- */
-
-/**
  * @typedef {object} SummaryData what a summary says of many runs: an object of JSON, whose members docs/FORMATS.md
  * explains
  * @property {Stop | null} stopped
@@ -58,7 +51,7 @@ import { Tally } from "./tally.mjs";
  * @property {number} calls
  * @property {number | null} accesses null: they weren't seen
  * @property {string[]} unseen
- * @property {Kept | null} kept
+ * @property {import("../keeping/keep.mjs").Kept | null} kept
  * @property {string[]} notKept
  * @property {string[]} problems
  */

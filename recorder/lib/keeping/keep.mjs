@@ -2,8 +2,15 @@
 
 import { randomBytes } from "node:crypto";
 import { closeSync, mkdirSync, openSync, renameSync, rmSync, writeFileSync } from "node:fs";
-import { join } from "node:path";
+import { join, resolve } from "node:path";
 import { Refused } from "../options/refused.mjs";
+
+/**
+ * @typedef {object} Kept
+ * @property {string} folder as it was given
+ * @property {string} path
+ * @property {string[]} files
+ */
 
 /** A file couldn't be written. */
 export class NotKept extends Error {}
@@ -11,22 +18,16 @@ export class NotKept extends Error {}
 /** @param {unknown} error of node's */
 const messageOf = (error) => /** @type {Error} */ (error).message;
 
-/**
- * @param {import("../run/group.mjs").Outcome} outcome of a run that is kept
- * @param {string} ending of the name of its trace
- * @returns {string[]} why the trace isn't kept, if so
- */
-const untraced = ({ seed, noTrace }, ending) =>
-  (noTrace === undefined ? [] : [`not kept: seed-${seed}.${ending}: ${noTrace}`]);
-
 export class Keeper {
   /**
    * Makes the folder where it isn't there, and tries whether a file can be written.
    * @param {string} folder
    * @param {string} option that names it
+   * @param {string} [name] what the names of its files begin with; undefined: the word seed and the run's seed
    */
-  constructor(folder, option = "--out") {
+  constructor(folder, option = "--out", name = undefined) {
     this.folder = folder;
+    this.name = name;
     /** @type {string[]} the files that lie there by this keeper */
     this.names = [];
     /** @type {string[]} which traces it hasn't got, and why */
@@ -54,7 +55,7 @@ export class Keeper {
     const before = this.names;
     this.keepAll(seed, texts);
     this.seed = seed;
-    this.untraced = untraced(outcome, "trace.jsonl");
+    this.untraced = this.#untraced(outcome, "trace.jsonl");
     this.#remove(before);
   }
 
@@ -66,14 +67,27 @@ export class Keeper {
   keepShortest(original, shortest) {
     const { seed } = original;
     const { script, report, trace } = shortest;
-    this.untraced = [...untraced(original, "original.trace.jsonl"), ...untraced(shortest, "trace.jsonl")];
+    this.untraced = [
+      ...this.#untraced(original, "original.trace.jsonl"), ...this.#untraced(shortest, "trace.jsonl"),
+    ];
     this.keepAll(seed, {
       "original.json": original.script, "original.report": original.report, "original.trace.jsonl": original.trace,
     });
     const texts = { json: script, report, "trace.jsonl": trace };
     this.keepAll(seed, texts);
     const missing = Object.entries(texts).filter(([, text]) => text === undefined);
-    this.#remove(missing.map(([ending]) => `seed-${seed}.${ending}`).filter((name) => this.names.includes(name)));
+    this.#remove(missing.map(([ending]) => this.nameOf(seed, ending)).filter((name) => this.names.includes(name)));
+  }
+
+  /** @param {number} seed @param {string} ending @returns {string} the name of a file of a run */
+  nameOf(seed, ending) {
+    return `${this.name ?? `seed-${seed}`}.${ending}`;
+  }
+
+  /** @returns {Kept | null} where the files lie; null: there are none */
+  told() {
+    const { folder, names } = this;
+    return names.length === 0 ? null : { folder, path: resolve(folder), files: names };
   }
 
   /**
@@ -83,8 +97,17 @@ export class Keeper {
    */
   keepAll(seed, texts) {
     for (const [ending, text] of Object.entries(texts)) {
-      if (text !== undefined) this.#keep(`seed-${seed}.${ending}`, text);
+      if (text !== undefined) this.#keep(this.nameOf(seed, ending), text);
     }
+  }
+
+  /**
+   * @param {import("../run/group.mjs").Outcome} outcome of a run that is kept
+   * @param {string} ending of the name of its trace
+   * @returns {string[]} why the trace isn't kept, if so
+   */
+  #untraced({ seed, noTrace }, ending) {
+    return noTrace === undefined ? [] : [`not kept: ${this.nameOf(seed, ending)}: ${noTrace}`];
   }
 
   /**

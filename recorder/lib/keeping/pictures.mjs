@@ -79,7 +79,7 @@ export function keepPictures(keeper, outcome, { simulator, ...how }) {
       keeper.keepAll(seed, { [ending]: pictureOf(simulator, picture, outcome, how) });
       return [];
     } catch (problem) {
-      if (problem instanceof NotMade) return [`not kept: seed-${seed}.${ending}: ${problem.message}`];
+      if (problem instanceof NotMade) return [`not kept: ${keeper.nameOf(seed, ending)}: ${problem.message}`];
       throw problem;
     }
   });

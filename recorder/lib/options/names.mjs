@@ -26,6 +26,9 @@ import { Refused } from "./refused.mjs";
 const MOST_CHARACTERS = 23;
 const RIGHT = new RegExp(`^[A-Za-z0-9_]{1,${MOST_CHARACTERS}}$`);
 
+/** A name is of an element or an array that the buffers don't have. */
+export class NoSuchPlace extends Refused {}
+
 /** What scripts name views by themselves. */
 const TAKEN = new RegExp(`^(?:ordinary_|init_|unseen$)|^(?:${KINDS.join("|")})(?:_b\\d+)?(?:_at\\d+)?(?:_x\\d+)?$`);
 
@@ -63,12 +66,12 @@ function checkedName(name, value, lengths) {
   }
   if (!isWithin(block, 0, lengths.length - 1)) {
     const last = lengths.length - 1;
-    throw new Refused(`\`names\` puts ${name} on buffer ${block}: there is no such buffer, but 0 to ${last}`);
+    throw new NoSuchPlace(`\`names\` puts ${name} on buffer ${block}: there is no such buffer, but 0 to ${last}`);
   }
   const elements = Math.floor(lengths[block] / SIZES[kind]);
   if (index === WHOLE) return { name, isWord: false, kind, block, offset: 0, length: elements };
   if (!isWithin(index, 0, elements - 1)) {
-    throw new Refused(`\`names\` puts ${name} at index ${index}: buffer ${block} has ${elements} elements of kind ` +
+    throw new NoSuchPlace(`\`names\` puts ${name} at index ${index}: buffer ${block} has ${elements} elements of kind ` +
       `${kindName}, counted from 0`);
   }
   return { name, isWord: true, kind, block, offset: index * SIZES[kind], length: 1 };
