@@ -207,8 +207,11 @@ export interface RaceSide {
   source: string | null;
 }
 
-/** What a module of agents exports by default: it is called once for each agent and run, and must be synchronous. */
-export type Agent = (run: AgentRun) => void;
+/**
+ * What a module of agents exports by default: it is called once for each agent and run, and must be synchronous. So it
+ * returns no object, which could be a promise or an iterator; what else it returns isn't looked at.
+ */
+export type Agent = (run: AgentRun) => void | undefined | null | boolean | number | bigint | string | symbol;
 
 /** What an agent is called with. */
 export interface AgentRun {

@@ -58,6 +58,6 @@ declare module "node:worker_threads" {
   export const parentPort: MessagePort | null;
   export const workerData: any;
   export function receiveMessageOnPort(port: MessagePort): { message: any } | undefined;
-  const threads: Record<"MessagePort" | "BroadcastChannel" | "Worker", Function>;
+  const threads: Record<"MessagePort" | "BroadcastChannel" | "Worker", Function> & { workerData: any };
   export default threads;
 }

@@ -8,7 +8,7 @@
 import fs from "node:fs";
 import { syncBuiltinESMExports } from "node:module";
 import { Writable } from "node:stream";
-import { workerData } from "node:worker_threads";
+import threads from "node:worker_threads";
 import { shown } from "../../script/operands.mjs";
 import { Board } from "../board/board.mjs";
 import { ORDER, WORD } from "../memory/layout.mjs";
@@ -141,7 +141,7 @@ const NO_AGENT = "it has no function as its default export, as `export default f
  * @property {import("../board/strategy.mjs").Rules} rules
  */
 
-const { port, args, ordinary, clock, module: file } = /** @type {Given} */ (workerData);
+const { port, args, ordinary, clock, module: file } = /** @type {Given} */ (threads.workerData);
 
 /**
  * Which agent it is, and how its calls are made; none can be while its module is being loaded.
@@ -204,6 +204,8 @@ const watching = {
  */
 function furnish() {
   printAtOnce();
+  // What the recorder has handed its worker is nothing for agents: a thread that was handed nothing has null.
+  threads.workerData = null;
   if (clock === "run") simulateTime(() => (isRecording() ? playing().look() : 0));
   simulateChance(chance);
   if (ordinary === "watch") watchOrdinary(watching);

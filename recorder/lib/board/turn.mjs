@@ -150,16 +150,9 @@ export class Turn {
     return load(this.words, word) === STATUS.IDLE;
   }
 
-  /**
-   * Why a run after which an agent can't run again isn't made once more, if so: that would take as long again.
-   * @param {number} agent
-   * @returns {string | undefined}
-   */
-  whyOnce(agent) {
-    const status = load(this.words, wordOf(agent, AGENT_WORD.STATUS));
-    if (status === STATUS.PARKED) return undefined;
-    const why = status === STATUS.DEAD ? `agent ${agent}'s worker died` : `agent ${agent} didn't stop at the run's end`;
-    return `${why}, so it wasn't made once more to learn the lines of code`;
+  /** @param {number} agent @returns {boolean} */
+  isParked(agent) {
+    return load(this.words, wordOf(agent, AGENT_WORD.STATUS)) === STATUS.PARKED;
   }
 
   /**

@@ -2,6 +2,7 @@
 
 import { relative } from "node:path";
 import { OPTIONS } from "../options/table.mjs";
+import { isInstalled } from "./program.mjs";
 
 // What a run by a row of draws depends on, besides the module and the agents' arguments.
 const NAMES = /** @type {const} */ (["ordinary", "races", "bounds", "clock"]);
@@ -14,8 +15,7 @@ const quoted = (word) => (/^[\w@%+=:,./-]+$/.test(word) ? word : `'${word.replac
 
 /** How this program is started: by its name where it is installed, else by its file. */
 function programWords() {
-  const [, file] = process.argv;
-  return /[\\/]node_modules[\\/]/.test(file) ? "npx sabsim-record" : `node ${quoted(relative("", file))}`;
+  return isInstalled() ? "npx sabsim-record" : `node ${quoted(relative("", process.argv[1]))}`;
 }
 
 /**

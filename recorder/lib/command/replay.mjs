@@ -120,8 +120,8 @@ export class Replay {
     const { keeper, module, options, simulator } = this;
     if (keeper === undefined) return {};
     keeper.keepLowest(outcome);
-    const notMade = keepPictures(keeper, outcome, { simulator, module, command: replayCommand(options) });
-    return { kept: keeper.told(), notKept: [...keeper.untraced, ...notMade] };
+    const notKept = keepPictures(keeper, outcome, { simulator, module, command: replayCommand(options) });
+    return { kept: keeper.told(), notKept };
   }
 
   /** @returns {Promise<import("../seeds/job.mjs").Checked>} */

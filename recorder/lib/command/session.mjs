@@ -1,7 +1,7 @@
 // What the command line does: many runs, a summary of them, and the first failing one kept.
 
 import { Difference } from "../check/check.mjs";
-import { Keeper } from "../keeping/keep.mjs";
+import { Keeper, missingFiles } from "../keeping/keep.mjs";
 import { keepPictures } from "../keeping/pictures.mjs";
 import { collectGarbage, onceMore, stopGrowth } from "../processes/garbage.mjs";
 import { preloads } from "../processes/preloads.mjs";
@@ -137,7 +137,7 @@ export class Session {
       const outcome = shortened?.shortest ?? failing;
       const command = replayCommand({ ...this.options, module: this.asked.module });
       const how = { simulator: this.simulator, module: this.options.module, command };
-      this.leftOut.push(...keepPictures(keeper, outcome, how));
+      this.leftOut.push(...keepPictures(keeper, outcome, how), ...missingFiles(outcome));
     }
   }
 
@@ -161,7 +161,7 @@ export class Session {
     const told = this.summary.told({
       stopped,
       kept,
-      notKept: [...keeper?.untraced ?? [], ...this.leftOut],
+      notKept: this.leftOut,
       problems: problems.filter((problem) => !(problem instanceof Interrupted)).map(toldOf),
     });
     return { summary: FORM, asked: this.asked, seeds: [{ first, last }], ...told };

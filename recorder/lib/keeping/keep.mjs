@@ -1,8 +1,8 @@
 // Files in the folder that --out names, and nowhere else.
 
 import { randomBytes } from "node:crypto";
-import { closeSync, mkdirSync, openSync, renameSync, rmSync, writeFileSync } from "node:fs";
-import { join, resolve } from "node:path";
+import { closeSync, existsSync, mkdirSync, openSync, renameSync, rmSync, writeFileSync } from "node:fs";
+import { dirname, join, resolve } from "node:path";
 import { Refused } from "../options/refused.mjs";
 
 /**
@@ -14,6 +14,35 @@ import { Refused } from "../options/refused.mjs";
 
 /** A file couldn't be written. */
 export class NotKept extends Error {}
+
+/**
+ * Why files of a run that is to be kept aren't there.
+ * @param {import("../run/group.mjs").Outcome} outcome
+ * @returns {string[]} a sentence each
+ */
+export function missingFiles({ seed, script, noScript, trace, noTrace }) {
+  const noneOf = (/** @type {string} */ ending, /** @type {string} */ why) => `not kept: seed-${seed}.${ending}: ${why}`;
+  return [
+    ...(script === undefined && noScript !== undefined ? [noneOf("json", noScript)] : []),
+    ...(trace === undefined && noTrace !== undefined ? [noneOf("trace.jsonl", noTrace)] : []),
+  ];
+}
+
+/**
+ * Makes a folder, and those above it. Node's own way never ends where a folder is there and takes none, as /proc.
+ * @param {string} path
+ * @throws {Error} if it can't be made
+ */
+function makeFolder(path) {
+  if (existsSync(path)) return;
+  makeFolder(dirname(path));
+  try {
+    mkdirSync(path);
+  } catch (error) {
+    // Another process may have made it meanwhile.
+    if (!existsSync(path)) throw error;
+  }
+}
 
 /** @param {unknown} error of node's */
 const messageOf = (error) => /** @type {Error} */ (error).message;
@@ -30,12 +59,10 @@ export class Keeper {
     this.name = name;
     /** @type {string[]} the files that lie there by this keeper */
     this.names = [];
-    /** @type {string[]} which traces it hasn't got, and why */
-    this.untraced = [];
     /** @type {number | undefined} the seed of the failing run that is kept */
     this.seed = undefined;
     try {
-      mkdirSync(folder, { recursive: true });
+      makeFolder(resolve(folder));
       rmSync(this.#writeAside("sabsim"));
     } catch (error) {
       throw new Refused(`${option} ${folder} can't be used: ${messageOf(error)}`);
@@ -47,15 +74,13 @@ export class Keeper {
    * higher seed go when all those of this one are there.
    * @param {import("../run/group.mjs").Outcome} outcome
    */
-  keepLowest(outcome) {
-    const { seed, script, report, trace } = outcome;
+  keepLowest({ seed, script, report, trace }) {
     const texts = { json: script, report, "trace.jsonl": trace };
     const isEmpty = Object.values(texts).every((text) => text === undefined);
     if ((this.seed !== undefined && this.seed < seed) || isEmpty) return;
     const before = this.names;
     this.keepAll(seed, texts);
     this.seed = seed;
-    this.untraced = this.#untraced(outcome, "trace.jsonl");
     this.#remove(before);
   }
 
@@ -64,12 +89,8 @@ export class Keeper {
    * @param {import("../run/group.mjs").Outcome} original that is kept
    * @param {import("../run/group.mjs").Outcome} shortest
    */
-  keepShortest(original, shortest) {
+  keepShortest(original, { script, report, trace }) {
     const { seed } = original;
-    const { script, report, trace } = shortest;
-    this.untraced = [
-      ...this.#untraced(original, "original.trace.jsonl"), ...this.#untraced(shortest, "trace.jsonl"),
-    ];
     this.keepAll(seed, {
       "original.json": original.script, "original.report": original.report, "original.trace.jsonl": original.trace,
     });
@@ -99,15 +120,6 @@ export class Keeper {
     for (const [ending, text] of Object.entries(texts)) {
       if (text !== undefined) this.#keep(this.nameOf(seed, ending), text);
     }
-  }
-
-  /**
-   * @param {import("../run/group.mjs").Outcome} outcome of a run that is kept
-   * @param {string} ending of the name of its trace
-   * @returns {string[]} why the trace isn't kept, if so
-   */
-  #untraced({ seed, noTrace }, ending) {
-    return noTrace === undefined ? [] : [`not kept: ${this.nameOf(seed, ending)}: ${noTrace}`];
   }
 
   /**

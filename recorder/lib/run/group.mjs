@@ -10,6 +10,7 @@ import { Refused } from "../options/refused.mjs";
 import { defaultsOf } from "../options/table.mjs";
 import { ownModules } from "../processes/own-modules.cjs";
 import { FIRST_THREADS, begunThread } from "../processes/thread.mjs";
+import { loadProblem } from "./load-problem.mjs";
 import { within } from "./within.mjs";
 
 /** @typedef {import("../processes/thread.mjs").Thread} Thread */
@@ -352,7 +353,7 @@ export class Group {
     thread.post({ agent });
     const { message, ended } = await this.#inTime(thread.next());
     if (ended !== undefined) throw new Refused(`${module} can't be loaded: its worker ended (${ended})`);
-    if (message.failed !== undefined) throw new Refused(`${module} can't be loaded: ${message.failed}`);
+    if (message.failed !== undefined) throw new Refused(loadProblem(module, message.failed));
     return { thread, has: message };
   }
 

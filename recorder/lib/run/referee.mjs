@@ -16,6 +16,15 @@ import { SourceNames } from "./source-names.mjs";
 /** @typedef {import("./group.mjs").Wanted} Wanted */
 /** @typedef {import("./run-maker.mjs").Made} Made */
 
+const ANOTHER_WAY = "the run went another way when it was made once more to learn its lines of code: its agents do " +
+  "something else then, as where a module keeps something in its own variables";
+
+/** @param {number[]} gone agents that didn't come back, or whose workers died */
+function goneText(gone) {
+  const who = gone.length === 1 ? `agent ${gone[0]}` : `the agents ${gone.join(" and ")}`;
+  return `${who} didn't come to an end after the run, so the run wasn't made once more to learn its lines of code`;
+}
+
 class Referee {
   /** @param {import("./run-maker.mjs").Given} given */
   constructor(given) {
@@ -125,7 +134,7 @@ class Referee {
    * @param {boolean} hasSources whether its accesses have noted their lines
    */
   async #addSources(wanted, outcome, found, hasSources) {
-    const { reporter } = this;
+    const { maker, reporter } = this;
     const wantsTrace = this.#isTraceWanted(wanted, outcome);
     if (!found.racy && !wantsTrace) return;
     if (hasSources) {
@@ -134,26 +143,16 @@ class Referee {
     }
     // If the second run isn't the same, this is all that is known.
     outcome.races = found.racy ? reporter.races(false) : [];
-    const why = found.once ?? await this.#addSourcesAgain(wanted, outcome, found, wantsTrace);
-    if (wantsTrace && why !== undefined) outcome.noTrace = why;
-  }
-
-  /**
-   * Makes a run once more, by which its accesses note their lines.
-   * @param {Wanted} wanted
-   * @param {Outcome} outcome
-   * @param {Made} found
-   * @param {boolean} wantsTrace
-   * @returns {Promise<string | undefined>} why nothing was added to the outcome, if so
-   */
-  async #addSourcesAgain(wanted, outcome, found, wantsTrace) {
-    const { maker, reporter } = this;
+    // An agent that didn't come back made no call for long, and would take as long again. A parked one did come.
+    if (found.endless.length > 0) {
+      if (wantsTrace) outcome.noTrace = goneText(found.endless);
+      return;
+    }
     const again = await maker.made(wanted, true);
     const same = areSame(reporter.brief(wanted, await maker.judgedAgain(again, found)), outcome);
     await this.#replace(again);
-    if (!same) return "the run was made once more to learn the lines of code, and went another way";
-    reporter.addSources(outcome, wantsTrace);
-    return undefined;
+    if (same) reporter.addSources(outcome, wantsTrace);
+    else if (wantsTrace) outcome.noTrace = ANOTHER_WAY;
   }
 
   /** @param {Made} run after which workers that can't run again are started anew, or all if the option says so */

@@ -19,7 +19,7 @@ import { isRacy } from "./races.mjs";
  * @property {string} detail
  * @property {string[]} bytes of each block, in hexadecimal digits
  * @property {number[]} gone agents that can't run again
- * @property {string} [once] why the run isn't made once more, if so
+ * @property {number[]} endless those of them that aren't parked: another run would take as long
  * @property {boolean} racy
  * @property {import("../memory/stores.mjs").Store[]} initial what filled the buffers at first
  * @property {{ agent: number, block: number, byte: number }[]} waiting who waits where, in order of arrival
@@ -81,7 +81,7 @@ export class RunMaker {
     const problem = options.init === undefined ? "" : await this.#asked("init");
     const initial = options.init === undefined ? [] : initialStores(memory, plan.agents);
     if (problem !== "") {
-      const nothing = { bytes: memory.hex(), gone: [], racy: false, initial, waiting: [] };
+      const nothing = { bytes: memory.hex(), gone: [], endless: [], racy: false, initial, waiting: [] };
       return { ending: "failed", detail: `init ${problem}`, ...nothing };
     }
     board.words[WORD.TELLS_SOURCES] = tellsSources ? 1 : 0;
@@ -92,11 +92,11 @@ export class RunMaker {
     const bytes = memory.hex();
     const waiting = told.ending === "deadlock" ? board.line.waiting() : [];
     const gone = this.#sentHome();
-    const once = gone.map((agent) => board.turn.whyOnce(agent)).find((why) => why !== undefined);
+    const endless = gone.filter((agent) => !board.turn.isParked(agent));
     const racy = options.ordinary === "watch" && isRacy(this.log, plan.agents);
     const named = told.ending === "bound" ? sourceNames.withNames(told.detail) : told.detail;
     const detail = stray === undefined ? named : strayText(stray, named);
-    return { ending: told.ending, detail, bytes, gone, once, racy, initial, waiting, stray };
+    return { ending: told.ending, detail, bytes, gone, endless, racy, initial, waiting, stray };
   }
 
   /** @param {Made} found @returns {Promise<Made>} how a run ends, with what is known when its agents are home */

@@ -5,7 +5,7 @@ import { mkdtempSync } from "node:fs";
 import { tmpdir } from "node:os";
 import { join, resolve } from "node:path";
 import { toldOf } from "../command/problems.mjs";
-import { Keeper } from "../keeping/keep.mjs";
+import { Keeper, missingFiles } from "../keeping/keep.mjs";
 import { keepPictures } from "../keeping/pictures.mjs";
 import { counted, digits } from "../keeping/words.mjs";
 import { runsOf } from "../library/explore.mjs";
@@ -88,9 +88,9 @@ function keptLines({ failing, outcome }, module, out, simulator) {
     const keeper = new Keeper(resolve(out ?? mkdtempSync(join(tmpdir(), "sabsim-"))), "`out`");
     keeper.keepLowest(failing);
     if (outcome !== failing) keeper.keepShortest(failing, outcome);
-    const notKept = keepPictures(keeper, outcome, { simulator, module });
+    const notKept = [...keepPictures(keeper, outcome, { simulator, module }), ...missingFiles(outcome)];
     const kept = keeper.names.length === 0 ? [] : [`kept in ${keeper.folder}: ${keeper.names.join(", ")}`];
-    return [...kept, ...keeper.untraced, ...notKept];
+    return [...kept, ...notKept];
   } catch (problem) {
     return [`not kept: ${toldOf(problem)}`];
   }
