@@ -15,12 +15,12 @@
  * @returns {string}
  */
 export function reportOf(entries, bytes, progress) {
-  const moves = entries.map(({ agent, call, text }, position) => lineOf(position, agent, call, text));
+  const moves = entries.map(({ agent, call, text }, position) => `${position}${headOf(agent, call)}${text}\n`);
   return moves.join("") + endText(bytes, progress);
 }
 
-/** @type {(position: number, agent: number, call: number, text: string) => string} of a move */
-const lineOf = (position, agent, call, text) => `${position} ${agent} ${call} ${text}\n`;
+/** @type {(agent: number, call: number) => string} what stands in each line of a call behind the position */
+const headOf = (agent, call) => ` ${agent} ${call} `;
 
 /** @param {string[]} bytes @param {{ returned: number, calls: number }[]} progress */
 function endText(bytes, progress) {
@@ -52,18 +52,19 @@ function wordOf({ joined, answer }, step) {
  * @param {import("./text.mjs").Transcript} transcript
  */
 function movesText({ calls, moves }) {
-  const cursors = calls.map(() => ({ call: 0, step: 0 }));
+  const cursors = calls.map((_, agent) => ({ call: 0, step: 0, head: headOf(agent, 0) }));
   let text = "";
   for (let position = 0; position < moves.length; position += 1) {
     const { agent } = moves[position];
     const cursor = cursors[agent];
     // Each move of an agent is one of its calls'.
     const done = calls[agent][cursor.call];
-    text += lineOf(position, agent, cursor.call, wordOf(done, cursor.step));
+    text += `${position}${cursor.head}${wordOf(done, cursor.step)}\n`;
     cursor.step += 1;
     if (cursor.step < (done.joined ? 4 : 3)) continue;
     cursor.call += 1;
     cursor.step = 0;
+    cursor.head = headOf(agent, cursor.call);
   }
   return text;
 }

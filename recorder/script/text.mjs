@@ -44,12 +44,15 @@ function agentText(calls, canBlock) {
 
 /** @param {Move[]} moves @returns {string} the moves of a schedule, laid out over lines */
 export function scheduleText(moves) {
-  const texts = moves.map((move) => (move.timeUp ? `{"timeout": ${move.agent}}` : String(move.agent)));
-  const lines = [];
-  for (let at = 0; at < texts.length; at += MOVES_ON_A_LINE) {
-    lines.push(texts.slice(at, at + MOVES_ON_A_LINE).join(", "));
+  if (moves.length === 0) return "[]";
+  let text = "[";
+  for (let at = 0; at < moves.length; at += 1) {
+    const { agent, timeUp } = moves[at];
+    if (at > 0) text += at % MOVES_ON_A_LINE === 0 ? "," : ", ";
+    if (at % MOVES_ON_A_LINE === 0) text += "\n    ";
+    text += timeUp ? `{"timeout": ${agent}}` : agent;
   }
-  return listText(lines);
+  return `${text}\n  ]`;
 }
 
 /** @param {string[]} items each on a line of its own */

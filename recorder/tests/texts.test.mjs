@@ -3,10 +3,12 @@
 import assert from "node:assert/strict";
 import { readFileSync, readdirSync } from "node:fs";
 import { test } from "node:test";
+import { fileURLToPath } from "node:url";
 import { callText, textRoom, viewKey, viewName } from "../lib/memory/spelling.mjs";
 import { KINDS } from "../script/kinds.mjs";
 import { firstDifference, reportText } from "../script/report.mjs";
 import { scriptText } from "../script/text.mjs";
+import { groupOf } from "./helpers/groups.mjs";
 
 const EXAMPLES = new URL("../../examples/", import.meta.url);
 const kind = (name) => KINDS.indexOf(name);
@@ -117,4 +119,17 @@ test("the first line that differs is shown with both sides", () => {
   assert.equal(firstDifference("a\nb\n", "a\nb\n"), undefined);
   assert.deepEqual(firstDifference("a\nb\n", "a\nc\n"), { line: 2, recorded: "b", replayed: "c" });
   assert.deepEqual(firstDifference("a\n", "a"), { line: 2, recorded: "", replayed: "(no line)" });
+});
+
+test("a brief group tells bytes and answers of failing runs alone, and what a check needs of each", async (context) => {
+  const path = fileURLToPath(new URL("../bench/programs/lost-wake-up.mjs", import.meta.url));
+  const group = await groupOf(context, path, { isBrief: true });
+  const seeds = Array.from({ length: 12 }, (_, at) => ({ seed: at + 1, whole: true }));
+  const outcomes = [];
+  await group.run(seeds, (outcome) => outcomes.push(outcome));
+  assert.deepEqual([...new Set(outcomes.map(({ fails }) => fails))].sort(), [false, true]);
+  for (const { fails, answers, bytes, script, report } of outcomes) {
+    assert.deepEqual([answers !== undefined, bytes !== undefined], [fails, fails]);
+    assert.ok(script !== undefined && report !== undefined);
+  }
 });

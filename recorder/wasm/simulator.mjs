@@ -17,6 +17,11 @@ const REPLY = { status: 0, output: 8, complaint: 16, wants: 24, size: 32 };
 const WANTS_NOTHING = 0;
 const WANTS_STANDARD = 1;
 
+/** A list of no bytes. */
+const NOTHING = new Uint8Array();
+
+const decoder = new TextDecoder();
+
 /** What the module is told of the input that a command line names. */
 const GIVEN = { nothing: 0, bytes: 1, unreadable: 2 };
 
@@ -50,7 +55,7 @@ export class Trapped extends Error {
 class NoMemory extends Error {}
 
 /** How the program ends where there is no memory. @returns {Ended} */
-const outOfMemory = () => ({ status: 4, output: new Uint8Array(), complaint: "sabsim: 5 OutOfMemory\n" });
+const outOfMemory = () => ({ status: 4, output: NOTHING, complaint: "sabsim: 5 OutOfMemory\n" });
 
 /** A memory of the module, with the pages of it that are the host's. */
 export class Instance {
@@ -63,8 +68,18 @@ export class Instance {
       throw error;
     }
     this.memory = this.exports.memory;
+    this.view = new DataView(this.memory.buffer);
+    this.bytes = new Uint8Array(this.memory.buffer);
     this.given = { at: 0, size: 0 };
     this.room = { at: 0, size: 0 };
+  }
+
+  /** Looks at the memory as it is: one that has grown has another buffer. */
+  #look() {
+    const { buffer } = this.memory;
+    if (this.bytes.buffer === buffer) return;
+    this.view = new DataView(buffer);
+    this.bytes = new Uint8Array(buffer);
   }
 
   /**
@@ -74,7 +89,7 @@ export class Instance {
    */
   run({ job, format = "plain", acts = false, finish = false, explain = false }, input) {
     const numbers = [JOBS.indexOf(job), FORMATS.indexOf(format), Number(acts), Number(finish), Number(explain)];
-    const slice = this.#put([input]);
+    const slice = this.#put(NOTHING, input).slice(2);
     return this.#ask((room) => this.exports.sabsim_run(...numbers, ...slice, ...room), input.length).ended;
   }
 
@@ -86,7 +101,7 @@ export class Instance {
    * @returns {{ wants: number, ended: Ended }}
    */
   command(line, given, input, isTerminal) {
-    const [wordsAt, wordsSize, ...slice] = this.#put([line, input]);
+    const [wordsAt, wordsSize, ...slice] = this.#put(line, input);
     const numbers = [wordsAt, wordsSize, given, Number(isTerminal)];
     return this.#ask((room) => this.exports.sabsim_command(...numbers, ...slice, ...room), input.length);
   }
@@ -107,20 +122,19 @@ export class Instance {
   }
 
   /**
-   * Puts lists of bytes into the memory, behind the place for a reply.
-   * @param {Uint8Array[]} lists
+   * Puts two lists of bytes into the memory, behind the place for a reply.
+   * @param {Uint8Array} first
+   * @param {Uint8Array} second
    * @returns {bigint[]} address and length of each
    */
-  #put(lists) {
-    const size = lists.reduce((sum, list) => sum + list.length, REPLY.size);
-    this.given = this.#placeFor(this.given, size);
-    const bytes = new Uint8Array(this.memory.buffer, this.given.at, size);
-    let end = REPLY.size;
-    return lists.flatMap((list) => {
-      bytes.set(list, end);
-      end += list.length;
-      return [BigInt(this.given.at + end - list.length), BigInt(list.length)];
-    });
+  #put(first, second) {
+    this.given = this.#placeFor(this.given, REPLY.size + first.length + second.length);
+    this.#look();
+    const firstAt = this.given.at + REPLY.size;
+    const secondAt = firstAt + first.length;
+    this.bytes.set(first, firstAt);
+    this.bytes.set(second, secondAt);
+    return [BigInt(firstAt), BigInt(first.length), BigInt(secondAt), BigInt(second.length)];
   }
 
   /**
@@ -137,16 +151,20 @@ export class Instance {
       } catch (error) {
         throw new Trapped(error);
       }
-      const view = new DataView(this.memory.buffer, this.given.at, REPLY.size);
-      const [status, output, complaint, wants] = [REPLY.status, REPLY.output, REPLY.complaint, REPLY.wants].map((at) =>
-        Number(view.getBigUint64(at, true)),
-      );
-      wanted = output + complaint;
+      this.#look();
+      const output = this.#replied(REPLY.output);
+      wanted = output + this.#replied(REPLY.complaint);
       if (wanted > this.room.size) continue;
-      const bytes = new Uint8Array(this.memory.buffer, this.room.at, wanted).slice();
-      const text = new TextDecoder().decode(bytes.subarray(output));
-      return { wants, ended: { status, output: bytes.subarray(0, output), complaint: text } };
+      const bytes = this.bytes.slice(this.room.at, this.room.at + wanted);
+      const complaint = output === wanted ? "" : decoder.decode(bytes.subarray(output));
+      const ended = { status: this.#replied(REPLY.status), output: bytes.subarray(0, output), complaint };
+      return { wants: this.#replied(REPLY.wants), ended };
     }
+  }
+
+  /** @param {number} at where a number of the reply is @returns {number} */
+  #replied(at) {
+    return Number(this.view.getBigUint64(this.given.at + at, true));
   }
 }
 
@@ -186,12 +204,12 @@ export class Simulator {
   command(words, read, isTerminal = false) {
     const line = new TextEncoder().encode(["sabsim", ...words].map((word) => `${word}\0`).join(""));
     return this.#calling((instance) => {
-      const first = instance.command(line, GIVEN.nothing, new Uint8Array(), isTerminal);
+      const first = instance.command(line, GIVEN.nothing, NOTHING, isTerminal);
       if (first.wants === WANTS_NOTHING) return first.ended;
-      const name = first.wants === WANTS_STANDARD ? undefined : new TextDecoder().decode(first.ended.output);
+      const name = first.wants === WANTS_STANDARD ? undefined : decoder.decode(first.ended.output);
       const input = bytesOf(read, name);
       const given = input === undefined ? GIVEN.unreadable : GIVEN.bytes;
-      return instance.command(line, given, input ?? new Uint8Array(), isTerminal).ended;
+      return instance.command(line, given, input ?? NOTHING, isTerminal).ended;
     });
   }
 

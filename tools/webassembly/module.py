@@ -10,21 +10,24 @@ HERE = os.path.dirname(os.path.realpath(__file__))
 CLANG, ARCHIVER = f"{rtlib.KIT}/toolchain/bin/clang", f"{rtlib.KIT}/toolchain/bin/llvm-ar"
 LINKER = f"{rtlib.KIT}/bin/rattle-link"
 TARGET = "wasm64-unknown-unknown"
-# As the kit compiles for this target.
-FLAGS = f"""--target={TARGET} -mcpu=lime1 -mllvm -expand-div-rem-bits=64 -mllvm -expand-fp-convert-bits=64
--ffunction-sections -fdata-sections -mllvm -trap-unreachable -mllvm -disable-machine-licm
+# As the kit compiles for this target, but with vectors: those of the code itself, as in its reader of JSON, and no others.
+FLAGS = f"""--target={TARGET} -mcpu=lime1 -msimd128 -fno-vectorize -fno-slp-vectorize
+-mllvm -expand-div-rem-bits=64 -mllvm -expand-fp-convert-bits=64 -ffunction-sections -fdata-sections -mllvm -trap-unreachable -mllvm -disable-machine-licm
 -mllvm -disable-postra-machine-licm -mllvm -sink-common-insts=false --no-default-config -no-canonical-prefixes
 -fno-crash-diagnostics -Werror""".split()
 # Nothing of a C library is there, so no loop is made into a call of it.
 OF_C = "-O2 -fwrapv -ffreestanding -fno-builtin -nostdinc -Wall".split()
 NO_CALLS = '"no-builtin-bcmp" "no-builtin-memcmp" "no-builtin-strlen"'
 # What the linked module may have.
-FEATURES = "memory64 bulk-memory sign-ext mutable-globals nontrapping-float-to-int multivalue".split()
+FEATURES = "memory64 bulk-memory sign-ext mutable-globals nontrapping-float-to-int multivalue simd".split()
 # The stack lies below all else, so a call beyond it is a trap. compare.mjs has the deepest scripts.
 STACK = 1 << 20
 # What is for x86-64 alone, and so has no place in the code.
 FOREIGN = re.compile(r'llvm\.x86[\w.]*|\basm (?:sideeffect )?"|inteldialect')
 OF_X86 = re.compile(r' "(?:target-cpu|target-features|probe-stack|stack-probe-size)"="[^"]*"')
+# A line of a module's text that begins an access to a part of a vector: `wasm-opt` doesn't lower its address, which is
+# the first operand, on the next lines.
+PART_OF_VECTOR = re.compile(r"^ *\(v128\.(?:load\d+(?:x\d+_[su]|_splat|_zero|_lane)|store\d+_lane)\b")
 # The head of a function that other code can see: what is before its attributes, its name, and their number.
 EXPORTED = re.compile(r"^(define (?!internal)[^@\n]*@([\w.]+)\(.*\) )#(\d+) \{$", re.M)
 
@@ -97,7 +100,30 @@ class Linker:
         return module
 
 
+def with_addresses(lines):
+    """Returns the lines of a module's text in which addresses of parts of vectors have 32 bits, as all others have."""
+    open_at, made = [], []
+    for line, before in zip(lines, ["", *lines]):
+        indent = len(line) - len(line.lstrip())
+        if PART_OF_VECTOR.match(before):
+            made.append(f"{' ' * indent}(i32.wrap_i64\n")
+            open_at.append(indent)
+        made.append(line)
+        # An operand ends with its own line, or with the next one that has its indent.
+        is_whole = line.count("(") == line.count(")")
+        if open_at and indent == open_at[-1] and (is_whole or line.strip() == ")"):
+            made.append(f"{' ' * open_at.pop()})\n")
+    return made
+
+
 def lower(module, to):
     """Makes addresses of 32 bits of those of 64, which not every engine takes. Nothing else of the code changes."""
+    features = [f"--enable-{it}" for it in FEATURES]
     stripped = ["--strip-debug", "--strip-producers", "--strip-target-features"]
-    run("wasm-opt", *[f"--enable-{it}" for it in FEATURES], "--memory64-lowering", *stripped, module, "-o", to)
+    # The text is valid when the addresses of parts of vectors are lowered too.
+    run("wasm-opt", *features, "--memory64-lowering", *stripped, "--no-validation", module, "-S", "-o", f"{to}.wat")
+    with open(f"{to}.wat", encoding="utf-8") as it:
+        lines = with_addresses(it.readlines())
+    with open(f"{to}.wat", "w", encoding="utf-8") as it:
+        it.writelines(lines)
+    run("wasm-as", *features, f"{to}.wat", "-o", to)

@@ -212,9 +212,11 @@ function bytesLeft(final, touched, stores) {
  * @returns {Fitted}
  */
 export function fitted(run, stores, initial, final) {
-  const touched = touchedBytes(run.log, run.lengths);
+  /** @type {Uint8Array[] | undefined} most runs don't need them */
+  let marks;
+  const touched = () => (marks ??= touchedBytes(run.log, run.lengths));
   /** @param {Store[]} list */
-  const ofTouched = (list) => joined(list.filter((store) => isTouched(touched, store)));
+  const ofTouched = (list) => joined(list.filter((store) => isTouched(touched(), store)));
   const all = stores.list();
   /** @type {{ holds: "all" | "touched", list: () => Store[][] }[]} */
   const choices = [
@@ -235,7 +237,7 @@ export function fitted(run, stores, initial, final) {
     const { transcript, script, noScript: why } = withScript(run, own, first);
     noScript = why;
     if (script === undefined) continue;
-    const bytes = holds === "all" ? final : bytesLeft(final, touched, [...first, ...own]);
+    const bytes = holds === "all" ? final : bytesLeft(final, touched(), [...first, ...own]);
     return { transcript, script, holds, bytes };
   }
   // The calls alone fit, since the run ends at their limits.

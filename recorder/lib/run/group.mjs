@@ -103,6 +103,7 @@ import { within } from "./within.mjs";
  * @property {"run" | "real"} [clock] which time agents are told
  * @property {boolean} [trace] whether each run's trace is told
  * @property {boolean} [tellsMeetings] whether the lines are told that came one after the other at a place
+ * @property {boolean} [isBrief] whether of a run that passes no bytes and answers are told
  * @property {OfBuffers} [init] fills the buffers before each run, in place of the module's
  * @property {OfBuffers} [check] throws where the buffers aren't right after a run that finished, in place of the
  * module's
@@ -293,14 +294,14 @@ export class Group {
    * @param {{ hasInit: boolean, hasCheck: boolean }} module
    */
   #refereeOptions({ hasInit, hasCheck }) {
-    const { module, seconds, fresh, init, check, trace, tellsMeetings, ordinary, races, bounds } = this.options;
+    const { module, seconds, fresh, init, check, trace, tellsMeetings, isBrief, ordinary, races, bounds } = this.options;
     /** @type {(own: OfBuffers | undefined, isTheirs: boolean) => "library" | "module" | undefined} */
     const whose = (own, isTheirs) => {
       if (own !== undefined) return "library";
       return isTheirs ? "module" : undefined;
     };
     const asked = { init: whose(init, hasInit), check: whose(check, hasCheck) };
-    return { module, seconds, fresh, trace, tellsMeetings, ordinary, races, bounds, ...asked };
+    return { module, seconds, fresh, trace, tellsMeetings, isBrief, ordinary, races, bounds, ...asked };
   }
 
   /**

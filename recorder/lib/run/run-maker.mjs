@@ -33,6 +33,7 @@ import { isRacy } from "./races.mjs";
  * @property {boolean} fresh
  * @property {boolean} trace
  * @property {boolean} [tellsMeetings]
+ * @property {boolean} [isBrief] whether of a run that passes no bytes and answers are told
  * @property {"watch" | "store" | "refuse"} ordinary
  * @property {"fail" | "allow"} races
  * @property {"fail" | "allow"} bounds

@@ -59,13 +59,15 @@ export class RunReporter {
    * @param {Made} found
    */
   addScript(outcome, found) {
-    const { maker: { stores, agents }, run } = this;
+    const { maker: { stores, agents }, options, run } = this;
     const whole = { ...run, isOrdinary: this.#isOrdinary() };
     const { transcript, script, holds, bytes = [], noScript } = fitted(whole, stores, found.initial, found.bytes);
     if (outcome.ending === "deadlock") outcome.detail = waitingText(found.waiting, transcript);
-    outcome.bytes = found.bytes;
-    const own = agents.map((agent) => transcript.calls[agent].filter(({ isOwn }) => isOwn));
-    outcome.answers = own.map((calls) => calls.map(({ answer }) => answer));
+    if (outcome.fails || !options.isBrief) {
+      outcome.bytes = found.bytes;
+      const own = agents.map((agent) => transcript.calls[agent].filter(({ isOwn }) => isOwn));
+      outcome.answers = own.map((calls) => calls.map(({ answer }) => answer));
+    }
     if (script === undefined) {
       outcome.noScript = noScript;
       return;

@@ -2,6 +2,7 @@
 // anew whether the run has unordered accesses.
 
 import { CALLS } from "../../script/kinds.mjs";
+import { SCRIPT_LIMITS } from "../../script/limits.mjs";
 import { LEAVE, TIME_UP } from "../board/journal.mjs";
 import { FLAG, NO_CALL, WRITE } from "../memory/log.mjs";
 
@@ -13,10 +14,26 @@ function nameOf({ what, method }) {
   return what === WRITE ? "write" : "read";
 }
 
-/** What an event does, as a trace spells it, by its flags. */
+// What comes again in many lines has its text made once: a string of fewer parts is made faster.
+
+/** From an agent to the number of its call. */
+const AGENTS = Array.from({ length: SCRIPT_LIMITS.agents }, (_, agent) => `,"agent":${agent},"call":`);
+
+/** From what an event does, by its flags, to the place in the code. */
 const EFFECTS = Array.from({ length: 16 }, (_, flags) =>
-  `"read":${(flags & FLAG.READS) !== 0},"write":${(flags & FLAG.WRITES) !== 0},` +
-  `"atomic":${(flags & FLAG.ATOMIC) !== 0},"waiters":${(flags & FLAG.WAITERS) !== 0}`);
+  `,"read":${(flags & FLAG.READS) !== 0},"write":${(flags & FLAG.WRITES) !== 0},` +
+  `"atomic":${(flags & FLAG.ATOMIC) !== 0},"waiters":${(flags & FLAG.WAITERS) !== 0},"source":`);
+
+/** @type {Map<string, string[]>} by what an event is called, from there to its first byte: of each block */
+const DEEDS = new Map();
+
+/** @param {import("../memory/log.mjs").LogEvent} event @returns {string} from what it is called to its first byte */
+function deedOf(event) {
+  const name = nameOf(event);
+  const known = DEEDS.get(name) ?? [];
+  if (known.length === 0) DEEDS.set(name, known);
+  return (known[event.block] ??= `,"does":"${name}","block":${event.block},"byte":`);
+}
 
 /**
  * What JSON.stringify makes of an event as an object, faster: a trace may have a million lines.
@@ -25,9 +42,9 @@ const EFFECTS = Array.from({ length: 16 }, (_, flags) =>
  * @param {string} source in JSON
  */
 function lineOf(position, event, source) {
-  const { agent, call, block, from, to, flags } = event;
-  return `{"event":${position},"agent":${agent},"call":${call},"does":"${nameOf(event)}",` +
-    `"block":${block},"byte":${from},"size":${to - from},${EFFECTS[flags & 15]},"source":${source}}\n`;
+  const { agent, call, from, to, flags } = event;
+  return `{"event":${position}${AGENTS[agent]}${call}${deedOf(event)}${from},"size":${to - from}` +
+    `${EFFECTS[flags & 15]}${source}}\n`;
 }
 
 /**

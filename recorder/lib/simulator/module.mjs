@@ -27,6 +27,18 @@ const SMALL_SCRIPT = JSON.stringify({
 
 const [encoder, decoder] = [new TextEncoder(), new TextDecoder()];
 
+/** Room for the bytes of most inputs. The next call uses it again. */
+const ROOM = new Uint8Array(2 ** 16);
+
+// So many bytes a character of JavaScript has in UTF-8 at most.
+const MOST_BYTES = 3;
+
+/** @param {string} text @returns {Uint8Array} in UTF-8, until the next call */
+function bytesOf(text) {
+  if (text.length * MOST_BYTES > ROOM.length) return encoder.encode(text);
+  return ROOM.subarray(0, encoder.encodeInto(text, ROOM).written);
+}
+
 export class ModuleSimulator {
   /** @type {Simulator | undefined} */
   #simulator;
@@ -63,7 +75,7 @@ export class ModuleSimulator {
    * @throws {Error} if the module stops in the middle, or can't be compiled
    */
   run(job, input) {
-    const { status, output, complaint } = this.#asked().run(job, encoder.encode(input));
+    const { status, output, complaint } = this.#asked().run(job, bytesOf(input));
     return { status, output: decoder.decode(output), complaint };
   }
 }
