@@ -6,25 +6,29 @@ import { formatted } from "./lib/command/formats.mjs";
 import { merged, partsOf } from "./lib/command/merging.mjs";
 import { print } from "./lib/command/print.mjs";
 import { toldOf } from "./lib/command/problems.mjs";
+import { usageWords, versionLine } from "./lib/command/program.mjs";
 import { STATUS } from "./lib/command/status.mjs";
 import { missingText } from "./lib/command/summary-text.mjs";
 import { Refused } from "./lib/options/refused.mjs";
 import { OPTIONS } from "./lib/options/table.mjs";
 
-const USAGE = `usage: node recorder/merge.mjs FILE.. [options]
+const USAGE = `usage: ${usageWords("merge")} FILE.. [options]
 
 Joins summaries of the recorder that were told by --format json, as those of shards: what all runs came to is told as if
 one command line had made them. A file may have several, each on a line of its own; - is standard input.
 
   --format FORM   how the summary of all is told: plain, or json, which is one line (plain)
-  --help          this text
+  -h, --help      this text
+  -V, --version   the version
 
 Status: 0 no run failed, 1 some did, 2 a file is no summary, or they don't fit together: they are of another module, of
 other options, or have the same seed; 3 not all runs were made: one was stopped, or the seeds of a shard are missing.
 `;
 
-/** @type {Record<string, { type: "string" | "boolean" }>} */
-const SHAPE = { format: { type: "string" }, help: { type: "boolean" } };
+/** @type {Record<string, { type: "string" | "boolean", short?: string }>} */
+const SHAPE = {
+  format: { type: "string" }, help: { type: "boolean", short: "h" }, version: { type: "boolean", short: "V" },
+};
 
 /** @param {string[]} words of the command line */
 function wordsOf(words) {
@@ -43,8 +47,8 @@ function complain(problem) {
 /** @param {string[]} words of the command line @returns {Promise<number>} the status */
 async function run(words) {
   const { values, positionals: files } = wordsOf(words);
-  if (values.help) {
-    await print(USAGE);
+  if (values.help || values.version) {
+    await print(values.help ? USAGE : versionLine("merge"));
     return STATUS.NONE_FAILED;
   }
   if (files.length === 0) throw new Refused("the summaries' files are missing; --help shows more");

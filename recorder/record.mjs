@@ -6,7 +6,7 @@ import { createRequire } from "node:module";
 import { startJob } from "./lib/seeds/start-job.mjs";
 
 const words = process.argv.slice(2);
-const child = words.some((word) => /^--(help|replay)/.test(word)) ? undefined : startJob();
+const child = words.some((word) => /^(-[hV]$|--(help|version|replay))/.test(word)) ? undefined : startJob();
 const { evaluated, ownModules } = createRequire(import.meta.url)("./lib/processes/own-modules.cjs");
 const { main } = evaluated(ownModules(new URL("./lib/command/main.mjs", import.meta.url)));
 process.exitCode = await main(words, child);

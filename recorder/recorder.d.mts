@@ -169,7 +169,7 @@ export interface Outcome {
   trace?: string;
   /** By which arrays the trace's ordinary accesses were made, and what they read. */
   accesses?: Accesses;
-  /** Why there is no trace, though one was to be made. */
+  /** Why there is no trace, though it was wanted. */
   noTrace?: string;
   /** The code of each file that the trace names; null where it can't be read, or is longer than 2^20 characters. */
   sources?: { file: string; text: string | null }[];
@@ -262,8 +262,11 @@ export interface RaceSide {
   source: string | null;
 }
 
-/** What a module of agents exports by default: it is called once for each agent and run, and must be synchronous. */
-export type Agent = (run: AgentRun) => void;
+/**
+ * What a module of agents exports by default: it is called once for each agent and run, and must be synchronous. So it
+ * returns no object, which could be a promise or an iterator; what else it returns isn't looked at.
+ */
+export type Agent = (run: AgentRun) => void | undefined | null | boolean | number | bigint | string | symbol;
 
 /** What an agent is called with. */
 export interface AgentRun {

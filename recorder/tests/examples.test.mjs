@@ -1,4 +1,4 @@
-// Each example is recorded under 200 seeds: the naive mutex is found, no other run fails, and what is found is what the
+// Each example is recorded under 200 seeds: the wrong ones are found, no other run fails, and what is found is what the
 // examples' README says. The engine's own waits and notifies agree with some of the scripts of each. The simulator
 // checks every run.
 
@@ -45,8 +45,26 @@ function runsByBytes(outcomes) {
 /** The bytes of words, as outcomes have them. */
 const wordsHex = (...words) => Buffer.from(Int32Array.from(words).buffer).toString("hex");
 
+/** How a wrong example fails. */
+const FAILS = { "late-notify": "failed", "mutex-naive": "deadlock", "node-cwd": "failed" };
+
+/** Why an example isn't recorded here, if so: one is of node's own code. */
+const WHY_NOT = { "node-cwd": process.version.startsWith("v20.") ? false : "README says what node 20 does" };
+
 /** What README says of an example's runs, by their outcomes. */
 const FOUND = {
+  "late-notify": (outcomes) => {
+    const failing = outcomes.filter(({ ending }) => ending === "failed");
+    return `**${failing.length} wrong answers**, the first at seed ${failing[0].seed}: a late notify ends the next wait`;
+  },
+  "late-notify-mended": (outcomes) => {
+    assert.equal(runsByBytes(outcomes).length, 1);
+    return "nothing; every run ends with the same bytes";
+  },
+  "node-cwd": (outcomes) => {
+    const failing = outcomes.filter(({ ending }) => ending === "failed");
+    return `**${failing.length} stale directories** in node 20.20.2, the first at seed ${failing[0].seed}; with \`mended\` nothing`;
+  },
   "mutex-naive": (outcomes) => {
     const failing = outcomes.filter(({ ending }) => ending === "deadlock");
     return `**${failing.length} deadlocks**, the first at seed ${failing[0].seed}: a wake-up is lost`;
@@ -99,17 +117,17 @@ function count(outcomes) {
 const NAMES = readdirSync(FOLDER).filter((name) => name.endsWith(".agents.mjs")).map((name) => name.split(".")[0]);
 
 describe("examples", () => {
-  test("there are six", () => {
-    const names = ["barrier", "bounded-queue", "mutex-naive", "mutex-three-state", "readers-writer", "semaphore"];
-    assert.deepEqual(NAMES.sort(), names);
+  test("there are nine", () => {
+    const names = ["barrier", "bounded-queue", "late-notify", "late-notify-mended", "mutex-naive", "mutex-three-state"];
+    assert.deepEqual(NAMES.sort(), [...names, "node-cwd", "readers-writer", "semaphore"]);
   });
 
   for (const name of NAMES) {
-    test(`${name} under ${SEEDS} seeds`, async () => {
+    test(`${name} under ${SEEDS} seeds`, { skip: WHY_NOT[name] ?? false }, async () => {
       const outcomes = await outcomesOf(join(FOLDER, `${name}.agents.mjs`), SEEDS, 1);
       const failing = outcomes.filter(({ ending }) => ending !== "finished");
-      if (name === "mutex-naive") {
-        assert.ok(failing.length > 0 && failing.every(({ ending }) => ending === "deadlock"));
+      if (FAILS[name] !== undefined) {
+        assert.ok(failing.length > 0 && failing.every(({ ending }) => ending === FAILS[name]));
       } else {
         assert.deepEqual(failing.map(({ seed, ending, detail }) => ({ seed, ending, detail })), []);
       }
@@ -125,7 +143,7 @@ describe("examples", () => {
     });
   }
 
-  test("README counts their scripts, waits and moves", () => {
+  test("README counts their scripts, waits and moves", { skip: WHY_NOT["node-cwd"] }, () => {
     const counted = /All ([\d,]+) scripts .* ([\d,]+) waits that joined a line and ([\d,]+) that .* ([\d,]+) moves/s;
     const said = counted.exec(README).slice(1).map((text) => Number(text.replaceAll(",", "")));
     assert.deepEqual(said, [all.scripts, all.waits, all.timeOuts, all.moves]);
@@ -139,6 +157,7 @@ describe("the checks of the agents find a lock that isn't one", () => {
   const broken = {
     "mutex-naive": "class NaiveMutex { lock() {} unlock() {} }",
     "mutex-three-state": "class ThreeStateMutex { lock() {} unlock() {} }",
+    "late-notify-mended": "class Calls { call() { return 0; } serve() { Atomics.load(new Int32Array(4), 0); } }",
     semaphore: "class Semaphore { acquire() { return true; } release() {} }",
     barrier: "class Barrier { arrive() {} }",
     "readers-writer": "class ReadersWriterLock { lock() {} unlock() {} lockShared() {} unlockShared() {} }",

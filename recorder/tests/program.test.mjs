@@ -181,10 +181,10 @@ test("what the command line says is taken", () => {
 test("help names each option that there is", () => {
   const why = (word) => thrownBy(() => optionsOf(["m.mjs", `${word}=x`]))?.message ?? "";
   const refused = (word) => why(word).startsWith("there is no option");
-  const named = [...USAGE.matchAll(/^ {2}(--[a-z-]+)/gm)].map(([, word]) => word);
+  const named = [...USAGE.matchAll(/^ {2}(?:-\w, )?(--[a-z-]+)/gm)].map(([, word]) => word);
   assert.deepEqual(named.filter(refused), []);
   for (const option of ["strategy", "everywhere", "until-covered", "ordinary", "races", "bounds", "unrecorded", "clock", "timeouts", "fail-fast", "out", "jobs", "buffers",
-    "check", "help"]) {
+    "check", "help", "version"]) {
     assert.ok(named.includes(`--${option}`), option);
   }
   assert.ok(USAGE.split("\n").every((line) => line.length <= 120));

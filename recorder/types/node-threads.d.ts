@@ -12,7 +12,11 @@ declare module "node:v8" {
 }
 
 declare module "node:vm" {
-  export function compileFunction(code: string, names: string[], options: { filename: string }): Function;
+  interface CompileOptions {
+    filename: string;
+    lineOffset?: number;
+  }
+  export function compileFunction(code: string, names: string[], options: CompileOptions): Function;
   export class Script {
     constructor(code: string);
     runInContext(context: object): any;

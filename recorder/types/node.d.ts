@@ -241,7 +241,8 @@ declare module "node:fs" {
   export function closeSync(file: number): void;
   export function existsSync(path: string | URL): boolean;
   export function lstatSync(path: string): Stats;
-  export function mkdirSync(path: string, options: { recursive: true; mode?: number }): void;
+  export function mkdtempSync(prefix: string): string;
+  export function mkdirSync(path: string, options?: { recursive: true; mode?: number }): void;
   export function openSync(path: string, flags: string): number;
   export function readFileSync(file: string | URL | number, encoding: "base64" | "latin1" | "utf8"): string;
   export function readFileSync(file: string | URL | number): Buffer;

@@ -40,6 +40,7 @@ const COMMANDS = [
   ["node recorder/record.mjs counter.agents.mjs --seeds 1..50", { status: 1 }],
   ["node recorder/sabsim.mjs replay --format explained --acts found/seed-13.json", { status: 0 }],
   ["node recorder/sabsim.mjs replay --format explained --acts script.json", { status: 0 }],
+  ["node recorder/record.mjs counter.agents.mjs --replay script.json --out found", { status: 1 }],
   ["npm pack", { by: INSTALLS, words: '"npm", ["pack",' }],
   ["npm install ./sabsim-0.1.0.tgz", { by: INSTALLS, words: '"--no-fund", `./sabsim-${version}.tgz`' }],
   ["node --test", { by: INSTALLS, words: '"node", ["--test", "--test-reporter=tap", "readme.mjs"]' }],

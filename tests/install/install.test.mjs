@@ -103,6 +103,23 @@ test("by `npm pack` alone it is the same package", () => {
   assert.deepEqual(filesOf(join(folder, `sabsim-${version}.tgz`)), FILES);
 });
 
+test("each link of its documents leads to a file of it, and so does each picture", () => {
+  const LINK = /\]\((?!https?:|#)([^)#\s]+)[^)]*\)|<img src="([^"]+)"/g;
+  const documents = FILES.filter((name) => name.endsWith(".md"));
+  const broken = documents.flatMap((name) => {
+    const links = [...readFileSync(join(TOP, name), "utf8").matchAll(LINK)].map(([, link, picture]) => link ?? picture);
+    return links.filter((link) => !FILES.includes(join(name, "..", link))).map((link) => `${name}: ${link}`);
+  });
+  assert.ok(documents.length >= 4 && documents.includes("README.md"));
+  assert.deepEqual(broken, []);
+});
+
+test("its programs say by their usage how they are called", () => {
+  for (const name of ["sabsim-record", "sabsim-merge"]) {
+    assert.ok(npx(project, [name, "--help"]).output.startsWith(`usage: ${name} `), name);
+  }
+});
+
 test("nothing else is installed with it", () => {
   const names = readdirSync(join(project, "node_modules")).filter((name) => !name.startsWith("."));
   assert.deepEqual(names, ["sabsim"]);

@@ -10,7 +10,10 @@ import { changeText, laterText } from "./undone.mjs";
 
 const { Error: EngineError } = globalThis;
 
-/** Ends an agent whose run is over. Agents may catch it; their next call throws it again. */
+// How often an agent may catch that its run is over. Code that cleans up does so a few times, and then ends.
+const MOST_CAUGHT = 100;
+
+/** Ends an agent whose run is over. Agents may catch it; their next call throws it again, up to a number of times. */
 export class RunIsOver extends EngineError {
   constructor() {
     super("this run is over: the recorder ends the agent here");
@@ -34,6 +37,8 @@ export class Part {
     this.isPlaying = false;
     /** Whether that run is over for it. */
     this.isOver = false;
+    /** How often the agent's code has caught that. */
+    this.caught = 0;
     /** Whether it is in a call of Atomics. It stays so if an exception ends the call amid its way. */
     this.isInside = false;
     /** @type {Call | undefined} the last call, for messages */
@@ -48,6 +53,7 @@ export class Part {
     this.table.sources.mark(UNKNOWN);
     this.isPlaying = true;
     this.isOver = false;
+    this.caught = 0;
   }
 
   /** The agent's own code has made a call. What it changed by ordinary writes is taken here. */
@@ -139,6 +145,8 @@ export class Part {
 
   /** @returns {never} */
   over() {
+    if (this.isOver) this.caught += 1;
+    if (this.caught > MOST_CAUGHT) this.table.board.turn.park(this.agent);
     this.isOver = true;
     this.isInside = false;
     throw new RunIsOver();

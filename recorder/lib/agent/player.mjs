@@ -145,9 +145,10 @@ export class Player {
     if (noted === NOTED.FULL) part.meetsLimit(`more than ${this.table.log.most} reads and writes were made that differ`);
   }
 
-  /** @returns {boolean} whether what is done now is done to learn from alone */
-  isPilot() {
-    return this.table.board.words[WORD.IS_PILOT] === 1;
+  /** @returns {boolean} whether the agent prints nothing: its run is made to learn from alone, or is over */
+  isSilent() {
+    const { isOver, isPlaying } = this.part;
+    return this.table.board.words[WORD.IS_PILOT] === 1 || (isPlaying && isOver);
   }
 
   /** @returns {number} what time it is in the run */

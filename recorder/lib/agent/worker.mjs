@@ -38,8 +38,7 @@ const { Error: EngineError, String: text, structuredClone: cloned } = globalThis
 function printAtOnce() {
   /** @param {string | Uint8Array} chunk */
   const printed = (chunk) => {
-    // Nothing is printed of runs that are made to learn from.
-    if (self.player?.isPilot() === true) return true;
+    if (self.player?.isSilent() === true) return true;
     try {
       fs.writeSync(2, chunk);
     } catch {
@@ -160,6 +159,8 @@ const watching = {
  */
 function furnish() {
   printAtOnce();
+  // What the recorder has handed its worker is nothing for agents: a thread that was handed nothing has null.
+  threads.workerData = null;
   if (clock === "run") simulateTime(() => (isRecording() ? playing().look() : 0));
   simulateChance(chance);
   if (ordinary === "watch") watchOrdinary(watching);

@@ -11,6 +11,9 @@ const writeText = uncurried(Buffer.prototype.write);
 /** How many bytes there are for the word of why an agent's worker is no more. */
 export const REASON_BYTES = 4_096;
 
+/** Nobody changes it, and nobody wakes those that wait here. */
+const NEVER = new Int32Array(new SharedArrayBuffer(4));
+
 // How long an agent that was silent may take to say where it is.
 const MILLISECONDS_TO_ANSWER = 1_000;
 
@@ -120,10 +123,22 @@ export class Turn {
     notify(this.words, word);
   }
 
+  /**
+   * An agent goes on after the end of its run, whatever ends it: its thread sleeps here for good.
+   * @param {number} agent
+   * @returns {never}
+   */
+  park(agent) {
+    const word = wordOf(agent, AGENT_WORD.STATUS);
+    store(this.words, word, STATUS.PARKED);
+    notify(this.words, word);
+    for (;;) wait(NEVER, 0, 0);
+  }
+
   // The referee's part.
 
   /**
-   * Whether an agent can run again; one that goes on without an end, or whose worker died, can't.
+   * Whether an agent can run again. One that goes on without an end, is parked, or whose worker died, can't.
    * @param {number} agent
    * @param {number} milliseconds for how long to wait for it
    */
@@ -135,6 +150,11 @@ export class Turn {
       if (left <= 0 || wait(this.words, word, STATUS.BUSY, left) === "timed-out") break;
     }
     return load(this.words, word) === STATUS.IDLE;
+  }
+
+  /** @param {number} agent @returns {boolean} */
+  isParked(agent) {
+    return load(this.words, wordOf(agent, AGENT_WORD.STATUS)) === STATUS.PARKED;
   }
 
   /**

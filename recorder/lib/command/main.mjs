@@ -2,26 +2,33 @@
 
 import { statSync } from "node:fs";
 import { fileURLToPath } from "node:url";
+import { needsAgents } from "../library/agents-file.mjs";
 import { moduleUrl } from "../library/module-url.mjs";
 import { Refused } from "../options/refused.mjs";
 import { RemoteJob } from "../seeds/remote-job.mjs";
 import { endBy, Interrupted } from "./interruption.mjs";
-import { USAGE, optionsOf } from "./options.mjs";
+import { optionsOf } from "./options.mjs";
 import { print } from "./print.mjs";
 import { toldOf } from "./problems.mjs";
 import { Replay } from "./replay.mjs";
 import { Session } from "./session.mjs";
 import { STATUS } from "./status.mjs";
 
+/** @param {string} url @returns {boolean} */
+function isFile(url) {
+  try {
+    return statSync(fileURLToPath(url)).isFile();
+  } catch {
+    return false;
+  }
+}
+
 /** @param {string} module @returns {string} its URL */
 function existing(module) {
   const url = moduleUrl(module);
-  try {
-    if (statSync(fileURLToPath(url)).isFile()) return url;
-  } catch {
-    // It is reported below.
-  }
-  throw new Refused(`there is no file ${module}`);
+  if (!isFile(url)) throw new Refused(`there is no file ${module}`);
+  needsAgents(url, module);
+  return url;
 }
 
 /** @param {unknown} problem */
@@ -37,13 +44,13 @@ function complain(problem) {
 async function run(words, job) {
   try {
     const asked = optionsOf(words);
-    if (asked.help) {
-      await print(USAGE);
+    if ("text" in asked) {
+      await print(asked.text);
       return { failed: false, problems: [] };
     }
     const module = existing(asked.module);
     if (asked.replay === undefined) return await new Session(asked, module, job).run();
-    return await new Replay({ ...asked, module }, asked.replay).run();
+    return await new Replay(asked, module, asked.replay).run();
   } catch (problem) {
     return { failed: false, problems: [problem] };
   } finally {

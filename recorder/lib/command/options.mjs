@@ -6,6 +6,7 @@ import { nearest } from "../options/nearest.mjs";
 import { Refused } from "../options/refused.mjs";
 import { defaultsOf, optionsOf as rowsOf, wordOf } from "../options/table.mjs";
 import { countOf, shardOf } from "../seeds/ranges.mjs";
+import { usageWords, versionLine } from "./program.mjs";
 
 // How many characters a line of help has at most, and where what it says begins.
 const WIDTH = 120;
@@ -24,12 +25,12 @@ function wrapped(text) {
 }
 
 /** @type {(row: ReturnType<typeof rowsOf>[number]) => string} */
-const helpOf = ([name, { help: [argument, text] = [] }]) =>
-  `  --${wordOf(name)} ${argument}`.padEnd(INDENT) + wrapped(text ?? "").join(`\n${" ".repeat(INDENT)}`);
+const helpOf = ([name, { help: [argument, text] = [], letter }]) =>
+  `  ${letter === undefined ? "" : `-${letter}, `}--${wordOf(name)} ${argument}`.padEnd(INDENT) + wrapped(text ?? "").join(`\n${" ".repeat(INDENT)}`);
 
 const ROWS = rowsOf("command");
 
-export const USAGE = `usage: node recorder/record.mjs MODULE [options] [-- arguments for the agents]
+export const USAGE = `usage: ${usageWords("record")} MODULE [options] [-- arguments for the agents]
 
 Runs the agents of a module under seeded schedules, and keeps the first run that fails as a script for sabsim.
 
@@ -39,14 +40,14 @@ Status: 0 no run failed, 1 some did, 2 the command line or the module was refuse
 the native program was chosen and isn't there, a file or standard output can't be written, or a job's process ended.
 `;
 
-/** @type {Record<string, { type: "string" | "boolean", multiple?: boolean }>} */
-const SHAPE = Object.fromEntries(ROWS.map(([name, { kind: { text, multiple = false } }]) =>
-  [wordOf(name), { type: text === undefined ? "boolean" : "string", multiple }]));
+/** @type {Record<string, { type: "string" | "boolean", multiple?: boolean, short?: string }>} */
+const SHAPE = Object.fromEntries(ROWS.map(([name, { kind: { text, multiple = false }, letter }]) =>
+  [wordOf(name), { type: text === undefined ? "boolean" : "string", multiple, ...(letter && { short: letter }) }]));
 
 const SEEDS_UNTIL_COVERED = Object.freeze({ first: 1, last: 1_000_000 });
 
 /** What words that are no options any more are, or what there is in their place. */
-const INSTEAD = new Map([["switch", "use --strategy switch:P"]]);
+const INSTEAD = new Map([["switch", "use --strategy switch:P"], ["v", "is -V meant?"]]);
 
 /**
  * The words of a command line, by option.
@@ -100,9 +101,8 @@ function shardFrom(asked, shard) {
  * @param {Record<string, any>} given
  * @returns {{ file: string, seed: number | undefined } | undefined} its seed where that is given
  */
-function replayOf({ replay: file, seeds, out }) {
+function replayOf({ replay: file, seeds }) {
   if (file === undefined) return undefined;
-  if (out !== undefined) throw new Refused("--replay keeps nothing: leave --out away");
   if (seeds === undefined) return { file, seed: undefined };
   const { first, last } = seeds;
   if (first !== last) throw new Refused(`--replay makes one run: --seeds must be one seed, but is "${first}..${last}"`);
@@ -111,7 +111,6 @@ function replayOf({ replay: file, seeds, out }) {
 
 /**
  * @typedef {object} Own what a command line says besides the options of many runs
- * @property {false} help
  * @property {string} module as it is named
  * @property {string[]} args for the agents
  * @property {import("../seeds/ranges.mjs").Range} asked the seeds of all shards
@@ -130,11 +129,15 @@ function replayOf({ replay: file, seeds, out }) {
  * unrecorded: "fail" | "allow" }} Options
  */
 
-/** @param {string[]} words after the program's name @returns {Options | { help: true }} what a command line asks for */
+/**
+ * @param {string[]} words after the program's name
+ * @returns {Options | { text: string }} what a command line asks for; only a text, if it asks for help or the version
+ */
 export function optionsOf(words) {
   const end = words.indexOf("--");
   const { values, positionals } = parsed(end < 0 ? words : words.slice(0, end));
-  if (values.help) return { help: true };
+  if (values.help) return { text: USAGE };
+  if (values.version) return { text: versionLine("record") };
   if (positionals.length !== 1) {
     const why = positionals.length === 0 ? "the agents' module is missing" : "there may be one module of agents only";
     throw new Refused(`${why}; --help shows more`);
@@ -142,10 +145,10 @@ export function optionsOf(words) {
   const given = givenBy(values);
   /** @type {Record<string, any>} */
   const chosen = { ...defaultsOf("command"), ...given };
-  const { seeds, shard, noShorten, help: _help, ...all } = chosen;
+  const { seeds, shard, noShorten, help: _help, version: _version, ...all } = chosen;
   const asked = given.seeds === undefined && all.untilCovered ? SEEDS_UNTIL_COVERED : seeds;
   return /** @type {Options} */ ({
-    ...all, help: false, module: positionals[0], args: end < 0 ? [] : words.slice(end + 1),
+    ...all, module: positionals[0], args: end < 0 ? [] : words.slice(end + 1),
     ...shardFrom(asked, shard), shorten: !noShorten, replay: replayOf(given),
   });
 }

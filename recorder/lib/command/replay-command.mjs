@@ -4,6 +4,7 @@ import { join } from "node:path";
 import { fileURLToPath } from "node:url";
 import { quoted, shortPath } from "../keeping/about.mjs";
 import { OPTIONS } from "../options/table.mjs";
+import { isInstalled } from "./program.mjs";
 
 // What a run by a row of draws depends on, besides the module and the agents' arguments.
 const NAMES = /** @type {const} */ (["timeouts", "ordinary", "races", "bounds", "unrecorded", "clock"]);
@@ -12,8 +13,7 @@ const PROGRAM = join(fileURLToPath(new URL("../../", import.meta.url)), "record.
 
 /** How this program is started: by its name where it is installed, else by its file. */
 function programWords() {
-  const isInstalled = [process.argv[1] ?? "", PROGRAM].some((file) => /[\\/]node_modules[\\/]/.test(file));
-  return isInstalled ? "npx sabsim-record" : `node ${quoted(shortPath(PROGRAM))}`;
+  return isInstalled() ? "npx sabsim-record" : `node ${quoted(shortPath(PROGRAM))}`;
 }
 
 /**

@@ -1,17 +1,25 @@
-// What --replay does: the agents run once more, by the row of a kept script. They run in this process, so that a
-// debugger that is attached to it can stop in them.
+// What --replay does: the agents run once more, by the row of a kept script, or of one that somebody has written. They
+// run in this process, so that a debugger that is attached to it can stop in them.
 
 import { readFileSync } from "node:fs";
 import { createRequire } from "node:module";
 import { basename } from "node:path";
+import { Keeper } from "../keeping/keep.mjs";
+import { modulePath, optionsText } from "../keeping/about.mjs";
+import { keepPictures, notesOn } from "../keeping/pictures.mjs";
+import { counted } from "../keeping/words.mjs";
+import { NoSuchPlace } from "../options/named-place.mjs";
 import { Refused } from "../options/refused.mjs";
 import { preloads } from "../processes/preloads.mjs";
 import { Job } from "../seeds/job.mjs";
 import { Runs } from "../seeds/runs.mjs";
 import { NoLongerTheSame, differenceText, strayedText } from "../shorter/differing.mjs";
+import { idleMoves } from "../shorter/idle-moves.mjs";
 import { callNumbers, keptScript } from "../shorter/kept-script.mjs";
 import { chosenProgram, simulatorAt } from "../simulator/chosen.mjs";
 import { print } from "./print.mjs";
+import { replayCommand } from "./replay-command.mjs";
+import { summaryText } from "./summary-text.mjs";
 import { Summary } from "./summary.mjs";
 
 /** @typedef {import("../shorter/kept-script.mjs").KeptScript} KeptScript */
@@ -66,46 +74,62 @@ function isDebugged() {
 
 export class Replay {
   /**
-   * @param {import("./options.mjs").Options} options with the URL of the module
+   * @param {import("./options.mjs").Options} options
+   * @param {string} module its URL
    * @param {NonNullable<import("./options.mjs").Options["replay"]>} wanted
    */
-  constructor(options, { file, seed }) {
+  constructor(options, module, { file, seed }) {
     this.options = options;
+    this.module = module;
     this.file = file;
-    this.kept = keptScript(textOf(file), file);
     const named = /^seed-(\d+)\./.exec(basename(file))?.[1];
     this.isNamed = named !== undefined || seed !== undefined;
     this.seed = seed ?? Number(named ?? DEFAULT_SEED);
     /** @type {string | false | undefined} */
     this.sabsim = options.checkEvery === 0 ? false : chosenProgram(options.sabsim);
-    this.simulator = this.sabsim === false ? undefined : simulatorAt(this.sabsim);
+    this.simulator = simulatorAt(this.sabsim || undefined);
+    const text = textOf(file);
+    this.idle = idleMoves(this.simulator, text);
+    this.kept = keptScript(text, file, this.idle.map(({ at }) => at));
     this.place = placeOf(this.kept, options);
+    const name = `${basename(file).replace(/\.json$/, "")}.replayed`;
+    this.keeper = options.out === undefined ? undefined : new Keeper(options.out, "--out", name);
   }
 
   /**
-   * Makes the run, and prints how it ended.
+   * Makes the run, keeps it where that is asked for, and prints how it ended.
    * @returns {Promise<{ failed: boolean, problems: unknown[] }>} whether it failed
    * @throws {NoLongerTheSame}
    */
   async run() {
-    const { options, simulator } = this;
     const outcome = await this.#made();
     if (outcome.stray !== undefined) throw new NoLongerTheSame(strayedText(outcome.stray, outcome.detail, this.kept));
     const { script } = outcome;
     const difference = script === undefined ? undefined : differenceText(this.kept, keptScript(script, "the run"));
     if (difference !== undefined) throw new NoLongerTheSame(difference);
-    const summary = new Summary({
-      ordinary: options.ordinary, races: options.races, unrecorded: options.unrecorded,
-      checkedBy: simulator?.version, preloads: preloads(),
-    });
+    const { options: { ordinary, races, unrecorded }, sabsim, simulator } = this;
+    const checkedBy = sabsim === false ? undefined : simulator.version;
+    const summary = new Summary({ ordinary, races, unrecorded, checkedBy, preloads: preloads() });
     summary.add(outcome);
-    await print(`${this.#title()}\n${summary.text()}`);
+    const lines = [this.#title(), ...this.#idleLines()].map((line) => `${line}\n`).join("");
+    await print(`${lines}${summaryText(summary.told(this.#kept(outcome)))}`);
     return { failed: outcome.fails, problems: [] };
+  }
+
+  /** @param {import("../seeds/job.mjs").Checked} outcome @returns {import("./summary.mjs").Ending} where its files lie */
+  #kept(outcome) {
+    const { keeper, module, options, simulator } = this;
+    if (keeper === undefined) return {};
+    keeper.keepFirst(outcome);
+    const all = { ...options, module: modulePath(module) };
+    const how = { simulator, module, options: optionsText(options), command: replayCommand(all) };
+    const notKept = keepPictures(keeper, outcome, how);
+    return { kept: keeper.told(notesOn(keeper, outcome)), notKept };
   }
 
   /** @returns {Promise<import("../seeds/job.mjs").Checked>} */
   async #made() {
-    const { kept: { draws }, options, place, sabsim, seed } = this;
+    const { kept: { draws }, module, options, place, sabsim, seed } = this;
     const long = { seconds: DEBUGGED_SECONDS, loadSeconds: DEBUGGED_SECONDS };
     const limits = isDebugged() ? long : { seconds: options.seconds };
     // A debugger would stop in each further run of the agents. So there are no pilots, from which nothing is to be
@@ -113,13 +137,32 @@ export class Replay {
     const only = { first: seed, last: seed, jobs: 1, fresh: false, everywhere: true, trace: true };
     const checking = { sabsim, checkEvery: 1 };
     const wanted = { row: draws.map(({ agent }) => agent), isExact: true, calls: callNumbers(this.kept) };
-    const all = { ...options, ...place, ...limits, ...only, ...checking, wanted };
+    const all = { ...options, module, ...place, ...limits, ...only, ...checking, wanted };
     const runs = new Runs(all, { job: new Job() });
     try {
       return /** @type {any} */ ((await runs.outcomes().next()).value);
+    } catch (problem) {
+      throw problem instanceof NoSuchPlace ? new Refused(this.#otherText(problem)) : problem;
     } finally {
       await runs.close();
     }
+  }
+
+  /** @param {NoSuchPlace} problem with the buffers that the script has */
+  #otherText({ message }) {
+    const { file, kept: { canBlock, lengths }, options } = this;
+    const has = `it has ${counted(canBlock.length, "agent")} and buffers of ${lengths.join(", ")} bytes`;
+    const why = `${has}, but in ${options.module} ${message}`;
+    return `${file} is a script of another module: ${why}. Replay it with the module that it was kept from`;
+  }
+
+  /** @returns {string[]} what is said of moves that have no effect */
+  #idleLines() {
+    const { length } = this.idle;
+    if (length === 0) return [];
+    const [{ at, why }] = this.idle;
+    const [have, are] = length === 1 ? ["1 move has", "is"] : [`${length} moves have`, "are"];
+    return [`${have} no effect and ${are} left out, as in \`sabsim replay\`; the first is move ${at}: stuck ${why}`];
   }
 
   #title() {

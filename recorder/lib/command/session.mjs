@@ -1,6 +1,5 @@
 // What the command line does: many runs, a summary of them, and the first failing one kept.
 
-import { resolve } from "node:path";
 import { Difference } from "../check/check.mjs";
 import { modulePath, optionsText } from "../keeping/about.mjs";
 import { Keeper, missingFiles } from "../keeping/keep.mjs";
@@ -174,10 +173,10 @@ export class Session {
    */
   #told(stopped, problems) {
     const { keeper, notes, options: { first, last } } = this;
-    const isKept = keeper !== undefined && keeper.names.length > 0;
+    const kept = keeper?.told(notes) ?? null;
     const told = this.summary.told({
       stopped,
-      kept: isKept ? { folder: keeper.folder, path: resolve(keeper.folder), files: keeper.names, notes } : null,
+      kept,
       notKept: this.leftOut,
       problems: problems.filter((problem) => !(problem instanceof Interrupted)).map(toldOf),
     });

@@ -24,14 +24,6 @@
  */
 
 /**
- * @typedef {object} Kept
- * @property {string} folder as it was given
- * @property {string} path
- * @property {string[]} files
- * @property {string[]} [notes] what their readers must know; an older recorder tells none
- */
-
-/**
  * @typedef {object} SummaryData what a summary says of many runs: an object of JSON, whose members docs/FORMATS.md
  * explains
  * @property {Stop | null} stopped
@@ -58,7 +50,7 @@
  * @property {number} calls
  * @property {number | null} accesses null: they weren't seen
  * @property {string[]} unseen
- * @property {Kept | null} kept
+ * @property {import("../keeping/keep.mjs").Kept | null} kept
  * @property {string[]} notKept
  * @property {string[]} problems
  */

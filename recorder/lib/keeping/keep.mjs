@@ -1,10 +1,18 @@
 // Files in the folder that --out names, and nowhere else.
 
 import { randomBytes } from "node:crypto";
-import { closeSync, mkdirSync, openSync, renameSync, rmSync, writeFileSync } from "node:fs";
-import { join } from "node:path";
+import { closeSync, existsSync, mkdirSync, openSync, renameSync, rmSync, writeFileSync } from "node:fs";
+import { dirname, join, resolve } from "node:path";
 import { Refused } from "../options/refused.mjs";
 import { comesBefore } from "../run/order.mjs";
+
+/**
+ * @typedef {object} Kept
+ * @property {string} folder as it was given
+ * @property {string} path
+ * @property {string[]} files
+ * @property {string[]} [notes] what their readers must know; an older recorder has none
+ */
 
 /** A file couldn't be written. */
 export class NotKept extends Error {}
@@ -22,6 +30,22 @@ export function missingFiles({ seed, script, noScript, trace, noTrace }) {
   ];
 }
 
+/**
+ * Makes a folder, and those above it. Node's own way never ends where a folder is there and takes none, as /proc.
+ * @param {string} path
+ * @throws {Error} if it can't be made
+ */
+function makeFolder(path) {
+  if (existsSync(path)) return;
+  makeFolder(dirname(path));
+  try {
+    mkdirSync(path);
+  } catch (error) {
+    // Another process may have made it meanwhile.
+    if (!existsSync(path)) throw error;
+  }
+}
+
 /** @param {unknown} error of node's */
 const messageOf = (error) => /** @type {Error} */ (error).message;
 
@@ -30,9 +54,11 @@ export class Keeper {
    * Makes the folder where it isn't there, and tries whether a file can be written.
    * @param {string} folder
    * @param {string} option that names it
+   * @param {string} [name] what the names of its files begin with; undefined: the word seed and the run's seed
    */
-  constructor(folder, option = "--out") {
+  constructor(folder, option = "--out", name = undefined) {
     this.folder = folder;
+    this.name = name;
     /** @type {string[]} the files that lie there by this keeper */
     this.names = [];
     /** @type {number | undefined} the seed of the failing run that is kept */
@@ -40,7 +66,7 @@ export class Keeper {
     /** @type {import("../run/order.mjs").Failing | undefined} what is kept of that run */
     this.first = undefined;
     try {
-      mkdirSync(folder, { recursive: true });
+      makeFolder(resolve(folder));
       rmSync(this.#writeAside("sabsim"));
     } catch (error) {
       throw new Refused(`${option} ${folder} can't be used: ${messageOf(error)}`);
@@ -77,7 +103,18 @@ export class Keeper {
     const texts = { json: script, report, "trace.jsonl": trace };
     this.keepAll(seed, texts);
     const missing = Object.entries(texts).filter(([, text]) => text === undefined);
-    this.#remove(missing.map(([ending]) => `seed-${seed}.${ending}`).filter((name) => this.names.includes(name)));
+    this.#remove(missing.map(([ending]) => this.nameOf(seed, ending)).filter((name) => this.names.includes(name)));
+  }
+
+  /** @param {number} seed @param {string} ending @returns {string} the name of a file of a run */
+  nameOf(seed, ending) {
+    return `${this.name ?? `seed-${seed}`}.${ending}`;
+  }
+
+  /** @param {string[]} notes on the files @returns {Kept | null} where the files lie; null: there are none */
+  told(notes) {
+    const { folder, names } = this;
+    return names.length === 0 ? null : { folder, path: resolve(folder), files: names, notes };
   }
 
   /**
@@ -87,7 +124,7 @@ export class Keeper {
    */
   keepAll(seed, texts) {
     for (const [ending, text] of Object.entries(texts)) {
-      if (text !== undefined) this.#keep(`seed-${seed}.${ending}`, text);
+      if (text !== undefined) this.#keep(this.nameOf(seed, ending), text);
     }
   }
 

@@ -81,14 +81,14 @@ function replayed(simulator, format, script) {
 export function keepPictures(keeper, outcome, { simulator, ...how }) {
   const { seed, script } = outcome;
   if (script === undefined) return [];
-  const told = aboutOf(how, join(keeper.folder, `seed-${seed}.json`), simulator.version);
+  const told = aboutOf(how, join(keeper.folder, keeper.nameOf(seed, "json")), simulator.version);
   return PICTURES.flatMap((picture) => {
     const { ending } = picture;
     try {
       keeper.keepAll(seed, { [ending]: pictureOf(simulator, picture, outcome, how.module, told) });
       return [];
     } catch (problem) {
-      if (problem instanceof NotMade) return [`not kept: seed-${seed}.${ending}: ${problem.message}`];
+      if (problem instanceof NotMade) return [`not kept: ${keeper.nameOf(seed, ending)}: ${problem.message}`];
       throw problem;
     }
   });
@@ -100,8 +100,9 @@ export function keepPictures(keeper, outcome, { simulator, ...how }) {
  * @param {Outcome} outcome of the run that is kept
  * @returns {string[]} a sentence each
  */
-export function notesOn({ names }, { seed, script }) {
-  const files = ["explained", "svg"].map((ending) => `seed-${seed}.${ending}`).filter((name) => names.includes(name));
+export function notesOn(keeper, { seed, script }) {
+  const all = ["explained", "svg"].map((ending) => keeper.nameOf(seed, ending));
+  const files = all.filter((name) => keeper.names.includes(name));
   if (script === undefined || files.length === 0 || !hasFloats(script)) return [];
   return [`in ${files.join(" and ")} a float that was written without Atomics is a whole number, which has its bits`];
 }

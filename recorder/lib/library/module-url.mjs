@@ -5,6 +5,7 @@ import { dirname, isAbsolute, resolve } from "node:path";
 import { fileURLToPath, pathToFileURL } from "node:url";
 import { framesHere } from "../agent/frames.mjs";
 import { Refused } from "../options/refused.mjs";
+import { needsAgents } from "./agents-file.mjs";
 
 // The library itself: what calls its functions is looked for.
 const FILES = ["../", "../../recorder.mjs", "../../testing.mjs"];
@@ -95,7 +96,11 @@ export function moduleUrlOf(module, folderOf) {
     throw new Refused(`\`module\` is "${module}", and it can't be told which file asks for that: ${instead}`);
   }
   const url = moduleUrl(module, folder);
-  if (!url.startsWith("file:") || isFile(url)) return url;
+  if (!url.startsWith("file:")) return url;
+  if (isFile(url)) {
+    needsAgents(url, pathOf(url));
+    return url;
+  }
   const from = isRelative ? `: \`module\` is "${module}", from the folder of the file that asks for it` : "";
   throw new Refused(`there is no file ${pathOf(url)}${from}`);
 }

@@ -6,6 +6,9 @@ import { Refused } from "./refused.mjs";
 
 /** @typedef {{ kind: number, block: number, offset: number, length: number }} Place of a name: a view */
 
+/** A name is of an element or an array that the buffers don't have. */
+export class NoSuchPlace extends Refused {}
+
 const MEMBERS = ["kind", "buffer", "offset", "length"];
 
 /** @type {(value: unknown, least: number, most: number) => value is number} */
@@ -33,7 +36,7 @@ function kindOf(name, kindName) {
 function blockOf(name, block, lengths) {
   const last = lengths.length - 1;
   if (isWithin(block, 0, last)) return block;
-  throw new Refused(`\`names\` puts ${name} on buffer ${block}: there is no such buffer, but 0 to ${last}`);
+  throw new NoSuchPlace(`\`names\` puts ${name} on buffer ${block}: there is no such buffer, but 0 to ${last}`);
 }
 
 /**
@@ -50,7 +53,7 @@ function placeOfParts(name, [kindName, buffer, ...indices], lengths) {
   if (indices.length === 0) return { kind, block, offset: 0, length: elements };
   const [index] = indices;
   if (isWithin(index, 0, elements - 1)) return { kind, block, offset: index * SIZES[kind], length: 1 };
-  throw new Refused(`\`names\` puts ${name} at index ${index}: buffer ${block} has ${elements} elements of kind ` +
+  throw new NoSuchPlace(`\`names\` puts ${name} at index ${index}: buffer ${block} has ${elements} elements of kind ` +
     `${kindName}, counted from 0`);
 }
 
@@ -71,7 +74,7 @@ function placeOfMembers(name, given, lengths) {
   const { offset = 0 } = given;
   const [size, bytes] = [SIZES[kind], lengths[block]];
   if (!isWithin(offset, 0, bytes - size)) {
-    throw new Refused(`\`names\` puts ${name} at offset ${offset}: buffer ${block} has ${bytes} bytes, and an ` +
+    throw new NoSuchPlace(`\`names\` puts ${name} at offset ${offset}: buffer ${block} has ${bytes} bytes, and an ` +
       `element of kind ${given.kind} takes ${size}`);
   }
   if (offset % size !== 0) {
@@ -81,7 +84,7 @@ function placeOfMembers(name, given, lengths) {
   const most = Math.floor((bytes - offset) / size);
   const { length = most } = given;
   if (isWithin(length, 1, most)) return { kind, block, offset, length };
-  throw new Refused(`\`names\` gives ${name} the length ${length}: buffer ${block} has room for 1 to ${most} ` +
+  throw new NoSuchPlace(`\`names\` gives ${name} the length ${length}: buffer ${block} has room for 1 to ${most} ` +
     `elements of kind ${given.kind} from offset ${offset} on`);
 }
 

@@ -16,6 +16,7 @@ import {
  * @property {unknown} [ifNone] what serves where it isn't given
  * @property {boolean} [isShared] whether summaries can be joined only where it is the same
  * @property {string} [word] its name on the command line, where that is another one
+ * @property {string} [letter] a short name on the command line
  * @property {string[]} [help] what stands behind its name on the command line, and what it says
  */
 
@@ -93,17 +94,19 @@ export const OPTIONS = Object.freeze({
   format: { kind: choice(["plain", "json"]), of: COMMAND, ifNone: "plain",
     help: ["FORM", "how the summary is printed: plain, or json, which is one line (plain)"] },
   out: { kind: named("the name of a folder"), of: COMMAND,
-    help: ["DIR", "where the first failing run's script and report are kept; nothing is written without it"] },
+    help: ["DIR", "where the first failing run's script and report are kept, or those of the run of --replay; nothing "
+    + "is written without it"] },
   noShorten: { kind: FLAG, of: COMMAND, ifNone: false, help: ["", "keeps that run as its seed makes it; else the "
     + "shortest run that fails in the same way is kept, and the run of the seed beside it"] },
   shorten: { kind: FLAG, of: ["record"] },
   replay: { kind: named("the name of a script that was kept"), of: COMMAND,
-    help: ["FILE", "runs the agents once more, by the row of a script that was kept, in this process, so that a "
-    + "debugger can stop in them (node --inspect-brk recorder/record.mjs ..); status 3 where the code no longer does "
+    help: ["FILE", "runs the agents once more, by the row of a script that was kept or written, in this process, so "
+    + "that a debugger can stop in them (node --inspect-brk recorder/record.mjs ..); status 3 where the code no longer does "
     + "what stands in the script"] },
   signal: { kind: SIGNAL, of: ["explore"] },
   trace: { kind: FLAG, of: LIBRARY, ifNone: false },
-  help: { kind: FLAG, of: COMMAND, help: ["", "this text"] },
+  help: { kind: FLAG, of: COMMAND, letter: "h", help: ["", "this text"] },
+  version: { kind: FLAG, of: COMMAND, letter: "V", help: ["", "the version"] },
 });
 
 /** @param {Taker} taker @returns {[string, Option][]} its options, by their names */

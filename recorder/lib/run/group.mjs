@@ -12,6 +12,7 @@ import { defaultsOf } from "../options/table.mjs";
 import { ownModules } from "../processes/own-modules.cjs";
 import { framesOf } from "../processes/place-of-thread.mjs";
 import { FIRST_THREADS, begunThread } from "../processes/thread.mjs";
+import { loadProblem } from "./load-problem.mjs";
 import { within } from "./within.mjs";
 
 /** @typedef {import("../processes/thread.mjs").Thread} Thread */
@@ -41,7 +42,7 @@ import { within } from "./within.mjs";
  * @property {string} [trace] each event as an object of JSON, a line each
  * @property {import("./accesses.mjs").Accesses} [accesses] by which arrays the trace's ordinary accesses were made, and
  * what they read
- * @property {string} [noTrace] why there is no trace, though one was to be made
+ * @property {string} [noTrace] why there is no trace, though it was wanted
  * @property {import("./source-names.mjs").SourceText[]} [sources] the code of each file that the trace names
  * @property {number[]} [row] which agent moved with each draw, in order, where that is asked for
  * @property {string} [onlyIf] of a failing run in which a timed wait has ended early: what time must pass for that
@@ -374,7 +375,7 @@ export class Group {
     thread.post({ agent });
     const { message, ended } = await this.#inTime(thread.next());
     if (ended !== undefined) throw new Refused(`${module} can't be loaded: its worker ended (${ended})`);
-    if (message.failed !== undefined) throw new Refused(`${module} can't be loaded: ${message.failed}`);
+    if (message.failed !== undefined) throw new Refused(loadProblem(module, message.failed));
     return { thread, has: message };
   }
 

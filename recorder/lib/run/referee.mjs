@@ -146,9 +146,9 @@ class Referee {
     }
     // If the second run isn't the same, this is all that is known.
     outcome.races = found.racy ? reporter.races(false) : [];
-    // An agent that didn't come back made no call for long, and would take as long again.
-    if (found.gone.length > 0) {
-      if (wantsTrace) outcome.noTrace = goneText(found.gone);
+    // An agent that didn't come back made no call for long, and would take as long again. A parked one did come.
+    if (found.endless.length > 0) {
+      if (wantsTrace) outcome.noTrace = goneText(found.endless);
       return;
     }
     const again = await maker.made(wanted, true);

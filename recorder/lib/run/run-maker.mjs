@@ -21,6 +21,7 @@ import { unseenText } from "./unseen.mjs";
  * @property {string} detail
  * @property {string[]} bytes of each block, in hexadecimal digits
  * @property {number[]} gone agents that can't run again
+ * @property {number[]} endless those of them that aren't parked: another run would take as long
  * @property {boolean} racy
  * @property {import("../memory/stores.mjs").Store[]} initial what filled the buffers at first
  * @property {{ agent: number, block: number, byte: number }[]} waiting who waits where, in order of arrival, in a run
@@ -89,7 +90,8 @@ export class RunMaker {
     const problem = options.init === undefined ? "" : await this.#asked("init");
     const initial = options.init === undefined ? [] : initialStores(memory, plan.agents);
     if (problem !== "") {
-      const nothing = { bytes: memory.hex(), gone: [], racy: false, initial, waiting: [], asking: [], unseen: [] };
+      const none = { gone: [], endless: [], racy: false, waiting: [], asking: [], unseen: [] };
+      const nothing = { ...none, bytes: memory.hex(), initial };
       return { ending: "failed", detail: `init ${problem}`, ...nothing };
     }
     board.words[WORD.TELLS_SOURCES] = tellsSources ? 1 : 0;
@@ -101,11 +103,12 @@ export class RunMaker {
     const waiting = isBound || told.ending === "deadlock" ? board.line.waiting() : [];
     const asking = isBound ? this.agents.filter((agent) => board.line.asks(agent)) : [];
     const gone = this.#sentHome();
+    const endless = gone.filter((agent) => !board.turn.isParked(agent));
     const racy = options.ordinary === "watch" && isRacy(this.log, plan.agents);
     const named = isBound ? sourceNames.withNames(told.detail) : told.detail;
     const detail = stray === undefined ? named : strayText(stray, named);
     const unseen = this.agents.flatMap((agent) => this.notes[agent].read().map((note) => ({ ...note, agent })));
-    return { ending: told.ending, detail, bytes, gone, racy, initial, waiting, asking, unseen, stray };
+    return { ending: told.ending, detail, bytes, gone, endless, racy, initial, waiting, asking, unseen, stray };
   }
 
   /** @param {Made} found @returns {Promise<Made>} how a run ends, with what is known when its agents are home */

@@ -11,6 +11,9 @@ export class NoLongerTheSame extends Error {
   }
 }
 
+/** What may be wrong if already an agent's first call differs. */
+const OTHER_MODULE = "; if the script is of another module, replay it with that one";
+
 /**
  * How a run has strayed from its row.
  * @param {import("../board/row.mjs").Stray} stray
@@ -23,7 +26,8 @@ export function strayedText({ reason, agent, draw }, detail, { draws }) {
   const { step: { call, text }, goesOn } = draws[draw];
   const was = `agent ${agent}'s call ${call}`;
   const other = detail.replace(/^[^[]*/, "");
-  if (reason === "call" && !goesOn) return `${was} was ${text} in the script, and is now ${other}`;
+  const perhaps = call === 0 ? OTHER_MODULE : "";
+  if (reason === "call" && !goesOn) return `${was} was ${text} in the script, and is now ${other}${perhaps}`;
   const now = {
     call: `it makes the next one, ${other}`, leaves: "it goes on from a wait", waits: "it still waits",
     ended: "it has come to its end",

@@ -1,4 +1,5 @@
-// A script that the recorder has kept, read back: the row of draws that its run was made by, and what was done in it.
+// A script that the recorder has kept, or that somebody has written, read back: the row of draws of its run, and what
+// was done in it.
 //
 // An access or a notify is three moves in a row, and one draw. So is a wait that doesn't wait; one that waits is two
 // moves, and two more where it is woken or its time is up, which is another draw. Stores by the views of ordinary
@@ -63,15 +64,24 @@ const isCount = (value) => Number.isInteger(value) && Number(value) >= 0;
 
 /** @typedef {Map<string, import("../../script/text.mjs").View>} AsSpelled views as the script has them, by their names */
 
-/** @param {any} script @returns {Map<string, View>} by their names */
-function viewsOf({ views }) {
+/** @param {any} script @param {number[]} lengths of its blocks @returns {Map<string, View>} by their names */
+function viewsOf({ views }, lengths) {
   need(Array.isArray(views), "it has no views");
-  return new Map(views.map(({ name, kind, block, offset, length }) => {
+  return new Map(views.map(({ name, kind, block = 0, offset, length: given }) => {
     const number = KINDS.indexOf(kind);
+    // In a script that somebody has written it may be all up to the block's end.
+    const length = given === null ? Math.floor((lengths[block] - offset) / SIZES[number]) : given;
     const isView = typeof name === "string" && number >= 0 && [block, offset, length].every(isCount);
     need(isView, `its view ${JSON.stringify(name)} isn't one`);
     return [name, { kind: number, block, offset, length }];
   }));
+}
+
+/** @param {any} script of either form @returns {number[]} the lengths of its blocks */
+function lengthsOf(script) {
+  const lengths = script?.blocks ?? (script?.bytes === undefined ? undefined : [script.bytes]);
+  need(Array.isArray(lengths) && lengths.every(isCount), "it has no blocks");
+  return lengths;
 }
 
 /**
@@ -111,15 +121,15 @@ function writeOf(views, name, index, operand) {
 }
 
 class Reader {
-  /** @param {any} script */
-  constructor(script) {
-    need(Array.isArray(script?.blocks) && script.blocks.every(isCount), "it has no blocks");
+  /** @param {any} script @param {Set<number>} idle the moves that have no effect, by their positions */
+  constructor(script, idle) {
+    this.lengths = lengthsOf(script);
     need(Array.isArray(script.agents) && Array.isArray(script.schedule), "it has no agents, or no schedule");
-    const views = viewsOf(script);
+    const views = viewsOf(script, this.lengths);
     /** @type {AsSpelled} */
     const spelled = new Map(script.views.map((/** @type {any} */ view) => [view.name, view]));
-    this.schedule = script.schedule;
-    this.lengths = script.blocks;
+    /** @type {{ move: any, at: number }[]} those that have an effect, with their positions in the schedule */
+    this.moves = [...script.schedule.entries()].flatMap(([at, move]) => (idle.has(at) ? [] : [{ move, at }]));
     /** @type {ReturnType<typeof callOf>[][]} */
     this.calls = script.agents.map((/** @type {any} */ { calls }) => {
       need(Array.isArray(calls), "an agent has no calls");
@@ -144,7 +154,7 @@ class Reader {
 
   /** @returns {KeptScript} */
   read() {
-    while (this.position < this.schedule.length) this.#next();
+    while (this.position < this.moves.length) this.#next();
     const rest = this.at.findIndex(({ begun }, agent) => begun < this.calls[agent].length);
     need(rest < 0, `agent ${rest} has calls that its schedule doesn't make`);
     const { lengths, canBlock, draws, steps } = this;
@@ -152,20 +162,20 @@ class Reader {
   }
 
   #next() {
-    const move = this.schedule[this.position];
+    const { move, at: place } = this.moves[this.position];
     const timeUp = move?.timeout;
     const agent = timeUp ?? move;
     const at = this.at[agent];
-    need(at !== undefined, `its move ${this.position} is no agent's`);
+    need(at !== undefined, `its move ${place} is no agent's`);
     if (at.waits !== undefined) {
-      need(this.#hasMoves(agent, 1), `its move ${this.position} doesn't end a wait in a row`);
+      need(this.#hasMoves(agent, 1), `its move ${place} doesn't end a wait in a row`);
       this.#draw({ agent, step: at.waits, goesOn: true, writes: [] });
       at.waits = undefined;
       this.position += 2;
       return;
     }
-    need(timeUp === undefined, `its move ${this.position} ends a wait that there isn't`);
-    this.#begin(agent, at);
+    need(timeUp === undefined, `its move ${place} ends a wait that there isn't`);
+    this.#begin(agent, at, place);
   }
 
   /** @param {Draw} draw */
@@ -174,12 +184,12 @@ class Reader {
     this.at[draw.agent].last = draw;
   }
 
-  /** @param {number} agent @param {Reader["at"][number]} at */
-  #begin(agent, at) {
+  /** @param {number} agent @param {Reader["at"][number]} at @param {number} place of its move in the schedule */
+  #begin(agent, at, place) {
     const call = this.calls[agent][at.begun];
-    need(call !== undefined, `its move ${this.position} is one of no call`);
+    need(call !== undefined, `its move ${place} is one of no call`);
     const isWhole = this.#hasMoves(agent, 2);
-    need(isWhole || (call.waits && this.#hasMoves(agent, 1)), `its move ${this.position} doesn't make a call in a row`);
+    need(isWhole || (call.waits && this.#hasMoves(agent, 1)), `its move ${place} doesn't make a call in a row`);
     const step = { ...call, agent, call: at.own };
     this.steps.push(step);
     if (step.isOwn) this.#draw({ agent, step, goesOn: false, writes: [] });
@@ -192,22 +202,22 @@ class Reader {
 
   /** @param {number} agent @param {number} count @returns {boolean} whether so many moves of an agent come next */
   #hasMoves(agent, count) {
-    return this.schedule.slice(this.position + 1, this.position + 1 + count).filter((/** @type {unknown} */ move) => {
-      return move === agent;
-    }).length === count;
+    const next = this.moves.slice(this.position + 1, this.position + 1 + count);
+    return next.filter(({ move }) => move === agent).length === count;
   }
 }
 
 /**
- * Reads a script of the recorder's.
+ * Reads a script of the recorder's, or one that makes each call and each end of a wait in a row.
  * @param {string} text
  * @param {string} name of its file, for messages
+ * @param {Iterable<number>} [idle] the positions of moves that have no effect
  * @returns {KeptScript}
  * @throws {Refused}
  */
-export function keptScript(text, name) {
+export function keptScript(text, name, idle = []) {
   try {
-    return new Reader(JSON.parse(text)).read();
+    return new Reader(JSON.parse(text), new Set(idle)).read();
   } catch (problem) {
     if (!(problem instanceof Unlike || problem instanceof SyntaxError)) throw problem;
     throw new Refused(`${name} is no script that the recorder has kept: ${problem.message.split("\n")[0]}`);

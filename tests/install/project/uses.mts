@@ -13,6 +13,9 @@ export const agent: Agent = ({ buffers, agent, agents, args }: AgentRun) => {
   Atomics.store(words, agent % 2, agents + args.length);
 };
 
+// @ts-expect-error: an agent must be synchronous
+export const late: Agent = async ({ buffers }) => void Atomics.load(new Int32Array(buffers[0]!), 0);
+
 const filled: WithBuffers = ([buffer], { agents, args }) => {
   new Uint8Array(buffer!).fill(agents + args.length);
 };

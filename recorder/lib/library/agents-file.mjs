@@ -1,0 +1,28 @@
+// Whether a file can be a module of agents at all. Its text is looked at before it is loaded, since to load a program is
+// to run it.
+
+import { readFileSync } from "node:fs";
+import { fileURLToPath } from "node:url";
+import { Refused } from "../options/refused.mjs";
+
+// Of an ES module, or of a CommonJS module.
+const HAS_DEFAULT = /\bexport\b[^]*\bdefault\b|\bexports\b/;
+
+/**
+ * Refuses a file that exports nothing which could be an agent.
+ * @param {string} url of the file
+ * @param {string} name as it was given
+ * @throws {Refused}
+ */
+export function needsAgents(url, name) {
+  let text;
+  try {
+    text = readFileSync(fileURLToPath(url), "utf8");
+  } catch {
+    // That it can't be read is reported by what loads it.
+    return;
+  }
+  if (HAS_DEFAULT.test(text)) return;
+  throw new Refused(`${name} is no module of agents, since it has no default export. If it is a program, write what `
+    + "one of its threads does as a function of a module: export default function agent({ buffers, agent }) { .. }");
+}

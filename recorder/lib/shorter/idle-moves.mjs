@@ -1,0 +1,17 @@
+// The moves of a script that have no effect, as the simulator reports them: those of agents whose calls have all
+// returned, or that wait, and ends of waits that there aren't.
+
+/** @typedef {{ at: number, why: string }} IdleMove its position in the schedule, and the report's word for why */
+
+const STUCK = /^(\d+) \d+ \d+ stuck (\S+)$/gm;
+
+/**
+ * @param {import("../simulator/chosen.mjs").Simulator} simulator
+ * @param {string} script
+ * @returns {IdleMove[]} none of what is no script
+ */
+export function idleMoves(simulator, script) {
+  const { status, output } = simulator.run({ job: "replay" }, script);
+  if (status !== 0) return [];
+  return [...output.matchAll(STUCK)].map(([, at, why]) => ({ at: Number(at), why }));
+}
