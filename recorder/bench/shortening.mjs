@@ -30,7 +30,7 @@ function modulesIn(folder) {
  * @param {Group} group
  */
 async function failingRuns(group) {
-  /** @type {import("../lib/run/group.mjs").Outcome[]} */
+  /** @type {import("../lib/run/outcome.mjs").Outcome[]} */
   const failing = [];
   for (let first = 1; first <= SEEDS && failing.length < WANTED; first += BATCH) {
     const seeds = Array.from({ length: BATCH }, (_, at) => ({ seed: first + at, whole: false, isTrial: true }));

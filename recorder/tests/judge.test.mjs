@@ -118,7 +118,7 @@ function toldSide({ agent, read, write, atomic, block, byte, size, call, source 
 
 /**
  * A run has races where the slow judge finds some in its trace, and the first later access is the same.
- * @param {import("../lib/run/group.mjs").Outcome} outcome
+ * @param {import("../lib/run/outcome.mjs").Outcome} outcome
  */
 function demandOfRun({ seed, races, trace }) {
   const events = eventsOfTrace(trace);

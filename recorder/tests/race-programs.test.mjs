@@ -28,7 +28,7 @@ const WAYS = [
  * The outcomes of random programs, in the order of their seeds.
  * @param {string} way
  * @param {object} options
- * @returns {Promise<import("../lib/run/group.mjs").Outcome[]>}
+ * @returns {Promise<import("../lib/run/outcome.mjs").Outcome[]>}
  */
 async function recorded(way, options) {
   const outcomes = [];

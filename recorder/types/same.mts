@@ -10,7 +10,7 @@ import * as native from "../lib/simulator/native.mjs";
 import * as declaredTesting from "../testing.mjs";
 import * as writtenTesting from "../lib/suite/tests.mjs";
 import type { ExploreOptions, TrialOptions, WithBuffers } from "../lib/library/library-options.mjs";
-import type { Ending } from "../lib/run/group.mjs";
+import type { Ending } from "../lib/run/outcome.mjs";
 import type { Side, RaceReport } from "../lib/run/findings.mjs";
 import type { Shortened } from "../lib/shorter/shorten.mjs";
 

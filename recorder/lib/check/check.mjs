@@ -5,8 +5,8 @@ import { Log } from "../memory/log.mjs";
 import { traceText } from "../run/trace.mjs";
 import { NoSabsim } from "../simulator/native.mjs";
 
-/** @typedef {import("../run/group.mjs").One} One */
-/** @typedef {import("../run/group.mjs").Outcome} Outcome */
+/** @typedef {import("../run/outcome.mjs").One} One */
+/** @typedef {import("../run/outcome.mjs").Outcome} Outcome */
 /** @typedef {import("../simulator/chosen.mjs").Simulator} Simulator */
 /** @typedef {Pick<Outcome, "seed" | "script" | "report" | "trace">} Scripted what is kept of a run that differs */
 
@@ -79,7 +79,7 @@ function checkReplay(simulator, { seed, script = "", report = "" }) {
  * Judges the accesses of a run: those of its script, or of its trace if the script hasn't all of them.
  * @param {Simulator} simulator
  * @param {Outcome} outcome
- * @param {import("../run/group.mjs").Judgement} judgement the recorder's
+ * @param {import("../run/outcome.mjs").Judgement} judgement the recorder's
  * @throws {Difference}
  */
 function checkRaces(simulator, { seed, script = "", report = "", races }, { racy, events, isInScript }) {

@@ -27,7 +27,7 @@ export class OnlyByTime {
     this.served = new Map();
   }
 
-  /** @param {import("../run/group.mjs").Outcome} outcome of a run */
+  /** @param {import("../run/outcome.mjs").Outcome} outcome of a run */
   add({ seed, onlyByTime = [], served = [] }) {
     for (const wait of onlyByTime) this.waits.add(keyOf(wait), seed, wait);
     for (const place of served) this.served.set(placeKey(place), place);

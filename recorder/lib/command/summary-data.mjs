@@ -2,7 +2,7 @@
 
 /** @template T @typedef {import("./tally.mjs").Tally<T>} Tally */
 
-/** @typedef {import("../run/group.mjs").Outcome & { checked?: boolean }} Outcome */
+/** @typedef {import("../run/outcome.mjs").Outcome & { checked?: boolean }} Outcome */
 
 /** @typedef {Pick<Outcome, "seed" | "ending" | "detail" | "noScript" | "onlyIf"> & Partial<Outcome>} Failing */
 
@@ -120,7 +120,7 @@ export function failingTold({ seed, ending, detail, onlyIf, noScript }) {
 
 /** @param {NonNullable<SummaryData["firstFailing"]>} told @returns {Failing} */
 export function failingOf({ seed, ending, detail, onlyIf, noScript }) {
-  const known = /** @type {import("../run/group.mjs").Ending} */ (ending);
+  const known = /** @type {import("../run/outcome.mjs").Ending} */ (ending);
   return {
     seed, ending: known, detail: detail.join("\n"), onlyIf: onlyIf ?? undefined, noScript: noScript ?? undefined,
   };

@@ -19,7 +19,7 @@ export class NotKept extends Error {}
 
 /**
  * Why files of a run that is to be kept aren't there.
- * @param {import("../run/group.mjs").Outcome} outcome
+ * @param {import("../run/outcome.mjs").Outcome} outcome
  * @returns {string[]} a sentence each
  */
 export function missingFiles({ seed, script, noScript, trace, noTrace }) {
@@ -76,7 +76,7 @@ export class Keeper {
   /**
    * Keeps a failing run, unless one that comes before it is kept, or nothing is reported of this one. The files of one
    * that comes behind it go when all those of this one are there.
-   * @param {import("../run/group.mjs").Outcome} outcome
+   * @param {import("../run/outcome.mjs").Outcome} outcome
    */
   keepFirst({ seed, onlyIf, script, report, trace }) {
     const texts = { json: script, report, "trace.jsonl": trace };
@@ -92,8 +92,8 @@ export class Keeper {
 
   /**
    * Keeps the shortest run in place of the one that was found, which stays beside it.
-   * @param {import("../run/group.mjs").Outcome} original that is kept
-   * @param {import("../run/group.mjs").Outcome} shortest
+   * @param {import("../run/outcome.mjs").Outcome} original that is kept
+   * @param {import("../run/outcome.mjs").Outcome} shortest
    */
   keepShortest(original, { script, report, trace }) {
     const { seed } = original;

@@ -5,7 +5,7 @@
 import { endingText } from "../../page/endings.mjs";
 import { builtSimulator, documentOf } from "./document.mjs";
 
-/** @typedef {import("../run/group.mjs").Outcome} Outcome */
+/** @typedef {import("../run/outcome.mjs").Outcome} Outcome */
 /** @typedef {import("../../page/run-data.mjs").RunData} RunData */
 
 // Of a trace of more events the ordinary accesses are left out, except those that race.

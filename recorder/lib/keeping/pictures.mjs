@@ -6,7 +6,7 @@ import { hasFloats } from "../../script/written.mjs";
 import { aboutOf } from "./about.mjs";
 import { pageText } from "./page.mjs";
 
-/** @typedef {import("../run/group.mjs").Outcome} Outcome */
+/** @typedef {import("../run/outcome.mjs").Outcome} Outcome */
 /** @typedef {import("../simulator/chosen.mjs").Simulator} Simulator */
 
 /**

@@ -8,12 +8,12 @@ import { folderOfCaller } from "./module-url.mjs";
 
 /** @typedef {import("../check/check.mjs").Check} Check */
 /** @typedef {{ remembers?: import("../seeds/first-again.mjs").Remembering }} Again of the last of many runs */
-/** @typedef {import("../run/group.mjs").Outcome & Check & Shortening & Again} Outcome */
+/** @typedef {import("../run/outcome.mjs").Outcome & Check & Shortening & Again} Outcome */
 /** @typedef {import("./library-options.mjs").RecordOptions} RecordOptions */
 
 /**
  * @typedef {object} Shortening what is told besides of a failing run that was to be shortened
- * @property {import("../run/group.mjs").Outcome & Check} [original] the run as it was found by its seed, where the
+ * @property {import("../run/outcome.mjs").Outcome & Check} [original] the run as it was found by its seed, where the
  * outcome is that of a shorter one
  * @property {import("../shorter/shorten.mjs").Shortened} [shortened]
  */

@@ -16,78 +16,11 @@ import { loadProblem } from "./load-problem.mjs";
 import { within } from "./within.mjs";
 
 /** @typedef {import("../processes/thread.mjs").Thread} Thread */
-/** @typedef {"finished" | "deadlock" | "failed" | "check" | "race" | "bound"} Ending */
-
-/**
- * @typedef {object} Outcome of one run
- * @property {number} seed
- * @property {Ending} ending
- * @property {boolean} fails whether it is a failing run, by its ending and by what is allowed
- * @property {string} detail why it ended so; empty where all agents finished
- * @property {number} moves
- * @property {number} calls of Atomics that were begun
- * @property {number} ordinary how many ordinary reads and writes were seen
- * @property {{ returned: number, calls: number }[]} progress of each agent: calls that returned, and that began
- * @property {import("./final-state.mjs").FinalState} state of the end
- * @property {import("./findings.mjs").RaceReport[]} races the unordered accesses, each pair of lines of code once
- * @property {string[]} [bytes] of each buffer as it was left, in hexadecimal digits; this and what follows is told of
- * runs that fail, and where it is asked for
- * @property {(string | null)[][]} [answers] of each agent's calls, as a report spells them; null: a wait that goes on
- * @property {string} [script] what `sabsim replay` reads
- * @property {"all" | "touched"} [scriptHolds] which ordinary writes stand in the script: all, or those of bytes that
- * some call of Atomics touches
- * @property {string} [noScript] why there is no script
- * @property {import("./failure.mjs").Failure} [failure] what a run that fails failed by, in short; a race is in `races`
- * @property {string} [report] what sabsim must answer
- * @property {string} [trace] each event as an object of JSON, a line each
- * @property {import("./accesses.mjs").Accesses} [accesses] by which arrays the trace's ordinary accesses were made, and
- * what they read
- * @property {string} [noTrace] why there is no trace, though it was wanted
- * @property {import("./source-names.mjs").SourceText[]} [sources] the code of each file that the trace names
- * @property {number[]} [row] which agent moved with each draw, in order, where that is asked for
- * @property {string} [onlyIf] of a failing run in which a timed wait has ended early: what time must pass for that
- * @property {import("./timed-ends.mjs").OnlyByTime[]} [onlyByTime] waits that have ended only since their time was up
- * @property {import("./timed-ends.mjs").Place[]} [served] places at which agents of the run wait, and which other
- * agents have notified or written; told with timed waits alone
- * @property {string[]} [unrecorded] which shared memory and which threads agents used that aren't recorded, if any
- */
-
-/**
- * @typedef {object} Covering what an outcome has besides, where coverage is looked for
- * @property {string[]} [meetings] pairs of lines that came one after the other at a place, by different agents; those
- * that this group's runs before haven't shown
- * @property {number} [unplaced] how many accesses have told no line
- */
-
-/**
- * @typedef {object} Wanting
- * @property {number} seed
- * @property {boolean} whole whether answers, script and report are told even of a run that finishes
- * @property {boolean} [isTrial] whether only its ending is wanted: no answers, script, report or trace is told
- * @property {boolean} [tellsLines] whether a trial tells the lines of its races
- * @property {boolean} [tellsTrace] whether the trace is told in any case
- * @property {boolean} [tellsActs] whether the outcome has a digest of all that was done
- * @property {boolean} [isFresh] whether the agents' workers are started anew before
- */
-
-/** @typedef {Wanting & import("../board/row.mjs").RowWanted} Wanted a run that is to be made */
-
-/**
- * @typedef {object} Aside what is reported beside an outcome to code that compares runs
- * @property {{ agent: number, block: number, byte: number }[]} waiting who waits where in a deadlock, in order of
- * arrival
- * @property {import("../board/row.mjs").Stray} [stray] how it has strayed from the row that it was to go by exactly
- */
-
-/**
- * @typedef {object} Judgement whether the recorder has found unordered accesses in a run, and in which events it has
- * looked; told beside an outcome that has a script, where ordinary accesses are watched
- * @property {boolean} racy whether it has found any
- * @property {Int32Array} events those of the run's log
- * @property {boolean} isInScript whether the script has all of them, and no others
- */
-
-/** @typedef {{ outcome: Outcome, judgement?: Judgement, aside: Aside }} One all that is told of one run */
+/** @typedef {import("./outcome.mjs").Aside} Aside */
+/** @typedef {import("./outcome.mjs").Judgement} Judgement */
+/** @typedef {import("./outcome.mjs").One} One */
+/** @typedef {import("./outcome.mjs").Outcome} Outcome */
+/** @typedef {import("./outcome.mjs").Wanted} Wanted */
 
 /** @typedef {{ setup: unknown, names: string[], hasInit: boolean, hasCheck: boolean }} Has what a module has */
 /** @typedef {{ thread: Thread, has: Has }} Loaded */

@@ -12,9 +12,9 @@ import { RunReporter } from "./run-reporter.mjs";
 import { areSame } from "./same.mjs";
 import { SourceNames } from "./source-names.mjs";
 
-/** @typedef {import("./group.mjs").One} One */
-/** @typedef {import("./group.mjs").Outcome} Outcome */
-/** @typedef {import("./group.mjs").Wanted} Wanted */
+/** @typedef {import("./outcome.mjs").One} One */
+/** @typedef {import("./outcome.mjs").Outcome} Outcome */
+/** @typedef {import("./outcome.mjs").Wanted} Wanted */
 /** @typedef {import("./run-maker.mjs").Made} Made */
 
 const ANOTHER_WAY = "the run went another way when it was made once more to learn its lines of code: its agents do " +
@@ -93,7 +93,7 @@ class Referee {
     const { maker, maker: { log }, reporter, meetings } = this;
     let hasSources = this.tellsNext;
     let found = await maker.made(wanted, hasSources);
-    /** @type {import("./group.mjs").Covering} */
+    /** @type {import("./outcome.mjs").Covering} */
     const covering = meetings === undefined
       ? {} : { meetings: meetings.add(log, reporter.sources), unplaced: meetings.unplaced };
     const isCut = hasSources && !log.hasRoom();
@@ -171,7 +171,7 @@ class Referee {
   }
 }
 
-/** @param {Made} found @returns {import("./group.mjs").Aside} */
+/** @param {Made} found @returns {import("./outcome.mjs").Aside} */
 const asideOf = ({ waiting, stray }) => ({ waiting, stray });
 
 /** Awaits what it goes by, and then its work. */

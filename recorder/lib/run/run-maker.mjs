@@ -13,11 +13,11 @@ import { PILOT_SECONDS } from "./pilots.mjs";
 import { isRacy } from "./races.mjs";
 import { unseenText } from "./unseen.mjs";
 
-/** @typedef {import("./group.mjs").Wanted} Wanted */
+/** @typedef {import("./outcome.mjs").Wanted} Wanted */
 
 /**
  * @typedef {object} Made how a run ended
- * @property {import("./group.mjs").Ending} ending
+ * @property {import("./outcome.mjs").Ending} ending
  * @property {string} detail
  * @property {string[]} bytes of each block, in hexadecimal digits
  * @property {number[]} gone agents that can't run again

@@ -18,7 +18,7 @@ import { UNSEEN_LINE, placesIn, traceText } from "./trace.mjs";
 import { transcriptOf } from "./transcript.mjs";
 import { NO_SCRIPT, unrecordedIn } from "./unseen.mjs";
 
-/** @typedef {import("./group.mjs").Outcome} Outcome */
+/** @typedef {import("./outcome.mjs").Outcome} Outcome */
 /** @typedef {import("./run-maker.mjs").Made} Made */
 
 export class RunReporter {
@@ -37,7 +37,7 @@ export class RunReporter {
     this.seesAll = options.ordinary === "watch" && !preloads();
   }
 
-  /** @param {import("./group.mjs").Wanted} wanted @param {Made} found @returns {Outcome} what each outcome has */
+  /** @param {import("./outcome.mjs").Wanted} wanted @param {Made} found @returns {Outcome} what each outcome has */
   brief({ seed }, found) {
     const { maker, options } = this;
     const { ending, detail } = found;
@@ -149,7 +149,7 @@ export class RunReporter {
    * Whether unordered accesses were found, if the outcome has the script, so that both can be checked.
    * @param {Outcome} outcome
    * @param {Made} found
-   * @returns {import("./group.mjs").Judgement | undefined}
+   * @returns {import("./outcome.mjs").Judgement | undefined}
    */
   judgement({ script }, { racy, initial }) {
     if (script === undefined || this.options.ordinary !== "watch") return undefined;

@@ -1,6 +1,6 @@
 // Whether two runs did the same.
 
-/** @typedef {import("./group.mjs").Outcome} Outcome */
+/** @typedef {import("./outcome.mjs").Outcome} Outcome */
 /** @typedef {Pick<Outcome, "seed" | "ending" | "detail" | "moves" | "calls" | "state" | "noScript">} RunSummary */
 
 /**

@@ -1,7 +1,7 @@
 // How many pairs of lines the runs of some seeds have shown, and whether that is all: so many seeds in a row have shown
 // nothing new. Outcomes come in the order of their seeds.
 
-/** @typedef {import("../run/group.mjs").Outcome} Outcome */
+/** @typedef {import("../run/outcome.mjs").Outcome} Outcome */
 
 /** So many seeds in a row without a new pair, and the runs cover what they will. */
 const ENOUGH = 500;
@@ -51,7 +51,7 @@ export class Coverage {
     return { pairs, last, row, unplaced, covered: isEnough && unplaced === 0 };
   }
 
-  /** @param {Outcome & import("../run/group.mjs").Covering} outcome @returns {boolean} whether it is enough */
+  /** @param {Outcome & import("../run/outcome.mjs").Covering} outcome @returns {boolean} whether it is enough */
   add({ seed, meetings = [], unplaced = 0 }) {
     const { size } = this.pairs;
     for (const pair of meetings) this.pairs.add(pair);

@@ -8,7 +8,7 @@ import { FirstFailing } from "../run/order.mjs";
 import { shorten } from "../shorter/shorten.mjs";
 import { simulatorAt } from "../simulator/chosen.mjs";
 
-/** @typedef {import("../run/group.mjs").Outcome} Outcome */
+/** @typedef {import("../run/outcome.mjs").Outcome} Outcome */
 /** @typedef {{ stray?: import("../board/row.mjs").Stray, acts?: string }} Besides `acts` is a digest of what was done */
 /** @typedef {Outcome & import("../check/check.mjs").Check & Besides} Checked */
 
@@ -65,7 +65,7 @@ export class Job {
 
   /**
    * Makes runs, and checks them.
-   * @param {import("../run/group.mjs").Wanted[]} seeds
+   * @param {import("../run/outcome.mjs").Wanted[]} seeds
    * @param {(outcome: Checked) => void} onOutcome
    * @returns {Promise<void>} fails if a check has failed; the outcome of that run is the last one
    */
@@ -103,7 +103,7 @@ export class Job {
     return this.#group ?? Promise.reject(new Error("the job wasn't opened"));
   }
 
-  /** @param {import("../run/group.mjs").One} run @returns {Checked} */
+  /** @param {import("../run/outcome.mjs").One} run @returns {Checked} */
   #checked(run) {
     try {
       const { stray } = run.aside;

@@ -12,7 +12,7 @@ import { startJob } from "./start-job.mjs";
 /**
  * @typedef {object} Request what a job's process is asked for: one of these
  * @property {Parameters<import("./job.mjs").Job["open"]>[0]} [open]
- * @property {import("../run/group.mjs").Wanted[]} [run]
+ * @property {import("../run/outcome.mjs").Wanted[]} [run]
  * @property {import("../run/same.mjs").RunSummary} [shorten]
  */
 
@@ -85,7 +85,7 @@ export class RemoteJob {
   }
 
   /**
-   * @param {import("../run/group.mjs").Wanted[]} seeds
+   * @param {import("../run/outcome.mjs").Wanted[]} seeds
    * @param {(outcome: Checked) => void} onOutcome
    * @returns {Promise<void>}
    */

@@ -23,7 +23,7 @@ import { SeedQueue } from "./seed-queue.mjs";
  * @property {number} [origin] the seed from which one in so many is counted; the first if it isn't given
  * @property {boolean} [failFast] whether the first failing run is the last, unless it fails only after an early end
  * @property {boolean} [trials] whether only their endings are wanted, which takes less time: outcomes have no script
- * @property {Omit<import("../run/group.mjs").Wanted, "seed" | "whole">} [wanted] what else is wanted of each run
+ * @property {Omit<import("../run/outcome.mjs").Wanted, "seed" | "whole">} [wanted] what else is wanted of each run
  * @property {boolean} [isBrief] whether only the outcomes of runs that may be the first failing one have their long
  * texts
  * @property {number} [ahead] how far a seed that is begun may be from the next one to be taken; as far as it likes, if
@@ -239,7 +239,7 @@ export class Runs {
 
   /**
    * @param {AnyJob} job
-   * @param {import("../run/group.mjs").Wanted[]} seeds in their order
+   * @param {import("../run/outcome.mjs").Wanted[]} seeds in their order
    */
   async #run(job, seeds) {
     let made = 0;

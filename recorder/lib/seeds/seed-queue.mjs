@@ -1,6 +1,6 @@
 // The seeds of runs that are to be made, in their order.
 
-/** @typedef {import("../run/group.mjs").Wanted} Wanted */
+/** @typedef {import("../run/outcome.mjs").Wanted} Wanted */
 
 /** The most seeds that a job is given at a time. */
 export const BATCH = 16;

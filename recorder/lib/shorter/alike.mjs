@@ -1,7 +1,7 @@
 // Whether two runs fail in the same way.
 
-/** @typedef {import("../run/group.mjs").Outcome} Outcome */
-/** @typedef {import("../run/group.mjs").Aside} Aside */
+/** @typedef {import("../run/outcome.mjs").Outcome} Outcome */
+/** @typedef {import("../run/outcome.mjs").Aside} Aside */
 /** @typedef {{ outcome: Outcome, aside: Aside }} Run */
 
 // A number, with its sign and its fraction.

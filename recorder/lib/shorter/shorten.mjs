@@ -10,8 +10,8 @@ import { inOneGo } from "./in-one-go.mjs";
 import { keptScript } from "./kept-script.mjs";
 import { changesOf, joinedFrom, rowOf, shortenedAt, stretchesOf, without } from "./stretches.mjs";
 
-/** @typedef {import("../run/group.mjs").Outcome} Outcome */
-/** @typedef {import("../run/group.mjs").One} One */
+/** @typedef {import("../run/outcome.mjs").Outcome} Outcome */
+/** @typedef {import("../run/outcome.mjs").One} One */
 /** @typedef {import("./stretches.mjs").Stretch} Stretch */
 /** @typedef {import("../run/same.mjs").RunSummary} RunSummary */
 

@@ -21,7 +21,7 @@ export async function groupOf(context, module, options = {}) {
  * The first failing run of a group's agents that meets no bound, by its seed.
  * @param {Group} group
  * @param {number} [most] how many seeds are tried
- * @returns {Promise<import("../../lib/run/group.mjs").Outcome>}
+ * @returns {Promise<import("../../lib/run/outcome.mjs").Outcome>}
  */
 export async function firstFailing(group, most = 500) {
   for (let first = 1; first <= most; first += 10) {

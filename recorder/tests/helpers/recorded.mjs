@@ -9,7 +9,7 @@ import { simulatorAt } from "../../lib/simulator/chosen.mjs";
 import { agentsPath } from "./common.mjs";
 import { CHECKER } from "./needs.mjs";
 
-/** @typedef {import("../../lib/run/group.mjs").Outcome} Outcome */
+/** @typedef {import("../../lib/run/outcome.mjs").Outcome} Outcome */
 
 const simulator = simulatorAt(CHECKER);
 
