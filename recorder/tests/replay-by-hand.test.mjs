@@ -47,7 +47,7 @@ test("an interleaving that somebody has in mind is made on the code, and its pag
   const names = ["json", "report", "trace.jsonl", "explained", "svg", "html"].map((end) => `mine.replayed.${end}`);
   const lines = output.trimEnd().split("\n");
   assert.ok(lines[0].startsWith(`replayed ${file}, with the clocks and random numbers of seed 1`));
-  assert.ok(lines.includes("1 of 1 run failed: 1 check"), output);
+  assert.ok(lines.includes("1 of 1 run failed: 1 check failed"), output);
   assert.equal(lines.at(-1), `kept in ${found}: ${names.join(", ")}`);
   assert.deepEqual(readdirSync(found).sort(), [...names].sort());
   const kept = (end) => readFileSync(join(found, `mine.replayed.${end}`), "utf8");
@@ -81,7 +81,7 @@ test("moves without an effect are left out, as `sabsim replay` has it, and a lin
     const { status, output, errors } = await replayed(context, byHand(schedule));
     assert.equal(status, 1, errors);
     assert.equal(output.split("\n")[1], line);
-    assert.match(output, /^1 of 1 run failed: 1 check$/m);
+    assert.match(output, /^1 of 1 run failed: 1 check failed$/m);
   }
 });
 
