@@ -1,4 +1,4 @@
-"""Unpacks what a crate's own proof has checked, which its library holds, as a folder that a further check begins with."""
+"""Makes a folder of modules that a check begins with, of what a crate's own proof has checked and its library holds."""
 import os
 import re
 from collections import namedtuple
@@ -24,6 +24,20 @@ def unpack_modules(crate, folder):
         if len(module.name.encode()) <= longest:
             with open(f"{inside}/{module.name}", "wb") as it:
                 it.write(module.data)
+
+
+def save_nothing_of(functions, crate, folder):
+    """Has the next check over a folder of modules save none of the modules of these functions' code: a folder takes each
+    one's place. A check that can't save all prints no files to start proofs from. For these it would go once more through
+    each function that isn't proved. It decides and prints the same otherwise."""
+    inside = f"{folder}/{os.listdir(folder)[0]}"
+    longest = os.pathconf(inside, "PC_NAME_MAX")
+    for name in functions:
+        file = f"Rattle-{crate.name}-proofs.{'.'.join(name.split('::')[1:])}.Code.oantt"
+        if len(file.encode()) <= longest:
+            if os.path.isfile(f"{inside}/{file}"):
+                os.remove(f"{inside}/{file}")
+            os.mkdir(f"{inside}/{file}")
 
 
 def build_of(data):

@@ -8,7 +8,7 @@ from contextlib import contextmanager
 from .edits import Edit, functions_touched
 from .functions import IN_A_TWIN, IN_PLACE, Unreadable, calls_of, functions_of, source_files
 from .kit import rt, rtlib
-from .modules import unpack_modules
+from .modules import save_nothing_of, unpack_modules
 from .twins import InPlace, Twin, apart, placed_of, tried_of, wants_copy, write_texts, write_with
 from .verdicts import Judge, Reading
 
@@ -102,6 +102,7 @@ class Trial:
         """Checks what is tried in the copy of the crate in a folder, which has these functions. Returns a judge of what the
         check said, why it has no verdict, or nothing, and the edits that can't be read then."""
         only = [word for it in tried for word in ("--only", it.name.partition("::")[2])]
+        save_nothing_of({it.name for it in tried}, self.crate, kept)
         ran = run_check(self.crate, room, [*self.flags, *only], kept)
         sources = {file: rtlib.text_of(f"{room}/{file}") for file in source_files(room)}
         reading = Reading(ran.returncode, ran.stdout)
