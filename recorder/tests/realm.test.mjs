@@ -175,9 +175,9 @@ describe("a patched language", () => {
     const agents = new URL("./agents/patched.mjs", import.meta.url);
     agents.search = new URLSearchParams({ what, when, how });
     const options = { module: agents, args: [end], seed: 7, seconds: 5, ordinary, sabsim: CHECKER };
-    const { trace, races, ...outcome } = await record(options);
-    // The stack of an error has the module's name.
-    return { ...outcome, detail: outcome.detail.split("\n")[0] };
+    const { trace, races, failure, ...outcome } = await record(options);
+    // The stack of an error has the module's name, and the code may have patched what makes it.
+    return { ...outcome, failure: failure?.message, detail: outcome.detail.split("\n")[0] };
   }
 
   const FUNCTIONS = ["top", "agent"].flatMap((when) => ["throws", "lies"].map((how) => ["functions", when, how]));

@@ -14,7 +14,7 @@ const begins = uncurried(String.prototype.startsWith);
 // How many frames are looked at: each costs time, and few of the recorder's own stand above the agent's as a rule.
 const FEW_FRAMES = 3;
 const SOME_FRAMES = 12;
-const MOST_FRAMES = 100;
+const MOST_FRAMES = 200;
 
 // The recorder's own files, and node's.
 const RECORDER = new URL("../../", import.meta.url).href;
