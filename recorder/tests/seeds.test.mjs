@@ -65,7 +65,8 @@ test("the same seeds give the same scripts byte for byte, whatever the jobs", as
   const four = await outcomesOf("naive-mutex", { checkEvery: 1, jobs: 4 });
   assert.deepEqual(again.outcomes, one.outcomes);
   // Each job tells the trace of its own first failing run, and the code that it names.
-  const untraced = ({ outcomes }) => outcomes.map((outcome) => ({ ...outcome, trace: undefined, sources: undefined }));
+  const untraced = ({ outcomes }) => outcomes.map((outcome) =>
+    ({ ...outcome, trace: undefined, accesses: undefined, sources: undefined }));
   assert.deepEqual(untraced(four), untraced(one));
   assert.ok(new Set(one.outcomes.map((outcome) => outcome.script)).size > 30);
 });
