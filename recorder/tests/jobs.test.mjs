@@ -216,7 +216,7 @@ test("a run that failed is told of, also if the next one ends the job's process 
   const { status, stdout } = run([...words, "--seeds", "1..10", "--everywhere"]);
   assert.equal(status, 3);
   // The first one is made twice, for the lines of its accesses.
-  assert.match(stdout, /^stopped after 6 of 10 runs\n6 of 6 runs failed: 6 stopped\n/);
+  assert.match(stdout, /^stopped after 6 of 10 runs\n6 of 6 runs failed: 6 race\n/);
 });
 
 test("where one job of several is killed, the others go on", onLinux, async (context) => {

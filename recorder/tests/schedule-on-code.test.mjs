@@ -52,7 +52,8 @@ test("of code that takes another path it is said where", async (context) => {
 });
 
 test("the command has the options that the run depends on, as a shell takes them", () => {
-  const usual = { ordinary: "watch", races: "fail", bounds: "fail", clock: "run" };
+  const fails = { races: "fail", bounds: "fail", unrecorded: "fail" };
+  const usual = { ordinary: "watch", clock: "run", timeouts: 0.05, ...fails };
   const { options, args } = replayCommand({ ...usual, module: "a b.mjs", clock: "real", args: ["one", "it's"] });
   assert.match(options, /^(?:node \S+|npx sabsim-record) 'a b\.mjs' --clock real$/);
   assert.equal(args, " -- one 'it'\\''s'");

@@ -79,7 +79,7 @@ describe("runs with timed waits", { concurrency: 2 }, () => {
     const plain = failing.find(({ onlyIf }) => onlyIf === undefined);
     assert.ok(failing[0].onlyIf !== undefined && plain.seed > failing[0].seed);
     const [first] = summaryLines(outcomes).filter((line) => line.startsWith("first failing seed"));
-    assert.equal(first, `first failing seed: ${plain.seed}, failed`);
+    assert.equal(first, `first failing seed: ${plain.seed}, threw`);
   });
 
   it("a run is shortened to one without an early end, though one that has it is shorter", async (context) => {

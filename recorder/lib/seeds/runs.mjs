@@ -120,8 +120,9 @@ export class Runs {
   }
 
   /** @param {Outcome} outcome @returns {boolean} whether no other one comes behind it */
-  isLast({ seed, fails }) {
-    return seed === this.options.last || (fails && this.options.failFast === true);
+  isLast(outcome) {
+    const { failFast, last } = this.options;
+    return outcome.seed === last || (failFast === true && isFirstOfAll(outcome));
   }
 
   /**

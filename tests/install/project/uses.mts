@@ -1,12 +1,14 @@
 // Uses every name that the package exports, as TypeScript of a project of one's own.
 
 import { explore, record, Difference, LostJob, NoSabsim, Refused } from "sabsim";
-import type { Agent, AgentRun, Ending, ExploreOptions, Outcome, Race, RaceSide } from "sabsim";
-import type { Kind, NamedPlace, OnlyByTime, RecordOptions, Setup, Shortened, WithBuffers } from "sabsim";
+import type { Accesses, Agent, AgentRun, Ending, ExploreOptions, Outcome, Race, RaceSide } from "sabsim";
+import type { Kind, NamedPart, NamedPlace, OnlyByTime, RecordOptions, Setup, Shortened, WithBuffers } from "sabsim";
 
 const kind: Kind = "Uint8";
 const slots: NamedPlace = [kind, 1];
-export const setup: Setup = { agents: 2, buffers: [8, 16], noBlock: [1], names: { LOCK: 0, slots, one: [kind, 1, 0] } };
+const part: NamedPart = { kind: "Float64", buffer: 1, offset: 8, length: 1 };
+const names: Setup["names"] = { LOCK: 0, slots, part, one: [kind, 1, 0] };
+export const setup: Setup = { agents: 2, buffers: [8, 16], noBlock: [1], names };
 
 export const agent: Agent = ({ buffers, agent, agents, args }: AgentRun) => {
   const words = new Int32Array(buffers[0]!);
@@ -50,6 +52,11 @@ const shortening = ({ runs, changes, calls, stopped = "", unchanged = "" }: Shor
 const waitText = ({ agent, line, milliseconds, block, byte }: OnlyByTime): string =>
   [agent, line ?? "unknown", milliseconds, block, byte].join(" ");
 
+const accessText = ({ arrays, made }: Accesses): string => [
+  ...arrays.map(({ name, kind, block, offset, length }) => `${name} ${kind} ${block} ${offset} ${length}`),
+  ...made.map(([event, array, value]) => `${event} ${array} ${value ?? "none"}`),
+].join(" ");
+
 function summary(outcome: Outcome): string {
   const ending: Ending = outcome.ending;
   const { seed, fails, detail, moves, calls, ordinary, progress, state, races } = outcome;
@@ -57,7 +64,8 @@ function summary(outcome: Outcome): string {
   const texts = [ending, String(fails), detail, state.hash, ...state.shown, ...races.map(raceText)];
   const { bytes = [], answers = [], script, scriptHolds = "all", noScript = "", report = "", trace = "" } = outcome;
   const { onlyIf = "", onlyByTime = [], served = [], unrecorded = [], remembers } = outcome;
-  const timed = [onlyIf, ...onlyByTime.map(waitText), ...served.map(({ block, byte }) => `${block} ${byte}`)];
+  const accesses = outcome.accesses === undefined ? "" : accessText(outcome.accesses);
+  const timed = [accesses, onlyIf, ...onlyByTime.map(waitText), ...served.map(({ block, byte }) => `${block} ${byte}`)];
   const answered = [...timed, ...answers.flat().map((answer) => answer ?? "waits")];
   return [...numbers, ...texts, ...bytes, ...answered, script?.length, scriptHolds, noScript, report, trace,
     ...unrecorded, remembers?.seed, remembers?.differs, remembers?.was, remembers?.is].join(" ");
