@@ -71,7 +71,7 @@ describe("agents that go on and on", () => {
   });
 
   it("a limit says who sleeps, where, and at which line", async () => {
-    const [{ ending, detail, failure }] = await recorded({ module: agentsPath("sleeps-beside"), timeouts: 0 });
+    const [{ ending, detail, failure }] = await recorded({ module: agentsPath("sleeps-beside"), timeouts: "never" });
     assert.equal(ending, "bound");
     const [spin, ...sleepers] = detail.split("\n");
     const at = (text) => {

@@ -43,25 +43,31 @@ export async function framesOf(worker) {
 /**
  * @param {Session} session
  * @param {number} threadId of the worker
- * @returns {Promise<Frame[]>}
+ * @returns {Promise<Frame[]>} when the worker goes on
  */
 function pausedFrames(session, threadId) {
   /** @type {Map<string, string>} the URLs of scripts */
   const files = new Map();
+  /** @type {Frame[]} */
+  let frames = [];
   return new Promise((done) => {
-    session.on("NodeWorker.attachedToWorker", ({ params: { sessionId, workerInfo } }) => {
-      if (!workerInfo.title.startsWith(`[worker ${threadId}]`)) return;
-      ["Debugger.enable", "Debugger.pause"].forEach((method, id) => {
-        session.post("NodeWorker.sendMessageToWorker", { sessionId, message: JSON.stringify({ id, method }) });
-      });
+    /** @param {string} sessionId @param {string[]} methods for the worker's own inspector */
+    const ask = (sessionId, ...methods) => methods.forEach((method, id) => {
+      session.post("NodeWorker.sendMessageToWorker", { sessionId, message: JSON.stringify({ id, method }) });
     });
-    session.on("NodeWorker.receivedMessageFromWorker", ({ params: { message } }) => {
+    session.on("NodeWorker.attachedToWorker", ({ params: { sessionId, workerInfo } }) => {
+      if (workerInfo.title.startsWith(`[worker ${threadId}]`)) ask(sessionId, "Debugger.enable", "Debugger.pause");
+    });
+    session.on("NodeWorker.receivedMessageFromWorker", ({ params: { sessionId, message } }) => {
       const { method, params } = JSON.parse(message);
       if (method === "Debugger.scriptParsed") files.set(params.scriptId, params.url);
-      if (method === "Debugger.paused") done(params.callFrames.map((/** @type {any} */ { location }) => {
-        const { scriptId, lineNumber, columnNumber } = location;
-        return { file: files.get(scriptId) ?? "", line: lineNumber + 1, column: columnNumber + 1 };
-      }));
+      if (method === "Debugger.paused") {
+        frames = params.callFrames.map((/** @type {any} */ { location: { scriptId, lineNumber, columnNumber } }) =>
+          ({ file: files.get(scriptId) ?? "", line: lineNumber + 1, column: columnNumber + 1 }));
+        // A worker that is still paused when the session ends can't be terminated.
+        ask(sessionId, "Debugger.resume");
+      }
+      if (method === "Debugger.resumed") done(frames);
     });
     session.post("NodeWorker.enable", { waitForDebuggerOnStart: false }, (error) => {
       if (error !== null) done([]);
