@@ -145,10 +145,11 @@ export class Player {
     if (noted === NOTED.FULL) part.meetsLimit(`more than ${this.table.log.most} reads and writes were made that differ`);
   }
 
-  /** @returns {boolean} whether the agent prints nothing: its run is made to learn from alone, or is over */
+  /** @returns {boolean} whether the agent prints nothing: its run is made to learn from or to compare alone, or is over */
   isSilent() {
     const { isOver, isPlaying } = this.part;
-    return this.table.board.words[WORD.IS_PILOT] === 1 || (isPlaying && isOver);
+    const { words } = this.table.board;
+    return words[WORD.IS_PILOT] === 1 || words[WORD.IS_SILENT] === 1 || (isPlaying && isOver);
   }
 
   /** @returns {number} what time it is in the run */

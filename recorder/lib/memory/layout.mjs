@@ -30,6 +30,7 @@ export const WORD = Object.freeze({
   IS_PILOT: 25,
   EARLY_OTHER: 26,
   EARLY_CALL: 27,
+  IS_SILENT: 28,
 });
 
 /** Words of each agent; each agent has a line of the processor's cache for itself. */

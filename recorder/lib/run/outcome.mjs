@@ -51,6 +51,7 @@
  * @property {boolean} [tellsLines] whether a trial tells the lines of its races
  * @property {boolean} [tellsTrace] whether the trace is told in any case
  * @property {boolean} [tellsActs] whether the outcome has a digest of all that was done
+ * @property {boolean} [isSilent] whether nothing is printed of what the agents print
  * @property {boolean} [isFresh] whether the agents' workers are started anew before
  */
 

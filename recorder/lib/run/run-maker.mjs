@@ -87,6 +87,7 @@ export class RunMaker {
   async made(wanted, tellsSources) {
     const { board, memory, plan, options, sourceNames } = this;
     this.#clear(wanted);
+    board.words[WORD.IS_SILENT] = wanted.isSilent === true ? 1 : 0;
     const problem = options.init === undefined ? "" : await this.#asked("init");
     const initial = options.init === undefined ? [] : initialStores(memory, plan.agents);
     if (problem !== "") {

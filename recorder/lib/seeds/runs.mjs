@@ -106,10 +106,11 @@ export class Runs {
     const first = this.#first;
     if (first === undefined || fresh || this.#made < 2 || isLost(first.job)) return undefined;
     const { job, outcome: { seed } } = first;
+    const compared = { ...wanted, seed, whole: false, tellsActs: true, isSilent: true };
     /** @type {Outcome | undefined} */
     let again;
     try {
-      await this.#atRest(() => job.run([{ ...wanted, seed, whole: false, tellsActs: true }], (outcome) => {
+      await this.#atRest(() => job.run([compared], (outcome) => {
         again = outcome;
       }));
     } catch (failure) {
