@@ -17,8 +17,9 @@ from .trial import BAD, REFUSED, Result, Trial
 DECIDING = "edits functions kit modules trial twins verdicts"
 # The scripts that make the code of a static library, and try its edits.
 OF_STATIC = "static_library"
-# A proof takes at most this part of the memory that rt foresees; one of a program, or of tests, can take all of it.
-NEEDED = 0.6
+# A proof takes at most this part of the memory that rt foresees; one of a program, or of tests, at most the other part:
+# 0.7 was measured.
+NEEDED, NEEDED_WITH_CODE = 0.6, 0.8
 
 
 class Tally:
@@ -68,7 +69,8 @@ class Proofs:
         """Adds the task of proving a crate, or its tests, after those below it."""
         proving, is_compiled = proving_of(crate, is_of_tests), is_of_tests or not crate.makes_rlib()
         # Code of all crates below is compiled for a program.
-        seconds, memory = seconds_of(crate) * (2 if is_compiled else 1), rt.need(crate) * (1 if is_compiled else NEEDED)
+        seconds = seconds_of(crate) * (2 if is_compiled else 1)
+        memory = rt.need(crate) * (NEEDED_WITH_CODE if is_compiled else NEEDED)
         waits_for = [self.tasks[below.name] for below in crate.below()]
         run = lambda jobs: self.guarded(proving.name, lambda: self.prove(proving, jobs))
         task = Task(proving.name, run, waits_for, seconds, memory, most_jobs=4)
