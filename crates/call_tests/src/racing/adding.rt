@@ -34,11 +34,11 @@ fn are_two_hundred_each(report: &Report) -> bool {
         total: 100,
     };
     let sum = [0xc8, 0, 0, 0];
-    report.blocks.len() == 2
-        && report
-            .blocks
-            .iter()
-            .all(|bytes| bytes.as_slice() == sum.as_slice())
+    let [first, second] = report.blocks.as_slice() else {
+        return false;
+    };
+    first.as_slice() == sum.as_slice()
+        && second.as_slice() == sum.as_slice()
         && report.journal.len() == 1_200
         && report.agents.as_slice() == [whole; 4].as_slice()
 }

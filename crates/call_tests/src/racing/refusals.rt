@@ -5,7 +5,6 @@ ghost use Rattle.std.specs.Prelude.{◌≤◌};
 use crate::expecting::expect;
 use crate::racing::way::{Way, add_one, word_plan};
 use crate::run::wait;
-use crate::values::prints;
 use sab_race::{MAX_SPINS, NoGate, RaceFault};
 use sab_sim::Plan;
 use std::alloc::Global;
@@ -75,23 +74,6 @@ fn as_many_moves_as_a_journal_can_have_are_made(rt: HostRuntime) -> Result<(), F
         let plan = sixteen_waiters(rt.alloc())?;
         let len = len_of_race(&rt, rt.alloc(), way, plan)?;
         expect(len == (1_048_576, 1_048_576), "another number of moves")?;
-    }
-    Ok(())
-}
-
-const FAULTS: [(RaceFault, &str); 3] = [
-    (
-        RaceFault::TooManyMoves,
-        "the agents have more moves than a journal can have entries",
-    ),
-    (RaceFault::OutOfMemory, "there is no memory for the race"),
-    (RaceFault::NoThread, "a thread couldn't be started"),
-];
-
-#[test]
-fn a_refused_race_prints_why(rt: HostRuntime) -> Result<(), Fail> {
-    for (fault, text) in FAULTS {
-        expect(prints(rt.alloc(), &fault, text)?, text)?;
     }
     Ok(())
 }

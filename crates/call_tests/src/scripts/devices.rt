@@ -258,7 +258,10 @@ fn a_reader_of_one_byte_a_read_gives_the_whole_input(rt: HostRuntime) -> Result<
 /// Whether the input of so many spaces has this length or this fault, and isn't read on then.
 fn is_read_as(alloc: Global, spaces: usize, want: Result<usize, ToolFault>) -> bool {
     let mut reader = Spaces::new(spaces);
-    let read = read_input(alloc, &mut reader).map(|input| input.len());
+    let read = match read_input(alloc, &mut reader) {
+        Ok(input) => Ok(input.len()),
+        Err(fault) => Err(fault),
+    };
     read == want && !reader.was_read_on
 }
 
