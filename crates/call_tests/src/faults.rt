@@ -130,7 +130,7 @@ const OF_TOOLS: &str = "\
 fn a_tool_fault_prints_its_name(rt: HostRuntime) -> Result<(), Fail> {
     let alloc = rt.alloc();
     let mut lines = String::new(alloc);
-    for fault in TOOL_FAULTS {
+    for fault in &TOOL_FAULTS {
         let (number, name) = (fault.number(), fault.name());
         lines.push_str(format!(in alloc; "{number} {name} {fault}\n")?.as_str())?;
     }

@@ -52,11 +52,14 @@ fn fills(mut sim: Sim, m: Move, why: Why, reserved: u32) -> bool {
         && is_full(&mut sim, why)
 }
 
+/// Moves that are stuck, and why.
+const STUCK: [(Move, Why); 2] = [(Step(0), Why::Done), (TimeUp(0), Why::NotWaiting)];
+
 /// With nothing reserved, with all that there can be, and with more.
 #[test]
 fn a_journal_ends_at_its_limit(rt: HostRuntime) -> Result<(), Fail> {
     for reserved in [0, 1_048_576, u32::MAX] {
-        for (m, why) in [(Step(0), Why::Done), (TimeUp(0), Why::NotWaiting)] {
+        for &(m, why) in &STUCK {
             let sim = Sim::new(rt.alloc(), idle(rt.alloc())?)?;
             expect(fills(sim, m, why, reserved), "another end")?;
         }
@@ -144,16 +147,18 @@ fn steps_and(alloc: Global, steps: usize, last: Move) -> Result<Vec<Move>, Alloc
     Ok(schedule)
 }
 
+/// How many steps are made, a move after them, and why that is refused.
+const REFUSED: [(usize, Move, SimFault); 2] = [
+    (MOST, Step(0), SimFault::Full),
+    (MOST, Step(1), SimFault::NoAgent),
+];
+
 #[test]
 fn a_replay_makes_as_many_moves_as_a_journal_has_entries(rt: HostRuntime) -> Result<(), Fail> {
     let alloc = rt.alloc();
     let made = is_made(alloc, &steps_and(alloc, MOST - 1, Step(0))?)?;
     expect(made, "a replay that isn't made")?;
-    let table = [
-        (MOST, Step(0), SimFault::Full),
-        (MOST, Step(1), SimFault::NoAgent),
-    ];
-    for (steps, last, fault) in table {
+    for &(steps, last, fault) in &REFUSED {
         let refusal = refusal_of(alloc, &steps_and(alloc, steps, last)?)?;
         expect(refusal == Some(fault), "another refusal")?;
     }

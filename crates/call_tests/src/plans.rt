@@ -86,8 +86,8 @@ fn fault_of(alloc: Global, (_, lens, blocks, agents, _): Parts) -> Result<Option
 
 #[test]
 fn parts_that_do_not_fit_are_refused(rt: HostRuntime) -> Result<(), Fail> {
-    for parts in PARTS {
-        expect(fault_of(rt.alloc(), parts)? == parts.4, parts.0)?;
+    for parts in &PARTS {
+        expect(fault_of(rt.alloc(), *parts)? == parts.4, parts.0)?;
     }
     Ok(())
 }
@@ -118,9 +118,12 @@ fn sized(
     Ok(Plan::new(Vec::from_array(alloc, [4])?, views, scripts))
 }
 
+/// One view too many, one agent, and one call.
+const TOO_MANY: [(usize, usize, usize); 3] = [(65, 16, 1_000), (64, 17, 1_000), (64, 16, 1_001)];
+
 #[test]
 fn one_more_than_a_limit_is_too_many(rt: HostRuntime) -> Result<(), Fail> {
-    for (views, count, calls) in [(65, 16, 1_000), (64, 17, 1_000), (64, 16, 1_001)] {
+    for &(views, count, calls) in &TOO_MANY {
         let fault = sized(rt.alloc(), views, count, calls)?.err();
         expect(fault == Some(PlanFault::TooMany), "too many aren't refused")?;
     }

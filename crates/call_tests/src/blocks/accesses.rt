@@ -154,7 +154,7 @@ fn are_answered(alloc: Global, script: &str, text: &str) -> Result<bool, Fail> {
 
 #[test]
 fn accesses_answer_and_write_in_order(rt: HostRuntime) -> Result<(), Fail> {
-    for (shows, script, text) in ROWS {
+    for &(shows, script, text) in &ROWS {
         expect(are_answered(rt.alloc(), script, text)?, shows)?;
     }
     Ok(())

@@ -45,8 +45,8 @@ fn row_of(alloc: Global, kind: Kind) -> Result<String, AllocError> {
 #[test]
 fn each_kind_has_its_row_of_the_table(rt: HostRuntime) -> Result<(), Fail> {
     let mut table = String::new(rt.alloc());
-    for kind in KINDS {
-        let row = row_of(rt.alloc(), kind)?;
+    for kind in &KINDS {
+        let row = row_of(rt.alloc(), *kind)?;
         table.push_str(row.as_str())?;
     }
     expect(table.as_str() == TABLE, "another table")

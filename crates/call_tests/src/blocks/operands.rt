@@ -25,7 +25,7 @@ fn is_number(v: i64, safe: bool) -> bool {
 
 #[test]
 fn a_number_is_a_safe_integer(rt: HostRuntime) -> Result<(), Fail> {
-    for (v, safe) in NUMBERS {
+    for &(v, safe) in &NUMBERS {
         expect_of(is_number(v, safe), &v)?;
     }
     Ok(())
@@ -62,7 +62,7 @@ fn is_shown(alloc: Global, big: bool, whole: i128, text: &str) -> Result<bool, A
 
 #[test]
 fn an_operand_is_told_and_shows_its_whole_number(rt: HostRuntime) -> Result<(), Fail> {
-    for (big, whole, text) in SHOWN {
+    for &(big, whole, text) in &SHOWN {
         expect(is_shown(rt.alloc(), big, whole, text)?, text)?;
     }
     Ok(())
@@ -99,7 +99,7 @@ fn is_wrapped(kind: Kind, operand: Operand, raw: Result<u64, Thrown>, is_read: b
 
 #[test]
 fn an_operand_is_wrapped_and_read_by_the_sign_of_its_kind(rt: HostRuntime) -> Result<(), Fail> {
-    for (kind, big, whole, raw, is_read) in RAW {
+    for &(kind, big, whole, raw, is_read) in &RAW {
         let is_right = match operand(big, whole) {
             Some(operand) => is_wrapped(kind, operand, raw, is_read),
             None => false,

@@ -45,9 +45,9 @@ fn is_made(
 fn a_view_is_refused_unless_it_fits_its_block_and_is_as_it_was_made(
     rt: HostRuntime,
 ) -> Result<(), Fail> {
-    for row in VIEWS {
-        let (kind, block_len, offset, length, want) = row;
-        expect_of(is_made(kind, block_len, offset, length, want), &row)?;
+    for row in &VIEWS {
+        let (kind, block_len, offset, length, want) = *row;
+        expect_of(is_made(kind, block_len, offset, length, want), row)?;
     }
     Ok(())
 }
@@ -80,9 +80,9 @@ fn is_place(
 
 #[test]
 fn an_index_has_a_place_or_none(rt: HostRuntime) -> Result<(), Fail> {
-    for row in PLACES {
-        let (kind, block_len, offset, index, place) = row;
-        expect_of(is_place(kind, block_len, offset, index, place), &row)?;
+    for row in &PLACES {
+        let (kind, block_len, offset, index, place) = *row;
+        expect_of(is_place(kind, block_len, offset, index, place), row)?;
     }
     Ok(())
 }

@@ -20,8 +20,8 @@ fn comes_back(alloc: Global, report: &Report) -> Result<bool, Fail> {
 
 #[test]
 fn adders_lose_nothing_and_their_race_can_be_replayed(rt: HostRuntime) -> Result<(), Fail> {
-    for way in Way::ALL {
-        let (report, _) = race_adders(&rt, rt.alloc(), way, &[100; 4], Slow::NONE)?;
+    for way in &Way::ALL {
+        let (report, _) = race_adders(&rt, rt.alloc(), *way, &[100; 4], Slow::NONE)?;
         expect(comes_back(rt.alloc(), &report)?, "another replay")?;
     }
     Ok(())
@@ -65,8 +65,8 @@ fn count_apart<R: Threads + Wait + Sync>(rt: &R, alloc: Global, way: Way) -> Res
 
 #[test]
 fn adders_on_two_blocks_count_apart(rt: HostRuntime) -> Result<(), Fail> {
-    for way in Way::BOTH {
-        expect(count_apart(&rt, rt.alloc(), way)?, "another sum")?;
+    for way in &Way::BOTH {
+        expect(count_apart(&rt, rt.alloc(), *way)?, "another sum")?;
     }
     Ok(())
 }

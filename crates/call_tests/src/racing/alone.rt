@@ -75,10 +75,10 @@ fn is_raced<R: Threads + Wait + Sync>(
 
 #[test]
 fn an_agent_alone_has_one_race(rt: HostRuntime) -> Result<(), Fail> {
-    for (script, spins, text) in RUNS {
-        for way in Way::BOTH {
+    for &(script, spins, text) in &RUNS {
+        for way in &Way::BOTH {
             let is_raced = spins <= MAX_SPINS
-                && is_raced(&rt, rt.alloc(), way, spins, (script, text))?;
+                && is_raced(&rt, rt.alloc(), *way, spins, (script, text))?;
             expect(is_raced, text)?;
         }
     }
@@ -105,7 +105,7 @@ fn gives<R: Threads + Wait + Sync>(
 
 #[test]
 fn one_agent_alone_races_as_it_is_replayed(rt: HostRuntime) -> Result<(), Fail> {
-    for (script, spins, text) in RUNS {
+    for &(script, spins, text) in &RUNS {
         for share in [Share::Lock, Share::Ring] {
             let is_given = spins <= MAX_SPINS
                 && gives(&rt, rt.alloc(), share, spins, (script, text))?;

@@ -76,8 +76,8 @@ const MEETINGS: [(u32, &[u32], [u32; 2]); 2] = [(2, &[1; 2], [0, 2]), (16, &[34;
 
 #[test]
 fn agents_meet(rt: HostRuntime) -> Result<(), Fail> {
-    for (agents, counts, moves) in MEETINGS {
-        for (way, side) in PLACES {
+    for &(agents, counts, moves) in &MEETINGS {
+        for &(way, side) in &PLACES {
             let meeting = Meeting::new(side, agents, moves);
             race_adders(&rt, rt.alloc(), way, counts, meeting)?;
         }

@@ -135,9 +135,10 @@ fn is_raced<R: Threads + Wait + Sync>(
 
 #[test]
 fn two_agents_come_as_their_threads_do(rt: HostRuntime) -> Result<(), Fail> {
-    for (agents, text) in OF_TWO {
-        for way in Way::FORCIBLE {
-            expect(is_raced(&rt, rt.alloc(), way, &agents, text)?, text)?;
+    for (agents, text) in &OF_TWO {
+        for way in &Way::FORCIBLE {
+            let is_raced = is_raced(&rt, rt.alloc(), *way, agents, *text)?;
+            expect(is_raced, *text)?;
         }
     }
     Ok(())
@@ -186,10 +187,10 @@ const ORDERS: [&[Pass]; 5] = [
 /// first two orders no thread but the agent's own is free to make them.
 #[test]
 fn sixteen_agents_come_as_their_threads_do(rt: HostRuntime) -> Result<(), Fail> {
-    for passes in ORDERS {
-        for way in Way::FORCIBLE {
-            let order = order_of(rt.alloc(), passes)?;
-            let (report, order) = race_adders(&rt, rt.alloc(), way, &[1; 16], order)?;
+    for passes in &ORDERS {
+        for way in &Way::FORCIBLE {
+            let order = order_of(rt.alloc(), *passes)?;
+            let (report, order) = race_adders(&rt, rt.alloc(), *way, &[1; 16], order)?;
             expect(order.is_of(&report.schedule), "another order")?;
         }
     }

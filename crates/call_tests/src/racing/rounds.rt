@@ -56,8 +56,8 @@ fn an_owner_without_patience_goes_round_full_rings(rt: HostRuntime) -> Result<()
         agent: None,
         turns: 50,
     };
-    for way in WITHOUT_PATIENCE {
-        let (report, _) = race_adders(&rt, rt.alloc(), way, &COUNTS, slow)?;
+    for way in &WITHOUT_PATIENCE {
+        let (report, _) = race_adders(&rt, rt.alloc(), *way, &COUNTS, slow)?;
         expect(order.is_of(&report.schedule), "another order")?;
     }
     Ok(())

@@ -82,7 +82,7 @@ fn has_parts(alloc: Global, script: &str, text: &str) -> Result<bool, Fail> {
 
 #[test]
 fn a_setup_has_the_parts_that_its_script_spells(rt: HostRuntime) -> Result<(), Fail> {
-    for (script, text) in SETUPS {
+    for &(script, text) in &SETUPS {
         expect(has_parts(rt.alloc(), script, text)?, text)?;
     }
     Ok(())

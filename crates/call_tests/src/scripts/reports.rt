@@ -52,7 +52,7 @@ fn is_line(alloc: Global, what: What, end: &str) -> Result<bool, Fail> {
 
 #[test]
 fn an_entry_is_one_line(rt: HostRuntime) -> Result<(), Fail> {
-    for (what, end) in ENTRIES {
+    for &(what, end) in &ENTRIES {
         expect(is_line(rt.alloc(), what, end)?, end)?;
     }
     Ok(())
@@ -72,7 +72,7 @@ const VALUES: [(bool, i128, &str); 4] = [
 
 #[test]
 fn a_value_ends_its_line(rt: HostRuntime) -> Result<(), Fail> {
-    for (big, whole, end) in VALUES {
+    for &(big, whole, end) in &VALUES {
         let value = operand(big, whole).ok_or("no safe integer")?;
         let what = What::Returned(Answer::Value(value));
         expect(is_line(rt.alloc(), what, end)?, end)?;
@@ -136,7 +136,7 @@ const BLOCKS: [(&[&[u8]], &str); 2] = [
 
 #[test]
 fn each_block_is_one_line(rt: HostRuntime) -> Result<(), Fail> {
-    for (blocks, lines) in BLOCKS {
+    for &(blocks, lines) in &BLOCKS {
         expect(are_lines(rt.alloc(), blocks, lines)?, "other lines")?;
     }
     Ok(())
