@@ -37,12 +37,11 @@ fn has_added(report: &Report, counts: &[u32]) -> bool {
         }
         sum = sum.saturating_add(*count);
     }
-    let [bytes] = report.blocks.as_slice() else {
-        return false;
-    };
-    bytes.as_slice() == sum.to_le_bytes().as_slice()
+    let bytes = report.blocks.first().map(|bytes| bytes.as_slice());
+    report.blocks.len() == 1
+        && bytes == Some(sum.to_le_bytes().as_slice())
         && report.journal.len() == report.schedule.len()
-        && report.journal.len() as u64 == u64::from(sum) * 3
+        && report.journal.len() as u64 == u64::from(sum).saturating_mul(3)
         && report.agents.len() == counts.len()
 }
 
