@@ -1,29 +1,45 @@
 //! The functions of `Atomics` that calls are of.
 
 use crate::expecting::expect;
-use crate::run::{compare_exchange, load, notify, number, rmw, store, wait};
-use sab_block::RmwOp;
+use crate::scripts::plan_of;
 use sab_sim::Call;
 use std::test::Fail;
 
+/// An agent that calls each function once.
+const EACH: &str = r#"{"bytes":4,
+  "views":[{"name":"a","kind":"Int32","offset":0,"length":null}],
+  "agents":[{"block":true,"calls":[["load","a",0],["store","a",0,1],["exchange","a",0,1],["add","a",0,1],
+    ["sub","a",0,1],["and","a",0,1],["or","a",0,1],["xor","a",0,1],["compareExchange","a",0,1,1],
+    ["wait","a",0,0],["notify","a",0]]}],
+  "schedule":[]}"#;
+
+const FUNCTIONS: [&str; 11] = [
+    "load",
+    "store",
+    "exchange",
+    "add",
+    "sub",
+    "and",
+    "or",
+    "xor",
+    "compareExchange",
+    "wait",
+    "notify",
+];
+
+/// Whether calls are of these functions, in order.
+fn are_of(calls: &[Call], functions: &[&str]) -> bool {
+    for (call, function) in calls.iter().zip(functions) {
+        if call.function() != *function {
+            return false;
+        }
+    }
+    calls.len() == functions.len()
+}
+
 #[test]
 fn a_call_names_its_function(rt: HostRuntime) -> Result<(), Fail> {
-    let one = number(1);
-    let accesses = [
-        (load(0), "load"),
-        (store(0, one), "store"),
-        (rmw(RmwOp::Exchange, 0, one), "exchange"),
-        (rmw(RmwOp::Add, 0, one), "add"),
-        (rmw(RmwOp::Sub, 0, one), "sub"),
-        (rmw(RmwOp::And, 0, one), "and"),
-        (rmw(RmwOp::Or, 0, one), "or"),
-        (rmw(RmwOp::Xor, 0, one), "xor"),
-        (compare_exchange(0, one, one), "compareExchange"),
-    ];
-    for (access, function) in accesses {
-        let call = Call::Access { view: 0, access };
-        expect(call.function() == function, function)?;
-    }
-    expect(wait(0, 0, None).function() == "wait", "wait")?;
-    expect(notify(0, 0, None).function() == "notify", "notify")
+    let plan = plan_of(rt.alloc(), EACH)?;
+    let script = plan.scripts().first().ok_or("no agent")?;
+    expect(are_of(&script.calls, &FUNCTIONS), "another function")
 }

@@ -7,6 +7,8 @@ mod blocks;
 #[cfg(test)]
 mod expecting;
 #[cfg(test)]
+mod faults;
+#[cfg(test)]
 mod functions;
 #[cfg(test)]
 mod judging;

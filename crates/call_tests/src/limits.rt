@@ -1,11 +1,11 @@
 //! Ends of limits, and refusals.
 
 use crate::expecting::expect;
-use crate::run::{is_same, load, number, plan, store, stuck, wait, whole};
+use crate::run::{is_same, number, plan, wait, whole};
 use crate::scripts::{plan_of, report_with};
-use sab_block::Kind;
+use sab_block::{Access, Kind};
 use sab_sim::Move::{self, Step, TimeUp};
-use sab_sim::{Call, Plan, Progress, Report, Sim, SimFault, Why, replay};
+use sab_sim::{Call, Entry, Plan, Progress, Report, Sim, SimFault, What, Why, replay};
 use std::alloc::{AllocError, Global};
 use std::test::Fail;
 
@@ -29,10 +29,19 @@ fn repeats(sim: &mut Sim, m: Move, count: usize) -> bool {
 
 /// Whether a journal is full, of an agent that has no calls and is stuck.
 fn is_full(sim: &mut Sim, why: Why) -> bool {
-    sim.step(Step(0)) == Err(SimFault::Full)
-        && sim.step(TimeUp(1)) == Err(SimFault::NoAgent)
-        && sim.journal().len() == MOST
-        && sim.journal().iter().all(|entry| *entry == stuck(0, 0, why))
+    let is_refused = sim.step(Step(0)) == Err(SimFault::Full)
+        && sim.step(TimeUp(1)) == Err(SimFault::NoAgent);
+    let stuck = Entry {
+        agent: 0,
+        call: 0,
+        what: What::Stuck(why),
+    };
+    for entry in sim.journal() {
+        if *entry != stuck {
+            return false;
+        }
+    }
+    is_refused && sim.journal().len() == MOST
 }
 
 /// Whether a journal gets full by a move that is stuck, and then stays as it is, with so many entries reserved.
@@ -43,11 +52,14 @@ fn fills(mut sim: Sim, m: Move, why: Why, reserved: u32) -> bool {
         && is_full(&mut sim, why)
 }
 
+/// Moves that are stuck, and why.
+const STUCK: [(Move, Why); 2] = [(Step(0), Why::Done), (TimeUp(0), Why::NotWaiting)];
+
 /// With nothing reserved, with all that there can be, and with more.
 #[test]
 fn a_journal_ends_at_its_limit(rt: HostRuntime) -> Result<(), Fail> {
     for reserved in [0, 1_048_576, u32::MAX] {
-        for (m, why) in [(Step(0), Why::Done), (TimeUp(0), Why::NotWaiting)] {
+        for &(m, why) in &STUCK {
             let sim = Sim::new(rt.alloc(), idle(rt.alloc())?)?;
             expect(fills(sim, m, why, reserved), "another end")?;
         }
@@ -68,7 +80,22 @@ const ACCESS_AND_WAIT: [Move; 7] = [
 
 /// Makes moves, and returns whether each was made.
 fn steps(sim: &mut Sim, moves: &[Move]) -> bool {
-    moves.iter().all(|m| sim.step(*m).is_ok())
+    for m in moves {
+        if sim.step(*m).is_err() {
+            return false;
+        }
+    }
+    true
+}
+
+/// Whether all calls of a report's agents returned.
+fn has_returned(report: &Report) -> bool {
+    for agent in &report.agents {
+        if agent.returned != agent.total {
+            return false;
+        }
+    }
+    true
 }
 
 /// Whether an agent makes its moves for an access and a wait so often, behind so many of another one, with nothing
@@ -78,19 +105,14 @@ fn goes_round(mut sim: Sim, others: usize, rounds: usize) -> bool {
     for _ in 0..rounds {
         are_made = are_made && steps(&mut sim, &ACCESS_AND_WAIT);
     }
-    let report = sim.finish();
-    are_made
-        && report
-            .agents
-            .iter()
-            .all(|agent| agent.returned == agent.total)
+    are_made && has_returned(&sim.finish())
 }
 
 /// An agent that has 500 accesses and waits, and one that has no calls.
 fn accesses_and_waits(alloc: Global) -> Result<Plan, Fail> {
     let access = Call::Access {
         view: 0,
-        access: load(0),
+        access: Access::Load { index: 0 },
     };
     let calls = [access, wait(0, 0, Some(5))].repeat(alloc, 500)?;
     let agents: [(bool, &[Call]); 2] = [(true, &calls), (true, &[])];
@@ -125,16 +147,18 @@ fn steps_and(alloc: Global, steps: usize, last: Move) -> Result<Vec<Move>, Alloc
     Ok(schedule)
 }
 
+/// How many steps are made, a move after them, and why that is refused.
+const REFUSED: [(usize, Move, SimFault); 2] = [
+    (MOST, Step(0), SimFault::Full),
+    (MOST, Step(1), SimFault::NoAgent),
+];
+
 #[test]
 fn a_replay_makes_as_many_moves_as_a_journal_has_entries(rt: HostRuntime) -> Result<(), Fail> {
     let alloc = rt.alloc();
     let made = is_made(alloc, &steps_and(alloc, MOST - 1, Step(0))?)?;
     expect(made, "a replay that isn't made")?;
-    let table = [
-        (MOST, Step(0), SimFault::Full),
-        (MOST, Step(1), SimFault::NoAgent),
-    ];
-    for (steps, last, fault) in table {
+    for &(steps, last, fault) in &REFUSED {
         let refusal = refusal_of(alloc, &steps_and(alloc, steps, last)?)?;
         expect(refusal == Some(fault), "another refusal")?;
     }
@@ -154,11 +178,7 @@ fn goes_on(mut sim: Sim) -> bool {
         returned: 0,
         total: 0,
     };
-    refuses
-        && goes_on
-        && report.journal.len() == 1
-        && report.agents.len() == 1
-        && report.agents.iter().all(|agent| *agent == none)
+    refuses && goes_on && report.journal.len() == 1 && report.agents.as_slice() == [none].as_slice()
 }
 
 #[test]
@@ -240,12 +260,15 @@ fn steps_are_made_reserved_or_not(rt: HostRuntime) -> Result<(), Fail> {
 
 /// Whether the last byte of a longest block is 7, and each other is 0.
 fn is_marked(block: &[u8]) -> bool {
-    match block.split_last() {
-        Some((last, others)) => {
-            *last == 7 && others.len() == 65_535 && others.iter().all(|byte| *byte == 0)
+    let Some((last, others)) = block.split_last() else {
+        return false;
+    };
+    for byte in others {
+        if *byte != 0 {
+            return false;
         }
-        None => false,
     }
+    *last == 7 && others.len() == 65_535
 }
 
 /// An agent that stores 7 in the last byte of each of four blocks of the greatest length.
@@ -253,7 +276,10 @@ fn longest(alloc: Global) -> Result<Plan, Fail> {
     let mut calls = Vec::new(alloc);
     let mut views = Vec::new(alloc);
     for view in 0..4 {
-        let access = store(65_535, number(7));
+        let access = Access::Store {
+            index: 65_535,
+            value: number(7),
+        };
         calls.push(Call::Access { view, access })?;
         views.push(whole(Kind::Uint8, view, 65_536)?)?;
     }
@@ -264,7 +290,12 @@ fn longest(alloc: Global) -> Result<Plan, Fail> {
 fn marks(mut sim: Sim) -> bool {
     let is_stepped = repeats(&mut sim, Step(0), 12);
     let report = sim.finish();
-    is_stepped && report.blocks.len() == 4 && report.blocks.iter().all(|block| is_marked(block))
+    for block in &report.blocks {
+        if !is_marked(block) {
+            return false;
+        }
+    }
+    is_stepped && report.blocks.len() == 4
 }
 
 #[test]

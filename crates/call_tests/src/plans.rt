@@ -1,10 +1,9 @@
 //! Plans that are made or refused, and the parts of one.
 
-use crate::expecting::{expect, expect_of};
+use crate::expecting::expect;
 use crate::run::{notify, plan, plan_or_fault, wait, whole};
-use crate::values::prints;
 use sab_block::{Access, Kind};
-use sab_sim::{Call, Plan, PlanFault, PlanView, Script, SimFault};
+use sab_sim::{Call, Plan, PlanFault, PlanView, Script};
 use std::alloc::{AllocError, Global};
 use std::test::Fail;
 
@@ -13,8 +12,9 @@ const LOAD: Call = Call::Access {
     access: Access::Load { index: 0 },
 };
 
-/// The lengths of blocks, the block and the block's length of views, agents, and why there is no plan of them.
+/// What parts show: the lengths of blocks, the block and the block's length of views, agents, and why there is no plan.
 type Parts = (
+    &'static str,
     &'static [u32],
     &'static [(u32, u32)],
     &'static [(bool, &'static [Call])],
@@ -22,15 +22,51 @@ type Parts = (
 );
 
 const PARTS: [Parts; 9] = [
-    (&[65_536; 4], &[], &[], None),
-    (&[65_537], &[], &[], Some(PlanFault::TooMany)),
-    (&[4, 4, 4, 65_537], &[], &[], Some(PlanFault::TooMany)),
-    (&[u32::MAX], &[], &[], Some(PlanFault::TooMany)),
-    (&[0; 5], &[], &[], Some(PlanFault::TooMany)),
-    (&[], &[], &[], Some(PlanFault::NoBlock)),
-    (&[4], &[(1, 4)], &[], Some(PlanFault::NoBlock)),
-    (&[4], &[(0, 8)], &[], Some(PlanFault::NoView)),
-    (&[4], &[], &[(true, &[LOAD])], Some(PlanFault::NoView)),
+    ("the longest blocks", &[65_536; 4], &[], &[], None),
+    (
+        "too long a block",
+        &[65_537],
+        &[],
+        &[],
+        Some(PlanFault::TooMany),
+    ),
+    (
+        "too long a last block",
+        &[4, 4, 4, 65_537],
+        &[],
+        &[],
+        Some(PlanFault::TooMany),
+    ),
+    (
+        "a block of the greatest number",
+        &[u32::MAX],
+        &[],
+        &[],
+        Some(PlanFault::TooMany),
+    ),
+    ("five blocks", &[0; 5], &[], &[], Some(PlanFault::TooMany)),
+    ("no block", &[], &[], &[], Some(PlanFault::NoBlock)),
+    (
+        "a view on no block",
+        &[4],
+        &[(1, 4)],
+        &[],
+        Some(PlanFault::NoBlock),
+    ),
+    (
+        "a view of another length",
+        &[4],
+        &[(0, 8)],
+        &[],
+        Some(PlanFault::NoView),
+    ),
+    (
+        "a call on no view",
+        &[4],
+        &[],
+        &[(true, &[LOAD])],
+        Some(PlanFault::NoView),
+    ),
 ];
 
 /// Int32 views, each of a whole block of this length.
@@ -43,15 +79,15 @@ fn words(alloc: Global, blocks: &[(u32, u32)]) -> Result<Vec<PlanView>, Fail> {
 }
 
 /// Why there is no plan of these parts.
-fn fault_of(alloc: Global, (lens, blocks, agents, _): Parts) -> Result<Option<PlanFault>, Fail> {
+fn fault_of(alloc: Global, (_, lens, blocks, agents, _): Parts) -> Result<Option<PlanFault>, Fail> {
     let views = words(alloc, blocks)?;
     Ok(plan_or_fault(alloc, lens, &views, agents)?.err())
 }
 
 #[test]
 fn parts_that_do_not_fit_are_refused(rt: HostRuntime) -> Result<(), Fail> {
-    for parts in PARTS {
-        expect_of(fault_of(rt.alloc(), parts)? == parts.3, &parts)?;
+    for parts in &PARTS {
+        expect(fault_of(rt.alloc(), *parts)? == parts.4, parts.0)?;
     }
     Ok(())
 }
@@ -82,9 +118,12 @@ fn sized(
     Ok(Plan::new(Vec::from_array(alloc, [4])?, views, scripts))
 }
 
+/// One view too many, one agent, and one call.
+const TOO_MANY: [(usize, usize, usize); 3] = [(65, 16, 1_000), (64, 17, 1_000), (64, 16, 1_001)];
+
 #[test]
 fn one_more_than_a_limit_is_too_many(rt: HostRuntime) -> Result<(), Fail> {
-    for (views, count, calls) in [(65, 16, 1_000), (64, 17, 1_000), (64, 16, 1_001)] {
+    for &(views, count, calls) in &TOO_MANY {
         let fault = sized(rt.alloc(), views, count, calls)?.err();
         expect(fault == Some(PlanFault::TooMany), "too many aren't refused")?;
     }
@@ -93,8 +132,12 @@ fn one_more_than_a_limit_is_too_many(rt: HostRuntime) -> Result<(), Fail> {
 
 /// Whether a plan has 64 views and 16 agents of 1,000 calls.
 fn is_full(plan: &Plan) -> bool {
-    let calls = plan.scripts().iter().map(|script| script.calls.len());
-    calls.eq([1_000; 16]) && plan.views().len() == 64
+    for script in plan.scripts() {
+        if script.calls.len() != 1_000 {
+            return false;
+        }
+    }
+    plan.scripts().len() == 16 && plan.views().len() == 64
 }
 
 /// Whether a plan and its copy are equal, and another plan differs.
@@ -121,12 +164,15 @@ fn a_plan_at_its_limits_and_one_of_nothing_are_copied(rt: HostRuntime) -> Result
 
 /// Whether a plan has these parts, and of its two agents the first can block.
 fn has_parts(plan: &Plan, lens: &[u32], views: &[PlanView], calls: &[Call]) -> bool {
-    let are_given = plan
-        .scripts()
-        .iter()
-        .all(|script| script.calls.as_slice() == calls);
-    let can_block = plan.scripts().iter().map(|script| script.can_block);
-    plan.block_lens() == lens && plan.views() == views && are_given && can_block.eq([true, false])
+    let [first, second] = plan.scripts() else {
+        return false;
+    };
+    plan.block_lens() == lens
+        && plan.views() == views
+        && first.calls.as_slice() == calls
+        && second.calls.as_slice() == calls
+        && first.can_block
+        && !second.can_block
 }
 
 /// Whether the first agent's script and its copy are equal.
@@ -176,38 +222,6 @@ fn plans_of_other_parts_differ(rt: HostRuntime) -> Result<(), Fail> {
     for (lens, kind, agent) in others {
         let is_other = differs(rt.alloc(), &made, lens, kind, agent)?;
         expect(is_other, "another plan is the same")?;
-    }
-    Ok(())
-}
-
-const PLAN_FAULTS: [(PlanFault, &str); 3] = [
-    (
-        PlanFault::TooMany,
-        "the plan has more of something than it can have",
-    ),
-    (
-        PlanFault::NoBlock,
-        "the plan has no block, or a view on a block that isn't there",
-    ),
-    (
-        PlanFault::NoView,
-        "a view doesn't fit its block, or a call is on a view that isn't there",
-    ),
-];
-
-const SIM_FAULTS: [(SimFault, &str); 3] = [
-    (SimFault::NoAgent, "the move names no agent"),
-    (SimFault::Full, "the journal is full"),
-    (SimFault::OutOfMemory, "there is no memory for the move"),
-];
-
-#[test]
-fn a_fault_prints_what_is_wrong(rt: HostRuntime) -> Result<(), Fail> {
-    for (fault, text) in PLAN_FAULTS {
-        expect(prints(rt.alloc(), &fault, text)?, text)?;
-    }
-    for (fault, text) in SIM_FAULTS {
-        expect(prints(rt.alloc(), &fault, text)?, text)?;
     }
     Ok(())
 }

@@ -1,7 +1,7 @@
-//! Plans, and the calls and entries that they are made of and come to.
+//! Plans, and the calls that they are made of.
 
-use sab_block::{Access, Kind, Operand, RmwOp, View};
-use sab_sim::{Answer, Call, Entry, Plan, PlanFault, PlanView, Report, Script, What, Why};
+use sab_block::{Kind, Operand, View};
+use sab_sim::{Call, Plan, PlanFault, PlanView, Report, Script};
 use std::alloc::{AllocError, Global};
 use std::test::Fail;
 
@@ -54,29 +54,20 @@ pub fn whole(kind: Kind, block: u32, block_len: u32) -> Result<PlanView, Fail> {
     Ok(PlanView { block, view })
 }
 
+/// A BigInt; or a Number, if it is a safe integer.
+pub fn operand(big: bool, whole: i128) -> Option<Operand> {
+    if big {
+        return Some(Operand::big(whole));
+    }
+    match i64::try_from(whole) {
+        Ok(number) => Operand::number(number),
+        Err(_) => None,
+    }
+}
+
 /// A Number.
 pub fn number(v: i32) -> Operand {
     Operand::number(i64::from(v)).unwrap()
-}
-
-pub fn load(index: i64) -> Access {
-    Access::Load { index }
-}
-
-pub fn store(index: i64, value: Operand) -> Access {
-    Access::Store { index, value }
-}
-
-pub fn rmw(op: RmwOp, index: i64, value: Operand) -> Access {
-    Access::Rmw { op, index, value }
-}
-
-pub fn compare_exchange(index: i64, expected: Operand, replacement: Operand) -> Access {
-    Access::CompareExchange {
-        index,
-        expected,
-        replacement,
-    }
 }
 
 /// A wait at view 0.
@@ -91,16 +82,4 @@ pub fn wait(index: i64, value: i32, timeout: Option<i64>) -> Call {
 
 pub fn notify(view: u32, index: i64, count: Option<i64>) -> Call {
     Call::Notify { view, index, count }
-}
-
-pub fn acted(agent: u32, call: u32, answer: Answer) -> Entry {
-    entry(agent, call, What::Acted(answer))
-}
-
-pub fn stuck(agent: u32, call: u32, why: Why) -> Entry {
-    entry(agent, call, What::Stuck(why))
-}
-
-fn entry(agent: u32, call: u32, what: What) -> Entry {
-    Entry { agent, call, what }
 }

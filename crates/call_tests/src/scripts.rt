@@ -2,7 +2,6 @@
 
 mod changed_bytes;
 mod devices;
-mod faults;
 mod flushing;
 mod keeping;
 mod limits;
@@ -63,6 +62,23 @@ pub fn plan_of(alloc: Global, script: &str) -> Result<Plan, Fail> {
     Ok(plan)
 }
 
+/// A report of no block, of no agent and of no moves.
+pub fn empty(alloc: Global) -> Report {
+    Report {
+        schedule: Vec::new(alloc),
+        journal: Vec::new(alloc),
+        blocks: Vec::new(alloc),
+        agents: Vec::new(alloc),
+    }
+}
+
+/// Whether a report has this text.
+pub fn is_text(alloc: Global, report: &Report, text: &str) -> Result<bool, ToolFault> {
+    let mut written = Vec::new(alloc);
+    write_report(report, &mut written)?;
+    Ok(written.as_slice() == text.as_bytes())
+}
+
 /// Whether a report has these moves and this text.
 pub fn is_report(
     alloc: Global,
@@ -70,9 +86,7 @@ pub fn is_report(
     moves: &[Move],
     text: &str,
 ) -> Result<bool, ToolFault> {
-    let mut written = Vec::new(alloc);
-    write_report(report, &mut written)?;
-    Ok(report.schedule.as_slice() == moves && written.as_slice() == text.as_bytes())
+    Ok(report.schedule.as_slice() == moves && is_text(alloc, report, text)?)
 }
 
 /// The report of a script. It fails if the report has other moves than the script, or another text than this.

@@ -26,8 +26,12 @@ fn shows(sim: &mut Sim, agents: &[u32], waiting: &[u32]) -> bool {
     let place = Place { block: 1, byte: 0 };
     let other_block = Place { block: 0, byte: 0 };
     let other_byte = Place { block: 1, byte: 4 };
-    agents.iter().all(|agent| sim.step(Step(*agent)).is_ok())
-        && sim.waiters_at(place).agents() == waiting
+    for agent in agents {
+        if sim.step(Step(*agent)).is_err() {
+            return false;
+        }
+    }
+    sim.waiters_at(place).agents() == waiting
         && sim.waiters_at(other_block).agents().is_empty()
         && sim.waiters_at(other_byte).agents().is_empty()
 }

@@ -1,38 +1,20 @@
 //! Bytes of a block, and accesses in order on a fresh block.
 
-use crate::expecting::{expect, expect_of};
-use crate::run::{compare_exchange, load, number, rmw, store};
-use sab_block::{Access, Block, Kind, Operand, RmwOp, Thrown, View};
+use crate::expecting::expect;
+use crate::scripts::{empty, is_text, plan_of};
+use sab_block::Block;
+use sab_sim::{Answer, Call, Entry, Plan, What};
 use std::alloc::Global;
 use std::test::Fail;
 
-/// The kind of a view on the whole block, an access through it, and its answer.
-type Step = (Kind, Access, Result<Operand, Thrown>);
-
-const TYPE: Result<Operand, Thrown> = Err(Thrown::TypeError);
-
-const RANGE: Result<Operand, Thrown> = Err(Thrown::RangeError);
-
-/// Makes an access, and returns whether it has its answer.
-fn gives(block: &mut Block, (kind, access, answer): &Step) -> bool {
-    let Ok(view) = View::new(*kind, block.len(), 0, None) else {
-        return false;
-    };
-    view.block_len() == block.len() && block.access(&view, access) == *answer
-}
-
-/// Makes the accesses on a fresh block, and compares each answer and then the bytes.
-fn compare(alloc: Global, steps: &[Step], bytes: &[u8]) -> Result<(), Fail> {
-    let mut block = Block::new(alloc, u32::try_from(bytes.len())?)?;
-    for step in steps {
-        expect_of(gives(&mut block, step), step)?;
-    }
-    expect(block.bytes() == bytes, "other bytes")
-}
-
 /// Whether these are so many bytes, and each of them is zero.
 fn are_zero(bytes: &[u8], len: usize) -> bool {
-    bytes.len() == len && bytes.iter().all(|byte| *byte == 0)
+    for byte in bytes {
+        if *byte != 0 {
+            return false;
+        }
+    }
+    bytes.len() == len
 }
 
 /// Whether a block has so many bytes, and each of them is zero.
@@ -62,105 +44,118 @@ fn elements_are_little_endian(rt: HostRuntime) -> Result<(), Fail> {
     expect(is_written && is_read, "another element")
 }
 
-#[test]
-fn store_answers_the_operand_unwrapped(rt: HostRuntime) -> Result<(), Fail> {
-    let a = Kind::Uint8;
-    let steps = [
-        (a, store(0, number(300)), Ok(number(300))),
-        (a, load(0), Ok(number(44))),
-    ];
-    compare(rt.alloc(), &steps, &[0x2c])
+/// What accesses show; a script of one agent that makes them; and what each answers, and then the bytes.
+const ROWS: [(&str, &str, &str); 8] = [
+    (
+        "a store answers the operand unwrapped",
+        r#"{"bytes":1,"views":[{"name":"a","kind":"Uint8","offset":0,"length":null}],
+  "agents":[{"block":true,"calls":[["store","a",0,300],["load","a",0]]}],"schedule":[]}"#,
+        "0 0 0 act 300\n1 0 0 act 44\nblock 0 2c\n",
+    ),
+    (
+        "an add wraps within a signed byte",
+        r#"{"bytes":1,"views":[{"name":"a","kind":"Int8","offset":0,"length":null}],
+  "agents":[{"block":true,"calls":[["store","a",0,-128],["add","a",0,-1],["load","a",0]]}],"schedule":[]}"#,
+        "0 0 0 act -128\n1 0 0 act -128\n2 0 0 act 127\nblock 0 7f\n",
+    ),
+    (
+        "a compareExchange wraps what it expects",
+        r#"{"bytes":1,"views":[{"name":"a","kind":"Uint8","offset":0,"length":null}],
+  "agents":[{"block":true,"calls":[
+    ["store","a",0,5],["compareExchange","a",0,261,7],["compareExchange","a",0,5,9]]}],"schedule":[]}"#,
+        "0 0 0 act 5\n1 0 0 act 5\n2 0 0 act 7\nblock 0 07\n",
+    ),
+    (
+        "a compareExchange takes both operands before it writes",
+        r#"{"bytes":1,"views":[{"name":"a","kind":"Uint8","offset":0,"length":null}],
+  "agents":[{"block":true,"calls":[
+    ["store","a",0,5],["compareExchange","a",0,"5",7],["compareExchange","a",0,5,"7"]]}],"schedule":[]}"#,
+        "0 0 0 act 5\n1 0 0 act TypeError\n2 0 0 act TypeError\nblock 0 05\n",
+    ),
+    (
+        "the kind is checked before the index",
+        r#"{"bytes":8,"views":[
+    {"name":"a","kind":"Int32","offset":0,"length":null},
+    {"name":"c","kind":"Uint8Clamped","offset":0,"length":null}],
+  "agents":[{"block":true,"calls":[
+    ["load","a",-1],["load","a",2],["load","a",9007199254740991],["load","c",-1]]}],"schedule":[]}"#,
+        "0 0 0 act RangeError\n1 0 0 act RangeError\n2 0 0 act RangeError\n3 0 0 act TypeError\nblock 0 0000000000000000\n",
+    ),
+    (
+        "the index is checked before the operand",
+        r#"{"bytes":8,"views":[
+    {"name":"a","kind":"Int32","offset":0,"length":null},
+    {"name":"b","kind":"BigUint64","offset":0,"length":null}],
+  "agents":[{"block":true,"calls":[
+    ["add","a",0,"1"],["add","a",2,"1"],["store","b",0,1],["store","b",0,"18446744073709551615"],
+    ["xor","b",0,"0"],["store","b",0,"-1"],["load","b",0]]}],"schedule":[]}"#,
+        "0 0 0 act TypeError\n1 0 0 act RangeError\n2 0 0 act TypeError\n3 0 0 act 18446744073709551615n
+4 0 0 act 18446744073709551615n\n5 0 0 act -1n\n6 0 0 act 18446744073709551615n\nblock 0 ffffffffffffffff\n",
+    ),
+    (
+        "each operation answers the old element",
+        r#"{"bytes":2,"views":[{"name":"a","kind":"Uint16","offset":0,"length":null}],
+  "agents":[{"block":true,"calls":[
+    ["store","a",0,4660],["and","a",0,4080],["or","a",0,1],["xor","a",0,65535],["sub","a",0,-1],
+    ["exchange","a",0,7]]}],"schedule":[]}"#,
+        "0 0 0 act 4660\n1 0 0 act 4660\n2 0 0 act 560\n3 0 0 act 561\n4 0 0 act 64974\n5 0 0 act 64975\nblock 0 0700\n",
+    ),
+    (
+        "a store keeps the low bits of a long BigInt",
+        r#"{"bytes":8,"views":[{"name":"a","kind":"BigInt64","offset":0,"length":null}],
+  "agents":[{"block":true,"calls":[
+    ["store","a",0,"170141183460469231731687303715884105727"],["load","a",0],
+    ["store","a",0,"-170141183460469231731687303715884105728"]]}],"schedule":[]}"#,
+        "0 0 0 act 170141183460469231731687303715884105727n\n1 0 0 act -1n
+2 0 0 act -170141183460469231731687303715884105728n\nblock 0 0000000000000000\n",
+    ),
+];
+
+/// What a call answers that is an access through a view of a block.
+fn answer_of(block: &mut Block, plan: &Plan, call: Call) -> Option<Answer> {
+    let Call::Access { view, access } = call else {
+        return None;
+    };
+    let view = plan.views().get(view as usize)?.view;
+    if view.block_len() != block.len() {
+        return None;
+    }
+    Some(match block.access(&view, &access) {
+        Ok(value) => Answer::Value(value),
+        Err(thrown) => Answer::Threw(thrown),
+    })
+}
+
+/// The answers of a plan's first agent, as its accesses are made one by one on a block.
+fn answers(alloc: Global, block: &mut Block, plan: &Plan) -> Result<Vec<Entry>, Fail> {
+    let script = plan.scripts().first().ok_or("no agent")?;
+    let mut journal = Vec::new(alloc);
+    for call in &script.calls {
+        let answer = answer_of(block, plan, *call).ok_or("a call that can't be made")?;
+        journal.push(Entry {
+            agent: 0,
+            call: 0,
+            what: What::Acted(answer),
+        })?;
+    }
+    Ok(journal)
+}
+
+/// Whether the accesses of a script, made on a fresh block, have these answers, and leave these bytes.
+fn are_answered(alloc: Global, script: &str, text: &str) -> Result<bool, Fail> {
+    let plan = plan_of(alloc, script)?;
+    let len = plan.block_lens().first().copied().unwrap_or(0);
+    let mut block = Block::new(alloc, len)?;
+    let mut report = empty(alloc);
+    report.journal = answers(alloc, &mut block, &plan)?;
+    report.blocks.push(block.into_bytes())?;
+    Ok(is_text(alloc, &report, text)?)
 }
 
 #[test]
-fn add_wraps_within_a_signed_byte(rt: HostRuntime) -> Result<(), Fail> {
-    let a = Kind::Int8;
-    let least = number(-128);
-    let steps = [
-        (a, store(0, least), Ok(least)),
-        (a, rmw(RmwOp::Add, 0, number(-1)), Ok(least)),
-        (a, load(0), Ok(number(127))),
-    ];
-    compare(rt.alloc(), &steps, &[0x7f])
-}
-
-#[test]
-fn compare_exchange_wraps_what_it_expects(rt: HostRuntime) -> Result<(), Fail> {
-    let a = Kind::Uint8;
-    let (five, seven, nine) = (number(5), number(7), number(9));
-    let steps = [
-        (a, store(0, five), Ok(five)),
-        (a, compare_exchange(0, number(261), seven), Ok(five)),
-        (a, compare_exchange(0, five, nine), Ok(seven)),
-    ];
-    compare(rt.alloc(), &steps, &[0x07])
-}
-
-#[test]
-fn compare_exchange_takes_both_operands_before_it_writes(rt: HostRuntime) -> Result<(), Fail> {
-    let a = Kind::Uint8;
-    let (five, seven) = (number(5), number(7));
-    let steps = [
-        (a, store(0, five), Ok(five)),
-        (a, compare_exchange(0, Operand::big(5), seven), TYPE),
-        (a, compare_exchange(0, five, Operand::big(7)), TYPE),
-    ];
-    compare(rt.alloc(), &steps, &[0x05])
-}
-
-#[test]
-fn the_kind_is_checked_before_the_index(rt: HostRuntime) -> Result<(), Fail> {
-    let (a, c) = (Kind::Int32, Kind::Uint8Clamped);
-    let steps = [
-        (a, load(-1), RANGE),
-        (a, load(2), RANGE),
-        (a, load(9_007_199_254_740_991), RANGE),
-        (c, load(-1), TYPE),
-    ];
-    compare(rt.alloc(), &steps, &[0; 8])
-}
-
-#[test]
-fn the_index_is_checked_before_the_operand(rt: HostRuntime) -> Result<(), Fail> {
-    let (a, b) = (Kind::Int32, Kind::BigUint64);
-    let one = Operand::big(1);
-    let minus_one = Operand::big(-1);
-    let all_ones = Operand::big(18_446_744_073_709_551_615);
-    let steps = [
-        (a, rmw(RmwOp::Add, 0, one), TYPE),
-        (a, rmw(RmwOp::Add, 2, one), RANGE),
-        (b, store(0, number(1)), TYPE),
-        (b, store(0, all_ones), Ok(all_ones)),
-        (b, rmw(RmwOp::Xor, 0, Operand::big(0)), Ok(all_ones)),
-        (b, store(0, minus_one), Ok(minus_one)),
-        (b, load(0), Ok(all_ones)),
-    ];
-    compare(rt.alloc(), &steps, &[0xff; 8])
-}
-
-#[test]
-fn each_operation_answers_the_old_element(rt: HostRuntime) -> Result<(), Fail> {
-    let a = Kind::Uint16;
-    let steps = [
-        (a, store(0, number(4660)), Ok(number(4660))),
-        (a, rmw(RmwOp::And, 0, number(4080)), Ok(number(4660))),
-        (a, rmw(RmwOp::Or, 0, number(1)), Ok(number(560))),
-        (a, rmw(RmwOp::Xor, 0, number(65535)), Ok(number(561))),
-        (a, rmw(RmwOp::Sub, 0, number(-1)), Ok(number(64974))),
-        (a, rmw(RmwOp::Exchange, 0, number(7)), Ok(number(64975))),
-    ];
-    compare(rt.alloc(), &steps, &[0x07, 0x00])
-}
-
-#[test]
-fn store_keeps_the_low_bits_of_a_long_big(rt: HostRuntime) -> Result<(), Fail> {
-    let a = Kind::BigInt64;
-    let greatest = Operand::big(170_141_183_460_469_231_731_687_303_715_884_105_727);
-    let least = Operand::big(-170_141_183_460_469_231_731_687_303_715_884_105_728);
-    let steps = [
-        (a, store(0, greatest), Ok(greatest)),
-        (a, load(0), Ok(Operand::big(-1))),
-        (a, store(0, least), Ok(least)),
-    ];
-    compare(rt.alloc(), &steps, &[0; 8])
+fn accesses_answer_and_write_in_order(rt: HostRuntime) -> Result<(), Fail> {
+    for &(shows, script, text) in &ROWS {
+        expect(are_answered(rt.alloc(), script, text)?, shows)?;
+    }
+    Ok(())
 }

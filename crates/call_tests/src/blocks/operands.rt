@@ -1,9 +1,10 @@
 //! Numbers and BigInts, and the raw elements between them.
 
 use crate::expecting::{expect, expect_of};
-use crate::run::number;
+use crate::run::operand;
 use crate::values::shows;
 use sab_block::{Kind, Operand, Thrown, from_raw, to_raw};
+use std::alloc::{AllocError, Global};
 use std::test::Fail;
 
 /// Numbers, and whether each is a safe integer.
@@ -24,91 +25,86 @@ fn is_number(v: i64, safe: bool) -> bool {
 
 #[test]
 fn a_number_is_a_safe_integer(rt: HostRuntime) -> Result<(), Fail> {
-    for (v, safe) in NUMBERS {
+    for &(v, safe) in &NUMBERS {
         expect_of(is_number(v, safe), &v)?;
     }
     Ok(())
 }
 
+/// Whether each is a BigInt, its whole number, and what it shows.
+const SHOWN: [(bool, i128, &str); 6] = [
+    (false, -1, "Operand { big: false, whole: -1 }"),
+    (true, -1, "Operand { big: true, whole: -1 }"),
+    (false, -5, "Operand { big: false, whole: -5 }"),
+    (true, -5, "Operand { big: true, whole: -5 }"),
+    (
+        true,
+        i128::MIN,
+        "Operand { big: true, whole: -170141183460469231731687303715884105728 }",
+    ),
+    (
+        true,
+        i128::MAX,
+        "Operand { big: true, whole: 170141183460469231731687303715884105727 }",
+    ),
+];
+
+/// Whether an operand is told from the others, and shows this.
+fn is_shown(alloc: Global, big: bool, whole: i128, text: &str) -> Result<bool, AllocError> {
+    match operand(big, whole) {
+        Some(operand) => {
+            let is_told = operand.is_big() == big && operand.whole() == whole;
+            Ok(is_told && shows(alloc, &operand, text)?)
+        }
+        None => Ok(false),
+    }
+}
+
 #[test]
-fn a_big_is_told_from_a_number(rt: HostRuntime) -> Result<(), Fail> {
-    let table = [
-        (number(-1), false, -1),
-        (Operand::big(-1), true, -1),
-        (Operand::big(i128::MAX), true, i128::MAX),
-        (Operand::big(i128::MIN), true, i128::MIN),
-    ];
-    for (operand, big, whole) in table {
-        let is_told = operand.is_big() == big && operand.whole() == whole;
-        expect_of(is_told, &operand)?;
+fn an_operand_is_told_and_shows_its_whole_number(rt: HostRuntime) -> Result<(), Fail> {
+    for &(big, whole, text) in &SHOWN {
+        expect(is_shown(rt.alloc(), big, whole, text)?, text)?;
     }
     Ok(())
 }
 
-#[test]
-fn an_operand_shows_its_whole_number(rt: HostRuntime) -> Result<(), Fail> {
-    let table = [
-        (number(-5), "Operand { big: false, whole: -5 }"),
-        (Operand::big(-5), "Operand { big: true, whole: -5 }"),
-        (
-            Operand::big(i128::MIN),
-            "Operand { big: true, whole: -170141183460469231731687303715884105728 }",
-        ),
-        (
-            Operand::big(i128::MAX),
-            "Operand { big: true, whole: 170141183460469231731687303715884105727 }",
-        ),
-    ];
-    for (operand, text) in table {
-        expect(shows(rt.alloc(), &operand, text)?, text)?;
-    }
-    Ok(())
-}
+/// A kind, whether an operand is a BigInt, its whole number, its raw element, and whether that is read as the operand.
+const RAW: [(Kind, bool, i128, Result<u64, Thrown>, bool); 8] = [
+    (Kind::Uint8, false, 300, Ok(44), false),
+    (Kind::Int32, false, -1, Ok(4_294_967_295), true),
+    (Kind::BigInt64, true, i128::MIN, Ok(0), false),
+    (Kind::Int8, true, 1, Err(Thrown::TypeError), false),
+    (Kind::Int8, false, -128, Ok(128), true),
+    (Kind::Uint8, false, 128, Ok(128), true),
+    (Kind::BigInt64, true, -1, Ok(u64::MAX), true),
+    (
+        Kind::BigUint64,
+        true,
+        18_446_744_073_709_551_615,
+        Ok(u64::MAX),
+        true,
+    ),
+];
 
-/// Whether the raw element of an operand is this, or this is thrown.
-fn is_wrapped(kind: Kind, operand: Operand, raw: Result<u64, Thrown>) -> bool {
-    kind.is_atomic() && to_raw(kind, operand) == raw
-}
-
-#[test]
-fn an_operand_is_wrapped_to_the_element(rt: HostRuntime) -> Result<(), Fail> {
-    let table = [
-        (Kind::Uint8, number(300), Ok(44)),
-        (Kind::Int32, number(-1), Ok(4_294_967_295)),
-        (Kind::BigInt64, Operand::big(i128::MIN), Ok(0)),
-        (Kind::Int8, Operand::big(1), Err(Thrown::TypeError)),
-    ];
-    for (kind, operand, raw) in table {
-        expect_of(is_wrapped(kind, operand, raw), &kind)?;
-    }
-    Ok(())
-}
-
-/// Whether this is the raw element of an operand, and is read as it.
-fn is_read(kind: Kind, raw: u64, operand: Operand) -> bool {
+/// Whether an operand has this raw element, or this is thrown, and whether the raw element is read as the operand.
+fn is_wrapped(kind: Kind, operand: Operand, raw: Result<u64, Thrown>, is_read: bool) -> bool {
     if !kind.is_atomic() {
         return false;
     }
     match to_raw(kind, operand) {
-        Ok(written) => written == raw && from_raw(kind, written) == operand,
-        Err(_) => false,
+        Ok(written) => raw == Ok(written) && is_read == (from_raw(kind, written) == operand),
+        Err(thrown) => raw == Err(thrown) && !is_read,
     }
 }
 
 #[test]
-fn a_raw_element_is_read_by_the_sign_of_its_kind(rt: HostRuntime) -> Result<(), Fail> {
-    let table = [
-        (Kind::Int8, 128, number(-128)),
-        (Kind::Uint8, 128, number(128)),
-        (Kind::BigInt64, u64::MAX, Operand::big(-1)),
-        (
-            Kind::BigUint64,
-            u64::MAX,
-            Operand::big(18_446_744_073_709_551_615),
-        ),
-    ];
-    for (kind, raw, operand) in table {
-        expect_of(is_read(kind, raw, operand), &kind)?;
+fn an_operand_is_wrapped_and_read_by_the_sign_of_its_kind(rt: HostRuntime) -> Result<(), Fail> {
+    for &(kind, big, whole, raw, is_read) in &RAW {
+        let is_right = match operand(big, whole) {
+            Some(operand) => is_wrapped(kind, operand, raw, is_read),
+            None => false,
+        };
+        expect_of(is_right, &whole)?;
     }
     Ok(())
 }

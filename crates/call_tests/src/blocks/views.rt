@@ -1,6 +1,6 @@
 //! Views that are made or refused, and the places of their elements.
 
-use crate::expecting::{expect, expect_of};
+use crate::expecting::expect_of;
 use sab_block::{Kind, Thrown, View};
 use std::test::Fail;
 
@@ -21,34 +21,35 @@ const VIEWS: [(Kind, u32, i64, Option<i64>, Result<u32, Thrown>); 11] = [
     (Kind::BigInt64, 16, 8, None, Ok(1)),
 ];
 
-/// How many elements a view has, if it can be made.
-fn len_of(kind: Kind, block_len: u32, offset: i64, length: Option<i64>) -> Result<u32, Thrown> {
-    Ok(View::new(kind, block_len, offset, length)?.len())
+/// Whether a view can be made as it is asked for and has so many elements, or this is thrown.
+fn is_made(
+    kind: Kind,
+    block_len: u32,
+    offset: i64,
+    length: Option<i64>,
+    want: Result<u32, Thrown>,
+) -> bool {
+    match View::new(kind, block_len, offset, length) {
+        Ok(view) => {
+            want == Ok(view.len())
+                && view.is_empty() == (view.len() == 0)
+                && view.kind() == kind
+                && view.block_len() == block_len
+                && i64::from(view.offset()) == offset
+        }
+        Err(thrown) => want == Err(thrown),
+    }
 }
 
 #[test]
-fn a_view_is_refused_unless_it_fits_its_block(rt: HostRuntime) -> Result<(), Fail> {
-    for row in VIEWS {
-        let (kind, block_len, offset, length, want) = row;
-        expect_of(len_of(kind, block_len, offset, length) == want, &row)?;
+fn a_view_is_refused_unless_it_fits_its_block_and_is_as_it_was_made(
+    rt: HostRuntime,
+) -> Result<(), Fail> {
+    for row in &VIEWS {
+        let (kind, block_len, offset, length, want) = *row;
+        expect_of(is_made(kind, block_len, offset, length, want), row)?;
     }
     Ok(())
-}
-
-/// Whether a view is of this kind, on a block of this length, at this offset.
-fn is_of(view: View, kind: Kind, block_len: u32, offset: u32) -> bool {
-    view.kind() == kind && view.block_len() == block_len && view.offset() == offset
-}
-
-#[test]
-fn a_view_is_as_it_was_made(rt: HostRuntime) -> Result<(), Fail> {
-    let view = View::new(Kind::BigInt64, 16, 8, None)?;
-    let empty = View::new(Kind::Int32, 8, 8, None)?;
-    let is_made = is_of(view, Kind::BigInt64, 16, 8);
-    expect(
-        is_made && !view.is_empty() && empty.is_empty(),
-        "another view",
-    )
 }
 
 /// The kind, block length and offset of a view, an index, and its place.
@@ -79,9 +80,9 @@ fn is_place(
 
 #[test]
 fn an_index_has_a_place_or_none(rt: HostRuntime) -> Result<(), Fail> {
-    for row in PLACES {
-        let (kind, block_len, offset, index, place) = row;
-        expect_of(is_place(kind, block_len, offset, index, place), &row)?;
+    for row in &PLACES {
+        let (kind, block_len, offset, index, place) = *row;
+        expect_of(is_place(kind, block_len, offset, index, place), row)?;
     }
     Ok(())
 }

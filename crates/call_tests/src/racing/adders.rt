@@ -3,8 +3,8 @@
 use crate::expecting::expect;
 use crate::racing::watching::{Hold, Watch};
 use crate::racing::way::{Way, add_one, word_plan};
-use sab_sim::{Call, Plan, Progress, Report};
-use std::alloc::Global;
+use sab_sim::{Call, Plan, Report};
+use std::alloc::{AllocError, Global};
 use std::sync::{Arc, Wait};
 use std::test::Fail;
 use std::thread::Threads;
@@ -19,33 +19,30 @@ pub fn adders(alloc: Global, counts: &[u32]) -> Result<Plan, Fail> {
     word_plan(alloc, agents.as_slice())
 }
 
-/// How many moves each of these agents makes.
-fn moves_of(alloc: Global, counts: &[u32]) -> Result<Vec<u32>, Fail> {
+/// How many moves each of these agents makes, except so many of its last ones.
+pub fn moves_of(alloc: Global, counts: &[u32], left_out: u32) -> Result<Vec<u32>, AllocError> {
     let mut moves = Vec::new(alloc);
     for count in counts {
-        moves.push(count.saturating_mul(3))?;
+        moves.push(count.saturating_mul(3).saturating_sub(left_out))?;
     }
     Ok(moves)
 }
 
 /// Whether each of these agents made its additions, and nothing was lost.
 fn has_added(report: &Report, counts: &[u32]) -> bool {
-    let sum = counts
-        .iter()
-        .fold(0_u32, |sum, count| sum.saturating_add(*count));
+    let mut sum = 0_u32;
+    for (agent, count) in report.agents.iter().zip(counts) {
+        if agent.returned != *count || agent.total != *count {
+            return false;
+        }
+        sum = sum.saturating_add(*count);
+    }
     let bytes = report.blocks.first().map(|bytes| bytes.as_slice());
     report.blocks.len() == 1
         && bytes == Some(sum.to_le_bytes().as_slice())
         && report.journal.len() == report.schedule.len()
-        && report.journal.len() as u64 == u64::from(sum) * 3
+        && report.journal.len() as u64 == u64::from(sum).saturating_mul(3)
         && report.agents.len() == counts.len()
-        && report.agents.iter().zip(counts).all(|(agent, count)| {
-            *agent
-                == Progress {
-                    returned: *count,
-                    total: *count,
-                }
-        })
 }
 
 /// Races agents that add so often, and gives the report, and the gate.
@@ -63,7 +60,7 @@ pub fn race_watched<R: Threads + Wait + Sync, H: Hold + 'static>(
     let plan = adders(alloc, counts)?;
     let report = way.race(rt, alloc, plan, 0, Arc::try_clone(&watch)?)?;
     expect(has_added(&report, counts), "another sum")?;
-    let moves = moves_of(alloc, counts)?;
+    let moves = moves_of(alloc, counts, 0)?;
     expect(watch.saw(&moves), "a move that the gate wasn't told of")?;
     Ok((report, watch))
 }

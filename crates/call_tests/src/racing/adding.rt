@@ -20,8 +20,8 @@ fn comes_back(alloc: Global, report: &Report) -> Result<bool, Fail> {
 
 #[test]
 fn adders_lose_nothing_and_their_race_can_be_replayed(rt: HostRuntime) -> Result<(), Fail> {
-    for way in Way::ALL {
-        let (report, _) = race_adders(&rt, rt.alloc(), way, &[100; 4], Slow::NONE)?;
+    for way in &Way::ALL {
+        let (report, _) = race_adders(&rt, rt.alloc(), *way, &[100; 4], Slow::NONE)?;
         expect(comes_back(rt.alloc(), &report)?, "another replay")?;
     }
     Ok(())
@@ -34,11 +34,11 @@ fn are_two_hundred_each(report: &Report) -> bool {
         total: 100,
     };
     let sum = [0xc8, 0, 0, 0];
-    report.blocks.len() == 2
-        && report
-            .blocks
-            .iter()
-            .all(|bytes| bytes.as_slice() == sum.as_slice())
+    let [first, second] = report.blocks.as_slice() else {
+        return false;
+    };
+    first.as_slice() == sum.as_slice()
+        && second.as_slice() == sum.as_slice()
         && report.journal.len() == 1_200
         && report.agents.as_slice() == [whole; 4].as_slice()
 }
@@ -65,8 +65,8 @@ fn count_apart<R: Threads + Wait + Sync>(rt: &R, alloc: Global, way: Way) -> Res
 
 #[test]
 fn adders_on_two_blocks_count_apart(rt: HostRuntime) -> Result<(), Fail> {
-    for way in Way::BOTH {
-        expect(count_apart(&rt, rt.alloc(), way)?, "another sum")?;
+    for way in &Way::BOTH {
+        expect(count_apart(&rt, rt.alloc(), *way)?, "another sum")?;
     }
     Ok(())
 }

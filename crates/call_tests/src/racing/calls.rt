@@ -20,8 +20,11 @@ impl Calls {
 
     /// Counts a call about an agent's move. The calls about an agent are to be about its moves 0, 1, 2 and so on.
     pub fn add(&self, agent: u32, k: u32) {
-        let count = self.counts.get(agent as usize);
-        if count.map(|count| count.fetch_add(1, Ordering::SeqCst)) != Some(k) {
+        let is_next = match self.counts.get(agent as usize) {
+            Some(count) => count.fetch_add(1, Ordering::SeqCst) == k,
+            None => false,
+        };
+        if !is_next {
             self.was_out_of_order.store(true, Ordering::SeqCst);
         }
     }
@@ -29,9 +32,11 @@ impl Calls {
     /// Whether there was one call about each of so many moves of each of the first agents, in order, and no other.
     pub fn are(&self, moves: &[u32]) -> bool {
         let mut expected = moves.iter();
-        let are_as_many = self.counts.iter().all(|count| {
-            count.load(Ordering::SeqCst) == expected.next().copied().unwrap_or(0)
-        });
-        are_as_many && !self.was_out_of_order.load(Ordering::SeqCst)
+        for count in &self.counts {
+            if count.load(Ordering::SeqCst) != expected.next().copied().unwrap_or(0) {
+                return false;
+            }
+        }
+        !self.was_out_of_order.load(Ordering::SeqCst)
     }
 }

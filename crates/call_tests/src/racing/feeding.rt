@@ -67,8 +67,8 @@ fn a_ring_gives_what_it_was_fed_in_order(rt: HostRuntime) -> Result<(), Fail> {
     let (mut producer, mut consumer) = RingBuffer::new(rt.alloc(), 10)?;
     feed(&mut producer, 2, &WAIT_AND_LOAD, &NoGate);
     let mut are_given = true;
-    for m in WAIT_AND_LOAD {
-        are_given = consumer.pop().ok() == Some(m) && are_given;
+    for m in &WAIT_AND_LOAD {
+        are_given = consumer.pop().ok() == Some(*m) && are_given;
     }
     let is_empty = consumer.pop().is_err();
     expect(are_given && is_empty, "other moves")

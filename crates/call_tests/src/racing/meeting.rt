@@ -4,11 +4,8 @@ use crate::racing::adders::race_adders;
 use crate::racing::turning::turn_until;
 use crate::racing::watching::Hold;
 use crate::racing::way::Way;
-use std::alloc::Global;
-use std::sync::Wait;
 use std::sync::atomic::{AtomicU32, Ordering};
 use std::test::Fail;
-use std::thread::Threads;
 
 /// Where agents meet: before a move, or after it.
 #[derive(Clone, Copy)]
@@ -73,26 +70,17 @@ const PLACES: [(Way, Side); 4] = [
     (Way::MIXED, Side::Before),
 ];
 
-/// So many agents, which add so often, meet at these of their moves.
-fn meet<R: Threads + Wait + Sync>(
-    rt: &R,
-    alloc: Global,
-    agents: u32,
-    counts: &[u32],
-    moves: [u32; 2],
-) -> Result<(), Fail> {
-    for (way, side) in PLACES {
-        race_adders(rt, alloc, way, counts, Meeting::new(side, agents, moves))?;
+/// How many agents meet, how often each adds, and at which of its moves they meet: at all that they have; and at an
+/// early one and at a late one.
+const MEETINGS: [(u32, &[u32], [u32; 2]); 2] = [(2, &[1; 2], [0, 2]), (16, &[34; 16], [0, 90])];
+
+#[test]
+fn agents_meet(rt: HostRuntime) -> Result<(), Fail> {
+    for &(agents, counts, moves) in &MEETINGS {
+        for &(way, side) in &PLACES {
+            let meeting = Meeting::new(side, agents, moves);
+            race_adders(&rt, rt.alloc(), way, counts, meeting)?;
+        }
     }
     Ok(())
-}
-
-#[test]
-fn two_agents_meet(rt: HostRuntime) -> Result<(), Fail> {
-    meet(&rt, rt.alloc(), 2, &[1, 1], [0, 2])
-}
-
-#[test]
-fn sixteen_agents_meet_at_an_early_move_and_at_a_late_one(rt: HostRuntime) -> Result<(), Fail> {
-    meet(&rt, rt.alloc(), 16, &[34; 16], [0, 90])
 }

@@ -22,9 +22,12 @@ const DRAWN: [(u64, [u32; 12]); 4] = [
 
 #[test]
 fn an_owner_looks_where_its_seed_says(rt: HostRuntime) -> Result<(), Fail> {
-    for (seed, agents) in DRAWN {
+    for (seed, agents) in &DRAWN {
         let order = Order::new(agents.to_vec(rt.alloc())?);
-        let way = Way::Mixed { seed, patience: 0 };
+        let way = Way::Mixed {
+            seed: *seed,
+            patience: 0,
+        };
         let (report, _) = race_adders(&rt, rt.alloc(), way, &COUNTS, Slow::NONE)?;
         expect(order.is_of(&report.schedule), "another order")?;
     }

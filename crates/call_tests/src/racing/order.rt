@@ -5,7 +5,7 @@ use crate::racing::adders::race_adders;
 use crate::racing::turning::turn_until;
 use crate::racing::watching::{Hold, Watch};
 use crate::racing::way::Way;
-use crate::scripts::{is_report, setup_of};
+use crate::scripts::{SHARED_WORD, is_text, plan_of};
 use sab_sim::Move::{self, Step};
 use std::alloc::{AllocError, Global};
 use std::sync::atomic::{AtomicU32, Ordering};
@@ -33,10 +33,15 @@ impl Order {
 
     /// Where an agent's move stands in the order.
     pub fn place(&self, agent: u32, k: u32) -> Option<u32> {
-        let own = (0..u32::MAX)
-            .zip(&self.agents)
-            .filter(|(_, a)| **a == agent);
-        own.map(|(place, _)| place).nth(k as usize)
+        let (mut place, mut own) = (0_u32, 0_u32);
+        for a in &self.agents {
+            if *a == agent && own == k {
+                return Some(place);
+            }
+            own = own.saturating_add(u32::from(*a == agent));
+            place = place.saturating_add(1);
+        }
+        None
     }
 
     /// Turns until so many moves were made.
@@ -51,14 +56,21 @@ impl Order {
 
     /// Whether a schedule is the steps of the order.
     pub fn is_of(&self, schedule: &[Move]) -> bool {
-        let steps = schedule.iter().zip(&self.agents);
-        schedule.len() == self.agents.len() && steps.into_iter().all(|(m, a)| *m == Step(*a))
+        for (m, agent) in schedule.iter().zip(&self.agents) {
+            if *m != Step(*agent) {
+                return false;
+            }
+        }
+        schedule.len() == self.agents.len()
     }
 }
 
 impl Hold for Order {
     fn before(&self, agent: u32, k: u32) -> bool {
-        self.place(agent, k).is_some_and(|place| self.wait(place))
+        match self.place(agent, k) {
+            Some(place) => self.wait(place),
+            None => false,
+        }
     }
 
     fn applied(&self, _agent: u32, _k: u32) -> bool {
@@ -67,43 +79,12 @@ impl Hold for Order {
     }
 }
 
-/// The order of these moves.
-fn order_of_moves(alloc: Global, moves: &[Move]) -> Result<Order, AllocError> {
-    let mut agents = Vec::new(alloc);
-    for m in moves {
-        agents.push(m.agent())?;
-    }
-    Ok(Order::new(agents))
-}
-
-/// Whether the race of a script with six and three moves has this report, where the order of its schedule is forced on it.
-fn is_raced<R: Threads + Wait + Sync>(
-    rt: &R,
-    alloc: Global,
-    way: Way,
-    (script, text): (&str, &str),
-) -> Result<bool, Fail> {
-    let (plan, moves) = setup_of(alloc, script)?.into_parts();
-    let watch = Arc::new(alloc, Watch::new(order_of_moves(alloc, &moves)?))?;
-    let report = way.race(rt, alloc, plan, 0, Arc::try_clone(&watch)?)?;
-    Ok(watch.saw(&[6, 3]) && is_report(alloc, &report, &moves, text)?)
-}
-
-/// Agent 0 stores 5 and loads and agent 1 loads, in the order of the script's schedule, and this is what they do.
-fn check<R: Threads + Wait + Sync>(rt: &R, alloc: Global, run: (&str, &str)) -> Result<(), Fail> {
-    for way in Way::FORCIBLE {
-        expect(is_raced(rt, alloc, way, run)?, "another report")?;
-    }
-    Ok(())
-}
-
-/// They take turns.
-const IN_TURNS: (&str, &str) = (
-    r#"{"blocks":[4],
-  "views":[{"name":"a","kind":"Int32","offset":0,"length":1,"block":0}],
-  "agents":[{"block":false,"calls":[["store","a",0,5],["load","a",0]]},{"block":false,"calls":[["load","a",0]]}],
-  "schedule":[0,1,0,1,0,1,0,0,0]}"#,
-    "\
+/// Whose moves two agents make, where agent 0 stores 5 and loads and agent 1 loads; and their report. First they take
+/// turns, and then agent 1 comes first.
+const OF_TWO: [([u32; 9], &str); 2] = [
+    (
+        [0, 1, 0, 1, 0, 1, 0, 0, 0],
+        "\
 0 0 0 begin
 1 1 0 begin
 2 0 0 act 5
@@ -117,20 +98,10 @@ block 0 05000000
 agent 0 2 of 2
 agent 1 1 of 1
 ",
-);
-
-#[test]
-fn two_agents_take_turns_as_their_threads_do(rt: HostRuntime) -> Result<(), Fail> {
-    check(&rt, rt.alloc(), IN_TURNS)
-}
-
-/// Agent 1 comes first.
-const LAST_FIRST: (&str, &str) = (
-    r#"{"blocks":[4],
-  "views":[{"name":"a","kind":"Int32","offset":0,"length":1,"block":0}],
-  "agents":[{"block":false,"calls":[["store","a",0,5],["load","a",0]]},{"block":false,"calls":[["load","a",0]]}],
-  "schedule":[1,1,1,0,0,0,0,0,0]}"#,
-    "\
+    ),
+    (
+        [1, 1, 1, 0, 0, 0, 0, 0, 0],
+        "\
 0 1 0 begin
 1 1 0 act 0
 2 1 0 return 0
@@ -144,11 +115,33 @@ block 0 05000000
 agent 0 2 of 2
 agent 1 1 of 1
 ",
-);
+    ),
+];
+
+/// Whether the race of the two has this report, where the order of its moves is forced on it.
+fn is_raced<R: Threads + Wait + Sync>(
+    rt: &R,
+    alloc: Global,
+    way: Way,
+    agents: &[u32],
+    text: &str,
+) -> Result<bool, Fail> {
+    let watch = Arc::new(alloc, Watch::new(Order::new(agents.to_vec(alloc)?)))?;
+    let plan = plan_of(alloc, SHARED_WORD)?;
+    let report = way.race(rt, alloc, plan, 0, Arc::try_clone(&watch)?)?;
+    let is_in_order = watch.saw(&[6, 3]) && watch.hold.is_of(&report.schedule);
+    Ok(is_in_order && is_text(alloc, &report, text)?)
+}
 
 #[test]
-fn two_agents_come_last_agent_first(rt: HostRuntime) -> Result<(), Fail> {
-    check(&rt, rt.alloc(), LAST_FIRST)
+fn two_agents_come_as_their_threads_do(rt: HostRuntime) -> Result<(), Fail> {
+    for (agents, text) in &OF_TWO {
+        for way in &Way::FORCIBLE {
+            let is_raced = is_raced(&rt, rt.alloc(), *way, agents, *text)?;
+            expect(is_raced, *text)?;
+        }
+    }
+    Ok(())
 }
 
 /// In which direction sixteen agents come, and how many moves in a row each makes then.
@@ -194,10 +187,10 @@ const ORDERS: [&[Pass]; 5] = [
 /// first two orders no thread but the agent's own is free to make them.
 #[test]
 fn sixteen_agents_come_as_their_threads_do(rt: HostRuntime) -> Result<(), Fail> {
-    for passes in ORDERS {
-        for way in Way::FORCIBLE {
-            let order = order_of(rt.alloc(), passes)?;
-            let (report, order) = race_adders(&rt, rt.alloc(), way, &[1; 16], order)?;
+    for passes in &ORDERS {
+        for way in &Way::FORCIBLE {
+            let order = order_of(rt.alloc(), *passes)?;
+            let (report, order) = race_adders(&rt, rt.alloc(), *way, &[1; 16], order)?;
             expect(order.is_of(&report.schedule), "another order")?;
         }
     }

@@ -5,7 +5,6 @@ ghost use Rattle.std.specs.Prelude.{◌≤◌};
 use crate::expecting::expect;
 use crate::racing::way::{Way, add_one, word_plan};
 use crate::run::wait;
-use crate::values::prints;
 use sab_race::{MAX_SPINS, NoGate, RaceFault};
 use sab_sim::Plan;
 use std::alloc::Global;
@@ -41,12 +40,12 @@ fn is_too_long<R: Threads + Wait + Sync>(
 /// The second plan has one move more than a journal can have entries: 1,042 waits of 1,004 moves and 803 additions of three.
 #[test]
 fn more_moves_than_a_journal_can_have_are_refused(rt: HostRuntime) -> Result<(), Fail> {
-    for way in Way::BOTH {
+    for way in &Way::BOTH {
         let many = waiters(rt.alloc(), 1_000, 0)?;
-        let is_refused = is_too_long(&rt, rt.alloc(), way, many, 1_000)?;
+        let is_refused = is_too_long(&rt, rt.alloc(), *way, many, 1_000)?;
         expect(is_refused, "two million moves")?;
         let one_more = waiters(rt.alloc(), 42, 803)?;
-        let is_refused = is_too_long(&rt, rt.alloc(), way, one_more, 999)?;
+        let is_refused = is_too_long(&rt, rt.alloc(), *way, one_more, 999)?;
         expect(is_refused, "one move too many")?;
     }
     Ok(())
@@ -71,27 +70,10 @@ fn len_of_race<R: Threads + Wait + Sync>(
 
 #[test]
 fn as_many_moves_as_a_journal_can_have_are_made(rt: HostRuntime) -> Result<(), Fail> {
-    for way in Way::BOTH {
+    for way in &Way::BOTH {
         let plan = sixteen_waiters(rt.alloc())?;
-        let len = len_of_race(&rt, rt.alloc(), way, plan)?;
+        let len = len_of_race(&rt, rt.alloc(), *way, plan)?;
         expect(len == (1_048_576, 1_048_576), "another number of moves")?;
-    }
-    Ok(())
-}
-
-const FAULTS: [(RaceFault, &str); 3] = [
-    (
-        RaceFault::TooManyMoves,
-        "the agents have more moves than a journal can have entries",
-    ),
-    (RaceFault::OutOfMemory, "there is no memory for the race"),
-    (RaceFault::NoThread, "a thread couldn't be started"),
-];
-
-#[test]
-fn a_refused_race_prints_why(rt: HostRuntime) -> Result<(), Fail> {
-    for (fault, text) in FAULTS {
-        expect(prints(rt.alloc(), &fault, text)?, text)?;
     }
     Ok(())
 }

@@ -1,7 +1,7 @@
 //! Rings that their owner goes round.
 
 use crate::expecting::expect;
-use crate::racing::adders::race_adders;
+use crate::racing::adders::{moves_of, race_adders};
 use crate::racing::order::Order;
 use crate::racing::slow::Slow;
 use crate::racing::turning::{turn, turn_at_most, turn_until};
@@ -32,10 +32,7 @@ fn add_round(agents: &mut Vec<u32>, moves: &[u32], k: u32) -> Result<(), AllocEr
 /// The order in which an owner makes the moves of agents that add so often, where it goes round full rings: one of each
 /// ring that has one. So many of each agent's last moves are left out.
 fn rounds(alloc: Global, counts: &[u32], left_out: u32) -> Result<Vec<u32>, AllocError> {
-    let mut moves = Vec::new(alloc);
-    for count in counts {
-        moves.push(count.saturating_mul(3).saturating_sub(left_out))?;
-    }
+    let moves = moves_of(alloc, counts, left_out)?;
     let mut agents = Vec::new(alloc);
     for k in 0..102 {
         add_round(&mut agents, &moves, k)?;
@@ -59,8 +56,8 @@ fn an_owner_without_patience_goes_round_full_rings(rt: HostRuntime) -> Result<()
         agent: None,
         turns: 50,
     };
-    for way in WITHOUT_PATIENCE {
-        let (report, _) = race_adders(&rt, rt.alloc(), way, &COUNTS, slow)?;
+    for way in &WITHOUT_PATIENCE {
+        let (report, _) = race_adders(&rt, rt.alloc(), *way, &COUNTS, slow)?;
         expect(order.is_of(&report.schedule), "another order")?;
     }
     Ok(())

@@ -41,8 +41,8 @@ fn a_slow_agent_loses_nothing(rt: HostRuntime) -> Result<(), Fail> {
         agent: Some(3),
         turns: 1_000,
     };
-    for way in Way::ALL {
-        race_adders(&rt, rt.alloc(), way, &[34; 16], one)?;
+    for way in &Way::ALL {
+        race_adders(&rt, rt.alloc(), *way, &[34; 16], one)?;
     }
     Ok(())
 }

@@ -2,8 +2,8 @@
 
 ghost use Rattle.std.specs.Prelude.{◌≤◌};
 
-use crate::run::{number, plan, rmw, whole};
-use sab_block::{Kind, RmwOp};
+use crate::run::{number, plan, whole};
+use sab_block::{Access, Kind, RmwOp};
 use sab_race::{Gate, MAX_SPINS, RaceFault, run_locked, run_rings, run_rings_mixed};
 use sab_sim::{Call, Plan, PlanView, Report};
 use std::alloc::Global;
@@ -100,7 +100,11 @@ pub fn word(block: u32) -> Result<PlanView, Fail> {
 
 /// Adds 1 to the first element of a view.
 pub fn add_one(view: u32) -> Call {
-    let access = rmw(RmwOp::Add, 0, number(1));
+    let access = Access::Rmw {
+        op: RmwOp::Add,
+        index: 0,
+        value: number(1),
+    };
     Call::Access { view, access }
 }
 

@@ -144,15 +144,17 @@ fn is_told<R: Threads + Wait + Sync>(
     Ok(whole == 1 && slow == report_of(alloc, script)?.len())
 }
 
+/// Scripts, and whether each is replayed or raced.
+const RUNS: [(&str, Option<Share>); 4] = [
+    (SHARED_WORD, None),
+    (TWO_BLOCKS, None),
+    (STORE_AND_LOAD, Some(Share::Lock)),
+    (STORE_AND_LOAD, Some(Share::Ring)),
+];
+
 #[test]
 fn a_write_that_fails_is_told(rt: HostRuntime) -> Result<(), Fail> {
-    let table = [
-        (SHARED_WORD, None),
-        (TWO_BLOCKS, None),
-        (STORE_AND_LOAD, Some(Share::Lock)),
-        (STORE_AND_LOAD, Some(Share::Ring)),
-    ];
-    for (script, share) in table {
+    for &(script, share) in &RUNS {
         expect(is_told(&rt, rt.alloc(), script, share)?, script)?;
     }
     Ok(())
@@ -258,19 +260,24 @@ fn a_reader_of_one_byte_a_read_gives_the_whole_input(rt: HostRuntime) -> Result<
 /// Whether the input of so many spaces has this length or this fault, and isn't read on then.
 fn is_read_as(alloc: Global, spaces: usize, want: Result<usize, ToolFault>) -> bool {
     let mut reader = Spaces::new(spaces);
-    let read = read_input(alloc, &mut reader).map(|input| input.len());
+    let read = match read_input(alloc, &mut reader) {
+        Ok(input) => Ok(input.len()),
+        Err(fault) => Err(fault),
+    };
     read == want && !reader.was_read_on
 }
 
+/// How many spaces an input has, and how long it is that is read of them.
+const INPUTS: [(usize, Result<usize, ToolFault>); 4] = [
+    (0, Ok(0)),
+    (1_048_576, Ok(1_048_576)),
+    (1_048_577, Err(ToolFault::TooLong)),
+    (2_000_000, Err(ToolFault::TooLong)),
+];
+
 #[test]
 fn an_input_is_read_up_to_its_limit(rt: HostRuntime) -> Result<(), Fail> {
-    let table = [
-        (0, Ok(0)),
-        (1_048_576, Ok(1_048_576)),
-        (1_048_577, Err(ToolFault::TooLong)),
-        (2_000_000, Err(ToolFault::TooLong)),
-    ];
-    for (spaces, want) in table {
+    for &(spaces, want) in &INPUTS {
         expect(is_read_as(rt.alloc(), spaces, want), "another length")?;
     }
     expect(MAX_INPUT == 1_048_576, "another limit")

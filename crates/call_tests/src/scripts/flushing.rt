@@ -135,7 +135,7 @@ fn is_done(
 
 #[test]
 fn a_job_flushes_what_it_writes(rt: HostRuntime) -> Result<(), Fail> {
-    for (job, script, outcome, text) in JOBS {
+    for &(job, script, outcome, text) in &JOBS {
         for is_stuck in [false, true] {
             let is_done = is_done(rt.alloc(), job, script, outcome, text, is_stuck);
             expect(is_done, text)?;
@@ -176,10 +176,10 @@ fn is_raced<R: AllocGlobal + Threads + Wait + Sync + RandomSource>(
 
 #[test]
 fn a_race_flushes_what_it_writes(rt: HostRuntime) -> Result<(), Fail> {
-    for (form, text) in RACES {
-        for way in WAYS {
+    for &(form, text) in &RACES {
+        for way in &WAYS {
             for is_stuck in [false, true] {
-                expect(is_raced(&rt, form, way, text, is_stuck), text)?;
+                expect(is_raced(&rt, form, *way, text, is_stuck), text)?;
             }
         }
     }

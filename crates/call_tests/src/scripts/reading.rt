@@ -2,10 +2,7 @@
 
 use crate::expecting::expect;
 use crate::scripts::{STORE_AND_LOAD, setup_of};
-use crate::values::shows;
-use sab_block::Kind;
-use sab_sim::Move::{self, Step, TimeUp};
-use sab_tool::{ReadFault, Setup, ViewSpec, read_setup};
+use sab_tool::{ReadFault, Setup, read_setup};
 use serde_json::Value;
 use std::alloc::{AllocError, Global};
 use std::test::Fail;
@@ -30,82 +27,65 @@ const TWO_VIEWS: &str = r#"{
   "schedule": [1, {"timeout": 0}, 2]
 }"#;
 
-/// What the plan that it spells shows.
-const ITS_PLAN: &str = concat!(
-    "Plan { lens: [12, 16], views: [",
-    "PlanView { block: 0, view: View { kind: Int32, block_len: 12, offset: 4, len: 2 } }, ",
-    "PlanView { block: 1, view: View { kind: BigUint64, block_len: 16, offset: 8, len: 1 } }], ",
-    "scripts: [Script { can_block: true, calls: [",
-    "Wait { view: 0, index: 1, value: Operand { big: false, whole: -5 }, timeout: Some(50) }, ",
-    "Access { view: 1, access: Rmw { op: Add, index: 0, value: Operand { big: true, whole: 7 } } }] }, ",
-    "Script { can_block: false, calls: [Notify { view: 0, index: 0, count: Some(3) }] }, ",
-    "Script { can_block: true, calls: [] }] }"
-);
+/// Scripts, the second in the old form; and what the plan, the moves and the views show that each spells.
+const SETUPS: [(&str, &str); 2] = [
+    (
+        TWO_VIEWS,
+        concat!(
+            "Plan { lens: [12, 16], views: [",
+            "PlanView { block: 0, view: View { kind: Int32, block_len: 12, offset: 4, len: 2 } }, ",
+            "PlanView { block: 1, view: View { kind: BigUint64, block_len: 16, offset: 8, len: 1 } }], ",
+            "scripts: [Script { can_block: true, calls: [",
+            "Wait { view: 0, index: 1, value: Operand { big: false, whole: -5 }, timeout: Some(50) }, ",
+            "Access { view: 1, access: Rmw { op: Add, index: 0, value: Operand { big: true, whole: 7 } } }] }, ",
+            "Script { can_block: false, calls: [Notify { view: 0, index: 0, count: Some(3) }] }, ",
+            "Script { can_block: true, calls: [] }] }\n",
+            "[Step(1), TimeUp(0), Step(2)]\n",
+            "word ViewSpec { kind: Int32, offset: 4, length: Some(2), block: 0 }\n",
+            "Big_1 ViewSpec { kind: BigUint64, offset: 8, length: None, block: 1 }\n"
+        ),
+    ),
+    (
+        STORE_AND_LOAD,
+        concat!(
+            "Plan { lens: [1], views: [",
+            "PlanView { block: 0, view: View { kind: Uint8, block_len: 1, offset: 0, len: 1 } }], ",
+            "scripts: [Script { can_block: true, calls: [",
+            "Access { view: 0, access: Store { index: 0, value: Operand { big: false, whole: 300 } } }, ",
+            "Access { view: 0, access: Load { index: 0 } }] }] }\n",
+            "[Step(0), Step(0), Step(0), Step(0), Step(0), Step(0)]\n",
+            "a ViewSpec { kind: Uint8, offset: 0, length: None, block: 0 }\n"
+        ),
+    ),
+];
 
-/// Whether a setup shows and hands over just the plan that shows this, and these moves.
-fn has_parts(alloc: Global, setup: Setup, plan: &str, moves: &[Move]) -> Result<bool, AllocError> {
-    let is_shown = setup.schedule() == moves && shows(alloc, setup.plan(), plan)?;
-    let (found, schedule) = setup.into_parts();
-    Ok(is_shown && schedule.as_slice() == moves && shows(alloc, &found, plan)?)
+/// What the plan, the moves and the views of a setup show, the views by name in order.
+fn shown(alloc: Global, setup: &Setup) -> Result<String, AllocError> {
+    let (plan, schedule) = (setup.plan(), setup.schedule());
+    let mut text = format!(in alloc; "{plan:?}\n{schedule:?}\n")?;
+    for i in 0..setup.views().len() {
+        if let Some((name, spec)) = setup.views().get_index(i) {
+            text.push_str(format!(in alloc; "{name} {spec:?}\n")?.as_str())?;
+        }
+    }
+    Ok(text)
+}
+
+/// Whether a script's setup shows this, and hands over the plan and the moves that it shows.
+fn has_parts(alloc: Global, script: &str, text: &str) -> Result<bool, Fail> {
+    let setup = setup_of(alloc, script)?;
+    let is_shown = shown(alloc, &setup)?.as_str() == text;
+    let (plan, schedule) = setup.into_parts();
+    let parts = format!(in alloc; "{plan:?}\n{schedule:?}\n")?;
+    Ok(is_shown && text.starts_with(parts.as_str()))
 }
 
 #[test]
 fn a_setup_has_the_parts_that_its_script_spells(rt: HostRuntime) -> Result<(), Fail> {
-    let setup = setup_of(rt.alloc(), TWO_VIEWS)?;
-    let moves = [Step(1), TimeUp(0), Step(2)];
-    let has_parts = has_parts(rt.alloc(), setup, ITS_PLAN, &moves)?;
-    expect(has_parts, "other parts")
-}
-
-/// Whether view `i` of a setup has this name and is this.
-fn is_view(setup: &Setup, i: usize, name: &str, expected: ViewSpec) -> bool {
-    match setup.views().get_index(i) {
-        Some((found, spec)) => found.as_str() == name && *spec == expected,
-        None => false,
+    for &(script, text) in &SETUPS {
+        expect(has_parts(rt.alloc(), script, text)?, text)?;
     }
-}
-
-/// The views of the script of two views.
-const WORD: ViewSpec = ViewSpec {
-    kind: Kind::Int32,
-    offset: 4,
-    length: Some(2),
-    block: 0,
-};
-
-const BIG: ViewSpec = ViewSpec {
-    kind: Kind::BigUint64,
-    offset: 8,
-    length: None,
-    block: 1,
-};
-
-#[test]
-fn views_are_kept_by_name_in_order(rt: HostRuntime) -> Result<(), Fail> {
-    let setup = setup_of(rt.alloc(), TWO_VIEWS)?;
-    let are_kept = setup.views().len() == 2
-        && is_view(&setup, 0, "word", WORD)
-        && is_view(&setup, 1, "Big_1", BIG);
-    expect(are_kept, "other views")
-}
-
-/// Whether a setup has one block of one byte, a view `a` of all its bytes, and six steps of agent 0.
-fn is_store_and_load(setup: &Setup) -> bool {
-    let spec = ViewSpec {
-        kind: Kind::Uint8,
-        offset: 0,
-        length: None,
-        block: 0,
-    };
-    setup.plan().block_lens() == [1].as_slice()
-        && is_view(setup, 0, "a", spec)
-        && setup.schedule() == [Step(0); 6].as_slice()
-}
-
-#[test]
-fn a_setup_of_the_old_form_has_one_block(rt: HostRuntime) -> Result<(), Fail> {
-    let setup = setup_of(rt.alloc(), STORE_AND_LOAD)?;
-    expect(is_store_and_load(&setup), "another setup")
+    Ok(())
 }
 
 #[test]

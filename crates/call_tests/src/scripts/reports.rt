@@ -1,49 +1,13 @@
 //! The text of a report.
 
 use crate::expecting::expect;
-use crate::scripts::{STORE_AND_LOAD, STORED_AND_LOADED, replayed};
-use sab_block::{Operand, Thrown};
+use crate::run::operand;
+use crate::scripts::{STORE_AND_LOAD, STORED_AND_LOADED, empty, is_text, replayed};
+use sab_block::Thrown;
 use sab_sim::{Answer, Entry, Progress, Report, What, Why};
 use sab_tool::{ToolFault, write_report};
 use std::alloc::Global;
 use std::test::Fail;
-
-/// A report of these blocks and of no moves, with two agents.
-fn quiet(alloc: Global, blocks: Vec<Vec<u8>>) -> Result<Report, Fail> {
-    let agents = [
-        Progress {
-            returned: 2,
-            total: 3,
-        },
-        Progress {
-            returned: 0,
-            total: 1_000,
-        },
-    ];
-    Ok(Report {
-        schedule: Vec::new(alloc),
-        journal: Vec::new(alloc),
-        blocks,
-        agents: Vec::from_array(alloc, agents)?,
-    })
-}
-
-/// A report of no block, of no agent and of no moves.
-fn empty(alloc: Global) -> Report {
-    Report {
-        schedule: Vec::new(alloc),
-        journal: Vec::new(alloc),
-        blocks: Vec::new(alloc),
-        agents: Vec::new(alloc),
-    }
-}
-
-/// The text of a report.
-fn text_of(alloc: Global, report: &Report) -> Result<Vec<u8>, ToolFault> {
-    let mut text = Vec::new(alloc);
-    write_report(report, &mut text)?;
-    Ok(text)
-}
 
 /// An entry of the last call of the last agent.
 fn entry(what: What) -> Entry {
@@ -54,56 +18,73 @@ fn entry(what: What) -> Entry {
     }
 }
 
+/// What an entry says, and how its line ends.
+const ENTRIES: [(What, &str); 14] = [
+    (What::Began, "begin"),
+    (What::Acted(Answer::NotEqual), "act not-equal"),
+    (What::Enlisted, "wait"),
+    (What::Left(Answer::Woken), "leave ok"),
+    (What::Returned(Answer::TimedOut), "return timed-out"),
+    (What::Stuck(Why::Done), "stuck done"),
+    (What::Stuck(Why::Waiting), "stuck waiting"),
+    (What::Stuck(Why::NotWaiting), "stuck not-waiting"),
+    (What::Stuck(Why::Endless), "stuck endless"),
+    (What::Returned(Answer::Woken), "return ok"),
+    (What::Returned(Answer::NotEqual), "return not-equal"),
+    (What::Returned(Answer::Count(u32::MAX)), "return 4294967295"),
+    (
+        What::Returned(Answer::Threw(Thrown::TypeError)),
+        "return TypeError",
+    ),
+    (
+        What::Returned(Answer::Threw(Thrown::RangeError)),
+        "return RangeError",
+    ),
+];
+
 /// Whether the report of this entry alone is one line, which ends in this.
 fn is_line(alloc: Global, what: What, end: &str) -> Result<bool, Fail> {
     let mut report = empty(alloc);
     report.journal.push(entry(what))?;
     let line = format!(in alloc; "0 15 999 {end}\n")?;
-    Ok(text_of(alloc, &report)?.as_slice() == line.as_bytes())
+    Ok(is_text(alloc, &report, line.as_str())?)
 }
 
 #[test]
 fn an_entry_is_one_line(rt: HostRuntime) -> Result<(), Fail> {
-    let table = [
-        (What::Began, "begin"),
-        (What::Acted(Answer::NotEqual), "act not-equal"),
-        (What::Enlisted, "wait"),
-        (What::Left(Answer::Woken), "leave ok"),
-        (What::Returned(Answer::TimedOut), "return timed-out"),
-        (What::Stuck(Why::Done), "stuck done"),
-        (What::Stuck(Why::Waiting), "stuck waiting"),
-        (What::Stuck(Why::NotWaiting), "stuck not-waiting"),
-        (What::Stuck(Why::Endless), "stuck endless"),
-    ];
-    for (what, end) in table {
+    for &(what, end) in &ENTRIES {
         expect(is_line(rt.alloc(), what, end)?, end)?;
     }
     Ok(())
 }
 
+/// Whether values are BigInts, their whole numbers, and how the lines of calls end that return them.
+const VALUES: [(bool, i128, &str); 4] = [
+    (false, 0, "return 0"),
+    (false, -9_007_199_254_740_991, "return -9007199254740991"),
+    (true, 7, "return 7n"),
+    (
+        true,
+        i128::MIN,
+        "return -170141183460469231731687303715884105728n",
+    ),
+];
+
 #[test]
-fn an_answer_ends_its_line(rt: HostRuntime) -> Result<(), Fail> {
-    let zero = Operand::number(0).ok_or("no safe integer")?;
-    let least = Operand::number(-9_007_199_254_740_991).ok_or("no safe integer")?;
-    let table = [
-        (Answer::Value(zero), "return 0"),
-        (Answer::Value(least), "return -9007199254740991"),
-        (Answer::Value(Operand::big(7)), "return 7n"),
-        (
-            Answer::Value(Operand::big(i128::MIN)),
-            "return -170141183460469231731687303715884105728n",
-        ),
-        (Answer::Woken, "return ok"),
-        (Answer::NotEqual, "return not-equal"),
-        (Answer::TimedOut, "return timed-out"),
-        (Answer::Count(u32::MAX), "return 4294967295"),
-        (Answer::Threw(Thrown::TypeError), "return TypeError"),
-        (Answer::Threw(Thrown::RangeError), "return RangeError"),
-    ];
-    for (answer, end) in table {
-        expect(is_line(rt.alloc(), What::Returned(answer), end)?, end)?;
+fn a_value_ends_its_line(rt: HostRuntime) -> Result<(), Fail> {
+    for &(big, whole, end) in &VALUES {
+        let value = operand(big, whole).ok_or("no safe integer")?;
+        let what = What::Returned(Answer::Value(value));
+        expect(is_line(rt.alloc(), what, end)?, end)?;
     }
     Ok(())
+}
+
+/// The text of a report.
+fn text_of(alloc: Global, report: &Report) -> Result<Vec<u8>, ToolFault> {
+    let mut text = Vec::new(alloc);
+    write_report(report, &mut text)?;
+    Ok(text)
 }
 
 /// Whether the report of so many entries ends in this.
@@ -121,46 +102,59 @@ fn a_report_of_as_many_entries_as_a_journal_can_have_is_written(
     expect(is_written, "another end")
 }
 
+/// How far the two agents of a report came.
+const AGENTS: [Progress; 2] = [
+    Progress {
+        returned: 2,
+        total: 3,
+    },
+    Progress {
+        returned: 0,
+        total: 1_000,
+    },
+];
+
 /// Whether the report of these blocks has these lines, and then those of its agents.
-fn are_lines(alloc: Global, blocks: Vec<Vec<u8>>, lines: &str) -> Result<bool, Fail> {
-    let text = text_of(alloc, &quiet(alloc, blocks)?)?;
-    let expected = format!(in alloc; "{lines}agent 0 2 of 3\nagent 1 0 of 1000\n")?;
-    Ok(text.as_slice() == expected.as_bytes())
+fn are_lines(alloc: Global, blocks: &[&[u8]], lines: &str) -> Result<bool, Fail> {
+    let mut report = empty(alloc);
+    report.agents.extend_from_slice(&AGENTS)?;
+    for block in blocks {
+        report.blocks.push(block.to_vec(alloc)?)?;
+    }
+    let text = format!(in alloc; "{lines}agent 0 2 of 3\nagent 1 0 of 1000\n")?;
+    Ok(is_text(alloc, &report, text.as_str())?)
 }
 
-#[test]
-fn a_report_of_no_block_has_no_line_for_one(rt: HostRuntime) -> Result<(), Fail> {
-    let alloc = rt.alloc();
-    expect(are_lines(alloc, Vec::new(alloc), "")?, "other lines")
-}
+/// Blocks, and their lines.
+const BLOCKS: [(&[&[u8]], &str); 2] = [
+    (&[], ""),
+    (
+        &[b"\x00\x0f\xa9\xff", b"", b"\x07\x00\x00\x00"],
+        "block 0 000fa9ff\nblock 1 -\nblock 2 07000000\n",
+    ),
+];
 
 #[test]
 fn each_block_is_one_line(rt: HostRuntime) -> Result<(), Fail> {
-    let alloc = rt.alloc();
-    let first = Vec::from_array(alloc, [0x00, 0x0f, 0xa9, 0xff])?;
-    let last = Vec::from_array(alloc, [0x07, 0x00, 0x00, 0x00])?;
-    let blocks = Vec::from_array(alloc, [first, Vec::new(alloc), last])?;
-    let lines = "block 0 000fa9ff\nblock 1 -\nblock 2 07000000\n";
-    expect(are_lines(alloc, blocks, lines)?, "other lines")
+    for &(blocks, lines) in &BLOCKS {
+        expect(are_lines(rt.alloc(), blocks, lines)?, "other lines")?;
+    }
+    Ok(())
 }
 
 #[test]
 fn a_long_block_is_written_whole(rt: HostRuntime) -> Result<(), Fail> {
     let alloc = rt.alloc();
     let block = vec![in alloc; 0xc5; 20_000]?;
-    let blocks = Vec::from_array(alloc, [block])?;
     let digits = "c5".repeat(alloc, 20_000)?;
     let line = format!(in alloc; "block 0 {digits}\n")?;
-    let is_whole = are_lines(alloc, blocks, line.as_str())?;
+    let is_whole = are_lines(alloc, &[block.as_slice()], line.as_str())?;
     expect(is_whole, "other lines")
 }
 
 #[test]
 fn a_replayed_report_has_the_text_that_its_script_gives(rt: HostRuntime) -> Result<(), Fail> {
     let alloc = rt.alloc();
-    let text = text_of(alloc, &replayed(alloc, STORE_AND_LOAD)?)?;
-    expect(
-        text.as_slice() == STORED_AND_LOADED.as_bytes(),
-        "another text",
-    )
+    let report = replayed(alloc, STORE_AND_LOAD)?;
+    expect(is_text(alloc, &report, STORED_AND_LOADED)?, "another text")
 }
