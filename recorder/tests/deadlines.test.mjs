@@ -33,7 +33,7 @@ function boardAt(phases, { seed = 1, timeouts = 0, row = {}, strategy = "uniform
   return board;
 }
 
-/** Who gets the turn. */
+/** Which agent gets the turn. */
 function next(board) {
   board.pass(board.words[WORD.LAST]);
   return board.end.hasEnded() ? board.end.told().ending : board.words[WORD.LAST];
@@ -97,7 +97,7 @@ test("a wait that has no time is over at once, beside all that can move", () => 
   assert.deepEqual([...some].sort(), [0, 1, 2]);
 });
 
-test("who sleeps on memory of its own lets the time of other waits pass", () => {
+test("a sleep on private memory lets the time of other waits pass", () => {
   const board = boardAt([ASKS, timed(100)]);
   assert.equal(board.clock.isDue(1), false);
   // Steps alone don't.
@@ -140,7 +140,7 @@ test("one call less, or one that finds something new, is no spin", () => {
   assert.equal(next(board), 0);
 });
 
-test("who polls, asleep between, comes behind waits that end later, until something changes", () => {
+test("an agent that polls, asleep between, comes behind waits that end later, until something changes", () => {
   const board = boardAt([timed(1), timed(60_000)]);
   spin(board, 0);
   assert.equal(next(board), 1);
@@ -148,7 +148,7 @@ test("who polls, asleep between, comes behind waits that end later, until someth
   assert.equal(next(board), 0);
 });
 
-test("an end is early if somebody else could go on before, and the longest of a run is told", () => {
+test("an end is early if somebody else could go on before, and the longest of a run is reported", () => {
   const board = boardAt([ASKS, timed(100), timed(5_000), timed(50), WOKEN], { timeouts: 1 });
   assert.equal(board.deadlines.early(), undefined);
   assert.equal(board.deadlines.end(1, 100), END.IN_TIME);
@@ -183,7 +183,7 @@ test("behind the end of a row the earliest deadline ends, once nobody does anyth
   assert.equal(next(board), 1);
 });
 
-test("a wait that was woken, one that is last and one that is alone are told apart", () => {
+test("a wait that was woken, one that is last and one that is alone are different ends", () => {
   const ends = (phases) => boardAt(phases).deadlines.end(0, 10);
   assert.equal(ends([WOKEN, ASKS]), END.WOKEN);
   assert.equal(ends([timed(10), ASKS]), END.IN_TIME);

@@ -33,7 +33,7 @@ test("of a long message three lines are kept, and 160 characters of each", () =>
   assert.deepEqual(message, ["a".repeat(160), "b", "c"]);
 });
 
-test("a standstill goes by where agents wait, whoever they are, and by the line that a limit names", () => {
+test("a standstill goes by where agents wait, not by their numbers, and by the line that a limit names", () => {
   const waits = ["b.mjs:4:1", "a.mjs:3:1", "b.mjs:4:1"].map((source, at) => ({ name: `fork[${at % 2}]`, source }));
   const expected = ["an agent waits at fork[0]", "an agent waits at fork[1]"];
   assert.deepEqual(standstillOf("", waits), { message: expected, sources: ["a.mjs:3:1", "b.mjs:4:1"] });
@@ -46,7 +46,7 @@ test("a standstill goes by where agents wait, whoever they are, and by the line 
 /** The last bytes by names, where the buffers have 24 and 2 bytes. @param {object} given @param {string[]} bytes */
 const namedIn = (given, bytes) => new FinalStates(checkedNames(given, [24, 2])).of("finished", bytes).named;
 
-test("last bytes are told by their names, as values of their kinds", () => {
+test("last bytes have their names, as values of their kinds", () => {
   const bytes = new Uint8Array(24);
   new Int32Array(bytes.buffer)[0] = -1;
   new Float64Array(bytes.buffer).set([0.25, -0], 1);

@@ -94,7 +94,7 @@ describe("a module that keeps something from run to run", SIDE_BY_SIDE, () => {
     assert.equal(summary.remembers, null);
   });
 
-  test("is told by the last outcome of explore alone", async (context) => {
+  test("is in the last outcome of explore alone", async (context) => {
     const options = { module: moduleIn(context), seeds: 3, args: ["bytes"], everywhere: true };
     const told = [];
     for await (const { seed, remembers } of explore(options)) told.push([seed, remembers]);
@@ -105,7 +105,7 @@ describe("a module that keeps something from run to run", SIDE_BY_SIDE, () => {
     }
   });
 
-  test("is told where a test of agents fails", async (context) => {
+  test("is reported if a test of agents fails", async (context) => {
     const out = temporaryFolder(context);
     const options = { module: moduleIn(context), seeds: 3, args: ["ending"], everywhere: true, out };
     await assert.rejects(assertAgents(options), (error) => error.message.includes(textOf("ending")));

@@ -1,4 +1,4 @@
-// What somebody meets who tries the recorder for the first time: a program in place of a module of agents, TypeScript,
+// What a first try of the recorder meets: a program in place of a module of agents, TypeScript,
 // a folder that can't be made, the short options; and that agents don't see what the recorder has handed their workers.
 
 import assert from "node:assert/strict";

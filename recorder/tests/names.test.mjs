@@ -1,4 +1,4 @@
-// Names of words and of arrays, which a module's `setup` gives: in scripts, in what sabsim tells of them, and in the
+// Names of words and of arrays, which a module's `setup` gives: in scripts, in sabsim's reports on them, and in the
 // recorder's own texts.
 
 import assert from "node:assert/strict";
@@ -225,7 +225,7 @@ test("a deadlock and a race are told by names", async (context) => {
   assert.deepEqual(sides.map(({ element }) => element), ["data[9]", "data[9]"]);
 });
 
-test("a race of a DataView is told by the name whose element its bytes are, and else by the byte", async (context) => {
+test("a race of a DataView has the name whose element its bytes are, and else the byte", async (context) => {
   const names = { samples: { kind: "Float64", buffer: 0, offset: 8, length: 2 } };
   const setup = { agents: 2, buffers: [24], names };
   const elements = async (at) => {

@@ -19,7 +19,7 @@ const outcomeOf = (context, body, options = {}) => {
 };
 
 describe("agents without a call of Atomics", { concurrency: 4 }, () => {
-  test("race where they count without a lock, and both lines are told", async (context) => {
+  test("race where they count without a lock, and both lines are named", async (context) => {
     const { ending, detail, races, checked, calls, ordinary } = await outcomeOf(context, COUNTS);
     assert.deepEqual([ending, checked, calls, ordinary], ["race", true, 0, 20], detail);
     for (const { lines } of races) for (const line of lines) assert.match(line, /^agents\.mjs:3:\d+$/);

@@ -284,7 +284,7 @@ test("the object of a summary has all that its text has, and what the text leave
 const thrown = (seed, failure, ending = "failed") =>
   outcome(seed, { ending, detail: failure.message.join("\n"), failure });
 
-test("failures are told by message and line, those of most runs first, with their counts and first seeds", () => {
+test("failures are grouped by message and line, those of most runs first, with their counts and first seeds", () => {
   const inside = (number) => ({ message: [`agent ${number} threw Error: ${number} inside`], sources: ["a.mjs:15:9"] });
   const other = { message: ["agent 0 threw Error: 7 inside"], sources: ["a.mjs:16:9"] };
   const check = { message: ["check threw Error: permits must be back", "1 !== 2"], sources: ["a.mjs:22:11"] };
@@ -315,7 +315,7 @@ test("failures are told by message and line, those of most runs first, with thei
   assert.deepEqual(linesOf(outcomes.toReversed()).slice(0, expected.length), expected);
 });
 
-test("what the first failing run says alone isn't told twice, and what it doesn't say is told", () => {
+test("what the first failing run says alone isn't said twice, and what it doesn't say is said", () => {
   const failure = { message: ["agent 0 threw Error: one"], sources: [] };
   const alone = linesOf([thrown(3, failure), thrown(4, failure)]);
   assert.ok(!alone.some((line) => line.includes("kind")), alone.join("\n"));
@@ -332,7 +332,7 @@ test("a run that ended as `failed` threw, or was stopped", () => {
   assert.equal(linesOf([init])[0], "1 of 1 run failed: 1 threw");
 });
 
-test("final states are told by names where there are some", () => {
+test("final states have names where there are some", () => {
   const lines = linesOf([outcome(1, { named: "LOCK 0, COUNT 8" }), outcome(2, { shown: ["02"], named: "LOCK 2" })]);
   assert.deepEqual(lines.slice(1, 4), [
     "2 final states: how it ended, and the values",
@@ -341,7 +341,7 @@ test("final states are told by names where there are some", () => {
   ]);
 });
 
-test("any number of kinds of failures take a bounded room, and what is left out is told", () => {
+test("any number of kinds of failures take a bounded room, and what is left out is counted", () => {
   const summary = new Summary(SEEN);
   const count = 3 * MOST_KEYS;
   for (let seed = 1; seed <= count; seed += 1) {
@@ -426,7 +426,7 @@ test("a tally keeps a certain number of keys, the same ones in whatever order an
   assert.deepEqual([joined.sorted(), joined.others], [whole.sorted(), whole.others]);
 });
 
-test("the states of any number of seeds take a bounded room, and what is left out is told", () => {
+test("the states of any number of seeds take a bounded room, and what is left out is counted", () => {
   const summary = new Summary(SEEN);
   const count = 3 * MOST_KEYS;
   for (let seed = 1; seed <= count; seed += 1) {

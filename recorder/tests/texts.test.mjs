@@ -121,7 +121,7 @@ test("the first line that differs is shown with both sides", () => {
   assert.deepEqual(firstDifference("a\n", "a"), { line: 2, recorded: "", replayed: "(no line)" });
 });
 
-test("a brief group tells bytes and answers of failing runs alone, and what a check needs of each", async (context) => {
+test("a brief group sends bytes and answers of failing runs alone, and what a check needs of each", async (context) => {
   const path = fileURLToPath(new URL("../bench/programs/lost-wake-up.mjs", import.meta.url));
   const group = await groupOf(context, path, { isBrief: true });
   const seeds = Array.from({ length: 12 }, (_, at) => ({ seed: at + 1, whole: true }));

@@ -1,4 +1,4 @@
-// Runs with timed waits: in which order they end, what is told of a run that fails only after an early end, and of a
+// Runs with timed waits: in which order they end, what is reported of a run that fails only after an early end, and of a
 // lost wake-up that a time hides.
 
 import assert from "node:assert/strict";
@@ -24,7 +24,7 @@ const outcomesOf = (name, seeds, options = {}) =>
 /** The words of the buffer at the end. */
 const wordsOf = ({ bytes }) => [...new Int32Array(Uint8Array.from(Buffer.from(bytes[0], "hex")).buffer)];
 
-/** Where the code waits, as the recorder tells it. */
+/** Where the code waits, as the recorder reports it. */
 function placeOf(text) {
   const [{ line, column }] = placesOf("timed", text);
   return `timed.mjs:${line}:${column}`;
@@ -42,7 +42,7 @@ describe("runs with timed waits", { concurrency: 2 }, () => {
     assert.deepEqual([...orders].sort(), ["4 3 4 2 1", "4 4 3 2 1"]);
   });
 
-  it("a sleeper doesn't starve beside a spin, nor beside one who polls", async () => {
+  it("a sleeper doesn't starve beside a spin, nor beside an agent that polls", async () => {
     for (const timeouts of [0, 0.05]) {
       for (const name of ["spins", "polls"]) {
         const outcomes = await outcomesOf(name, 10, { timeouts });
@@ -94,7 +94,7 @@ describe("runs with timed waits", { concurrency: 2 }, () => {
     }
   });
 
-  it("what a run before has left isn't told of one whose `init` fails", async (context) => {
+  it("what a run before has left isn't reported of one whose `init` fails", async (context) => {
     let fails = false;
     const init = () => {
       if (fails) throw new Error("no more");
@@ -168,7 +168,7 @@ describe("what comes first of failing runs", () => {
     assert.deepEqual([plain(1), early(2)].map((run) => other.takes(run)), [true, false]);
   });
 
-  it("is told in words with the time, the agent and how many more waits ended early", () => {
+  it("has words with the time, the agent and how many more waits ended early", () => {
     const told = { milliseconds: 5_000, other: 1, isCall: true, more: 0 };
     assert.equal(earlyText(told), "only if 5 s pass before agent 1's next call");
     assert.equal(earlyText({ ...told, isCall: false, milliseconds: 1, more: 1 }),

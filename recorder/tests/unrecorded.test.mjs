@@ -47,7 +47,7 @@ function testFinishing(ways, options = {}) {
   }
 }
 
-/** What is told of memory: how it is used, what it is, where it was made, and how often it was used. */
+/** What is reported of memory: how it is used, what it is, where it was made, and how often it was used. */
 const uses = (how, what, line, counts) =>
   new RegExp(`^agent 0 ${how} a ${what} of its own, made at unrecorded\\.mjs:${line}:\\d+, which isn't recorded `
     + `\\(${counts}, the first at unrecorded\\.mjs:\\d+:\\d+\\): hand the class \`buffers\\[0\\]\` in place of it; `

@@ -37,7 +37,7 @@ test("a value is written as JavaScript writes it, whatever its kind", () => {
   assert.deepEqual([...storedBytes("Int16", -2)], [254, 255]);
 });
 
-test("a store that stands for a write is told by the array and the value of the code", () => {
+test("a store that stands for a write has the array and the value of the code", () => {
   const view = (name, kind, offset = 0, length = 4) => ({ name, kind, block: 0, offset, length });
   const list = [
     view("samples", "Float64", 8), view("ordinary_samples", "BigUint64", 8), view("LAST", "Float32", 0, 1),
@@ -162,7 +162,7 @@ test("the headline of a page and its timeline name an element in the same way, w
   }
 });
 
-test("an element of each kind, a DataView's too, is told by the code's kind", async (context) => {
+test("an element of each kind, a DataView's too, has the code's kind", async (context) => {
   const module = join(temporaryFolder(context), "kinds.mjs");
   writeFileSync(module, `
     export const setup = { agents: 1, buffers: [64, 8],
@@ -223,7 +223,7 @@ test("a kept page says its module, options and versions, and its command makes t
   const made = spawnSync(process.execPath, [RECORD, ...words, ...CHECKING], { cwd: folder, encoding: "utf8" });
   assert.equal(made.status, 1, made.stderr);
   const name = readdirSync(join(folder, "found")).find((each) => each.endsWith(".html"));
-  // Who opens the explained report finds bits there, which is said where it is kept.
+  // The explained report has bits there. A line beside the kept files says so.
   assert.match(made.stdout, new RegExp("\\nin seed-(\\d+)\\.explained and seed-\\1\\.svg a float that was written without " +
     "Atomics is a whole number, which has its bits\\n$"));
   const { about, command, seed } = dataOf(join(folder, "found", name));

@@ -1,5 +1,5 @@
 // Messages and listeners that nobody serves. An agent never gets to its event loop, so a listener of its never runs; and
-// a message gets only to who takes it at once, by `receiveMessageOnPort`.
+// a message gets only to code that takes it at once, by `receiveMessageOnPort`.
 
 import nodeModule from "node:module";
 import {

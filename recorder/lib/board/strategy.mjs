@@ -180,7 +180,7 @@ export class Strategy {
     return able.count - before;
   }
 
-  /** @returns {boolean} whether somebody can move who does more than read the same again */
+  /** @returns {boolean} whether an agent can move that does more than read the same again */
   #isMoving() {
     const { able, deadlines: { spins } } = this;
     for (let at = 0; at < able.count; at += 1) {

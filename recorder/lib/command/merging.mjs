@@ -118,7 +118,7 @@ function stoppedOf(summaries) {
 /**
  * What the run of the first failing seed has left: its files, and what belongs to it alone.
  * @param {WholeSummary[]} summaries
- * @param {import("./summary-data.mjs").SummaryData} told of all
+ * @param {import("./summary-data.mjs").SummaryData} told the summary of all
  * @returns {Pick<WholeSummary, "shortened" | "kept" | "notKept">}
  */
 function keptOf(summaries, { firstFailing }) {

@@ -90,7 +90,7 @@ export const failureKey = ({ ending, message, sources }) =>
 export const of = (key, about) => ({ key, about: /** @type {T} */ (about) });
 
 /**
- * What a tally has, as it is told.
+ * What a tally has, as a list of the summary.
  * @template T
  * @template {object} Part
  * @param {Tally<T>} tally

@@ -214,7 +214,7 @@ export class Summary {
     for (const what of unrecorded) this.used.add(what, seed);
   }
 
-  /** @param {import("../seeds/first-again.mjs").Remembering} found that of the least seed is told */
+  /** @param {import("../seeds/first-again.mjs").Remembering} found of several, that of the least seed is kept */
   #addRemembering(found) {
     if (this.remembers === undefined || this.remembers.seed > found.seed) this.remembers = found;
   }

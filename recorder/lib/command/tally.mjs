@@ -8,7 +8,7 @@
  * @property {string} key what the runs have in common
  * @property {number} runs how many they are
  * @property {number} first the least of their seeds
- * @property {T} about what else is told of the first of them
+ * @property {T} about what else the summary says of the first of them
  */
 
 /** How many keys are kept, if nothing else is said. */
@@ -30,7 +30,7 @@ export class Tally {
   /**
    * @param {string} key
    * @param {number} seed of the run
-   * @param {T} [about] what else is told of the run; that of the least seed is kept
+   * @param {T} [about] what else the summary says of the run; that of the least seed is kept
    */
   add(key, seed, about) {
     // Where nothing is told of the runs, T is undefined.

@@ -48,7 +48,7 @@ import { within } from "./within.mjs";
  * @property {"run" | "real"} [clock] which time agents are told
  * @property {boolean} [trace] whether each run's trace is told
  * @property {boolean} [tellsMeetings] whether the lines are told that came one after the other at a place
- * @property {boolean} [isBrief] whether of a run that passes no bytes and answers are told
+ * @property {boolean} [isBrief] whether outcomes of runs that pass have no bytes and answers
  * @property {OfBuffers} [init] fills the buffers before each run, in place of the module's
  * @property {OfBuffers} [check] throws where the buffers aren't right after a run that finished, in place of the
  * module's

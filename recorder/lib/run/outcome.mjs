@@ -14,8 +14,8 @@
  * @property {{ returned: number, calls: number }[]} progress of each agent: calls that returned, and that began
  * @property {import("./final-state.mjs").FinalState} state of the end
  * @property {import("./findings.mjs").RaceReport[]} races the unordered accesses, each pair of lines of code once
- * @property {string[]} [bytes] of each buffer as it was left, in hexadecimal digits; this and what follows is told of
- * runs that fail, and where it is asked for
+ * @property {string[]} [bytes] of each buffer as it was left, in hexadecimal digits; runs that fail have this and what
+ * follows, and others if it is asked for
  * @property {(string | null)[][]} [answers] of each agent's calls, as a report spells them; null: a wait that goes on
  * @property {string} [script] what `sabsim replay` reads
  * @property {"all" | "touched"} [scriptHolds] which ordinary writes stand in the script: all, or those of bytes that
@@ -32,7 +32,7 @@
  * @property {string} [onlyIf] of a failing run in which a timed wait has ended early: what time must pass for that
  * @property {import("./timed-ends.mjs").OnlyByTime[]} [onlyByTime] waits that have ended only since their time was up
  * @property {import("./timed-ends.mjs").Place[]} [served] places at which agents of the run wait, and which other
- * agents have notified or written; told with timed waits alone
+ * agents have notified or written; only runs with timed waits have it
  * @property {string[]} [unrecorded] which shared memory and which threads agents used that aren't recorded, if any
  */
 
@@ -46,10 +46,10 @@
 /**
  * @typedef {object} Wanting
  * @property {number} seed
- * @property {boolean} whole whether answers, script and report are told even of a run that finishes
- * @property {boolean} [isTrial] whether only its ending is wanted: no answers, script, report or trace is told
- * @property {boolean} [tellsLines] whether a trial tells the lines of its races
- * @property {boolean} [tellsTrace] whether the trace is told in any case
+ * @property {boolean} whole whether a run that finishes has answers, script and report too
+ * @property {boolean} [isTrial] whether only its ending is wanted: it has no answers, script, report or trace
+ * @property {boolean} [tellsLines] whether a trial has the lines of its races
+ * @property {boolean} [tellsTrace] whether it has its trace in any case
  * @property {boolean} [tellsActs] whether the outcome has a digest of all that was done
  * @property {boolean} [isSilent] whether nothing is printed of what the agents print
  * @property {boolean} [isFresh] whether the agents' workers are started anew before
@@ -72,4 +72,4 @@
  * @property {boolean} isInScript whether the script has all of them, and no others
  */
 
-/** @typedef {{ outcome: Outcome, judgement?: Judgement, aside: Aside }} One all that is told of one run */
+/** @typedef {{ outcome: Outcome, judgement?: Judgement, aside: Aside }} One all that is reported of one run */

@@ -39,7 +39,7 @@ import { unseenText } from "./unseen.mjs";
  * @property {boolean} fresh
  * @property {boolean} trace
  * @property {boolean} [tellsMeetings]
- * @property {boolean} [isBrief] whether of a run that passes no bytes and answers are told
+ * @property {boolean} [isBrief] whether outcomes of runs that pass have no bytes and answers
  * @property {"watch" | "store" | "refuse"} ordinary
  * @property {"fail" | "allow"} races
  * @property {"fail" | "allow"} bounds

@@ -1,4 +1,4 @@
-// Where agents stand that haven't come to their end when their run is over: who waits, and who asks for a call.
+// Where agents are that haven't come to their end when their run is over: which wait, and which ask for a call.
 
 import { ownCalls } from "./transcript.mjs";
 
@@ -15,7 +15,7 @@ import { ownCalls } from "./transcript.mjs";
  */
 
 /**
- * Who waits where.
+ * Which agents wait where.
  * @param {{ agent: number, block: number, byte: number }[]} waiting in order of arrival
  * @param {Transcript} transcript
  * @param {(agent: number) => string} sourceOf the line of code at which an agent is; empty if it isn't known

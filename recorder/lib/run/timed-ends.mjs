@@ -1,4 +1,4 @@
-// What is told of the ends of timed waits: that a run fails only after an early one; and which waits of a run ended
+// What is reported of the ends of timed waits: that a run fails only after an early one; and which waits of a run ended
 // only since their time was up, as one does whose wake-up is lost.
 
 import { CALL_NUMBERS } from "../../script/kinds.mjs";

@@ -45,7 +45,7 @@ export class Runs {
   /** How many outcomes have come. */
   #made = 0;
 
-  /** @type {{ job: AnyJob, outcome: Outcome } | undefined} the first seed's run, and who has made it */
+  /** @type {{ job: AnyJob, outcome: Outcome } | undefined} the first seed's run, and the job that made it */
   #first;
 
   /** @type {AbortController} aborted when no more runs are wanted */
@@ -98,7 +98,7 @@ export class Runs {
   }
 
   /**
-   * Makes the run of the first seed once more, by who has made it, when there were others and workers are kept.
+   * Makes the run of the first seed once more, in the same job, if there were other runs and workers are kept.
    * @returns {Promise<import("./first-again.mjs").Remembering | undefined>} how it differed, if it did
    */
   async firstAgain() {

@@ -27,7 +27,7 @@ function ownFolder() {
 /**
  * Empties the folder of a test.
  * @param {string} module the URL of the agents' module
- * @param {string} test what tells it from others: its name, and the file that has it
+ * @param {string} test by which it differs from others: its name, and the file that has it
  * @returns {string} the folder's path
  */
 export function keptFolder(module, test) {

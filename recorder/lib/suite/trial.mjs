@@ -25,7 +25,7 @@ import { keptFolder } from "./kept-folder.mjs";
  * @typedef {object} Caller whose code asks for the trial
  * @property {() => string | undefined} folder from which a relative path of the module is taken
  * @property {string | undefined} place file, line and column
- * @property {string} [name] of the test; undefined: it is told from others by its place
+ * @property {string} [name] of the test; undefined: it differs from others by its place
  */
 
 /** A run of agents has failed: the message says all of it. */
@@ -144,7 +144,7 @@ async function failureOf(runs, failing, passed, { out, shorten, caller }) {
   return failureText({ outcome, passed, simulator, module, kept });
 }
 
-/** @param {Caller} caller @returns {string} what tells its test from others: a line may move, unless it has no name */
+/** @param {Caller} caller @returns {string} by which its test differs from others: a line may move, unless it has no name */
 function testOf({ name, place = "" }) {
   return name === undefined ? place : `${place.replace(/(?::\d+){2}$/, "")}\n${name}`;
 }
