@@ -9,9 +9,6 @@ import { DOCUMENTS, TOP, proseOf, textOf } from "./documents.mjs";
 /** A number, and what there are so many of. */
 const COUNT = /\b(\d[\d,]*) ((?:[a-z-]+ ){0,2}?(?:edits|cases|scripts|traces|changes|cuts|crates|programs|tests))\b/g;
 
-/** DECISIONS.md has measurements, each of the day on which it was made. */
-const WITH_COUNTS = DOCUMENTS.filter((path) => path !== "docs/DECISIONS.md");
-
 /** The number that a constant of a test has. @param {string} path @param {RegExp} constant */
 const constantOf = (path, constant) => Number(constant.exec(textOf(path))[1].replaceAll("_", ""));
 
@@ -32,7 +29,7 @@ test("README.md has at most 130 lines and 900 words", () => {
 });
 
 test("each count of the documents is that of the repository", () => {
-  const counts = WITH_COUNTS.flatMap((path) => {
+  const counts = DOCUMENTS.flatMap((path) => {
     const found = [...proseOf(path).replaceAll("\n", " ").matchAll(COUNT)];
     return found.map(([, number, what]) => ({ path, number, what }));
   });
