@@ -1,5 +1,6 @@
 // All options, a row for each: what it may be, what serves where it isn't given, who takes it, whether summaries can be
-// joined only where it is the same, and the line of help. The command line, the library and the summary go by it.
+// joined only where it is the same, whether a replay depends on it, and the line of help. The command line, the library
+// and the summary go by it.
 
 import { DEFAULT_SECONDS, MOST_JOBS, SCRIPT_LIMITS } from "../../script/limits.mjs";
 import {
@@ -15,6 +16,7 @@ import {
  * @property {Taker[]} of who takes it
  * @property {unknown} [ifNone] what serves where it isn't given
  * @property {boolean} [isShared] whether summaries can be joined only where it is the same
+ * @property {boolean} [isReplayed] whether a run by a kept script depends on it
  * @property {string} [word] its name on the command line, where that is another one
  * @property {string} [letter] a short name on the command line
  * @property {string[]} [help] what stands behind its name on the command line, and what it says
@@ -34,8 +36,11 @@ const COMMAND = ["command"];
 /** @type {(kind: import("./kinds.mjs").Kind, ifNone: unknown, help: string[]) => Option} of each run */
 const rule = (kind, ifNone, help) => ({ kind, of: ALL, ifNone, isShared: true, help });
 
+/** @type {typeof rule} of each run, and of one by a kept script too */
+const replayed = (kind, ifNone, help) => ({ ...rule(kind, ifNone, help), isReplayed: true });
+
 /** @type {(words: string[], help: string[]) => Option} it is one of some words, the first where none is given */
-const word = (words, help) => rule(choice(words), words[0], help);
+const word = (words, help) => replayed(choice(words), words[0], help);
 
 /** @type {Readonly<Record<string, Option>>} by their names */
 export const OPTIONS = Object.freeze({
@@ -57,9 +62,10 @@ export const OPTIONS = Object.freeze({
     + "agent moves next), partial-order (by random priorities) or mixed (by the seed one of such) (mixed)"]),
   everywhere: rule(FLAG, false,
     ["", "agents are switched before each call, also where pilot runs have shown that no other agent goes"]),
-  timeouts: rule(PART_OR_NEVER, 0.05, ["P", "in how many of the draws, from 0 to 1, the early end of a timed wait is "
-    + "offered while something else can move; 0: time passes only if nothing else can move; never: not even then, so "
-    + "that a lost wake-up is a deadlock (0.05)"]),
+  timeouts: replayed(PART_OR_NEVER, 0.05,
+    ["P", "in how many of the draws, from 0 to 1, the early end of a timed wait is offered while something else can "
+    + "move; 0: time passes only if nothing else can move; never: not even then, so that a lost wake-up is a deadlock "
+    + "(0.05)"]),
   ordinary: word(["watch", "store", "refuse"], ["HOW", "reads and writes without Atomics: watch (each is seen, and "
     + "unordered accesses are looked for), store (only what changed is found) or refuse (a byte that changed fails the "
     + "run) (watch)"]),
