@@ -1,4 +1,4 @@
-// The table of options: the command line, the library's types and README have just the options that it has.
+// The table of options: the command line, the library's types and the reference have just the options that it has.
 
 import assert from "node:assert/strict";
 import { readFileSync } from "node:fs";
@@ -6,15 +6,15 @@ import { test } from "node:test";
 import { optionsOf, wordOf } from "../lib/options/table.mjs";
 
 const textOf = (name) => readFileSync(new URL(`../${name}`, import.meta.url), "utf8");
-const README = textOf("README.md");
+const REFERENCE = textOf("../docs/RECORDER.md");
 const TYPES = textOf("recorder.d.mts");
 
 /** The names of the options that somebody takes. */
 const namesOf = (taker) => optionsOf(taker).map(([name]) => name);
 
-/** The names in the first cells of README's table below a line of text. */
+/** The names in the first cells of the reference's table below a line of text. */
 function namesBelow(line) {
-  const [, table] = README.split(line)[1].split("|---|---|\n");
+  const [, table] = REFERENCE.split(line)[1].split("|---|---|\n");
   const rows = table.slice(0, table.search(/^(?!\|)/m)).trimEnd().split("\n");
   return rows.flatMap((row) => [...row.split(" | ")[0].matchAll(/`(?:--)?([\w-]+)/g)].map(([, name]) => name));
 }
@@ -25,9 +25,9 @@ function membersOf(type) {
   return [...body.matchAll(/^ {2}(\w+)\??:/gm)].map(([, name]) => name);
 }
 
-test("README's tables have each option of the command line, of record and of explore", () => {
+test("the reference's tables have each option of the command line, of record and of explore", () => {
   assert.deepEqual(namesBelow("## Options").sort(), namesOf("command").map(wordOf).sort());
-  assert.deepEqual(namesBelow("whatever the working directory is.").sort(), namesOf("record").sort());
+  assert.deepEqual(namesBelow("`record` makes one run, in this process.").sort(), namesOf("record").sort());
   const [record, explore] = ["record", "explore"].map(namesOf);
   const more = explore.filter((name) => !record.includes(name));
   assert.deepEqual(namesBelow("`explore` takes the same options").sort(), more.sort());

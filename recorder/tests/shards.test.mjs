@@ -240,10 +240,10 @@ test("what went wrong is a member of the summary too", async (context) => {
 const hasParallel = spawnSync("parallel", ["--version"]).status === 0;
 const withParallel = needing("GNU parallel", hasParallel);
 
-test("GNU parallel runs the shards, as recorder/README.md shows it", withParallel, (context) => {
+test("GNU parallel runs the shards, as docs/RECORDER.md shows it", withParallel, (context) => {
   const folder = temporaryFolder(context);
-  const readme = readFileSync(fileURLToPath(new URL("../README.md", import.meta.url)), "utf8");
-  const [command] = /^ {4}seq 4 \| parallel [^]*?(?=\n\n)/m.exec(readme);
+  const reference = readFileSync(fileURLToPath(new URL("../../docs/RECORDER.md", import.meta.url)), "utf8");
+  const [command] = /^ {4}seq 4 \| parallel [^]*?(?=\n\n)/m.exec(reference);
   const cwd = fileURLToPath(new URL("../../", import.meta.url));
   const env = { ...process.env, PARALLEL_HOME: folder };
   const { status, stdout, stderr } = spawnSync("sh", ["-c", command], { cwd, env, encoding: "utf8" });

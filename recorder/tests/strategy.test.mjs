@@ -180,14 +180,14 @@ test("each row of the table is a strategy by its word, and draws among the agent
   }
 });
 
-test("each row of the table is named in the help, in the README and in the declared types", () => {
-  const [readme, types] = ["README.md", "recorder.d.mts"].map((name) => {
+test("each row of the table is named in the help, in the reference and in the declared types", () => {
+  const [reference, types] = ["../docs/RECORDER.md", "recorder.d.mts"].map((name) => {
     return readFileSync(new URL(`../${name}`, import.meta.url), "utf8");
   });
   for (const [name, { hasLikelihood }] of Object.entries(STRATEGIES)) {
     const word = hasLikelihood ? `${name}:P` : name;
     assert.ok(OPTIONS.strategy.help[1].includes(word), word);
-    assert.ok(readme.includes(`\n| \`${word}\` |`), word);
+    assert.ok(reference.includes(`\n| \`${word}\` |`), word);
     assert.ok(types.includes(hasLikelihood ? `\`${name}:\${number}\`` : `"${name}"`), word);
   }
 });

@@ -1,5 +1,5 @@
-// The commands of README.md, CONTRIBUTING.md and recorder/README.md. Each is run in a copy of the repository, and
-// prints what the document shows below it. If one isn't run, the reason or another test is named here.
+// The commands of README.md, CONTRIBUTING.md, recorder/README.md and docs/RECORDER.md. Each is run in a copy of the
+// repository, and prints what the document shows below it. If one isn't run, the reason or another test is named here.
 
 import assert from "node:assert/strict";
 import { spawnSync } from "node:child_process";
@@ -125,7 +125,7 @@ function run(command, isBuilt) {
   return spawnSync("sh", ["-c", command], { cwd: copy, env, encoding: "utf8", maxBuffer: 2 ** 26 });
 }
 
-const inBlocks = ["README.md", "CONTRIBUTING.md", "recorder/README.md"].flatMap(blocksOf);
+const inBlocks = ["README.md", "CONTRIBUTING.md", "recorder/README.md", "docs/RECORDER.md"].flatMap(blocksOf);
 const inText = ["README.md", "CONTRIBUTING.md"].flatMap(spansOf).filter((span) => COMMAND.test(span));
 
 test("the commands of the documents are those of the list", () => {
