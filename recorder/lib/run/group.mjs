@@ -65,8 +65,24 @@ const DEFAULT_LOAD_SECONDS = 30;
 const AGENT_MODULE = new URL("../agent/worker.mjs", import.meta.url);
 const REFEREE_MODULE = new URL("./referee.mjs", import.meta.url);
 
-/** How many agents' workers begin at once: all first ones but that of the referee. */
+/** How many agents' workers begin at once at most: all first ones but that of the referee. */
 const FIRST_WORKERS = FIRST_THREADS - 1;
+
+/**
+ * How many agents' workers begin before it is known how many agents the module wants.
+ * @param {{ agents?: number, everywhere: boolean }} options
+ */
+function firstWorkers({ agents, everywhere }) {
+  if (agents === undefined) return FIRST_WORKERS;
+  return Math.min(FIRST_WORKERS, learns(agents, everywhere) ? 2 * agents : agents);
+}
+
+/**
+ * Whether pilots are made, after which each agent has another worker. A single agent meets nobody.
+ * @param {number} agents
+ * @param {boolean} everywhere
+ */
+const learns = (agents, everywhere) => !everywhere && agents > 1;
 
 /**
  * A part of a group, which is there when it has started.
@@ -179,7 +195,7 @@ export class Group {
 
   /** @param {() => void} meanwhile */
   async #start(meanwhile) {
-    this.#beginUpTo(FIRST_WORKERS);
+    this.#beginUpTo(firstWorkers(this.options));
     const referee = this.#thread();
     this.referee = referee;
     // It evaluates them while the agents' module is loaded.
@@ -198,13 +214,12 @@ export class Group {
     const { memory, plan, rules } = this;
     referee.post({ memory, plan, rules, options });
     const others = Array.from({ length: this.plan.agents - 1 }, (_, other) => other + 1);
-    // A single agent meets nobody.
-    const learns = !everywhere && others.length > 0;
-    this.#beginUpTo(others.length + (learns ? this.plan.agents : 0));
-    if (!learns) meanwhile();
+    const hasPilots = learns(this.plan.agents, everywhere);
+    this.#beginUpTo(others.length + (hasPilots ? this.plan.agents : 0));
+    if (!hasPilots) meanwhile();
     await Promise.all(others.map((agent) => this.#load(agent)));
     await Promise.all(this.agents.map((_, agent) => this.#hand(agent)));
-    if (learns) await this.#learn(meanwhile);
+    if (hasPilots) await this.#learn(meanwhile);
   }
 
   /**
