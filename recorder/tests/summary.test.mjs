@@ -7,7 +7,7 @@ import { whyNoSummary } from "../lib/command/summary-form.mjs";
 import { summaryText } from "../lib/command/summary-text.mjs";
 import { Summary } from "../lib/command/summary.mjs";
 import { MOST_KEYS, Tally } from "../lib/command/tally.mjs";
-import { counted, digits } from "../lib/keeping/words.mjs";
+import { counted, digits } from "../lib/run/words.mjs";
 
 const SEEN = { ordinary: "watch", races: "fail", checkedBy: "module 123" };
 /** What it says about checks of so many runs. */
@@ -189,6 +189,7 @@ test("how many calls and accesses there were is told as it is said", () => {
     "0", "12", "999", "1,000", "123,456", "1,234,567",
   ]);
   assert.equal(counted(1, "seed"), "1 seed");
+  assert.deepEqual([1, 1_000].map((count) => counted(count, "access", "accesses")), ["1 access", "1,000 accesses"]);
 });
 
 test("where not all runs were made, the first line says so", () => {

@@ -1,8 +1,8 @@
 // The plain text of a summary. It is made from the object that `--format json` prints, and from nothing else.
 
 import { endingText, endingsText } from "../../page/endings.mjs";
-import { counted, digits, listed } from "../keeping/words.mjs";
 import { bytesText } from "../run/final-state.mjs";
+import { counted, digits, listed } from "../run/words.mjs";
 import { rememberingText } from "../seeds/first-again.mjs";
 import { rangeText } from "../seeds/ranges.mjs";
 import { onlyByTimeLines } from "./only-by-time.mjs";
@@ -127,7 +127,7 @@ function coverageLines({ coverage }) {
   const since = row === null ? "" : `none in ${counted(row, "seed")} since: `;
   const enough = indented(`${newest}${since}${covered ? "" : "not "}covered`);
   if (unplaced === 0) return [seen, enough];
-  const accesses = unplaced === 1 ? "1 access" : `${digits(unplaced)} accesses`;
+  const accesses = counted(unplaced, "access", "accesses");
   return [seen, indented(`of ${accesses} the line isn't known, so pairs may be missing`), enough];
 }
 
@@ -158,8 +158,7 @@ function accessLine({ runs, calls, accesses }) {
   const made = `${counted(runs, "run")} made ${calls === 0 ? "no call" : counted(calls, "call")} of Atomics`;
   if (accesses === null) return made;
   if (accesses === 0) return `${made}, and no ordinary read or write`;
-  if (accesses === 1) return `${made}, and 1 ordinary read or write`;
-  return `${made}, and ${digits(accesses)} ordinary reads and writes`;
+  return `${made}, and ${counted(accesses, "ordinary read or write", "ordinary reads and writes")}`;
 }
 
 /**
