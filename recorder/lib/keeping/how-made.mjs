@@ -1,10 +1,12 @@
-// The words that run a module's agents once more by a kept script, as the page of a run shows them.
+// How a run was made, for its page: the module, the options, and the command that makes it once more by its script.
 
 import { join } from "node:path";
 import { fileURLToPath } from "node:url";
-import { quoted, shortPath } from "../keeping/about.mjs";
 import { OPTIONS } from "../options/table.mjs";
+import { modulePath, optionsText, quoted, shortPath } from "./about.mjs";
 import { isInstalled } from "./program.mjs";
+
+/** @typedef {import("../run/group.mjs").GroupOptions} GroupOptions */
 
 // What a run by a row of draws depends on, besides the module and the agents' arguments.
 const NAMES = /** @type {const} */ (["timeouts", "ordinary", "races", "bounds", "unrecorded", "clock"]);
@@ -17,16 +19,28 @@ function programWords() {
 }
 
 /**
- * @param {Pick<import("./options.mjs").Options, "module" | "args" | (typeof NAMES)[number]>} options of the run
+ * @param {Pick<GroupOptions, "module" | "args" | (typeof NAMES)[number]>} options of the run
  * @returns {Omit<import("../../page/run-data.mjs").Command, "script">} to which `--replay FILE` is added, before what
  * stands behind `--`
  */
 export function replayCommand(options) {
   const { module, args } = options;
-  const others = NAMES.filter((name) => options[name] !== OPTIONS[name].ifNone);
+  const others = NAMES.filter((name) => ![undefined, OPTIONS[name].ifNone].includes(options[name]));
   const words = others.map((name) => ` --${name} ${options[name]}`);
   return {
     options: `${programWords()} ${quoted(module)}${words.join("")}`,
     args: args.length === 0 ? "" : ` -- ${args.map(quoted).join(" ")}`,
   };
+}
+
+/**
+ * How a run was made. No command calls functions that somebody has given in place of the module's `init` and `check`.
+ * @param {GroupOptions} options of the run
+ * @returns {import("./pictures.mjs").How}
+ */
+export function howMade(options) {
+  const { module, init, check } = options;
+  const isModules = init === undefined && check === undefined;
+  const command = isModules ? replayCommand({ ...options, module: modulePath(module) }) : undefined;
+  return { module, options: optionsText(options), command };
 }
