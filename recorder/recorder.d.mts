@@ -187,7 +187,7 @@ export interface Outcome {
   /** Which shared memory and which threads agents used that aren't recorded, if any. */
   unrecorded?: string[];
   /** Of the last outcome of `explore`: how the run of the first seed differed when it was made once more, if it did. */
-  remembers?: { seed: number; differs: string; was: string; is: string };
+  remembers?: { seed: number; differs: string; was: string; is: string; threw: boolean };
   /** Whether sabsim has replayed the run and, if it was watched, looked for unordered accesses, and says the same. */
   checked: boolean;
   /** Why it hasn't. */

@@ -85,7 +85,7 @@ const MEMBERS = object({
   })),
   races: object({ allowed: flag, runs: whole, pairs: listed({ lines: texts }) }),
   unrecorded: object({ allowed: flag, runs: whole, used: listed({ what: text }) }),
-  remembers: orNull(object({ seed: whole, differs: text, was: text, is: text })),
+  remembers: orNull(object({ seed: whole, differs: text, was: text, is: text, threw: flag })),
   states: object({ failing: states, passing: states }),
   sabsim: object({ asked: flag, versions: texts, checked: whole, judges: flag }),
   scripts: object({ parts: whole, none: listed({ why: text }) }),
