@@ -23,6 +23,8 @@
  * @property {number} others how many runs are counted under what isn't listed
  */
 
+/** @template T @typedef {Listed<T & { early: number }>} FailingListed with how many runs need an early end */
+
 /**
  * @typedef {object} SummaryData what a summary says of many runs: an object of JSON, whose members docs/FORMATS.md
  * explains
@@ -36,14 +38,14 @@
  * @property {number} early how many of the failing runs fail only after the early end of a timed wait
  * @property {import("./only-by-time.mjs").OnlyByTimeTold} onlyByTime
  * @property {number} threw how many of the runs that ended as `failed` threw
- * @property {Listed<Failure>} failures those of all failing runs that have no ending `race`
+ * @property {FailingListed<Failure>} failures those of all failing runs that have no ending `race`
  * @property {import("./shortened.mjs").Shortening | null} shortened what the shortening of that run came to
- * @property {{ allowed: boolean, runs: number, pairs: Listed<{ lines: string[] }> }} races
+ * @property {{ allowed: boolean, runs: number, pairs: FailingListed<{ lines: string[] }> }} races
  * @property {{ allowed: boolean, runs: number, used: Listed<{ what: string }> }} unrecorded shared memory and threads
  * that aren't recorded, and that agents used
  * @property {import("../seeds/first-again.mjs").Remembering | null} remembers how the run of the first seed differed
  * when it was made once more
- * @property {Record<"failing" | "passing", Listed<State & { hash: string }>>} states
+ * @property {Record<"failing" | "passing", FailingListed<State & { hash: string }>>} states
  * @property {CheckedBy} sabsim
  * @property {{ parts: number, none: Listed<{ why: string }> }} scripts
  * @property {import("../seeds/coverage.mjs").Covered | null} coverage null: it wasn't looked for
@@ -102,9 +104,22 @@ export const listedOf = (tally, parts) => ({
   others: tally.others,
 });
 
+/**
+ * What a tally of runs has that may fail, as a list of the summary.
+ * @template T
+ * @template {object} Part
+ * @param {Tally<T>} tally
+ * @param {(key: string, about: T) => Part} parts
+ * @returns {FailingListed<Part>}
+ */
+export const failingListOf = (tally, parts) => ({
+  listed: tally.sorted().map(({ key, runs, early, first, about }) => ({ ...parts(key, about), runs, early, first })),
+  others: tally.others,
+});
+
 /** @param {Tally<State>} tally */
 export const statesTold = (tally) =>
-  listedOf(tally, (hash, { ending, shown, named }) => ({ ending, hash, shown, named }));
+  failingListOf(tally, (hash, { ending, shown, named }) => ({ ending, hash, shown, named }));
 
 /** @param {string[]} order @param {Tally<unknown>} tally */
 export function endingsTold(order, tally) {

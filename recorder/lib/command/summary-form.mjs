@@ -51,7 +51,7 @@ const PLACE = { block: whole, byte: whole };
 const listed = (members) => object({ listed: list(object({ ...members, ...COUNTS })), others: whole });
 
 const endings = list(object({ ending: text, ...COUNTS }));
-const states = listed({ ending: text, hash: text, shown: texts, named: orNull(text) });
+const states = listed({ early: whole, ending: text, hash: text, shown: texts, named: orNull(text) });
 
 const MEMBERS = object({
   summary: whole,
@@ -78,12 +78,12 @@ const MEMBERS = object({
     served: list(object(PLACE)),
   }),
   threw: whole,
-  failures: listed({ ending: text, message: texts, sources: texts }),
+  failures: listed({ early: whole, ending: text, message: texts, sources: texts }),
   shortened: orNull(object({
     runs: whole, changes: change, calls: change, stopped: orNull(text), unchanged: orNull(text), checked: flag,
     detail: texts, onlyIf: orNull(text),
   })),
-  races: object({ allowed: flag, runs: whole, pairs: listed({ lines: texts }) }),
+  races: object({ allowed: flag, runs: whole, pairs: listed({ early: whole, lines: texts }) }),
   unrecorded: object({ allowed: flag, runs: whole, used: listed({ what: text }) }),
   remembers: orNull(object({ seed: whole, differs: text, was: text, is: text, threw: flag })),
   states: object({ failing: states, passing: states }),
