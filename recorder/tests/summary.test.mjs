@@ -236,7 +236,9 @@ test("the object of a summary has all that its text has, and what the text leave
     endings: {
       failing: [{ ending: "race", runs: 1, first: 4 }], passing: [{ ending: "finished", runs: 3, first: 1 }],
     },
-    firstFailing: { seed: 4, ending: "race", detail: ["one", "two"], onlyIf: "only if", noScript: "it is too long" },
+    firstFailing: {
+      seed: 4, ending: "race", detail: ["one", "two"], onlyIf: "only if", noScript: "it is too long", standing: [],
+    },
     early: 1,
     onlyByTime: { listed: [{ ...wait, runs: 1, first: 3 }], others: 0, served: [place] },
     threw: 0,

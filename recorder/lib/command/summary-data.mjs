@@ -4,7 +4,7 @@
 
 /** @typedef {import("../run/outcome.mjs").Outcome & { checked?: boolean }} Outcome */
 
-/** @typedef {Pick<Outcome, "seed" | "ending" | "detail" | "noScript" | "onlyIf"> & Partial<Outcome>} Failing */
+/** @typedef {Pick<Outcome, "seed" | "ending" | "detail" | "noScript" | "onlyIf" | "standing"> & Partial<Outcome>} Failing */
 
 /** @typedef {{ ending: string, shown: string[], named: string | null }} State how a run ended, and its bytes */
 
@@ -33,8 +33,8 @@
  * @property {number} runs
  * @property {number} failed
  * @property {Record<"failing" | "passing", { ending: string, runs: number, first: number }[]>} endings
- * @property {{ seed: number, ending: string, detail: string[], onlyIf: string | null, noScript: string | null } | null
- *   } firstFailing
+ * @property {{ seed: number, ending: string, detail: string[], onlyIf: string | null, noScript: string | null,
+ *   standing: import("../run/standing.mjs").Standing[] } | null} firstFailing
  * @property {number} early how many of the failing runs fail only after the early end of a timed wait
  * @property {import("./only-by-time.mjs").OnlyByTimeTold} onlyByTime
  * @property {number} threw how many of the runs that ended as `failed` threw
@@ -128,15 +128,16 @@ export function endingsTold(order, tally) {
 }
 
 /** @param {Failing} failing @returns {NonNullable<SummaryData["firstFailing"]>} */
-export function failingTold({ seed, ending, detail, onlyIf, noScript }) {
+export function failingTold({ seed, ending, detail, onlyIf, noScript, standing = [] }) {
   const lines = detail === "" ? [] : detail.split("\n");
-  return { seed, ending, detail: lines, onlyIf: onlyIf ?? null, noScript: noScript ?? null };
+  return { seed, ending, detail: lines, onlyIf: onlyIf ?? null, noScript: noScript ?? null, standing };
 }
 
 /** @param {NonNullable<SummaryData["firstFailing"]>} told @returns {Failing} */
-export function failingOf({ seed, ending, detail, onlyIf, noScript }) {
+export function failingOf({ seed, ending, detail, onlyIf, noScript, standing }) {
   const known = /** @type {import("../run/outcome.mjs").Ending} */ (ending);
   return {
     seed, ending: known, detail: detail.join("\n"), onlyIf: onlyIf ?? undefined, noScript: noScript ?? undefined,
+    standing,
   };
 }

@@ -47,6 +47,11 @@ const change = object({ before: whole, after: whole });
 const COUNTS = { runs: whole, first: whole };
 const PLACE = { block: whole, byte: whole };
 
+const standing = object({
+  agent: whole, does: text, call: orNull(whole), place: orNull(text), block: orNull(whole), byte: orNull(whole),
+  file: orNull(text), line: orNull(whole), column: orNull(whole),
+});
+
 /** @type {(members: Record<string, Check>) => Check} */
 const listed = (members) => object({ listed: list(object({ ...members, ...COUNTS })), others: whole });
 
@@ -70,7 +75,7 @@ const MEMBERS = object({
   failed: whole,
   endings: object({ failing: endings, passing: endings }),
   firstFailing: orNull(object({
-    seed: whole, ending: text, detail: texts, onlyIf: orNull(text), noScript: orNull(text),
+    seed: whole, ending: text, detail: texts, onlyIf: orNull(text), noScript: orNull(text), standing: list(standing),
   })),
   early: whole,
   onlyByTime: object({
