@@ -6,9 +6,9 @@ import { formatted } from "./lib/command/formats.mjs";
 import { merged, partsOf } from "./lib/command/merging.mjs";
 import { print } from "./lib/command/print.mjs";
 import { toldOf } from "./lib/command/problems.mjs";
-import { usageWords, versionLine } from "./lib/command/program.mjs";
 import { STATUS } from "./lib/command/status.mjs";
 import { missingText } from "./lib/command/summary-text.mjs";
+import { usageWords, versionLine } from "./lib/keeping/program.mjs";
 import { Refused } from "./lib/options/refused.mjs";
 import { OPTIONS } from "./lib/options/table.mjs";
 

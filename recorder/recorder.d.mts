@@ -165,6 +165,11 @@ export interface Outcome {
    * `race` has its `races`.
    */
   failure?: { message: string[]; sources: string[] };
+  /**
+   * What each agent is at that hasn't come to its end, if the run ended as `deadlock` or as `bound`: the one that has met
+   * the bound first, then those that wait, in order of arrival.
+   */
+  standing?: Standing[];
   /** Each event as an object of JSON, a line each. The first line may say that accesses are missing (`unseen`). */
   trace?: string;
   /** By which arrays the trace's ordinary accesses were made, and what they read. */
@@ -187,7 +192,7 @@ export interface Outcome {
   /** Which shared memory and which threads agents used that aren't recorded, if any. */
   unrecorded?: string[];
   /** Of the last outcome of `explore`: how the run of the first seed differed when it was made once more, if it did. */
-  remembers?: { seed: number; differs: string; was: string; is: string };
+  remembers?: { seed: number; differs: string; was: string; is: string; threw: boolean };
   /** Whether sabsim has replayed the run and, if it was watched, looked for unordered accesses, and says the same. */
   checked: boolean;
   /** Why it hasn't. */
@@ -196,6 +201,24 @@ export interface Outcome {
   original?: Omit<Outcome, "original" | "shortened" | "remembers">;
   /** What came of the option `shorten`, where the run failed. */
   shortened?: Shortened;
+}
+
+/** What an agent is at that hasn't come to its end. */
+export interface Standing {
+  agent: number;
+  /** It waits for a notify, asks for a call, has met a bound by doing the same again and again, or by something else. */
+  does: "waits" | "asks" | "spins" | "runs";
+  /** In which of its calls it waits, or for which it asks, counted from 0; null: it is in none. */
+  call: number | null;
+  /** Where it waits, by its name; null: it doesn't wait, or the place has no name. */
+  place: string | null;
+  /** Where it waits; null: it doesn't. */
+  block: number | null;
+  byte: number | null;
+  /** The line of code; null: it isn't known. */
+  file: string | null;
+  line: number | null;
+  column: number | null;
 }
 
 /** What a trace doesn't have of its ordinary accesses. */

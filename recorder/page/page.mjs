@@ -77,4 +77,5 @@ export async function openPage(Simulator) {
     by("schedule").hidden = false;
     by("schedule").append(made("p", "", `The schedule can't be changed here: ${message}`));
   }
+  shown.viewer.reveal();
 }

@@ -67,6 +67,13 @@ export class Viewer {
     this.host.onChosen();
   }
 
+  /** Brings the chosen step and its line of code into view once more: other parts have taken room from their panes. */
+  reveal() {
+    const { index, run } = this;
+    this.timeline.choose(index);
+    this.code?.show(run.stateAt(index), run.steps[index].agent);
+  }
+
   /** @param {Step} step */
   #tell({ agent, entry, sentence, place }) {
     const who = agent === undefined ? [] : [badge(agent), spoken(` agent ${agent} `), " "];

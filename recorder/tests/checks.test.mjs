@@ -123,11 +123,12 @@ describe("init and check", { concurrency: 2 }, () => {
 
   it("an init or a check that isn't synchronous fails its run: nobody awaits what comes of it", async () => {
     const outcomes = await recorded(program("unfinished", { trace: true }), seedsTo(4));
+    const place = "\n    at checked.mjs:4:3";
     assert.deepEqual(outcomes.map(({ ending, fails, detail }) => [ending, fails, detail]), [
-      ["check", true, "check answered a promise, but it must be synchronous"],
-      ["check", true, "check goes on later, by a promise, but it must be synchronous"],
+      ["check", true, `check answered a promise, but it must be synchronous${place}`],
+      ["check", true, `check goes on later, by a promise, but it must be synchronous${place}`],
       ["check", true, "check answered an iterator, whose code nobody runs: it is a generator"],
-      ["failed", true, "init answered a promise, but it must be synchronous"],
+      ["failed", true, `init answered a promise, but it must be synchronous${place}`],
     ]);
   });
 

@@ -128,6 +128,61 @@ describe("a script has what comes of the conversions", () => {
   });
 });
 
+describe("an index at the edges of what a Number holds exactly", () => {
+  const [MOST, BEYOND] = [Number.MAX_SAFE_INTEGER, 2 ** 53];
+  const CALLS = {
+    load: "load(words, AT)", store: "store(words, AT, 5)", add: "add(words, AT, 1)", notify: "notify(words, AT, 1)",
+    compareExchange: "compareExchange(words, AT, 0, 1)", wait: "wait(words, AT, 1, 0)",
+  };
+
+  /** What the engine's own Atomics does with an index. @param {string} code @param {number} index */
+  function byNode(code, index) {
+    try {
+      const words = new Int32Array(new SharedArrayBuffer(64));
+      return String(new Function("words", "AT", `return Atomics.${code}`)(words, index));
+    } catch (error) {
+      return error.name;
+    }
+  }
+
+  test("an index of -0 is 0, and one of 2^53 - 1 lies outside, as node has it", async (context) => {
+    const all = Object.values(CALLS).flatMap((code) => [-0, MOST, -MOST].map((index) => ({ code, index })));
+    const outcome = await recordBody(context, `
+      const said = [];
+      const indices = [-0, ${MOST}, -${MOST}];
+      for (const [at, code] of ${JSON.stringify(Object.values(CALLS))}.entries()) {
+        const call = new Function("words", "AT", "return Atomics." + code);
+        for (const index of indices) {
+          try {
+            said.push(String(call(new Int32Array(buffers[0], 4 * at, 1), index)));
+          } catch (error) {
+            said.push(error.name);
+          }
+        }
+      }
+      throw new Error(JSON.stringify(said));`);
+    const said = JSON.parse(/^agent 0 threw Error: (.*)$/m.exec(outcome.detail)[1]);
+    assert.deepEqual(said, all.map(({ code, index }) => byNode(code, index)));
+    assert.deepEqual([said[0], said[1], said[2]], ["0", "RangeError", "RangeError"]);
+    assert.deepEqual(callsOf(outcome)[0].map(([, , index]) => index), all.map(({ index }) => index + 0));
+  });
+
+  for (const [name, code] of Object.entries(CALLS)) {
+    test(`2^53 is no index for ${name}: node throws RangeError, and the recorder ends the run at its line`, async (context) => {
+      for (const index of [BEYOND, -BEYOND]) {
+        assert.equal(byNode(code, index), "RangeError");
+        const own = `\nconst words = new Int32Array(buffers[0]);\nAtomics.${code.replace("AT", `${index}`)};`;
+        const { ending, fails, detail } = await recordBody(context, own);
+        assert.deepEqual([ending, fails], ["failed", true]);
+        const [what, at] = detail.split("\n");
+        assert.equal(what, "agent 0 made a call that the recorder can't record: "
+          + `Error: Atomics.${name}: the index ${index} isn't within ±(2^53 - 1): no script can hold it`);
+        assert.match(at, /agents\.mjs:4:9\)?$/);
+      }
+    });
+  }
+});
+
 describe("what an agent's code does in a conversion comes before the call", () => {
   const WORDS = "const words = new Int32Array(buffers[0]);";
   const inOrder = (...calls) => [calls.map(([name, ...rest]) => [name, "Int32", ...rest])];

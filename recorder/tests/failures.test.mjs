@@ -46,13 +46,13 @@ test("a standstill goes by where agents wait, not by their numbers, and by the l
 /** The last bytes by names, where the buffers have 24 and 2 bytes. @param {object} given @param {string[]} bytes */
 const namedIn = (given, bytes) => new FinalStates(checkedNames(given, [24, 2])).of("finished", bytes).named;
 
-test("last bytes have their names, as values of their kinds", () => {
+test("last bytes have their names, as values of their kinds, which the code writes so", () => {
   const bytes = new Uint8Array(24);
   new Int32Array(bytes.buffer)[0] = -1;
   new Float64Array(bytes.buffer).set([0.25, -0], 1);
   const given = { LOCK: 0, samples: ["Float64", 0], slots: ["Uint8", 1], last: ["BigUint64", 0, 1] };
   assert.equal(namedIn(given, [hexOf(bytes), "1e14"]),
-    "LOCK -1, samples [2.1219957905e-314, 0.25, -0], slots [30, 20], last 4598175219545276416");
+    "LOCK -1, samples [2.1219957905e-314, 0.25, -0], slots [30, 20], last 4598175219545276416n");
   assert.equal(namedIn(undefined, [hexOf(bytes), "1e14"]), null);
 });
 

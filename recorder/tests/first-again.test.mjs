@@ -30,7 +30,7 @@ const MODULE = `
 
 /** What a summary's line says of each way. */
 const SAID = {
-  ending: "ended as failed and not as finished", bytes: "left other bytes", acts: "did something else",
+  ending: "ended otherwise (finished, then threw)", bytes: "left other bytes", acts: "did something else",
 };
 
 const textOf = (way, seed = 1) =>
@@ -74,7 +74,7 @@ describe("a module that keeps something from run to run", SIDE_BY_SIDE, () => {
   test("is noticed behind the first failing run, too", async (context) => {
     const { summary } = await summaryOf(context, "ending", ["--seeds", "1..9", "--fail-fast"]);
     assert.deepEqual([summary.runs, summary.firstFailing.seed], [2, 2]);
-    assert.deepEqual(summary.remembers, { seed: 1, differs: "ending", was: "finished", is: "failed" });
+    assert.deepEqual(summary.remembers, { seed: 1, differs: "ending", was: "finished", is: "failed", threw: true });
   });
 
   test("is noticed in a shard by its own first seed", async (context) => {
@@ -98,7 +98,7 @@ describe("a module that keeps something from run to run", SIDE_BY_SIDE, () => {
     const options = { module: moduleIn(context), seeds: 3, args: ["bytes"], everywhere: true };
     const told = [];
     for await (const { seed, remembers } of explore(options)) told.push([seed, remembers]);
-    const found = { seed: 1, differs: "bytes", was: "finished", is: "finished" };
+    const found = { seed: 1, differs: "bytes", was: "finished", is: "finished", threw: false };
     assert.deepEqual(told, [[1, undefined], [2, undefined], [3, found]]);
     for await (const { remembers, fails } of explore({ ...options, args: ["ending"], failFast: true })) {
       assert.equal(remembers?.differs, fails ? "ending" : undefined);
@@ -113,13 +113,30 @@ describe("a module that keeps something from run to run", SIDE_BY_SIDE, () => {
 });
 
 test("which of two runs differ, and how", () => {
-  const run = { seed: 5, ending: "finished", state: { hash: "a" }, acts: "b" };
+  const run = { seed: 5, ending: "finished", detail: "", state: { hash: "a" }, acts: "b" };
   assert.equal(differenceBetween(run, { ...run }), undefined);
-  const others = { ending: { ending: "failed" }, bytes: { state: { hash: "c" } }, acts: { acts: "d" } };
+  const others = { ending: { ending: "failed", detail: "agent 0 threw Error: no" }, bytes: { state: { hash: "c" } }, acts: { acts: "d" } };
   for (const [differs, other] of Object.entries(others)) {
     const found = differenceBetween(run, { ...run, ...other });
     assert.deepEqual([found.differs, found.seed], [differs, 5]);
     assert.equal(rememberingText(found), textOf(differs, 5));
+  }
+});
+
+test("the two endings are in words for people", () => {
+  const run = { seed: 5, state: { hash: "a" }, acts: "b" };
+  const thrown = { ...run, ending: "failed", detail: "agent 1 threw Error: no" };
+  const stopped = { ...run, ending: "failed", detail: "agent 1 made no call for 10 s" };
+  const bound = { ...run, ending: "bound", detail: "the run has made 100 moves" };
+  const check = { ...run, ending: "check", detail: "check answered false" };
+  const pairs = [
+    [thrown, check, "threw, then check failed"], [stopped, bound, "stopped, then limit met"],
+    [bound, thrown, "limit met, then threw"],
+  ];
+  for (const [first, again, said] of pairs) {
+    const found = differenceBetween(first, again);
+    assert.equal(rememberingText(found).includes(`, and ended otherwise (${said}): `), true, rememberingText(found));
+    assert.deepEqual([found.was, found.is], [first.ending, again.ending]);
   }
 });
 
@@ -128,7 +145,7 @@ test("joined summaries tell that of the least seed", (context) => {
   const options = { ordinary: "watch", races: "fail", unrecorded: "fail", preloads: false, args: [] };
   const parts = [6, 4].map((seed) => {
     const summary = new Summary(options);
-    summary.remembers = { seed, differs: "bytes", was: "finished", is: "finished" };
+    summary.remembers = { seed, differs: "bytes", was: "finished", is: "finished", threw: false };
     const asked = { module: "m.mjs", digest: "", seeds: [{ first: 1, last: 9 }], shard: null, options };
     const file = join(folder, `${seed}.json`);
     writeFileSync(file, JSON.stringify({ summary: 3, asked, seeds: [{ first: seed, last: seed + 1 }], ...summary.told() }));

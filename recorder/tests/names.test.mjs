@@ -48,6 +48,10 @@ test("what a name may be, and what it may stand for", () => {
     { name: "rest", kind: FLOAT64, block: 0, offset: 16, length: 2 },
     { name: "all", kind: UINT8, block: 1, offset: 0, length: 3 },
   ]);
+  // Two names may overlap: of an element the shortest one counts. So they are of two places if one thing differs.
+  const part = { kind: "Int16", buffer: 0, offset: 2, length: 3 };
+  const others = [{ kind: "Uint16" }, { buffer: 1 }, { offset: 4 }, { length: 2 }].map((each) => ({ ...part, ...each }));
+  assert.deepEqual(others.map((other) => checkedNames({ part, other }, [16, 16]).length), [2, 2, 2, 2]);
   assert.deepEqual(checkedNames(undefined, [8]), []);
   assert.equal(checkedNames({ [`a${"_".repeat(22)}`]: 0 }, [8]).length, 1);
 });
@@ -93,7 +97,19 @@ for (const [names, why] of [
     /^`names` gives a the length 5: buffer 1 has room for 1 to 4 elements of kind Int16 from offset 8 on$/],
   [{ a: { kind: "Int16", buffer: 1, offset: 8, length: 0 } }, /gives a the length 0/],
   [{ a: { kind: "Int16", buffer: 1, length: null } }, /gives a the length null/],
+  [{ a: { kind: "Int16", buffer: 1, offset: 0.5 } }, /^`names` puts a at offset 0\.5: buffer 1 has 16 bytes/],
+  [{ a: { kind: "Int16", buffer: 1, offset: 3 } }, /^`names` puts a at offset 3: give a multiple of 2/],
+  [{ a: { kind: "Int16", buffer: 1, offset: 15 } }, /^`names` puts a at offset 15: buffer 1 has 16 bytes/],
+  [{ a: { kind: "Int16", buffer: 1, length: 1.5 } }, /gives a the length 1\.5/],
+  [{ a: { kind: 5, buffer: 1 } }, /^`names` says of a that its kind is 5: /],
+  [{ a: { kind: "Int16", buffer: "1" } }, /^`names` puts a on buffer 1: there is no such buffer/],
+  [{ a: { kind: "Int16", buffer: 0.5 } }, /^`names` puts a on buffer 0\.5: there is no such buffer/],
+  [{ a: { kind: "Int16", buffer: -1 } }, /^`names` puts a on buffer -1: there is no such buffer/],
+  [{ a: {} }, /^`names` gives a no `kind`$/],
   [{ a: { kind: "Uint8", buffer: 1 }, b: ["Uint8", 1] }, /two names for one place, a and b/],
+  [{ a: { kind: "Int32", buffer: 0, offset: 4, length: 1 }, b: 1 }, /two names for one place, a and b/],
+  [{ a: { kind: "Int16", buffer: 1, offset: 2 }, b: { kind: "Int16", buffer: 1, offset: 2, length: 7 } },
+    /two names for one place, a and b/],
   [Object.fromEntries(Array.from({ length: 65 }, (_, at) => [`w${at}`, at])), /^`names` has 65 names: a script has /],
 ]) {
   test(`names that can't be: ${JSON.stringify(names).slice(0, 60)}`, () => {

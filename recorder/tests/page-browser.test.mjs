@@ -6,10 +6,11 @@ import { writeFileSync } from "node:fs";
 import { join } from "node:path";
 import { pathToFileURL } from "node:url";
 import { after, before, describe, it } from "node:test";
-import { pageData, pageOf } from "../lib/keeping/page.mjs";
+import { setTimeout } from "node:timers/promises";
+import { pageData, pageOf, pageText } from "../lib/keeping/page.mjs";
 import { Browser, withBrowser } from "./helpers/browser.mjs";
 import { temporaryFolder } from "./helpers/common.mjs";
-import { FACTS, FILE, OUTCOME, lines, view } from "./helpers/page-run.mjs";
+import { EVENTS, FACTS, FILE, OUTCOME, lines, view } from "./helpers/page-run.mjs";
 import { PALE_TEXTS } from "./helpers/pale-texts.mjs";
 
 /** What is chosen, and what is highlighted of it. */
@@ -67,6 +68,38 @@ describe("the page of a run, in a browser", { timeout: 120_000 }, () => {
     });
     assert.equal(await page.value("document.activeElement.id"), "timeline");
     assert.deepEqual(page.complaints(), []);
+  });
+
+  it("shows the chosen step and its line when it has opened, in a low window too", withBrowser, async (context) => {
+    const path = join(temporaryFolder(context), "seed-5.html");
+    writeFileSync(path, pageText(OUTCOME, lines(FACTS), FILE, {}));
+    const page = await browser.open(pathToFileURL(path).href, { height: 640 });
+    // The pane of the schedule takes room from the others when the simulator is there.
+    const isHidden = "document.getElementById('schedule').hidden";
+    for (let time = 0; time < 400 && await page.value(isHidden); time += 1) await setTimeout(50);
+    assert.equal(await page.value(isHidden), false);
+    const seen = await page.value(`["timeline", "code"].map((id) => {
+      const pane = document.getElementById(id);
+      const part = pane.querySelector("[aria-selected=true], [aria-current]").getBoundingClientRect();
+      const { top, bottom } = pane.getBoundingClientRect();
+      return [part.top >= top, part.bottom <= bottom];
+    })`);
+    assert.deepEqual(seen, [[true, true], [true, true]]);
+  });
+
+  it("marks both accesses of a race, whatever the run ends with", withBrowser, async (context) => {
+    const side = (at, access) => ({ ...EVENTS[at], access });
+    const races = [{ sides: [side(2, "write"), side(6, "read")] }];
+    const tagged = `[...document.querySelectorAll("#timeline .tag")].map((tag) => {
+      return [tag.closest("[role=option]").querySelector(".text").textContent, tag.textContent].join(": ");
+    })`;
+    const both = ["writes slots[1]: races", "reads slots[1]: races"];
+    const raced = await opened(context, { parts: { ending: "race", races } });
+    assert.deepEqual(await raced.value(tagged), both);
+    const waits = await opened(context, { parts: { races } });
+    assert.deepEqual(await waits.value(tagged), [...both, "wait(FLAG, 0, -1): waits for ever"]);
+    const none = await opened(context);
+    assert.deepEqual(await none.value(tagged), ["wait(FLAG, 0, -1): waits for ever"]);
   });
 
   it("goes by keys, and the highlighted line with it", withBrowser, async (context) => {

@@ -74,6 +74,8 @@ describe("work that goes on later", () => {
     ["a callback of crypto", "crypto.randomBytes(4, () => { throw new Error('never seen'); });", "a callback"],
     ["a callback of dns", "dns.lookup('localhost', () => { throw new Error('never seen'); });", "a callback"],
   ];
+  // Of timers it is known at the end alone whether they were cleared, and of crypto whether a callback gets the bytes.
+  const UNPLACED = ["setTimeout", "setInterval", "setImmediate", "a callback of crypto"];
   const text = (body) => `
     import crypto from "node:crypto";
     import dns from "node:dns";
@@ -94,7 +96,10 @@ describe("work that goes on later", () => {
     outcomes.forEach(({ ending, detail }, at) => {
       const [name, , word] = all[at];
       assert.equal(ending, "failed", name);
-      assert.equal(detail, `agent 0 goes on later, by ${word}, but an agent must be synchronous`, name);
+      const [what, place] = detail.split("\n    at ");
+      assert.equal(what, `agent 0 goes on later, by ${word}, but an agent must be synchronous`, name);
+      if (UNPLACED.includes(name)) assert.equal(place, undefined, name);
+      else assert.match(place, /^agents\.mjs:9:\d+$/, name);
     });
   });
 

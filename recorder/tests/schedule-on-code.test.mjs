@@ -4,7 +4,7 @@ import assert from "node:assert/strict";
 import { writeFileSync } from "node:fs";
 import { join } from "node:path";
 import { test } from "node:test";
-import { replayCommand } from "../lib/command/replay-command.mjs";
+import { howMade, replayCommand } from "../lib/keeping/how-made.mjs";
 import { record } from "../recorder.mjs";
 import { Editing } from "../schedule/editing.mjs";
 import { earlier, later } from "../schedule/edits.mjs";
@@ -58,4 +58,14 @@ test("the command has the options that the run depends on, as a shell takes them
   assert.match(options, /^(?:node \S+|npx sabsim-record) 'a b\.mjs' --clock real$/);
   assert.equal(args, " -- one 'it'\\''s'");
   assert.equal(replayCommand({ ...usual, module: "a.mjs", args: [] }).args, "");
+});
+
+test("how a run was made has no command if its init or check isn't the module's own", () => {
+  const options = { module: "file:///x.mjs?y", args: ["one"], agents: 2, maxMoves: 9, seconds: 10, fresh: false };
+  const { module, options: words, command } = howMade(options);
+  assert.deepEqual([module, words], ["file:///x.mjs?y", "--agents 2 --max-moves 9 -- one"]);
+  assert.match(`${command.options}${command.args}`, /^(?:node \S+|npx sabsim-record) 'file:\/\/\/x\.mjs\?y' -- one$/);
+  for (const own of ["init", "check"]) {
+    assert.deepEqual(howMade({ ...options, [own]() {} }), { module, options: words, command: undefined });
+  }
 });

@@ -7,7 +7,7 @@ import { whyNoSummary } from "../lib/command/summary-form.mjs";
 import { summaryText } from "../lib/command/summary-text.mjs";
 import { Summary } from "../lib/command/summary.mjs";
 import { MOST_KEYS, Tally } from "../lib/command/tally.mjs";
-import { counted, digits } from "../lib/keeping/words.mjs";
+import { counted, digits } from "../lib/run/words.mjs";
 
 const SEEN = { ordinary: "watch", races: "fail", checkedBy: "module 123" };
 /** What it says about checks of so many runs. */
@@ -189,6 +189,7 @@ test("how many calls and accesses there were is told as it is said", () => {
     "0", "12", "999", "1,000", "123,456", "1,234,567",
   ]);
   assert.equal(counted(1, "seed"), "1 seed");
+  assert.deepEqual([1, 1_000].map((count) => counted(count, "access", "accesses")), ["1 access", "1,000 accesses"]);
 });
 
 test("where not all runs were made, the first line says so", () => {
@@ -235,7 +236,9 @@ test("the object of a summary has all that its text has, and what the text leave
     endings: {
       failing: [{ ending: "race", runs: 1, first: 4 }], passing: [{ ending: "finished", runs: 3, first: 1 }],
     },
-    firstFailing: { seed: 4, ending: "race", detail: ["one", "two"], onlyIf: "only if", noScript: "it is too long" },
+    firstFailing: {
+      seed: 4, ending: "race", detail: ["one", "two"], onlyIf: "only if", noScript: "it is too long", standing: [],
+    },
     early: 1,
     onlyByTime: { listed: [{ ...wait, runs: 1, first: 3 }], others: 0, served: [place] },
     threw: 0,
@@ -243,17 +246,18 @@ test("the object of a summary has all that its text has, and what the text leave
     shortened: null,
     races: {
       allowed: false, runs: 1,
-      pairs: { listed: [{ lines: ["ring.mjs:12:7", "ring.mjs:20:11"], runs: 1, first: 4 }], others: 0 },
+      pairs: { listed: [{ lines: ["ring.mjs:12:7", "ring.mjs:20:11"], runs: 1, early: 1, first: 4 }], others: 0 },
     },
     unrecorded: { allowed: false, runs: 0, used: { listed: [], others: 0 } },
     remembers: null,
     states: {
       failing: {
-        listed: [{ ending: "race", hash: "race 0900 ", shown: ["0900", ""], named: null, runs: 1, first: 4 }],
+        listed: [{ ending: "race", hash: "race 0900 ", shown: ["0900", ""], named: null, runs: 1, early: 1, first: 4 }],
         others: 0,
       },
       passing: {
-        listed: [{ ending: "finished", hash: "finished 01", shown: ["01"], named: null, runs: 3, first: 1 }], others: 0,
+        listed: [{ ending: "finished", hash: "finished 01", shown: ["01"], named: null, runs: 3, early: 0, first: 1 }],
+        others: 0,
       },
     },
     sabsim: { asked: true, versions: ["module 123"], checked: 1, judges: true },
@@ -280,9 +284,64 @@ test("the object of a summary has all that its text has, and what the text leave
   assert.equal(whyNoSummary({ summary: 3, asked, seeds: [], ...told }), undefined);
 });
 
+/** Runs with races and states of which some come only after an early end of a timed wait. */
+function earlyRuns() {
+  const [one, other, both] = ["a.mjs:1:1", "b.mjs:1:1", "c.mjs:1:1"].map((line) => race(line, "z.mjs:9:9"));
+  const onlyIf = "only if 5 s pass before agent 1's next call";
+  const raced = (seed, races, shown, parts) => outcome(seed, { ending: "race", races, shown: [shown], ...parts });
+  return [
+    raced(1, [one], "01", { onlyIf }), raced(2, [one], "01", { onlyIf }), raced(3, [both], "03", { onlyIf }),
+    raced(4, [both], "03", { onlyIf }), raced(5, [other], "02"), raced(6, [both], "03"), outcome(7, { shown: ["07"] }),
+    ...[8, 9].map((seed) => thrown(seed, { message: ["agent 0 threw 1"], sources: [] }, "failed", { onlyIf, shown: ["08"] })),
+    thrown(10, { message: ["agent 0 threw no"], sources: [] }, "failed", { shown: ["09"] }),
+  ];
+}
+
+test("races, failures and states that come only after an early end stand behind the others, in text and JSON", () => {
+  const outcomes = earlyRuns();
+  const expected = [
+    "2 kinds of failure, by message and line of code",
+    "  1 run threw, seed 10 the first",
+    "    agent 0 threw no",
+    "  2 runs threw, seed 8 the first, only after the early end of a timed wait",
+    "    agent 0 threw 1",
+    "unordered accesses: 6 runs, 3 pairs of lines",
+    "  seed 6 the first, 3 runs: c.mjs:1:1 and z.mjs:9:9",
+    "  seed 5 the first, 1 run: b.mjs:1:1 and z.mjs:9:9",
+    "  seed 1 the first, 2 runs, only after the early end of a timed wait: a.mjs:1:1 and z.mjs:9:9",
+    "6 final states: how it ended, and the bytes",
+    "  3 runs race, seed 6 the first: 03",
+    "  1 run race, seed 5 the first: 02",
+    "  1 run threw, seed 10 the first: 09",
+    "  2 runs race, seed 1 the first, only after the early end of a timed wait: 01",
+    "  2 runs threw, seed 8 the first, only after the early end of a timed wait: 08",
+    "  1 run finished, seed 7 the first: 07",
+  ];
+  const whole = new Summary(SEEN);
+  for (const each of outcomes) whole.add(each);
+  const from = (lines) => lines.slice(lines.indexOf(expected[0]), lines.indexOf(expected[0]) + expected.length);
+  assert.deepEqual(from(whole.text().split("\n")), expected);
+  assert.deepEqual(from(linesOf(outcomes.toReversed())), expected);
+  const told = whole.told();
+  assert.deepEqual(told.races.pairs.listed.map(({ runs, early, first }) => [runs, early, first]), [
+    [3, 2, 6], [1, 0, 5], [2, 2, 1],
+  ]);
+  // Whatever is joined with what, the first run of an entry is one without an early end.
+  const parts = [[0, 3], [3, 5], [5, 10]].map(([begin, end]) => {
+    const part = new Summary(SEEN);
+    for (const each of outcomes.slice(begin, end)) part.add(each);
+    return part.told();
+  });
+  for (const order of [[0, 1, 2], [2, 1, 0], [1, 2, 0]]) {
+    const joined = new Summary(SEEN);
+    for (const at of order) joined.join(parts[at]);
+    assert.deepEqual(joined.told(), told);
+  }
+});
+
 /** An outcome of a run that threw. @param {number} seed @param {{ message: string[], sources: string[] }} failure */
-const thrown = (seed, failure, ending = "failed") =>
-  outcome(seed, { ending, detail: failure.message.join("\n"), failure });
+const thrown = (seed, failure, ending = "failed", parts = {}) =>
+  outcome(seed, { ending, detail: failure.message.join("\n"), failure, ...parts });
 
 test("failures are grouped by message and line, those of most runs first, with their counts and first seeds", () => {
   const inside = (number) => ({ message: [`agent ${number} threw Error: ${number} inside`], sources: ["a.mjs:15:9"] });

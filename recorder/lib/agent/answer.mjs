@@ -1,5 +1,7 @@
 // What an agent, an `init` or a `check` answers: nothing that is still to be done.
 
+import { atText } from "./undone.mjs";
+
 const { Error: EngineError } = globalThis;
 
 /**
@@ -16,12 +18,13 @@ export function foundBy(answer) {
  * What an answer leaves undone.
  * @param {unknown} answer
  * @param {string} who has answered
+ * @param {string} [place] in the code that goes on later, if it is known
  * @returns {string | undefined} in words that go on after who it was; undefined where nothing is left
  */
-export function leftOpen(answer, who) {
+export function leftOpen(answer, who, place) {
   if (answer === null || (typeof answer !== "object" && typeof answer !== "function")) return undefined;
   const answered = /** @type {Record<string, unknown>} */ (answer);
-  if (typeof answered.then === "function") return `answered a promise, but ${who} must be synchronous`;
+  if (typeof answered.then === "function") return `answered a promise, but ${who} must be synchronous${atText(place)}`;
   if (typeof answered.next === "function") return "answered an iterator, whose code nobody runs: it is a generator";
   return undefined;
 }

@@ -8,7 +8,7 @@ import { promiseHooks } from "node:v8";
 import {
   apply, defineProperty, getOwnPropertyDescriptor, uncurried, weakHas, weakSet,
 } from "../primordials.mjs";
-import { framesHere } from "./frames.mjs";
+import { framesHere, sourceHere } from "./frames.mjs";
 import { withoutOwn } from "./stack.mjs";
 
 const { inspect } = util;
@@ -124,6 +124,8 @@ export class Later {
     this.isWatching = false;
     /** @type {string | undefined} what surely goes on later, in words */
     this.found = undefined;
+    /** @type {string | undefined} where in the agent's code that is, if it is known */
+    this.place = undefined;
     /** @type {Promise<unknown>[]} the promises that were settled */
     this.settled = [];
     /** @type {unknown[]} what listeners of an EventTarget threw */
@@ -137,11 +139,11 @@ export class Later {
     promiseHooks.onInit((_promise, parent) => {
       if (parent === undefined) return;
       weakSet(this.awaited, parent, true);
-      if (this.isWatching) this.found ??= "a promise";
+      if (this.isWatching) this.#find("a promise");
     });
     promiseHooks.onSettled((promise) => {
       if (!this.isWatching) return;
-      if (weakHas(this.awaited, promise)) this.found ??= "a promise";
+      if (weakHas(this.awaited, promise)) this.#find("a promise that it settles");
       this.settled[this.settled.length] = promise;
     });
     this.#leaveLoading();
@@ -158,6 +160,7 @@ export class Later {
   /** An agent's code begins. */
   begin() {
     this.found = undefined;
+    this.place = undefined;
     this.settled = [];
     this.thrown = [];
     this.job = undefined;
@@ -168,6 +171,17 @@ export class Later {
   /** It has ended. */
   end() {
     this.isWatching = false;
+  }
+
+  /**
+   * Notes that something surely goes on later, and where. The run fails for it, so no run that passes pays for a look
+   * at the stack.
+   * @param {string | undefined} word
+   */
+  #find(word) {
+    if (word === undefined || this.found !== undefined) return;
+    this.found = word;
+    this.place = sourceHere();
   }
 
   /** @returns {string | undefined} what goes on later, in words */
@@ -244,7 +258,7 @@ export class Later {
       return;
     }
     if (!endsWith(type, JOB)) {
-      this.found = wordFor(type);
+      this.#find(wordFor(type));
       return;
     }
     this.#lookAtJob();

@@ -65,7 +65,7 @@ export class Part {
     this.accesses.renew();
     this.take();
     const goesOn = later.told();
-    if (goesOn !== undefined) this.end("failed", `agent ${this.agent} ${laterText(goesOn, "an agent")}`);
+    if (goesOn !== undefined) this.end("failed", `agent ${this.agent} ${laterText(goesOn, "an agent", later)}`);
   }
 
   /** The call was made: the agent's own code goes on. */

@@ -63,7 +63,8 @@ export class Player {
     this.#begin();
     let problem;
     try {
-      problem = leftOpen(body(), "an agent");
+      const answer = body();
+      problem = leftOpen(answer, "an agent", this.table.later.place);
     } catch (thrown) {
       problem = `threw ${described(thrown)}`;
     }
@@ -81,7 +82,7 @@ export class Player {
     later.begin();
     try {
       const answer = body();
-      problem = leftOpen(answer, "it") ?? foundBy(answer) ?? undone(later, "it");
+      problem = leftOpen(answer, "it", later.place) ?? foundBy(answer) ?? undone(later, "it");
     } catch (thrown) {
       problem = `threw ${described(thrown)}`;
     }

@@ -2,18 +2,28 @@
 
 import { callText, viewName } from "../memory/spelling.mjs";
 
-/** @param {string} what goes on later, in words @param {string} who */
-export const laterText = (what, who) => `goes on later, by ${what}, but ${who} must be synchronous`;
+/** @typedef {import("./later.mjs").Later} Later */
+
+/**
+ * @param {string} what goes on later, in words
+ * @param {string} who
+ * @param {Later} later which knows where, if anybody does
+ */
+export const laterText = (what, who, { place }) =>
+  `goes on later, by ${what}, but ${who} must be synchronous${atText(place)}`;
+
+/** @param {string} [place] @returns {string} a line as a stack has it */
+export const atText = (place) => (place === undefined ? "" : `\n    at ${place}`);
 
 /**
  * What code that has ended has left undone, or untold.
- * @param {import("./later.mjs").Later} later
+ * @param {Later} later
  * @param {string} who
  * @returns {string | undefined}
  */
 export function undone(later, who) {
   const goesOn = later.left();
-  if (goesOn !== undefined) return laterText(goesOn, who);
+  if (goesOn !== undefined) return laterText(goesOn, who, later);
   const thrown = later.thrownByListener();
   if (thrown !== undefined) return `has a listener that threw, which nobody catches: ${thrown}`;
   const rejected = later.rejected();

@@ -1,8 +1,8 @@
 // Lost wake-ups that a time hides: waits that ended only since their time was up, of all runs that finished. A wait at
 // a place that nobody else notifies or writes in any run is a sleep, and isn't reported.
 
-import { counted, digits } from "../keeping/words.mjs";
 import { durationText, placeKey } from "../run/timed-ends.mjs";
+import { counted, digits } from "../run/words.mjs";
 import { Tally } from "./tally.mjs";
 
 /** @typedef {import("../run/timed-ends.mjs").OnlyByTime} Wait */

@@ -1,12 +1,12 @@
 // The command line: its words, as the table of options has them.
 
 import { parseArgs } from "node:util";
-import { counted } from "../keeping/words.mjs";
+import { usageWords, versionLine } from "../keeping/program.mjs";
 import { nearest } from "../options/nearest.mjs";
 import { Refused } from "../options/refused.mjs";
 import { defaultsOf, optionsOf as rowsOf, wordOf } from "../options/table.mjs";
+import { counted } from "../run/words.mjs";
 import { countOf, shardOf } from "../seeds/ranges.mjs";
-import { usageWords, versionLine } from "./program.mjs";
 
 // How many characters a line of help has at most, and where what it says begins.
 const WIDTH = 120;

@@ -1,6 +1,6 @@
 // A line that shows how far the runs are, on a terminal only.
 
-import { digits } from "../keeping/words.mjs";
+import { digits } from "../run/words.mjs";
 
 const BETWEEN_LINES_MILLISECONDS = 100;
 

@@ -4,13 +4,13 @@
 import { readFileSync } from "node:fs";
 import { createRequire } from "node:module";
 import { basename } from "node:path";
+import { howMade } from "../keeping/how-made.mjs";
 import { Keeper } from "../keeping/keep.mjs";
-import { modulePath, optionsText } from "../keeping/about.mjs";
 import { keepPictures, notesOn } from "../keeping/pictures.mjs";
-import { counted } from "../keeping/words.mjs";
 import { NoSuchPlace } from "../options/named-place.mjs";
 import { Refused } from "../options/refused.mjs";
 import { preloads } from "../processes/preloads.mjs";
+import { counted } from "../run/words.mjs";
 import { Job } from "../seeds/job.mjs";
 import { Runs } from "../seeds/runs.mjs";
 import { NoLongerTheSame, differenceText, strayedText } from "../shorter/differing.mjs";
@@ -18,7 +18,6 @@ import { idleMoves } from "../shorter/idle-moves.mjs";
 import { callNumbers, keptScript } from "../shorter/kept-script.mjs";
 import { chosenProgram, simulatorAt } from "../simulator/chosen.mjs";
 import { print } from "./print.mjs";
-import { replayCommand } from "./replay-command.mjs";
 import { summaryText } from "./summary-text.mjs";
 import { Summary } from "./summary.mjs";
 
@@ -121,9 +120,7 @@ export class Replay {
     const { keeper, module, options, simulator } = this;
     if (keeper === undefined) return {};
     keeper.keepFirst(outcome);
-    const all = { ...options, module: modulePath(module) };
-    const how = { simulator, module, options: optionsText(options), command: replayCommand(all) };
-    const notKept = keepPictures(keeper, outcome, how);
+    const notKept = keepPictures(keeper, outcome, { simulator, ...howMade({ ...options, module }) });
     return { kept: keeper.told(notesOn(keeper, outcome)), notKept };
   }
 

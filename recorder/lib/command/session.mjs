@@ -1,7 +1,7 @@
 // What the command line does: many runs, a summary of them, and the first failing one kept.
 
 import { Difference } from "../check/check.mjs";
-import { modulePath, optionsText } from "../keeping/about.mjs";
+import { howMade } from "../keeping/how-made.mjs";
 import { Keeper, missingFiles } from "../keeping/keep.mjs";
 import { keepPictures, notesOn } from "../keeping/pictures.mjs";
 import { collectGarbage, onceMore, stopGrowth } from "../processes/garbage.mjs";
@@ -16,7 +16,6 @@ import { Interrupted, Interruption } from "./interruption.mjs";
 import { print } from "./print.mjs";
 import { toldOf } from "./problems.mjs";
 import { Progress } from "./progress.mjs";
-import { replayCommand } from "./replay-command.mjs";
 import { FORM } from "./summary-form.mjs";
 import { Summary } from "./summary.mjs";
 
@@ -147,9 +146,7 @@ export class Session {
       keeper.keepAll(seed, { json: script, report, "trace.jsonl": trace, ...theirs });
     } else if (failing !== undefined && keeper.seed === failing.seed) {
       const outcome = shortened?.shortest ?? failing;
-      const { module } = this.options;
-      const command = replayCommand({ ...this.options, module: modulePath(module) });
-      const how = { simulator: this.simulator, module, options: optionsText(this.options), command };
+      const how = { simulator: this.simulator, ...howMade(this.options) };
       this.leftOut.push(...keepPictures(keeper, outcome, how), ...missingFiles(outcome));
       this.notes.push(...notesOn(keeper, outcome));
     } else if (failing !== undefined) {

@@ -1,6 +1,6 @@
 // What is reported of the shortening of the run that is kept.
 
-import { counted, digits } from "../keeping/words.mjs";
+import { counted, digits } from "../run/words.mjs";
 
 /** @typedef {import("../seeds/job.mjs").ShortenedByJob} ShortenedByJob */
 /** @typedef {import("../shorter/shorten.mjs").Change} Change */

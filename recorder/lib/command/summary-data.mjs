@@ -4,7 +4,7 @@
 
 /** @typedef {import("../run/outcome.mjs").Outcome & { checked?: boolean }} Outcome */
 
-/** @typedef {Pick<Outcome, "seed" | "ending" | "detail" | "noScript" | "onlyIf"> & Partial<Outcome>} Failing */
+/** @typedef {Pick<Outcome, "seed" | "ending" | "detail" | "noScript" | "onlyIf" | "standing"> & Partial<Outcome>} Failing */
 
 /** @typedef {{ ending: string, shown: string[], named: string | null }} State how a run ended, and its bytes */
 
@@ -23,6 +23,8 @@
  * @property {number} others how many runs are counted under what isn't listed
  */
 
+/** @template T @typedef {Listed<T & { early: number }>} FailingListed with how many runs need an early end */
+
 /**
  * @typedef {object} SummaryData what a summary says of many runs: an object of JSON, whose members docs/FORMATS.md
  * explains
@@ -31,19 +33,19 @@
  * @property {number} runs
  * @property {number} failed
  * @property {Record<"failing" | "passing", { ending: string, runs: number, first: number }[]>} endings
- * @property {{ seed: number, ending: string, detail: string[], onlyIf: string | null, noScript: string | null } | null
- *   } firstFailing
+ * @property {{ seed: number, ending: string, detail: string[], onlyIf: string | null, noScript: string | null,
+ *   standing: import("../run/standing.mjs").Standing[] } | null} firstFailing
  * @property {number} early how many of the failing runs fail only after the early end of a timed wait
  * @property {import("./only-by-time.mjs").OnlyByTimeTold} onlyByTime
  * @property {number} threw how many of the runs that ended as `failed` threw
- * @property {Listed<Failure>} failures those of all failing runs that have no ending `race`
+ * @property {FailingListed<Failure>} failures those of all failing runs that have no ending `race`
  * @property {import("./shortened.mjs").Shortening | null} shortened what the shortening of that run came to
- * @property {{ allowed: boolean, runs: number, pairs: Listed<{ lines: string[] }> }} races
+ * @property {{ allowed: boolean, runs: number, pairs: FailingListed<{ lines: string[] }> }} races
  * @property {{ allowed: boolean, runs: number, used: Listed<{ what: string }> }} unrecorded shared memory and threads
  * that aren't recorded, and that agents used
  * @property {import("../seeds/first-again.mjs").Remembering | null} remembers how the run of the first seed differed
  * when it was made once more
- * @property {Record<"failing" | "passing", Listed<State & { hash: string }>>} states
+ * @property {Record<"failing" | "passing", FailingListed<State & { hash: string }>>} states
  * @property {CheckedBy} sabsim
  * @property {{ parts: number, none: Listed<{ why: string }> }} scripts
  * @property {import("../seeds/coverage.mjs").Covered | null} coverage null: it wasn't looked for
@@ -102,9 +104,22 @@ export const listedOf = (tally, parts) => ({
   others: tally.others,
 });
 
+/**
+ * What a tally of runs has that may fail, as a list of the summary.
+ * @template T
+ * @template {object} Part
+ * @param {Tally<T>} tally
+ * @param {(key: string, about: T) => Part} parts
+ * @returns {FailingListed<Part>}
+ */
+export const failingListOf = (tally, parts) => ({
+  listed: tally.sorted().map(({ key, runs, early, first, about }) => ({ ...parts(key, about), runs, early, first })),
+  others: tally.others,
+});
+
 /** @param {Tally<State>} tally */
 export const statesTold = (tally) =>
-  listedOf(tally, (hash, { ending, shown, named }) => ({ ending, hash, shown, named }));
+  failingListOf(tally, (hash, { ending, shown, named }) => ({ ending, hash, shown, named }));
 
 /** @param {string[]} order @param {Tally<unknown>} tally */
 export function endingsTold(order, tally) {
@@ -113,15 +128,16 @@ export function endingsTold(order, tally) {
 }
 
 /** @param {Failing} failing @returns {NonNullable<SummaryData["firstFailing"]>} */
-export function failingTold({ seed, ending, detail, onlyIf, noScript }) {
+export function failingTold({ seed, ending, detail, onlyIf, noScript, standing = [] }) {
   const lines = detail === "" ? [] : detail.split("\n");
-  return { seed, ending, detail: lines, onlyIf: onlyIf ?? null, noScript: noScript ?? null };
+  return { seed, ending, detail: lines, onlyIf: onlyIf ?? null, noScript: noScript ?? null, standing };
 }
 
 /** @param {NonNullable<SummaryData["firstFailing"]>} told @returns {Failing} */
-export function failingOf({ seed, ending, detail, onlyIf, noScript }) {
+export function failingOf({ seed, ending, detail, onlyIf, noScript, standing }) {
   const known = /** @type {import("../run/outcome.mjs").Ending} */ (ending);
   return {
     seed, ending: known, detail: detail.join("\n"), onlyIf: onlyIf ?? undefined, noScript: noScript ?? undefined,
+    standing,
   };
 }

@@ -47,11 +47,16 @@ const change = object({ before: whole, after: whole });
 const COUNTS = { runs: whole, first: whole };
 const PLACE = { block: whole, byte: whole };
 
+const standing = object({
+  agent: whole, does: text, call: orNull(whole), place: orNull(text), block: orNull(whole), byte: orNull(whole),
+  file: orNull(text), line: orNull(whole), column: orNull(whole),
+});
+
 /** @type {(members: Record<string, Check>) => Check} */
 const listed = (members) => object({ listed: list(object({ ...members, ...COUNTS })), others: whole });
 
 const endings = list(object({ ending: text, ...COUNTS }));
-const states = listed({ ending: text, hash: text, shown: texts, named: orNull(text) });
+const states = listed({ early: whole, ending: text, hash: text, shown: texts, named: orNull(text) });
 
 const MEMBERS = object({
   summary: whole,
@@ -70,7 +75,7 @@ const MEMBERS = object({
   failed: whole,
   endings: object({ failing: endings, passing: endings }),
   firstFailing: orNull(object({
-    seed: whole, ending: text, detail: texts, onlyIf: orNull(text), noScript: orNull(text),
+    seed: whole, ending: text, detail: texts, onlyIf: orNull(text), noScript: orNull(text), standing: list(standing),
   })),
   early: whole,
   onlyByTime: object({
@@ -78,14 +83,14 @@ const MEMBERS = object({
     served: list(object(PLACE)),
   }),
   threw: whole,
-  failures: listed({ ending: text, message: texts, sources: texts }),
+  failures: listed({ early: whole, ending: text, message: texts, sources: texts }),
   shortened: orNull(object({
     runs: whole, changes: change, calls: change, stopped: orNull(text), unchanged: orNull(text), checked: flag,
     detail: texts, onlyIf: orNull(text),
   })),
-  races: object({ allowed: flag, runs: whole, pairs: listed({ lines: texts }) }),
+  races: object({ allowed: flag, runs: whole, pairs: listed({ early: whole, lines: texts }) }),
   unrecorded: object({ allowed: flag, runs: whole, used: listed({ what: text }) }),
-  remembers: orNull(object({ seed: whole, differs: text, was: text, is: text })),
+  remembers: orNull(object({ seed: whole, differs: text, was: text, is: text, threw: flag })),
   states: object({ failing: states, passing: states }),
   sabsim: object({ asked: flag, versions: texts, checked: whole, judges: flag }),
   scripts: object({ parts: whole, none: listed({ why: text }) }),

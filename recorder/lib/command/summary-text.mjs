@@ -1,12 +1,13 @@
 // The plain text of a summary. It is made from the object that `--format json` prints, and from nothing else.
 
 import { endingText, endingsText } from "../../page/endings.mjs";
-import { counted, digits, listed } from "../keeping/words.mjs";
 import { bytesText } from "../run/final-state.mjs";
+import { counted, digits, listed } from "../run/words.mjs";
 import { rememberingText } from "../seeds/first-again.mjs";
 import { rangeText } from "../seeds/ranges.mjs";
 import { onlyByTimeLines } from "./only-by-time.mjs";
 import { shortenedLines } from "./shortened.mjs";
+import { isOnlyEarly } from "./tally.mjs";
 
 /** @typedef {import("./summary-data.mjs").SummaryData} SummaryData */
 
@@ -67,14 +68,18 @@ function hiddenLines({ onlyByTime, runs }) {
   return listed(onlyByTimeLines(onlyByTime, runs), MOST_LISTED, (line) => line);
 }
 
+/** @param {{ runs: number, early: number }} entry @returns {string} that all of its runs need an early end, if so */
+const onlyEarlyText = (entry) => (isOnlyEarly(entry) ? ", only after the early end of a timed wait" : "");
+
 /** @param {SummaryData} summary what runs failed by, if that isn't what the first failing one says alone */
 function failureLines({ firstFailing, failures }) {
   if (failures.listed.every(({ first }) => first === firstFailing?.seed)) return [];
-  const lines = listed(failures.listed, MOST_LISTED, ({ runs, first, ending, message, sources }) => {
+  const lines = listed(failures.listed, MOST_LISTED, ({ runs, early, first, ending, message, sources }) => {
     const how = endingText(ending, message.join("\n"));
     const places = sources.filter((source) => !message.some((line) => line.includes(source)));
     const where = places.length === 0 ? "" : `, at ${places.join(" and ")}`;
-    return [`${counted(runs, "run")} ${how}, seed ${first} the first${where}`, ...message.map(indented)].join("\n");
+    const which = `${counted(runs, "run")} ${how}, seed ${first} the first${onlyEarlyText({ runs, early })}`;
+    return [`${which}${where}`, ...message.map(indented)].join("\n");
   });
   const many = countedOf(failures.listed.length, "kind", failures.others);
   const all = lines.flatMap((line) => line.split("\n").map(indented));
@@ -85,8 +90,9 @@ function failureLines({ firstFailing, failures }) {
 function raceLines({ races: { allowed, runs, pairs } }) {
   if (runs === 0) return [];
   const title = allowed ? "unordered accesses, allowed" : "unordered accesses";
-  const lines = listed(pairs.listed, MOST_LISTED, ({ lines: both, runs: raced, first }) => {
-    return `seed ${first} the first, ${counted(raced, "run")}: ${both.join(" and ")}`;
+  const lines = listed(pairs.listed, MOST_LISTED, ({ lines: both, runs: raced, early, first }) => {
+    const many = `${counted(raced, "run")}${onlyEarlyText({ runs: raced, early })}`;
+    return `seed ${first} the first, ${many}: ${both.join(" and ")}`;
   });
   const many = countedOf(pairs.listed.length, "pair", pairs.others);
   return [`${title}: ${counted(runs, "run")}, ${many} of lines`, ...lines.map(indented), ...othersLines(pairs.others)];
@@ -110,8 +116,10 @@ function stateLines(summary) {
   const counts = failedCounts(summary);
   const failed = failing.listed.map((state) => ({ ...state, how: endingsText(state.ending, counts) }));
   const passed = passing.listed.map((state) => ({ ...state, how: passingText(state.ending) }));
-  const lines = listed([...failed, ...passed], MOST_LISTED, ({ runs, first, how, shown, named }) =>
-    `${counted(runs, "run")} ${how}, seed ${first} the first: ${named ?? bytesText(shown)}`);
+  const lines = listed([...failed, ...passed], MOST_LISTED, ({ runs, early, first, how, shown, named }) => {
+    const which = `${counted(runs, "run")} ${how}, seed ${first} the first${onlyEarlyText({ runs, early })}`;
+    return `${which}: ${named ?? bytesText(shown)}`;
+  });
   const others = failing.others + passing.others;
   const many = countedOf(failed.length + passed.length, "final state", others);
   const what = [...failed, ...passed].some(({ named }) => named !== null) ? "the values" : "the bytes";
@@ -127,7 +135,7 @@ function coverageLines({ coverage }) {
   const since = row === null ? "" : `none in ${counted(row, "seed")} since: `;
   const enough = indented(`${newest}${since}${covered ? "" : "not "}covered`);
   if (unplaced === 0) return [seen, enough];
-  const accesses = unplaced === 1 ? "1 access" : `${digits(unplaced)} accesses`;
+  const accesses = counted(unplaced, "access", "accesses");
   return [seen, indented(`of ${accesses} the line isn't known, so pairs may be missing`), enough];
 }
 
@@ -158,8 +166,7 @@ function accessLine({ runs, calls, accesses }) {
   const made = `${counted(runs, "run")} made ${calls === 0 ? "no call" : counted(calls, "call")} of Atomics`;
   if (accesses === null) return made;
   if (accesses === 0) return `${made}, and no ordinary read or write`;
-  if (accesses === 1) return `${made}, and 1 ordinary read or write`;
-  return `${made}, and ${digits(accesses)} ordinary reads and writes`;
+  return `${made}, and ${counted(accesses, "ordinary read or write", "ordinary reads and writes")}`;
 }
 
 /**

@@ -7,7 +7,7 @@ import { Coverage } from "../seeds/coverage.mjs";
 import { OnlyByTime } from "./only-by-time.mjs";
 import { shorteningOf } from "./shortened.mjs";
 import {
-  endingsTold, failingOf, failingTold, failureKey, listedOf, of, pairKey, statesTold,
+  endingsTold, failingListOf, failingOf, failingTold, failureKey, listedOf, of, pairKey, statesTold,
 } from "./summary-data.mjs";
 import { summaryText } from "./summary-text.mjs";
 import { Tally } from "./tally.mjs";
@@ -102,7 +102,8 @@ export class Summary {
     this.accesses += ordinary;
     if (outcome.checked) this.checked += 1;
     this.endings[which].add(ending, seed);
-    this.states[which].add(state.hash, seed, { ending, shown: state.shown, named: state.named });
+    const about = { ending, shown: state.shown, named: state.named };
+    this.states[which].add(state.hash, seed, about, outcome.onlyIf !== undefined);
     this.#addRaces(outcome);
     this.#addScript(outcome);
     this.onlyByTime.add(outcome);
@@ -167,10 +168,10 @@ export class Summary {
       early: this.early,
       onlyByTime: this.onlyByTime.told(),
       threw: this.threw,
-      failures: listedOf(this.failures, (_, { ending, message, sources }) => ({ ending, message, sources })),
+      failures: failingListOf(this.failures, (_, { ending, message, sources }) => ({ ending, message, sources })),
       shortened: this.shortened === undefined ? null : shorteningOf(this.shortened, this.failing),
       races: {
-        allowed: this.races === "allow", runs: this.raced, pairs: listedOf(this.pairs, (_, { lines }) => ({ lines })),
+        allowed: this.races === "allow", runs: this.raced, pairs: failingListOf(this.pairs, (_, { lines }) => ({ lines })),
       },
       unrecorded: {
         allowed: this.unrecorded === "allow", runs: this.unseenRuns, used: listedOf(this.used, (what) => ({ what })),
@@ -195,11 +196,11 @@ export class Summary {
   }
 
   /** @param {Outcome} outcome */
-  #addRaces({ seed, races }) {
+  #addRaces({ seed, races, onlyIf }) {
     if (races.length === 0) return;
     this.raced += 1;
     const pairs = new Map(races.map(({ lines }) => [pairKey(lines), lines]));
-    for (const [key, lines] of pairs) this.pairs.add(key, seed, { lines });
+    for (const [key, lines] of pairs) this.pairs.add(key, seed, { lines }, onlyIf !== undefined);
   }
 
   /** @param {Outcome} outcome */
@@ -220,17 +221,18 @@ export class Summary {
   }
 
   /** @param {Outcome} outcome that fails */
-  #addFailure({ seed, ending, detail, failure }) {
+  #addFailure({ seed, ending, detail, failure, onlyIf }) {
     if (hasThrown(ending, detail)) this.threw += 1;
     if (failure === undefined) return;
     const about = { ending, ...failure };
-    this.failures.add(failureKey(about), seed, about);
+    this.failures.add(failureKey(about), seed, about, onlyIf !== undefined);
   }
 
   /** @param {SummaryData} told */
   #joinFailures({ threw, failures: { listed, others } }) {
     this.threw += threw;
-    const entries = listed.map(({ runs, first, ...about }) => ({ runs, first, ...of(failureKey(about), about) }));
+    const entries = listed.map(({ runs, early, first, ...about }) =>
+      ({ runs, early, first, ...of(failureKey(about), about) }));
     this.failures.join(entries, others);
   }
 

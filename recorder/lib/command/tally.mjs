@@ -2,14 +2,25 @@
 // are, a certain number of them is kept: those that come first by their spelling. So which ones are kept doesn't depend
 // on the order in which runs come, nor on how they are shared out, and each that is kept has all its runs counted.
 
+import { comesBefore } from "../run/order.mjs";
+
 /**
  * @template T
  * @typedef {object} Entry
  * @property {string} key what the runs have in common
  * @property {number} runs how many they are
- * @property {number} first the least of their seeds
+ * @property {number} early how many of them fail only after the early end of a timed wait
+ * @property {number} first the least seed of the others, or of all if there are no others
  * @property {T} about what else the summary says of the first of them
  */
+
+/** @template T @typedef {Omit<Entry<T>, "early"> & { early?: number }} Joined of other tallies; `early` is 0 if it isn't given */
+
+/** @param {{ runs: number, early: number }} entry @returns {boolean} whether all of its runs need an early end */
+export const isOnlyEarly = ({ runs, early }) => early === runs;
+
+/** @param {Entry<unknown>} entry @returns {import("../run/order.mjs").Failing} its first run */
+const firstOf = ({ first, ...entry }) => (isOnlyEarly(entry) ? { seed: first, onlyIf: "" } : { seed: first });
 
 /** How many keys are kept, if nothing else is said. */
 export const MOST_KEYS = 4_096;
@@ -30,20 +41,21 @@ export class Tally {
   /**
    * @param {string} key
    * @param {number} seed of the run
-   * @param {T} [about] what else the summary says of the run; that of the least seed is kept
+   * @param {T} [about] what else the summary says of the run; that of the first one is kept
+   * @param {boolean} [isEarly] whether the run fails only after the early end of a timed wait
    */
-  add(key, seed, about) {
+  add(key, seed, about, isEarly = false) {
     // Where nothing is told of the runs, T is undefined.
-    this.#put({ key, runs: 1, first: seed, about: /** @type {T} */ (about) });
+    this.#put({ key, runs: 1, early: isEarly ? 1 : 0, first: seed, about: /** @type {T} */ (about) });
   }
 
   /**
    * Adds what another tally, as large as this one, has counted.
-   * @param {Entry<T>[]} entries those that it has kept
+   * @param {Joined<T>[]} entries those that it has kept
    * @param {number} [others] how many runs are counted under keys that it hasn't kept
    */
   join(entries, others = 0) {
-    for (const entry of entries) this.#put({ ...entry });
+    for (const entry of entries) this.#put({ early: 0, ...entry });
     // One that left keys out has kept as many as are kept here: none that stays here has runs among those.
     this.counted += others;
   }
@@ -60,11 +72,12 @@ export class Tally {
     return [...this.entries.values()].reduce((left, { runs }) => left - runs, this.counted);
   }
 
-  /** @returns {Entry<T>[]} those of most runs first */
+  /** @returns {Entry<T>[]} those of most runs first; behind them those whose runs all need an early end */
   sorted() {
     this.#cut();
     return [...this.entries.values()].sort((one, other) => {
-      return other.runs - one.runs || one.first - other.first || (one.key < other.key ? -1 : 1);
+      const isLater = Number(isOnlyEarly(one)) - Number(isOnlyEarly(other));
+      return isLater || other.runs - one.runs || one.first - other.first || (one.key < other.key ? -1 : 1);
     });
   }
 
@@ -74,8 +87,8 @@ export class Tally {
     if (this.limit !== undefined && entry.key > this.limit) return;
     const known = this.entries.get(entry.key);
     if (known !== undefined) {
-      known.runs += entry.runs;
-      if (entry.first < known.first) Object.assign(known, { first: entry.first, about: entry.about });
+      const { first, about } = comesBefore(firstOf(entry), firstOf(known)) ? entry : known;
+      Object.assign(known, { runs: known.runs + entry.runs, early: known.early + entry.early, first, about });
       return;
     }
     this.entries.set(entry.key, entry);

@@ -1,7 +1,8 @@
 // The bytes at the end of a run: their hash, their beginnings in hexadecimal digits, and what has a name by its name.
 
 import { createHash } from "node:crypto";
-import { CONSTRUCTORS, SIZES } from "../../script/kinds.mjs";
+import { KINDS, SIZES } from "../../script/kinds.mjs";
+import { elementText } from "../../script/values.mjs";
 
 /** @typedef {import("../options/names.mjs").Name} Name */
 
@@ -25,9 +26,6 @@ const MOST_REMEMBERED = 256;
 /** @param {string} text @param {number} most */
 const cut = (text, most) => (text.length > most ? `${text.slice(0, most)}…` : text);
 
-/** @param {number | bigint} value */
-const valueText = (value) => (Object.is(value, -0) ? "-0" : String(value));
-
 /**
  * The values of an array or a word.
  * @param {Name} name
@@ -35,9 +33,9 @@ const valueText = (value) => (Object.is(value, -0) ? "-0" : String(value));
  */
 function namedText({ name, kind, block, offset, length }, bytes) {
   const shown = Math.min(length, MOST_ELEMENTS);
-  const from = Buffer.from(bytes[block].slice(2 * offset, 2 * (offset + shown * SIZES[kind])), "hex");
-  // A copy begins at a multiple of each element's size.
-  const values = [...new CONSTRUCTORS[kind](Uint8Array.from(from).buffer)].map(valueText);
+  const size = SIZES[kind];
+  const own = Uint8Array.from(Buffer.from(bytes[block].slice(2 * offset, 2 * (offset + shown * size)), "hex"));
+  const values = Array.from({ length: shown }, (_, at) => elementText(KINDS[kind], own, at * size));
   if (length === 1) return `${name} ${values[0]}`;
   return `${name} [${values.join(", ")}${length > shown ? ", …" : ""}]`;
 }

@@ -22,6 +22,7 @@
  * some call of Atomics touches
  * @property {string} [noScript] why there is no script
  * @property {import("./failure.mjs").Failure} [failure] what a run that fails failed by, in short; a race is in `races`
+ * @property {import("./standing.mjs").Standing[]} [standing] what each agent is at in a deadlock, or at a limit
  * @property {string} [report] what sabsim must answer
  * @property {string} [trace] each event as an object of JSON, a line each
  * @property {import("./accesses.mjs").Accesses} [accesses] by which arrays the trace's ordinary accesses were made, and

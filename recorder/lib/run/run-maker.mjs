@@ -61,6 +61,9 @@ import { unseenText } from "./unseen.mjs";
 const GRACE_MILLISECONDS = 200;
 const ENDLESS = "didn't come to its end";
 
+/** What is said of code that isn't synchronous has a place in it, if one is known. What was thrown has its own stack. */
+const NOT_SYNCHRONOUS = /^(?:agent \d+ )?(?:goes on later|answered a promise), /;
+
 const NOTHING_TRIED = "no agent has made a call of Atomics, or another access that is seen, on the recorded buffers: nothing was tried";
 
 export class RunMaker {
@@ -106,7 +109,7 @@ export class RunMaker {
     const gone = this.#sentHome();
     const endless = gone.filter((agent) => !board.turn.isParked(agent));
     const racy = options.ordinary === "watch" && isRacy(this.log, plan.agents);
-    const named = isBound ? sourceNames.withNames(told.detail) : told.detail;
+    const named = isBound ? sourceNames.withNames(told.detail) : this.#named(told.detail);
     const detail = stray === undefined ? named : strayText(stray, named);
     const unseen = this.agents.flatMap((agent) => this.notes[agent].read().map((note) => ({ ...note, agent })));
     return { ending: told.ending, detail, bytes, gone, endless, racy, initial, waiting, asking, unseen, stray };
@@ -203,7 +206,12 @@ export class RunMaker {
     board.order(name === "init" ? ORDER.INIT : ORDER.CHECK);
     const { ending, detail } = await this.#ended();
     if (!board.turn.isBack(0, GRACE_MILLISECONDS)) await this.replace([0]);
-    return ending === "finished" ? detail : `${ENDLESS}: ${this.sourceNames.withNames(detail)}`;
+    return ending === "finished" ? this.#named(detail) : `${ENDLESS}: ${this.sourceNames.withNames(detail)}`;
+  }
+
+  /** @param {string} detail of code that failed @returns {string} in which places that the recorder found are named */
+  #named(detail) {
+    return NOT_SYNCHRONOUS.test(detail) ? this.sourceNames.withNames(detail) : detail;
   }
 
   /**

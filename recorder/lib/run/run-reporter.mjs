@@ -12,7 +12,7 @@ import { standstillOf, thrownIn } from "./failure.mjs";
 import { racesTold } from "./findings.mjs";
 import { FinalStates } from "./final-state.mjs";
 import { fitted } from "./fitting.mjs";
-import { askingLines, waitText, waitsOf } from "./standing.mjs";
+import { askingLines, standingsOf, waitText, waitsOf } from "./standing.mjs";
 import { earlyText, onlyByTimeOf, servedOf } from "./timed-ends.mjs";
 import { UNSEEN_LINE, placesIn, traceText } from "./trace.mjs";
 import { transcriptOf } from "./transcript.mjs";
@@ -172,6 +172,9 @@ export class RunReporter {
     const waits = waitsOf(waiting, transcript, sourceOf);
     const stands = [...waits.map(waitText), ...askingLines(asking, transcript, sourceOf)];
     outcome.detail = [detail, ...stands].filter((line) => line !== "").join("\n");
+    if (ending === "deadlock" || ending === "bound") {
+      outcome.standing = standingsOf(detail, waits, asking, transcript, sourceOf);
+    }
     if (!fails || ending === "race") return;
     const isThrown = ending === "failed" || ending === "check";
     outcome.failure = isThrown ? thrownIn(detail, sourceNames) : standstillOf(detail, waits);

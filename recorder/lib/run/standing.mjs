@@ -12,6 +12,21 @@ import { ownCalls } from "./transcript.mjs";
  * @property {string} text the call, as a script spells it
  * @property {number} inScript its number there
  * @property {string} source the line of code; empty if it isn't known
+ * @property {{ place: string | null, block: number, byte: number }} at that place, as a program can use it
+ */
+
+/**
+ * @typedef {object} Standing what an agent is at that hasn't come to its end, as a program can use it
+ * @property {number} agent
+ * @property {"waits" | "asks" | "spins" | "runs"} does it waits for a notify, asks for a call, has met a limit by doing
+ * the same again and again, or by something else
+ * @property {number | null} call in which it waits, or which it asks for, counted from 0; null: it is in none
+ * @property {string | null} place at which it waits, by its name; null: it doesn't wait, or the place has no name
+ * @property {number | null} block of that place
+ * @property {number | null} byte of that place
+ * @property {string | null} file of the line of code; null: it isn't known
+ * @property {number | null} line
+ * @property {number | null} column
  */
 
 /**
@@ -25,8 +40,9 @@ export function waitsOf(waiting, transcript, sourceOf) {
   return waiting.map(({ agent, block, byte }) => {
     const calls = ownCalls(transcript, agent);
     const call = calls.length - 1;
-    const { text, inScript, name = `byte ${byte} of block ${block}` } = calls[call];
-    return { agent, name, call, text, inScript, source: sourceOf(agent) };
+    const { text, inScript, name: place = null } = calls[call];
+    const name = place ?? `byte ${byte} of block ${block}`;
+    return { agent, name, call, text, inScript, source: sourceOf(agent), at: { place, block, byte } };
   });
 }
 
@@ -48,4 +64,42 @@ export function askingLines(asking, transcript, sourceOf) {
   return asking.filter((agent) => sourceOf(agent) !== "").map((agent) => {
     return `agent ${agent} asks for its call ${ownCalls(transcript, agent).length}, at ${sourceOf(agent)}`;
   });
+}
+
+/** What is said of the agent that has met a limit: its number, whether it spins, and the line of code if it is known. */
+const AT_LIMIT = /^(?:.*: )?agent (\d+) (spins|has made \d+ calls, and goes on|is)(?: at (.+?:\d+:\d+)(?=: |$))?/;
+
+const NOWHERE = Object.freeze({ place: null, block: null, byte: null });
+
+/** @param {string} source empty: it isn't known */
+function lineOf(source) {
+  const [, file, line, column] = /^(.*):(\d+):(\d+)$/.exec(source) ?? [];
+  if (file === undefined) return { file: null, line: null, column: null };
+  return { file, line: Number(line), column: Number(column) };
+}
+
+/**
+ * What each agent is at when nobody can go on, or a limit is met.
+ * @param {string} detail of the run's end, in which the limit is named
+ * @param {Wait[]} waits
+ * @param {number[]} asking
+ * @param {Transcript} transcript
+ * @param {(agent: number) => string} sourceOf as above
+ * @returns {Standing[]} the one that has met the limit first, then those that wait, in order of arrival
+ */
+export function standingsOf(detail, waits, asking, transcript, sourceOf) {
+  const [, number, does, source = ""] = AT_LIMIT.exec(detail) ?? [];
+  /** @type {Standing[]} */
+  const met = number === undefined ? [] : [{
+    agent: Number(number), does: does === "spins" ? "spins" : "runs", call: null, ...NOWHERE, ...lineOf(source),
+  }];
+  return [
+    ...met,
+    ...waits.map(({ agent, call, at, source: own }) =>
+      ({ agent, does: /** @type {"waits"} */ ("waits"), call, ...at, ...lineOf(own) })),
+    ...asking.map((agent) => {
+      const call = ownCalls(transcript, agent).length;
+      return { agent, does: /** @type {"asks"} */ ("asks"), call, ...NOWHERE, ...lineOf(sourceOf(agent)) };
+    }),
+  ];
 }

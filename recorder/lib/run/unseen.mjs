@@ -1,5 +1,7 @@
 // What agents did that nobody saw, in words, and whether a run fails for it.
 
+import { counted } from "./words.mjs";
+
 /** @typedef {import("../memory/notes.mjs").Note & { agent: number }} AgentsNote */
 /** @typedef {(place: string | undefined) => string} Naming the name of a place in the code, as people read it */
 
@@ -8,9 +10,6 @@ const SYNCHRONOUS = "an agent must be synchronous, and talk to others through it
 
 /** Why a run that fails for these has no script. */
 export const NO_SCRIPT = "agents did what nobody saw";
-
-/** @param {number} count @param {string} one @param {string} many */
-const counted = (count, one, many) => `${count.toLocaleString("en-US")} ${count === 1 ? one : many}`;
 
 /** @param {import("../memory/notes.mjs").Note} note of memory @param {Naming} nameOf */
 function usesText({ calls = 0, accesses = 0, first }, nameOf) {

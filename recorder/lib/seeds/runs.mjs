@@ -1,6 +1,7 @@
 // Runs of many seeds. Jobs make them side by side; their outcomes are taken one by one, in the order of the seeds. The
 // command line, the library and the tests of suites have their runs from here, and have found ones shortened.
 
+import { hasThrown } from "../../page/endings.mjs";
 import { isFirstOfAll } from "../run/order.mjs";
 import { Delivery } from "./delivery.mjs";
 import { differenceBetween } from "./first-again.mjs";
@@ -115,7 +116,8 @@ export class Runs {
       }));
     } catch (failure) {
       if (!(failure instanceof LostJob)) throw failure;
-      return { seed, differs: "ending", was: first.outcome.ending, is: "the end of its job's process" };
+      const { ending: was, detail } = first.outcome;
+      return { seed, differs: "ending", was, is: "the end of its job's process", threw: hasThrown(was, detail) };
     }
     return again && differenceBetween(first.outcome, again);
   }

@@ -1,7 +1,7 @@
 // What a test says of a run that failed: the seed and how it ended, how it came to that, and where its files lie.
 
 import { endingText } from "../../page/endings.mjs";
-import { digits } from "../keeping/words.mjs";
+import { digits } from "../run/words.mjs";
 import { lastActs } from "./last-acts.mjs";
 
 /**

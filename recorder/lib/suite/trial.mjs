@@ -4,14 +4,13 @@ import { AssertionError } from "node:assert";
 import { resolve } from "node:path";
 import { OnlyByTime, onlyByTimeLines } from "../command/only-by-time.mjs";
 import { isExpected, toldOf } from "../command/problems.mjs";
-import { replayCommand } from "../command/replay-command.mjs";
-import { modulePath, optionsText } from "../keeping/about.mjs";
+import { howMade } from "../keeping/how-made.mjs";
 import { Keeper, missingFiles } from "../keeping/keep.mjs";
 import { keepPictures, notesOn } from "../keeping/pictures.mjs";
-import { counted, digits } from "../keeping/words.mjs";
 import { runsOf } from "../library/explore.mjs";
 import { checkedOwn } from "../library/library-options.mjs";
 import { comesBefore } from "../run/order.mjs";
+import { counted, digits } from "../run/words.mjs";
 import { rememberingText } from "../seeds/first-again.mjs";
 import { simulatorAt } from "../simulator/chosen.mjs";
 import { failureText } from "./failure.mjs";
@@ -168,15 +167,4 @@ function keptLines({ failing, outcome }, options, folder, simulator) {
   } catch (problem) {
     return [`not kept: ${toldOf(problem)}`];
   }
-}
-
-/**
- * How a run was made. No command calls a test's own `init` and `check`.
- * @param {Runs["options"]} options
- */
-function howMade(options) {
-  const { module, init, check } = options;
-  const all = /** @type {any} */ ({ ...options, module: modulePath(module) });
-  const command = init === undefined && check === undefined ? replayCommand(all) : undefined;
-  return { module, options: optionsText(options), command };
 }

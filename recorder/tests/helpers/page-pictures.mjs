@@ -1,21 +1,23 @@
 // Draws the pictures of recorder/README.md: the page of the ring that frees its slots first, at each of the two
-// accesses that race. It needs a browser and sabsim.
+// accesses that race. It needs a browser, and keeps the run in a folder `found` for a while, which mustn't be there
+// before. The simulator's module checks the run, or the program that SABSIM names.
 //
-// usage: SABSIM=crates/sabsim/out/sabsim node recorder/tests/helpers/page-pictures.mjs
+// usage: node recorder/tests/helpers/page-pictures.mjs
 
 import { spawnSync } from "node:child_process";
-import { mkdirSync, mkdtempSync, readdirSync, rmSync, writeFileSync } from "node:fs";
-import { tmpdir } from "node:os";
-import { join } from "node:path";
+import { mkdirSync, readdirSync, rmSync, writeFileSync } from "node:fs";
+import { join, resolve } from "node:path";
 import { fileURLToPath, pathToFileURL } from "node:url";
 import { deflateSync, inflateSync } from "node:zlib";
 import { Browser } from "./browser.mjs";
 import { RECORD } from "./common.mjs";
-import { SABSIM } from "./needs.mjs";
 
 const PICTURES = fileURLToPath(new URL("../../pictures/", import.meta.url));
 const RING = fileURLToPath(new URL("../known/ring-frees-first.mjs", import.meta.url));
-const WINDOW = { width: 1120, height: 700 };
+const WINDOW = { width: 1120, height: 900 };
+
+// The page shows the command that makes its run again, with this folder.
+const ROOM = "found";
 const MOST_COLOURS = 256;
 
 /** The check sum of a part of a PNG file. @param {Buffer} bytes */
@@ -107,18 +109,18 @@ function withFewColours(png) {
   return pngOf(png.subarray(0, 8), parts);
 }
 
-const room = mkdtempSync(join(tmpdir(), "recorder-pictures-"));
+mkdirSync(ROOM);
 const browser = new Browser();
 try {
-  const words = [RECORD, RING, "--seeds", "1..200", "--out", room, "--sabsim", SABSIM];
+  const words = [RECORD, RING, "--seeds", "1..200", "--out", ROOM];
   process.stdout.write(spawnSync(process.execPath, words, { encoding: "utf8" }).stdout);
-  const name = readdirSync(room).find((each) => each.endsWith(".html"));
-  const page = await browser.open(pathToFileURL(join(room, name)).href, WINDOW);
+  const name = readdirSync(ROOM).find((each) => each.endsWith(".html"));
+  const page = await browser.open(pathToFileURL(resolve(ROOM, name)).href, WINDOW);
   mkdirSync(PICTURES, { recursive: true });
   writeFileSync(join(PICTURES, "race-write.png"), withFewColours(await page.picture()));
   await page.press("f");
   writeFileSync(join(PICTURES, "race-read.png"), withFewColours(await page.picture()));
 } finally {
   await browser.close();
-  rmSync(room, { recursive: true, force: true });
+  rmSync(ROOM, { recursive: true, force: true });
 }

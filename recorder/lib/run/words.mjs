@@ -3,8 +3,13 @@
 /** @param {number} count @returns {string} as `9,432` */
 export const digits = (count) => String(count).replaceAll(/\B(?=([0-9]{3})+$)/g, ",");
 
-/** @param {number} count @param {string} what one of it @returns {string} as `1 run`, `2 runs` */
-export const counted = (count, what) => `${digits(count)} ${what}${count === 1 ? "" : "s"}`;
+/**
+ * @param {number} count
+ * @param {string} one
+ * @param {string} [several] if it isn't `one` and an s
+ * @returns {string} as `1 run`, `2 runs`
+ */
+export const counted = (count, one, several = `${one}s`) => `${digits(count)} ${count === 1 ? one : several}`;
 
 /**
  * The first entries as lines, and how many there are besides.

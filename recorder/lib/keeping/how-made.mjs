@@ -1,0 +1,44 @@
+// How a run was made, for its page: the module, the options, and the command that makes it once more by its script.
+
+import { join } from "node:path";
+import { fileURLToPath } from "node:url";
+import { OPTIONS, wordOf } from "../options/table.mjs";
+import { modulePath, optionsText, quoted, shortPath } from "./about.mjs";
+import { isInstalled } from "./program.mjs";
+
+/** @typedef {import("../run/group.mjs").GroupOptions} GroupOptions */
+
+const PROGRAM = join(fileURLToPath(new URL("../../", import.meta.url)), "record.mjs");
+
+/** How this program is started: by its name where it is installed, else by its file. */
+function programWords() {
+  return isInstalled() ? "npx sabsim-record" : `node ${quoted(shortPath(PROGRAM))}`;
+}
+
+/**
+ * @param {{ module: string, args: string[], [option: string]: unknown }} options of the run
+ * @returns {Omit<import("../../page/run-data.mjs").Command, "script">} to which `--replay FILE` is added, before what
+ * stands behind `--`
+ */
+export function replayCommand(options) {
+  const { module, args } = options;
+  const others = Object.entries(OPTIONS).filter(([name, { isReplayed, ifNone }]) =>
+    isReplayed && ![undefined, ifNone].includes(/** @type {any} */ (options[name])));
+  const words = others.map(([name]) => ` --${wordOf(name)} ${options[name]}`);
+  return {
+    options: `${programWords()} ${quoted(module)}${words.join("")}`,
+    args: args.length === 0 ? "" : ` -- ${args.map(quoted).join(" ")}`,
+  };
+}
+
+/**
+ * How a run was made. No command calls functions that somebody has given in place of the module's `init` and `check`.
+ * @param {GroupOptions} options of the run
+ * @returns {import("./pictures.mjs").How}
+ */
+export function howMade(options) {
+  const { module, init, check } = options;
+  const isModules = init === undefined && check === undefined;
+  const command = isModules ? replayCommand({ ...options, module: modulePath(module) }) : undefined;
+  return { module, options: optionsText(options), command };
+}

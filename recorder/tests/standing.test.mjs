@@ -1,0 +1,115 @@
+// What each agent is at in a deadlock, or at a limit, as data: in outcomes, and in summaries as JSON.
+
+import assert from "node:assert/strict";
+import { writeFileSync } from "node:fs";
+import { join } from "node:path";
+import { test } from "node:test";
+import { summaryText } from "../lib/command/summary-text.mjs";
+import { Summary } from "../lib/command/summary.mjs";
+import { standingsOf } from "../lib/run/standing.mjs";
+import { explore, record } from "../recorder.mjs";
+import { temporaryFolder } from "./helpers/common.mjs";
+import { runNode } from "./helpers/programs.mjs";
+
+const MODULE = `
+export const setup = { agents: 3, buffers: [12, 8], names: { LOCK: 1 } };
+export default function agent({ buffers, agent, args: [way] }) {
+  const [words, others] = buffers.map((buffer) => new Int32Array(buffer));
+  for (let time = 0; time < (agent === 2 ? 30 : 1); time += 1) Atomics.load(words, 0);
+  if (agent === 0) Atomics.wait(words, 1, 0);
+  if (agent === 1) Atomics.wait(others, 1, 0);
+  if (agent === 2 && way === "spins") while (Atomics.load(words, 2) === 0);
+  if (agent === 2 && way === "counts") for (;;) Atomics.add(words, 2, 1);
+}
+`;
+
+const NOWHERE = { place: null, block: null, byte: null };
+
+/** The line and the column of a call or an access, as an engine has them. @param {string} text of its own line */
+function placeOf(text) {
+  const lines = MODULE.split("\n");
+  const line = lines.findIndex((each) => each.includes(text));
+  const from = lines[line].indexOf(text);
+  return { file: "agents.mjs", line: line + 1, column: from + Math.max(text.search(/(?<=Atomics\.)/), 0) + 1 };
+}
+
+const waits = (agent, place, block, text) =>
+  ({ agent, does: "waits", call: 1, place, block, byte: 4, ...placeOf(text) });
+
+/** Each agent's wait, in whatever order they have come. */
+const WAITING = [waits(0, "LOCK", 0, "Atomics.wait(words"), waits(1, null, 1, "Atomics.wait(others")];
+
+const at = (does, text) => ({ agent: 2, does, call: null, ...NOWHERE, ...placeOf(text) });
+
+const SPIN = "Atomics.load(words, 2)";
+
+/** What the agents are at in each way. */
+const WAYS = {
+  deadlock: WAITING, spins: [at("spins", SPIN), ...WAITING], counts: [at("runs", "Atomics.add"), ...WAITING],
+};
+
+/** @param {import("node:test").TestContext} context */
+function moduleIn(context) {
+  const module = join(temporaryFolder(context), "agents.mjs");
+  writeFileSync(module, MODULE);
+  return module;
+}
+
+/** The one that has met the limit stays first. */
+const inOrder = (standing) => {
+  const begin = standing.findIndex(({ does }) => does === "waits");
+  return [...standing.slice(0, begin), ...standing.slice(begin).sort((one, other) => one.agent - other.agent)];
+};
+
+/** The first run in which two agents wait at the end. @param {object} options */
+async function waitingOutcome(options) {
+  const isWait = ({ does }) => does === "waits";
+  for await (const outcome of explore({ seeds: 100, strategy: "uniform", sabsim: false, ...options })) {
+    if (outcome.standing?.filter(isWait).length === 2) return outcome;
+  }
+  return assert.fail("there is no such run");
+}
+
+test("an outcome has what each agent is at, in a deadlock and at a limit", async (context) => {
+  const module = moduleIn(context);
+  for (const [way, expected] of Object.entries(WAYS)) {
+    const { ending, standing } = await waitingOutcome({ module, args: [way] });
+    assert.equal(ending, way === "deadlock" ? "deadlock" : "bound");
+    assert.deepEqual(inOrder(standing), expected, way);
+  }
+  const body = "export const setup = { agents: 1, buffers: [4] };\n"
+    + "export default ({ buffers }) => Atomics.load(new Int32Array(buffers[0]), 0);\n";
+  writeFileSync(module, body);
+  assert.equal((await record({ module, sabsim: false, everywhere: true })).standing, undefined);
+});
+
+test("agents that ask for a call when a limit is met are there too", async (context) => {
+  const { standing } = await waitingOutcome({ module: moduleIn(context), args: ["spins"], maxMoves: 200 });
+  const asking = standing.find(({ agent }) => agent === 2);
+  assert.deepEqual({ ...asking, call: null }, at("asks", SPIN));
+  assert.ok(asking.call > 1, `${asking.call}`);
+  assert.deepEqual(inOrder(standing.filter(({ does }) => does === "waits")), WAITING);
+});
+
+test("the summary has that of the first failing run as JSON, and so has a joined one", async (context) => {
+  const words = [moduleIn(context), "--seeds", "2..3", "--format", "json", "--", "deadlock"];
+  const { output } = await runNode("recorder/record.mjs", words);
+  const summary = JSON.parse(output);
+  assert.deepEqual(inOrder(summary.firstFailing.standing), WAITING);
+  const joined = new Summary({ ordinary: "watch", races: "fail" });
+  joined.join(summary);
+  assert.deepEqual(joined.told().firstFailing, summary.firstFailing);
+  assert.match(summaryText(summary), /agent 0 waits at LOCK: its call 1, /);
+});
+
+test("what is said of the agent that has met a limit is read right", () => {
+  const met = (detail) => standingsOf(detail, [], [], { calls: [] }, () => "")
+    .map(({ agent, does, file, line, column }) => [agent, does, file, line, column]);
+  assert.deepEqual(met("agent 12 spins: it reads the same bytes again"), [[12, "spins", null, null, null]]);
+  assert.deepEqual(met("agent 1 spins at a b.mjs:5:18: it goes on"), [[1, "spins", "a b.mjs", 5, 18]]);
+  assert.deepEqual(met("agent 1 spins at c.mjs:5:18: it goes on"), [[1, "spins", "c.mjs", 5, 18]]);
+  assert.deepEqual(met("agent 0 has made 1000 calls, and goes on at c.mjs:5:18"), [[0, "runs", "c.mjs", 5, 18]]);
+  assert.deepEqual(met("more than 9 typed arrays were used: agent 3 is at c.mjs:5:18"), [[3, "runs", "c.mjs", 5, 18]]);
+  assert.deepEqual(met("more than 100 moves would be made"), []);
+  assert.deepEqual(met(""), []);
+});
