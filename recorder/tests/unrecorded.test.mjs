@@ -2,9 +2,11 @@
 // messages and listeners that nobody serves. Each fails by name and line, or the summary says what was used.
 
 import assert from "node:assert/strict";
+import { writeFileSync } from "node:fs";
+import { join } from "node:path";
 import { describe, test } from "node:test";
 import { record } from "../recorder.mjs";
-import { agentsPath } from "./helpers/common.mjs";
+import { agentsPath, temporaryFolder } from "./helpers/common.mjs";
 import { CHECKER } from "./helpers/needs.mjs";
 import { placesOf, recorded, summaryLines } from "./helpers/recorded.mjs";
 
@@ -168,4 +170,21 @@ describe("what other threads and messages do", SIDE_BY_SIDE, () => {
     workerListens: unheard("Worker\\.on", "workerListens"),
   });
   testFailing({ untaken: /nobody takes/, portOn: /never gets one/ }, { ordinary: "store", unrecorded: "allow" });
+
+  const AT_LOADING = {
+    "parentPort.postMessage": "parentPort.postMessage('ready');",
+    "BroadcastChannel.postMessage": "new BroadcastChannel('all').postMessage('ready');",
+  };
+  for (const [what, code] of Object.entries(AT_LOADING)) {
+    test(`a message that is posted while the module is loaded fails each run: ${what}`, async (context) => {
+      const module = join(temporaryFolder(context), "agents.mjs");
+      writeFileSync(module, `import { parentPort } from "node:worker_threads";\n${code}
+        export default ({ buffers }) => { Atomics.add(new Int32Array(buffers[0]), 0, 1); };`);
+      for (const unrecorded of ["fail", "allow"]) {
+        const { ending, detail } = await record({ module, agents: 1, buffers: [4], sabsim: CHECKER, unrecorded });
+        assert.equal(ending, "failed", detail);
+        assert.match(detail, new RegExp(`^agent 0 calls ${what} at agents\\.mjs:2:\\d+, but nobody takes its messages: `));
+      }
+    });
+  }
 });
