@@ -1,5 +1,5 @@
-// Contexts of node:vm, where ordinary accesses aren't watched. Nobody would see what the `Atomics` of a context does, or
-// what is done with shared memory that a context makes. So each context gets those of the agents.
+// Contexts of node:vm, where ordinary accesses aren't watched. Nobody would see what the `Atomics` of a context does,
+// or what is done with shared memory that a context makes. So each context gets those of the agents.
 
 import vm from "node:vm";
 import { apply, defineProperty, deleteProperty, getOwnPropertyDescriptor, uncurried } from "../primordials.mjs";
