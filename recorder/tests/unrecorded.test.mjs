@@ -134,6 +134,21 @@ describe("recorded memory in another thread is refused, whatever is done with or
   }
 });
 
+test("`init` and `check` of a module can't give recorded memory to a Worker either", SIDE_BY_SIDE, async (context) => {
+  for (const [name, ending] of [["init", "failed"], ["check", "check"]]) {
+    const module = join(temporaryFolder(context), "agents.mjs");
+    writeFileSync(module, `import { Worker } from "node:worker_threads";
+      export const ${name} = ([buffer]) => { new Worker("", { eval: true, workerData: buffer }); };
+      export default ({ buffers }) => { Atomics.add(new Int32Array(buffers[0]), 0, 1); };`);
+    for (const ordinary of ["watch", "store"]) {
+      const options = { module, agents: 1, buffers: [4], sabsim: CHECKER, unrecorded: "allow", ordinary };
+      const { ending: is, detail } = await record(options);
+      assert.equal(is, ending, detail);
+      assert.match(detail, new RegExp(`^${name} threw Error: a new Worker was given recorded memory, [^]*agents\\.mjs:2:`));
+    }
+  }
+});
+
 /** @type {(what: string, line: number) => RegExp} */
 const abroad = (what, line) =>
   new RegExp(`^agent 0 .* another thread, by ${what} at unrecorded\\.mjs:${line}:\\d+: nobody sees what that thread does; `);
