@@ -6,6 +6,7 @@ import { writeFileSync } from "node:fs";
 import { join } from "node:path";
 import { describe, test } from "node:test";
 import { record } from "../recorder.mjs";
+import { assertAgents } from "../testing.mjs";
 import { agentsPath, temporaryFolder } from "./helpers/common.mjs";
 import { CHECKER } from "./helpers/needs.mjs";
 import { placesOf, recorded, summaryLines } from "./helpers/recorded.mjs";
@@ -134,6 +135,19 @@ describe("recorded memory in another thread is refused, whatever is done with or
   }
 });
 
+test("a test of agents fails at once where an agent would wait on memory of its own, and shows no acts", async (context) => {
+  const out = temporaryFolder(context);
+  const options = { module: MODULE, agents: 1, buffers: [16], args: ["waits"], seeds: 3, seconds: 60, out };
+  const start = Date.now();
+  await assert.rejects(assertAgents(options), ({ message }) => {
+    assert.match(message, /^seed 1: stopped\n {2}agent 0 would wait at unrecorded\.mjs:\d+:\d+ on a SharedArrayBuffer /);
+    assert.match(message, /\n\nnot kept: seed-1\.json: agents did what nobody saw$/);
+    assert.ok(!message.includes("Its last acts"), message);
+    return true;
+  });
+  assert.ok(Date.now() - start < 50_000);
+});
+
 test("`init` and `check` of a module can't give recorded memory to a Worker either", SIDE_BY_SIDE, async (context) => {
   for (const [name, ending] of [["init", "failed"], ["check", "check"]]) {
     const module = join(temporaryFolder(context), "agents.mjs");
@@ -198,7 +212,7 @@ describe("what other threads and messages do", SIDE_BY_SIDE, () => {
       for (const unrecorded of ["fail", "allow"]) {
         const { ending, detail } = await record({ module, agents: 1, buffers: [4], sabsim: CHECKER, unrecorded });
         assert.equal(ending, "failed", detail);
-        assert.match(detail, new RegExp(`^agent 0 calls ${what} at agents\\.mjs:2:\\d+, but nobody takes its messages: `));
+        assert.match(detail, new RegExp(`^agent 0 calls ${what} at agents\\.mjs:2:\\d+, but nobody takes its messages`));
       }
     });
   }
