@@ -32,6 +32,8 @@ export class Messages {
     this.waiting = new EngineWeakMap();
     /** @type {object[]} the ports that have had messages in this run */
     this.ports = [];
+    /** Whether a message was posted that nobody takes: the first one while the module is loaded stands for all. */
+    this.hasPosted = false;
     this.#watchPorts(threads);
     this.#watchChannels(threads);
     this.#watchWorkers(threads);
@@ -172,8 +174,9 @@ export class Messages {
   /** @param {string} what posts a message that nobody takes */
   #posts(what) {
     const isLoading = this.unseen.notes === undefined;
-    if (isLoading) this.unseen.add({ kind: "message", what, place: sourceHere() }, true);
-    else this.#acts("message", what);
+    if (!isLoading) this.#acts("message", what);
+    else if (!this.hasPosted) this.unseen.add({ kind: "message", what, place: sourceHere() }, true);
+    this.hasPosted = true;
   }
 
   /** @param {string} what listens for what never comes */
