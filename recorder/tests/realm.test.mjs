@@ -227,18 +227,23 @@ test("messages to whoever started the worker change nothing", async (context) =>
   const options = { sabsim: CHECKER };
   const expected = await recordText(context, text("", ""), options);
   assert.equal(expected.ending, "finished");
-  const cases = [[posts, ""], ["", "parentPort.close();"], ["parentPort.on('close', () => {});", ""]];
+  const cases = [["", "parentPort.close();"], ["parentPort.on('close', () => {});", ""]];
   const outcomes = await madeOfEach(cases, ([top, body]) => recordText(context, text(top, body), options));
   for (const outcome of outcomes) assert.deepEqual(outcome, expected);
-  // In an agent nobody takes them, which is no pass, and else they change nothing.
+  // Nobody takes them, which is no pass, and else they change nothing.
   const named = [
     [["", posts], /^agent 0 calls parentPort\.postMessage at agents\.mjs:5:18, but nobody takes its messages: /],
+    // The first one stands for all.
+    [[posts, ""], /^agent 0 calls parentPort\.postMessage at agents\.mjs:3:16, but nobody .+\nagent 1 calls .+$/],
     [["parentPort.on('message', () => {});", ""], /^agent 0 listens for messages, by parentPort\.on at agents\.mjs:3:16, /],
   ];
   const failing = await madeOfEach(named, ([[top, body]]) => recordText(context, text(top, body), options));
-  failing.forEach(({ ending, detail }, at) => {
+  failing.forEach(({ ending, detail, bytes, calls, progress }, at) => {
+    const [[top], why] = named[at];
     assert.equal(ending, "failed");
-    assert.match(detail, named[at][1]);
+    assert.match(detail, why);
+    if (top === "") return;
+    assert.deepEqual([bytes, calls, progress], [expected.bytes, expected.calls, expected.progress]);
   });
 });
 

@@ -2,9 +2,12 @@
 // messages and listeners that nobody serves. Each fails by name and line, or the summary says what was used.
 
 import assert from "node:assert/strict";
+import { writeFileSync } from "node:fs";
+import { join } from "node:path";
 import { describe, test } from "node:test";
 import { record } from "../recorder.mjs";
-import { agentsPath } from "./helpers/common.mjs";
+import { assertAgents } from "../testing.mjs";
+import { agentsPath, temporaryFolder } from "./helpers/common.mjs";
 import { CHECKER } from "./helpers/needs.mjs";
 import { placesOf, recorded, summaryLines } from "./helpers/recorded.mjs";
 
@@ -132,6 +135,34 @@ describe("recorded memory in another thread is refused, whatever is done with or
   }
 });
 
+test("a test of agents fails at once where an agent would wait on memory of its own, and shows no acts", async (context) => {
+  const out = temporaryFolder(context);
+  const options = { module: MODULE, agents: 1, buffers: [16], args: ["waits"], seeds: 3, seconds: 60, out };
+  const start = Date.now();
+  await assert.rejects(assertAgents(options), ({ message }) => {
+    assert.match(message, /^seed 1: stopped\n {2}agent 0 would wait at unrecorded\.mjs:\d+:\d+ on a SharedArrayBuffer /);
+    assert.match(message, /\n\nnot kept: seed-1\.json: agents did what nobody saw$/);
+    assert.ok(!message.includes("Its last acts"), message);
+    return true;
+  });
+  assert.ok(Date.now() - start < 50_000);
+});
+
+test("`init` and `check` of a module can't give recorded memory to a Worker either", SIDE_BY_SIDE, async (context) => {
+  for (const [name, ending] of [["init", "failed"], ["check", "check"]]) {
+    const module = join(temporaryFolder(context), "agents.mjs");
+    writeFileSync(module, `import { Worker } from "node:worker_threads";
+      export const ${name} = ([buffer]) => { new Worker("", { eval: true, workerData: buffer }); };
+      export default ({ buffers }) => { Atomics.add(new Int32Array(buffers[0]), 0, 1); };`);
+    for (const ordinary of ["watch", "store"]) {
+      const options = { module, agents: 1, buffers: [4], sabsim: CHECKER, unrecorded: "allow", ordinary };
+      const { ending: is, detail } = await record(options);
+      assert.equal(is, ending, detail);
+      assert.match(detail, new RegExp(`^${name} threw Error: a new Worker was given recorded memory, [^]*agents\\.mjs:2:`));
+    }
+  }
+});
+
 /** @type {(what: string, line: number) => RegExp} */
 const abroad = (what, line) =>
   new RegExp(`^agent 0 .* another thread, by ${what} at unrecorded\\.mjs:${line}:\\d+: nobody sees what that thread does; `);
@@ -168,4 +199,21 @@ describe("what other threads and messages do", SIDE_BY_SIDE, () => {
     workerListens: unheard("Worker\\.on", "workerListens"),
   });
   testFailing({ untaken: /nobody takes/, portOn: /never gets one/ }, { ordinary: "store", unrecorded: "allow" });
+
+  const AT_LOADING = {
+    "parentPort.postMessage": "parentPort.postMessage('ready');",
+    "BroadcastChannel.postMessage": "new BroadcastChannel('all').postMessage('ready');",
+  };
+  for (const [what, code] of Object.entries(AT_LOADING)) {
+    test(`a message that is posted while the module is loaded fails each run: ${what}`, async (context) => {
+      const module = join(temporaryFolder(context), "agents.mjs");
+      writeFileSync(module, `import { parentPort } from "node:worker_threads";\n${code}
+        export default ({ buffers }) => { Atomics.add(new Int32Array(buffers[0]), 0, 1); };`);
+      for (const unrecorded of ["fail", "allow"]) {
+        const { ending, detail } = await record({ module, agents: 1, buffers: [4], sabsim: CHECKER, unrecorded });
+        assert.equal(ending, "failed", detail);
+        assert.match(detail, new RegExp(`^agent 0 calls ${what} at agents\\.mjs:2:\\d+, but nobody takes its messages`));
+      }
+    });
+  }
 });

@@ -21,8 +21,9 @@ declare module "node:vm" {
     constructor(code: string);
     runInContext(context: object): any;
   }
-  export function createContext(): object;
-  const vm: { Script: Function };
+  export function createContext(...given: unknown[]): object;
+  export function isContext(given: object): boolean;
+  const vm: { Script: typeof Script; createContext: typeof createContext; isContext: typeof isContext };
   export default vm;
 }
 

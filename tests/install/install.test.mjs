@@ -114,6 +114,15 @@ test("each link of its documents leads to a file of it, and so does each picture
   assert.deepEqual(broken, []);
 });
 
+test("each module that a command of its documents runs is a file of it", () => {
+  const COMMAND = /record\.mjs (recorder\/\S+\.mjs)/g;
+  const documents = FILES.filter((name) => name.endsWith(".md"));
+  const texts = documents.map((name) => readFileSync(join(TOP, name), "utf8"));
+  const modules = texts.flatMap((text) => [...text.matchAll(COMMAND)].map(([, module]) => module));
+  assert.ok(modules.length > 5 && modules.includes("recorder/tests/agents/naive-mutex.mjs"));
+  assert.deepEqual(modules.filter((module) => !FILES.includes(module)), []);
+});
+
 test("its programs say by their usage how they are called", () => {
   for (const name of ["sabsim-record", "sabsim-merge"]) {
     assert.ok(npx(project, [name, "--help"]).output.startsWith(`usage: ${name} `), name);

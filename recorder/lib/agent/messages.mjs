@@ -32,6 +32,8 @@ export class Messages {
     this.waiting = new EngineWeakMap();
     /** @type {object[]} the ports that have had messages in this run */
     this.ports = [];
+    /** Whether a message was posted that nobody takes: the first one while the module is loaded stands for all. */
+    this.hasPosted = false;
     this.#watchPorts(threads);
     this.#watchChannels(threads);
     this.#watchWorkers(threads);
@@ -106,7 +108,7 @@ export class Messages {
     const StandIn = new EngineProxy(Engine, traps);
     put(threads, "BroadcastChannel", StandIn);
     put(globalThis, "BroadcastChannel", StandIn);
-    this.#replace(Engine.prototype, "postMessage", () => this.#acts("message", "BroadcastChannel.postMessage"));
+    this.#replace(Engine.prototype, "postMessage", () => this.#posts("BroadcastChannel.postMessage"));
     this.#replace(Engine.prototype, "addEventListener", () => this.#listens("BroadcastChannel.addEventListener"));
     this.#watchHandlers(Engine.prototype);
   }
@@ -148,13 +150,14 @@ export class Messages {
 
   /** @param {object} port on which a message is posted */
   #post(port) {
-    if (!this.serving.isPlaying()) return;
     const peer = peerOf(port);
     if (peer === undefined && leadsAbroad(port)) {
       this.#reaches("MessagePort.postMessage");
+    } else if (port === this.parentPort) {
+      this.#posts("parentPort.postMessage");
     } else if (peer === undefined) {
-      this.#acts("message", `${this.#nameOf(port)}.postMessage`);
-    } else {
+      this.#acts("message", "MessagePort.postMessage");
+    } else if (this.serving.isPlaying()) {
       const known = weakGet(this.waiting, peer);
       if (known === undefined) {
         weakSet(this.waiting, peer, { left: 1, place: sourceHere() });
@@ -166,6 +169,14 @@ export class Messages {
   /** @param {object} port */
   #nameOf(port) {
     return port === this.parentPort ? "parentPort" : "MessagePort";
+  }
+
+  /** @param {string} what posts a message that nobody takes */
+  #posts(what) {
+    const isLoading = this.unseen.notes === undefined;
+    if (!isLoading) this.#acts("message", what);
+    else if (!this.hasPosted) this.unseen.add({ kind: "message", what, place: sourceHere() }, true);
+    this.hasPosted = true;
   }
 
   /** @param {string} what listens for what never comes */

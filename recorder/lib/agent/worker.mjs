@@ -20,6 +20,7 @@ import { Stores } from "../memory/stores.mjs";
 import { ownKeys, put } from "../primordials.mjs";
 import { onceMore } from "../processes/garbage.mjs";
 import { recordedAtomics } from "./atomics.mjs";
+import { shareWithContexts } from "./contexts.mjs";
 import { described } from "./described.mjs";
 import { isCalledByAgents, sourceHere } from "./frames.mjs";
 import { Later } from "./later.mjs";
@@ -168,6 +169,7 @@ function furnish() {
   watchMaking(unseen);
   const messages = new Messages(unseen, { isPlaying: isRecording, end: endUnseen }, threads);
   globalThis.Atomics = recordedAtomics(Atomics, asking);
+  if (ordinary !== "watch") shareWithContexts({ Atomics, SharedArrayBuffer, WebAssembly });
   syncBuiltinESMExports();
   return { later: new Later(), messages };
 }
