@@ -7,21 +7,21 @@ export async function use(options) {
   if (!isMainThread) {
     const list = new FreeList(workerData, options);
     const first = list.pop();
-    Atomics.store(workerData, 7, list.pop());
+    const second = list.pop();
     list.push(first);
+    Atomics.store(workerData, 7, second);
     return;
   }
-  const words = Int32Array.from([1, 2, 3, 4, 0, 0, 0, 0]);
   const shared = new Int32Array(new SharedArrayBuffer(32));
-  shared.set(words);
+  shared.set([1, 2, 3, 4]);
   const list = new FreeList(shared, options);
   const other = new Worker(process.argv[1], { workerData: shared });
   for (let time = 0; time < 4; time += 1) {
     const node = list.pop();
-    if (node === Atomics.load(shared, 7)) throw new Error(`node ${node} is in use`);
     list.push(node);
   }
   await once(other, "exit");
   const free = [list.pop(), list.pop(), list.pop()];
-  if (free.includes(shared[7])) throw new Error(`node ${shared[7]} is in use, and free are ${free}`);
+  const used = Atomics.load(shared, 7);
+  if (free.includes(used)) throw new Error(`node ${used} is used and free`);
 }

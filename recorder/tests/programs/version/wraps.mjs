@@ -1,4 +1,4 @@
-// Wrong: the version goes from 0 to 1 and back, so a reader doesn't see that a whole pair was written meanwhile.
+// Wrong: the version has two bits, so a reader doesn't see that two whole pairs were written meanwhile.
 import { run } from "./threads.mjs";
 
-await run({ versions: 2 });
+await run({ versions: 4 });
