@@ -1,27 +1,21 @@
-// Main takes one node after the other and gives each back; the worker keeps the second one that it takes.
+// Main takes one node after the other and gives each back; a worker takes two at a time; at the end all are there.
 import { once } from "node:events";
 import { Worker, isMainThread, workerData } from "node:worker_threads";
 import { FreeList } from "./list.mjs";
 
 export async function use(options) {
+  const words = isMainThread ? new Int32Array(new SharedArrayBuffer(20)) : workerData;
+  const list = new FreeList(words, options);
   if (!isMainThread) {
-    const list = new FreeList(workerData, options);
-    const first = list.pop();
-    const second = list.pop();
-    list.push(first);
-    Atomics.store(workerData, 7, second);
+    for (let time = 0; time < 4; time += 1) {
+      for (const node of [list.pop(), list.pop()]) list.push(node);
+    }
     return;
   }
-  const shared = new Int32Array(new SharedArrayBuffer(32));
-  shared.set([1, 2, 3, 4]);
-  const list = new FreeList(shared, options);
-  const other = new Worker(process.argv[1], { workerData: shared });
-  for (let time = 0; time < 4; time += 1) {
-    const node = list.pop();
-    list.push(node);
-  }
+  words.set([1, 2, 3, 4, 0]);
+  const other = new Worker(process.argv[1], { workerData: words });
+  for (let time = 0; time < 6; time += 1) list.push(list.pop());
   await once(other, "exit");
-  const free = [list.pop(), list.pop(), list.pop()];
-  const used = Atomics.load(shared, 7);
-  if (free.includes(used)) throw new Error(`node ${used} is used and free`);
+  const nodes = [1, 2, 3, 4].map(() => list.pop());
+  if (new Set(nodes).size < 4) throw new Error(`the free nodes are ${nodes}`);
 }

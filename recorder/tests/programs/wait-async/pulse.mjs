@@ -4,13 +4,12 @@ import { Worker, isMainThread, workerData } from "node:worker_threads";
 const words = isMainThread ? new Int32Array(new SharedArrayBuffer(8)) : workerData;
 if (isMainThread) {
   const { value } = Atomics.waitAsync(words, 0, 0);
-  const worker = new Worker(new URL(import.meta.url), { workerData: words });
+  new Worker(new URL(import.meta.url), { workerData: words });
   await value;
   if (Atomics.load(words, 0) === 0) throw new Error("notified, and the word is 0");
-  worker.unref();
 } else {
   Atomics.store(words, 0, 1);
   Atomics.notify(words, 0);
-  for (let step = 0; step < 6; step += 1) Atomics.add(words, 1, 1);
+  for (let step = 0; step < 8; step += 1) Atomics.add(words, 1, 1);
   Atomics.store(words, 0, 0);
 }
