@@ -1,4 +1,5 @@
 // Wrong: the last worker takes for granted that a message over another worker is later than the direct one.
+import { setImmediate as soon } from "node:timers/promises";
 import { MessageChannel, Worker, isMainThread, parentPort, workerData } from "node:worker_threads";
 
 if (isMainThread) {
@@ -9,7 +10,10 @@ if (isMainThread) {
   last.postMessage("directly");
   between.postMessage("the long way");
 } else if (workerData.next !== undefined) {
-  parentPort.once("message", (text) => workerData.next.postMessage(text));
+  parentPort.once("message", async (text) => {
+    for (let turn = 0; turn < 3; turn += 1) await soon();
+    workerData.next.postMessage(text);
+  });
 } else {
   let first;
   for (const port of [parentPort, workerData.port]) {
