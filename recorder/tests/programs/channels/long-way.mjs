@@ -11,7 +11,7 @@ if (isMainThread) {
   between.postMessage("the long way");
 } else if (workerData.next !== undefined) {
   parentPort.once("message", async (text) => {
-    for (let turn = 0; turn < 3; turn += 1) await soon();
+    for (let turn = 0; turn < 4; turn += 1) await soon();
     workerData.next.postMessage(text);
   });
 } else {

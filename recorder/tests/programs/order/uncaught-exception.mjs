@@ -6,7 +6,7 @@ setTimeout(() => {
   queueMicrotask(() => console.log("microtask"));
   throw new Error("in a timer");
 }, 1);
-setTimeout(() => console.log("next timer"), 1);
+setTimeout(() => console.log("next timer"), 15);
 setTimeout(() => setImmediate(() => {
   setImmediate(() => console.log("next immediate"));
   process.nextTick(() => { throw new Error("in a tick"); });
