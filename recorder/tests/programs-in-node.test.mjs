@@ -1,5 +1,5 @@
-// The programs of `programs/` in node itself: the right ones end with exit code 0, and those on the order of events print
-// the same whenever they run.
+// The programs of `programs/` in node itself: the right ones end with exit code 0, and those on the order of events
+// print the same whenever they run.
 
 import assert from "node:assert/strict";
 import { readFileSync, readdirSync } from "node:fs";

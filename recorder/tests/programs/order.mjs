@@ -24,7 +24,8 @@ export function pathOf(name) {
  *   printed, how it ended, and what it wrote to stderr
  */
 export function runInNode(path, { args = [], whenPrinted = () => {} } = {}) {
-  const child = spawn(process.execPath, [path, ...args], { stdio: ["ignore", "pipe", "pipe"], timeout: SECONDS * 1_000 });
+  const options = { stdio: /** @type {const} */ (["ignore", "pipe", "pipe"]), timeout: SECONDS * 1_000 };
+  const child = spawn(process.execPath, [path, ...args], options);
   const texts = { stdout: "", stderr: "" };
   for (const name of /** @type {const} */ (["stdout", "stderr"])) {
     child[name].setEncoding("utf8").on("data", (text) => {

@@ -2,7 +2,9 @@
 import { MessageChannel } from "node:worker_threads";
 
 const { port1, port2 } = new MessageChannel();
-port2.addEventListener("message", (event) => console.log("addEventListener", event.type, event.data, event.target === port2));
+port2.addEventListener("message", ({ type, data, target }) => {
+  console.log("addEventListener", type, data, target === port2);
+});
 port2.onmessage = ({ data, ports }) => console.log("onmessage", data, ports.length);
 port2.on("message", (data) => console.log("on", data));
 port2.once("message", (data) => console.log("once", data));

@@ -5,7 +5,9 @@ import { second } from "./module-parts/second.mjs";
 
 console.log("main", second);
 const require = createRequire(import.meta.url);
-console.log(require("./module-parts/third.cjs"), require("./module-parts/third.cjs") === require.cache[require.resolve("./module-parts/third.cjs")].exports);
+const third = require("./module-parts/third.cjs");
+const { exports } = require.cache[require.resolve("./module-parts/third.cjs")];
+console.log(third, require("./module-parts/third.cjs") === exports);
 const { default: again, name } = await import("./module-parts/third.cjs");
 console.log(again.name, name);
 console.log((await import("./module-parts/second.mjs")).second);

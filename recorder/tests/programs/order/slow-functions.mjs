@@ -13,6 +13,7 @@ await new Promise((done) => {
   process.nextTick(() => console.log("tick"));
   queueMicrotask(() => console.log("microtask"));
 });
-console.log((await promisify(pbkdf2)("a", "b", 1, 4, "sha256")).toString("hex"), scryptSync("a", "b", 4).toString("hex"));
+const derived = [await promisify(pbkdf2)("a", "b", 1, 4, "sha256"), scryptSync("a", "b", 4)];
+console.log(derived.map((bytes) => bytes.toString("hex")));
 console.log((await promisify(randomBytes)(4)).length);
 console.log(Buffer.from(await webcrypto.subtle.digest("SHA-256", Buffer.from("a"))).toString("hex").slice(0, 8));

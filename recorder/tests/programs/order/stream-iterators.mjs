@@ -12,7 +12,8 @@ const through = new PassThrough();
 through.write("one ");
 process.nextTick(() => through.end("two"));
 console.log(await text(through));
-console.log(await Readable.from([1, 2, 3, 4]).filter((number) => number % 2 === 0).map(async (number) => number * 10).toArray());
+const even = Readable.from([1, 2, 3, 4]).filter((number) => number % 2 === 0);
+console.log(await even.map(async (number) => number * 10).toArray());
 const web = new ReadableStream({
   start(controller) { for (const word of ["x", "y"]) controller.enqueue(word); controller.close(); },
 });

@@ -1,5 +1,6 @@
 // What a worker gets from its start: a copy of workerData, env, argv, names and numbers.
-import { Worker, getEnvironmentData, isMainThread, parentPort, setEnvironmentData, threadId, workerData } from "node:worker_threads";
+import { Worker, isMainThread, parentPort, threadId, workerData } from "node:worker_threads";
+import { getEnvironmentData, setEnvironmentData } from "node:worker_threads";
 
 if (isMainThread) {
   const data = { list: [1], map: new Map([["a", new Date(0)]]), shared: new SharedArrayBuffer(4) };

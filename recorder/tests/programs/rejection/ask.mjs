@@ -4,6 +4,9 @@ import { Worker } from "node:worker_threads";
 export function ask(text) {
   return new Promise((resolve, reject) => {
     const worker = new Worker(new URL("./worker.mjs", import.meta.url), { workerData: text });
-    worker.on("message", ({ answer, refused }) => (refused === undefined ? resolve(answer) : reject(new Error(refused))));
+    worker.on("message", ({ answer, refused }) => {
+      if (refused === undefined) resolve(answer);
+      else reject(new Error(refused));
+    });
   });
 }
