@@ -5,7 +5,7 @@ import { readdirSync } from "node:fs";
 import { fileURLToPath } from "node:url";
 
 const FOLDER = new URL("./order/", import.meta.url);
-const SECONDS = 60;
+const SECONDS = 120;
 
 /** The names of the programs: each file of the folder is one; what they import is in folders below. */
 export const ORDER = readdirSync(FOLDER).filter((name) => /\.[cm]js$/.test(name)).sort();
