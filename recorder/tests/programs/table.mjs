@@ -46,7 +46,7 @@ const wrong = (main, ...findings) => ({ main, right: false, findings });
 const rare = (main, ...findings) => ({ ...wrong(main, ...findings), isRare: true });
 
 /** @type {(main: string, ...findings: Finding[]) => Omit<Program, "name">} */
-const ofTime = (main, ...findings) => ({ ...rare(main, ...findings), isOfTime: true });
+const ofTime = (main, ...findings) => ({ ...wrong(main, ...findings), isOfTime: true });
 
 const THROWS = "throw new Error";
 const COUNTS = /** @type {Line} */ (["threads.mjs", "words[2] += 1;"]);

@@ -2,9 +2,7 @@
 import { count } from "./threads.mjs";
 
 function lock(words) {
-  for (let look = 0; look < 2; look += 1) {
-    if (Atomics.compareExchange(words, 0, 0, 1) === 0) return;
-  }
+  if (Atomics.compareExchange(words, 0, 0, 1) === 0) return;
   while (Atomics.compareExchange(words, 0, 0, 1) !== 0) {
     if (Atomics.compareExchange(words, 0, 1, 2) === 0) continue;
     Atomics.wait(words, 0, 2);

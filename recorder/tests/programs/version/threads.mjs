@@ -4,7 +4,7 @@ import { Worker, isMainThread, workerData } from "node:worker_threads";
 const [VERSION, LEFT, RIGHT] = [0, 1, 2];
 
 function write(words, versions) {
-  for (let number = 1; number <= 5; number += 1) {
+  for (let number = 1; number <= 4; number += 1) {
     const version = Atomics.load(words, VERSION);
     Atomics.store(words, VERSION, (version + 1) % versions);
     Atomics.store(words, LEFT, number);
@@ -26,7 +26,7 @@ export function run({ versions }) {
   if (!isMainThread) return write(workerData, versions);
   const words = new Int32Array(new SharedArrayBuffer(12));
   new Worker(process.argv[1], { workerData: words });
-  for (let time = 0; time < 4; time += 1) {
+  for (let time = 0; time < 2; time += 1) {
     const [left, right] = read(words);
     if (left !== right) throw new Error(`a torn pair: ${left} and ${right}`);
   }
