@@ -1,4 +1,4 @@
-// Main takes one node after the other and gives each back; a worker takes two at a time; at the end all are there.
+// Main takes one node and gives it back; a worker takes two at a time, twice; at the end all nodes must be there.
 import { once } from "node:events";
 import { Worker, isMainThread, workerData } from "node:worker_threads";
 import { FreeList } from "./list.mjs";
@@ -14,7 +14,7 @@ export async function use(options) {
   }
   words.set([1, 2, 3, 4, 0]);
   const other = new Worker(process.argv[1], { workerData: words });
-  for (let time = 0; time < 2; time += 1) list.push(list.pop());
+  list.push(list.pop());
   await once(other, "exit");
   const nodes = [1, 2, 3, 4].map(() => list.pop());
   if (new Set(nodes).size < 4) throw new Error(`the free nodes are ${nodes}`);

@@ -2,14 +2,14 @@
 import { once } from "node:events";
 import { Worker, isMainThread, workerData } from "node:worker_threads";
 
-export async function count({ lock, unlock, times = 2 }) {
+export async function count({ lock, unlock }) {
   const words = isMainThread ? new Int32Array(new SharedArrayBuffer(16)) : workerData;
   const others = isMainThread ? [1, 2].map(() => new Worker(process.argv[1], { workerData: words })) : [];
-  for (let time = 0; time < times; time += 1) {
+  for (let time = 0; time < 2; time += 1) {
     lock(words);
     words[2] += 1;
     unlock(words);
   }
   await Promise.all(others.map((other) => once(other, "exit")));
-  if (isMainThread && words[2] !== 3 * times) throw new Error(`counted ${words[2]}`);
+  if (isMainThread && words[2] !== 6) throw new Error(`counted ${words[2]}`);
 }

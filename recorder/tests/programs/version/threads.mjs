@@ -4,7 +4,7 @@ import { Worker, isMainThread, workerData } from "node:worker_threads";
 const [VERSION, LEFT, RIGHT] = [0, 1, 2];
 
 function write(words, versions) {
-  for (let number = 1; number <= 4; number += 1) {
+  for (let number = 1; number <= 3; number += 1) {
     const version = Atomics.load(words, VERSION);
     Atomics.store(words, VERSION, (version + 1) % versions);
     Atomics.store(words, LEFT, number);

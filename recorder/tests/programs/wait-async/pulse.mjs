@@ -10,6 +10,6 @@ if (isMainThread) {
 } else {
   Atomics.store(words, 0, 1);
   Atomics.notify(words, 0);
-  for (let step = 0; step < 7; step += 1) Atomics.add(words, 1, 1);
+  for (let step = 0; step < 8; step += 1) Atomics.add(words, 1, 1);
   Atomics.store(words, 0, 0);
 }
