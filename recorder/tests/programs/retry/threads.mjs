@@ -1,7 +1,7 @@
-// Main pays by message, and asks again when no answer has come after eleven turns of its loop.
+// Main pays by message, and asks again when no answer has come after twelve turns of its loop.
 import { Worker, isMainThread, parentPort } from "node:worker_threads";
 
-const TURNS = 11;
+const TURNS = 12;
 
 function serve(paid) {
   const account = { balance: 0, seen: new Set() };

@@ -1,7 +1,7 @@
 // A ring of slots between a worker that puts numbers and main that takes them.
 import { Worker, isMainThread, workerData } from "node:worker_threads";
 
-const [PUT, TAKEN, SLOTS, SIZE, COUNT] = [0, 1, 2, 5, 7];
+const [PUT, TAKEN, SLOTS, SIZE, COUNT] = [0, 1, 2, 6, 9];
 
 function produce(words, waitsWhenFull) {
   for (let number = 0; number < COUNT; number += 1) {
@@ -26,7 +26,7 @@ function consume(words) {
 
 export function run({ waitsWhenFull }) {
   if (!isMainThread) return produce(workerData, waitsWhenFull);
-  const words = new Int32Array(new SharedArrayBuffer(28));
+  const words = new Int32Array(new SharedArrayBuffer(32));
   new Worker(process.argv[1], { workerData: words });
   return consume(words);
 }
