@@ -13,4 +13,4 @@ function unlock(words) {
   if (Atomics.exchange(words, 0, 0) === 2) Atomics.notify(words, 0, 1);
 }
 
-await count({ lock, unlock });
+await count({ lock, unlock, workerTimes: 1 });
