@@ -11,5 +11,5 @@ if (isMainThread) {
 } else {
   Atomics.store(words, 0, 8);
   Atomics.notify(words, 0);
-  shared.grow(32);
+  shared.grow(4 * Atomics.load(words, 0));
 }
