@@ -1,0 +1,42 @@
+// Little programs whose lines come in an order that node and the program alone decide, and their runs in node itself.
+
+import { spawn } from "node:child_process";
+import { readdirSync } from "node:fs";
+import { fileURLToPath } from "node:url";
+
+const FOLDER = new URL("./order/", import.meta.url);
+const SECONDS = 120;
+
+/** The names of the programs: each file of the folder is one; what they import is in folders below. */
+export const ORDER = readdirSync(FOLDER).filter((name) => /\.[cm]js$/.test(name)).sort();
+
+/** @param {string} name of a program @returns {string} the path of its file */
+export function pathOf(name) {
+  return fileURLToPath(new URL(name, FOLDER));
+}
+
+/**
+ * Runs a program in node itself.
+ * @param {string} path of its main file
+ * @param {{ args?: string[], whenPrinted?: (text: string, pid: number) => void }} [how] `whenPrinted` gets all that the
+ *   program has printed so far, and the number of its process
+ * @returns {Promise<{ lines: string[], status: number | null, signal: string | null, problems: string }>} what it
+ *   printed, how it ended, and what it wrote to stderr
+ */
+export function runInNode(path, { args = [], whenPrinted = () => {} } = {}) {
+  const options = { stdio: /** @type {const} */ (["ignore", "pipe", "pipe"]), timeout: SECONDS * 1_000 };
+  const child = spawn(process.execPath, [path, ...args], options);
+  const texts = { stdout: "", stderr: "" };
+  for (const name of /** @type {const} */ (["stdout", "stderr"])) {
+    child[name].setEncoding("utf8").on("data", (text) => {
+      texts[name] += text;
+      if (name === "stdout") whenPrinted(texts.stdout, child.pid);
+    });
+  }
+  return new Promise((done, fail) => {
+    child.on("error", fail);
+    child.on("close", (status, signal) => {
+      done({ lines: texts.stdout.split("\n").slice(0, -1), status, signal, problems: texts.stderr });
+    });
+  });
+}

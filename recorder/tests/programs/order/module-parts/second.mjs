@@ -1,0 +1,3 @@
+// Two modules import it.
+console.log("second");
+export const second = 2;
