@@ -64,7 +64,8 @@ const inOrder = (standing) => {
 /** The first run in which two agents wait at the end. @param {object} options */
 async function waitingOutcome(options) {
   const isWait = ({ does }) => does === "waits";
-  for await (const outcome of explore({ seeds: 100, strategy: "uniform", sabsim: false, ...options })) {
+  const how = { seeds: 100, strategy: "uniform", everywhere: true, sabsim: false };
+  for await (const outcome of explore({ ...how, ...options })) {
     if (outcome.standing?.filter(isWait).length === 2) return outcome;
   }
   return assert.fail("there is no such run");
