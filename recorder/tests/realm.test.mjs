@@ -238,12 +238,12 @@ test("messages to whoever started the worker change nothing", async (context) =>
     [["parentPort.on('message', () => {});", ""], /^agent 0 listens for messages, by parentPort\.on at agents\.mjs:3:16, /],
   ];
   const failing = await madeOfEach(named, ([[top, body]]) => recordText(context, text(top, body), options));
-  failing.forEach(({ ending, detail, bytes, calls, progress }, at) => {
+  failing.forEach(({ ending, detail, state, calls, progress }, at) => {
     const [[top], why] = named[at];
     assert.equal(ending, "failed");
     assert.match(detail, why);
     if (top === "") return;
-    assert.deepEqual([bytes, calls, progress], [expected.bytes, expected.calls, expected.progress]);
+    assert.deepEqual([state.shown, calls, progress], [expected.state.shown, expected.calls, expected.progress]);
   });
 });
 
