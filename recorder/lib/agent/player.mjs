@@ -60,7 +60,7 @@ export class Player {
    * @param {(thrown: unknown) => string} described what was thrown, as a text
    */
   play(body, described) {
-    this.#begin();
+    this.begin();
     let problem;
     try {
       problem = leftOpen(body(), "an agent");
@@ -95,20 +95,35 @@ export class Player {
    * @param {Call} call
    * @param {object} view its typed array
    * @param {Function} called the function of Atomics that the agent's code has called
+   * @param {() => void} [before] is called when the agent has the turn
    * @returns {unknown} what it answers; what it throws, it throws
    */
-  make(call, view, called) {
+  make(call, view, called, before) {
     this.part.enter();
     this.#stayWithin(call);
     const source = this.#source(called);
     this.#ask(call);
-    this.#untilTurn();
+    this.untilTurn();
+    before?.();
     this.#stayInRow(call);
     this.table.records.begin(this.part.made, call);
     this.part.last = call;
     if (call.call === WAIT) return this.#wait(call, view, source, called);
     if (call.call === NOTIFY) return this.#notify(call, view, source);
     return this.#access(call, view, source);
+  }
+
+  /**
+   * Makes a notify without a draw: the agent has just got the turn.
+   * @param {Call} call
+   * @param {object} view its typed array
+   */
+  note(call, view) {
+    this.part.enter();
+    this.#stayWithin(call);
+    this.table.records.begin(this.part.made, call);
+    this.part.last = call;
+    this.#notify(call, view, 0);
   }
 
   /**
@@ -165,7 +180,8 @@ export class Player {
     this.table.board.clock.pass(milliseconds);
   }
 
-  #begin() {
+  /** Its part in a run begins. */
+  begin() {
     const { board, stores, later, messages, unseen, chance } = this.table;
     clearMap(this.views);
     this.part.begin();
@@ -230,7 +246,7 @@ export class Player {
     board.did(this.agent, JOIN);
     const milliseconds = call.limit === undefined ? undefined : call.milliseconds ?? call.limit;
     board.wait(this.agent, call.block, byteOf(call), milliseconds);
-    this.#untilTurn();
+    this.untilTurn();
     this.#stayInRow();
     const end = board.deadlines.end(this.agent, milliseconds ?? 0);
     if (end === END.WOKEN) {
@@ -319,7 +335,7 @@ export class Player {
   }
 
   /** Sleeps until the agent's move was picked. */
-  #untilTurn() {
+  untilTurn() {
     const { board } = this.table;
     if (!board.pass(this.agent)) board.turn.sleep(this.agent);
     if (board.end.isOver()) this.part.sentHome();

@@ -87,9 +87,9 @@ export class Group {
    * @returns {Promise<Group>}
    */
   static async open(options, meanwhile = () => {}) {
-    const group = new Group(options);
+    const group = new this(options);
     try {
-      await group.#start(meanwhile);
+      await group.start(meanwhile);
       return group;
     } catch (error) {
       await group.close();
@@ -150,7 +150,7 @@ export class Group {
       if (message.outcome) onOutcome(message.outcome, message.judgement, message.aside);
       if (message.outcome?.fails) referee.post({ taken: true });
       if (message.replace) {
-        await Promise.all(message.replace.map((/** @type {number} */ agent) => this.#replace(agent)));
+        await Promise.all(message.replace.map((/** @type {number} */ agent) => this.replace(agent)));
         referee.post({ replaced: true });
       }
       if (message.ask) referee.post({ problem: this.#askedHere(message.ask) });
@@ -178,9 +178,9 @@ export class Group {
   }
 
   /** @param {() => void} meanwhile */
-  async #start(meanwhile) {
+  async start(meanwhile) {
     this.#beginUpTo(FIRST_WORKERS);
-    const referee = this.#thread();
+    const referee = this.thread();
     this.referee = referee;
     // It evaluates them while the agents' module is loaded.
     referee.post({ modules: ownModules(REFEREE_MODULE) });
@@ -189,7 +189,7 @@ export class Group {
     this.plan = planOf(this.options, told.setup);
     const { strategy, everywhere, timeouts, maxMoves } = this.options;
     this.rules = { agents: this.plan.agents, ways: waysOf(strategy, everywhere), timeouts, maxMoves };
-    const options = this.#refereeOptions(told);
+    const options = this.refereeOptions(told);
     if (options.init !== undefined && this.plan.agents === SCRIPT_LIMITS.agents) {
       throw new Refused(`with ${SCRIPT_LIMITS.agents} agents none is left for the stores of \`init\`: give one less`);
     }
@@ -221,7 +221,7 @@ export class Group {
   }
 
   /** Begins a worker. */
-  #thread() {
+  thread() {
     const thread = begunThread();
     this.threads.add(thread);
     return thread;
@@ -230,7 +230,7 @@ export class Group {
   /** @param {number} count how many agents' workers are to have begun */
   #beginUpTo(count) {
     const { module, args, ordinary, clock, unrecorded } = this.options;
-    const begun = Array.from({ length: count - this.begun.length }, () => this.#thread());
+    const begun = Array.from({ length: count - this.begun.length }, () => this.thread());
     // They are read while the workers begin.
     const modules = ownModules(AGENT_MODULE);
     /** @type {((thread: Thread) => void)[]} */
@@ -246,7 +246,7 @@ export class Group {
    * What the referee goes by.
    * @param {{ hasInit: boolean, hasCheck: boolean }} module
    */
-  #refereeOptions({ hasInit, hasCheck }) {
+  refereeOptions({ hasInit, hasCheck }) {
     const { init, check, module, seconds, fresh, trace, tellsMeetings, isBrief, ordinary } = this.options;
     const { races, bounds, unrecorded } = this.options;
     /** @type {(own: OfBuffers | undefined, isTheirs: boolean) => "library" | "module" | undefined} */
@@ -279,7 +279,7 @@ export class Group {
   }
 
   /** @param {number} agent whose worker is ended, and started anew */
-  async #replace(agent) {
+  async replace(agent) {
     const loading = this.next[agent] ?? this.#loaded(agent);
     delete this.next[agent];
     await this.agents[agent].stop();
@@ -304,9 +304,9 @@ export class Group {
   async #loaded(agent) {
     const { module } = this.options;
     this.#beginUpTo(1);
-    const thread = await this.#inTime(/** @type {Promise<Thread>} */ (this.begun.shift()));
+    const thread = await this.inTime(/** @type {Promise<Thread>} */ (this.begun.shift()));
     thread.post({ agent });
-    const { message, ended } = await this.#inTime(thread.next());
+    const { message, ended } = await this.inTime(thread.next());
     if (ended !== undefined) throw new Refused(`${module} can't be loaded: its worker ended (${ended})`);
     if (message.failed !== undefined) throw new Refused(loadProblem(module, message.failed));
     return { thread, has: message };
@@ -318,7 +318,7 @@ export class Group {
     const { memory, plan, rules } = this;
     thread.onEnd = (why) => started(this.board).turn.die(agent, why);
     thread.post({ memory, plan, rules });
-    const { ended } = await this.#inTime(thread.next());
+    const { ended } = await this.inTime(thread.next());
     if (ended !== undefined) throw new Refused(`${this.options.module} can't be loaded: its worker ended (${ended})`);
   }
 
@@ -327,7 +327,7 @@ export class Group {
    * @param {Promise<T>} promise that is awaited, but not for ever
    * @returns {Promise<T>}
    */
-  async #inTime(promise) {
+  async inTime(promise) {
     const { loadSeconds: seconds } = this.options;
     const told = await within(promise, seconds);
     if (told === undefined) throw new Refused(`${this.options.module} wasn't loaded within ${seconds} s`);

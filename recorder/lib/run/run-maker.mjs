@@ -10,6 +10,7 @@ import { Notes } from "../memory/notes.mjs";
 import { Stores } from "../memory/stores.mjs";
 import { initialStores } from "./initial.mjs";
 import { PILOT_SECONDS } from "./pilots.mjs";
+import { ProgramState } from "./program-state.mjs";
 import { isRacy } from "./races.mjs";
 import { unseenText } from "./unseen.mjs";
 
@@ -46,6 +47,7 @@ import { unseenText } from "./unseen.mjs";
  * @property {"fail" | "allow"} unrecorded
  * @property {"library" | "module" | undefined} init whose it is, if there is one
  * @property {"library" | "module" | undefined} check whose it is, if there is one
+ * @property {boolean} [isProgram] whether a program of several threads is run, and no module of agents
  */
 
 /**
@@ -76,6 +78,7 @@ export class RunMaker {
     this.stores = new Stores(memory.stores, this.board.words, this.memory);
     this.notes = memory.notes.map((each) => new Notes(each));
     this.agents = plan.canBlock.map((_, agent) => agent);
+    this.program = options.isProgram ? new ProgramState(/** @type {any} */ (memory), this.board, this.memory, plan) : undefined;
   }
 
   /**
@@ -98,6 +101,7 @@ export class RunMaker {
     board.words[WORD.TELLS_SOURCES] = tellsSources ? 1 : 0;
     board.begin(wanted.seed);
     const told = await this.#ended();
+    if (this.program !== undefined) this.agents = this.program.learn();
     const stray = board.row.strayed();
     const bytes = memory.hex();
     const isBound = told.ending === "bound";
@@ -107,7 +111,8 @@ export class RunMaker {
     const endless = gone.filter((agent) => !board.turn.isParked(agent));
     const racy = options.ordinary === "watch" && isRacy(this.log, plan.agents);
     const named = isBound ? sourceNames.withNames(told.detail) : told.detail;
-    const detail = stray === undefined ? named : strayText(stray, named);
+    const idle = this.program === undefined ? [] : this.program.idle(told.ending);
+    const detail = stray === undefined ? [named, ...idle].filter((line) => line !== "").join("\n") : strayText(stray, named);
     const unseen = this.agents.flatMap((agent) => this.notes[agent].read().map((note) => ({ ...note, agent })));
     return { ending: told.ending, detail, bytes, gone, endless, racy, initial, waiting, asking, unseen, stray };
   }
@@ -118,7 +123,7 @@ export class RunMaker {
     const unseen = unseenText(found.unseen, unrecorded, this.sourceNames.placeName);
     if (unseen !== "" && found.stray === undefined) return failedFor(unseen, found);
     if (found.ending !== "finished") return found;
-    if (this.#triedNothing()) return { ...found, ending: "failed", detail: NOTHING_TRIED };
+    if (this.program === undefined && this.#triedNothing()) return { ...found, ending: "failed", detail: NOTHING_TRIED };
     const problem = check === undefined ? "" : await this.#asked("check");
     if (problem !== "") return { ...found, ending: "check", detail: `check ${problem}` };
     return found.racy && races === "fail" ? { ...found, ending: "race" } : found;
@@ -168,6 +173,11 @@ export class RunMaker {
     return this.callCount() === 0 && this.accessCount() === 0 && this.board.words[WORD.STORES] === 0;
   }
 
+  /** @param {string[]} bytes of each block @returns {string[]} of those that the code that is run has made */
+  ownBytes(bytes) {
+    return this.program === undefined ? bytes : bytes.slice(0, this.program.blocks.count);
+  }
+
   /** How many calls of Atomics were begun. */
   callCount() {
     return this.agents.reduce((sum, agent) => sum + this.board.journal.progress(agent).calls, 0);
@@ -183,7 +193,8 @@ export class RunMaker {
    * @param {Wanted} wanted
    */
   #clear(wanted) {
-    this.memory.reset();
+    if (this.program === undefined) this.memory.reset();
+    this.program?.begin();
     this.board.row.begin(wanted);
     this.log.begin();
     this.stores.begin();

@@ -55,7 +55,7 @@ export class RunReporter {
       calls: maker.callCount(),
       ordinary: maker.accessCount(),
       progress: maker.agents.map((agent) => journal.progress(agent)),
-      state: this.states.of(ending, found.bytes),
+      state: this.states.of(ending, maker.ownBytes(found.bytes)),
       races: [],
       ...(draws === undefined ? {} : { row: draws }),
       ...(unrecorded.length === 0 ? {} : { unrecorded }),

@@ -1,0 +1,166 @@
+// The event loop of a program's thread. Ticks and microtasks run while the thread keeps its turn. Then one task is taken
+// up: a message, a timer, an immediate, or an own one of the thread; the seed draws which. The thread's real loop turns
+// only while modules are being read.
+
+import process from "node:process";
+import timers from "node:timers";
+
+const { setImmediate: turnLater } = timers;
+const resources = process.getActiveResourcesInfo.bind(process);
+/** @type {() => void} */
+const runTicks = /** @type {any} */ (process)._tickCallback.bind(process);
+
+/** What is under way while node reads a module. */
+const READING = new Set(["FSReqPromise", "FSReqCallback", "FileHandleCloseReq", "CloseReq"]);
+
+/** A timer that is further away is never early. */
+const SOON_MILLISECONDS = 1_000;
+
+/**
+ * @typedef {object} Served
+ * @property {import("./moves.mjs").Moves} moves
+ * @property {import("./ports.mjs").Ports} ports
+ * @property {import("./port-events.mjs").PortEvents} events
+ * @property {import("./timers.mjs").Timers} timers
+ * @property {import("./ends.mjs").Ends} ends
+ * @property {import("../memory/keepers.mjs").Keepers} keepers
+ * @property {Set<{ refed: boolean, where: string }>} children workers that this thread has started
+ */
+
+export class Loop {
+  /** @type {{ name: string, act: () => void }[]} */
+  #tasks = [];
+
+  /** @param {Served} served */
+  constructor(served) {
+    this.served = served;
+  }
+
+  /** @param {string} name of a task of the thread's own @param {() => void} act */
+  later(name, act) {
+    this.#tasks.push({ name, act });
+  }
+
+  /** Begins when the real loop turns. */
+  begin() {
+    turnLater(this.#turn);
+  }
+
+  #turn = () => {
+    const { ends, moves, keepers } = this.served;
+    for (;;) {
+      this.#drain();
+      if (ends.isOver) return;
+      if (resources().some((/** @type {string} */ each) => READING.has(each))) {
+        turnLater(this.#turn);
+        return;
+      }
+      if (this.#hasTask()) moves.yield();
+      else {
+        const kept = this.#keepers();
+        if (kept.length === 0) {
+          if (this.#endsNow()) return;
+          continue;
+        }
+        keepers.write(kept.join("; "));
+        moves.idle(this.#untilTimer());
+      }
+      this.#act();
+    }
+  };
+
+  /** Runs ticks and microtasks until there are none. */
+  #drain() {
+    for (let again = true; again;) {
+      again = false;
+      try {
+        runTicks();
+      } catch (thrown) {
+        this.served.ends.uncaught(thrown);
+        again = !this.served.ends.isOver;
+      }
+    }
+  }
+
+  /** Nothing keeps the thread alive. @returns {boolean} whether it has ended */
+  #endsNow() {
+    const { ends } = this.served;
+    ends.beforeExit();
+    this.#drain();
+    if (ends.isOver) return true;
+    if (this.#hasTask() || this.#keepers().length > 0) return false;
+    ends.leave();
+    return true;
+  }
+
+  #now() {
+    return this.served.moves.board.clock.now();
+  }
+
+  #hasTask() {
+    const { ports, timers: { deadline, immediates } } = this.served;
+    return this.#tasks.length > 0 || immediates > 0 || deadline <= this.#now() || ports.ready().length > 0;
+  }
+
+  /** @returns {number | undefined} how long it is until the first timer is due */
+  #untilTimer() {
+    const { deadline } = this.served.timers;
+    return deadline === Infinity ? undefined : Math.max(0, deadline - this.#now());
+  }
+
+  /** @returns {string[]} what keeps the thread alive, in words */
+  #keepers() {
+    const { ports, timers: own, children } = this.served;
+    const texts = own.alive ? own.keepers().map(keeperText) : [];
+    if (this.#tasks.length > 0) texts.push("a task");
+    for (const { refed, where } of children) if (refed) texts.push(`the worker started at ${where}`);
+    return [...texts, ...ports.keepers()];
+  }
+
+  /** Takes up one of the tasks that are there. */
+  #act() {
+    const acts = this.#choices();
+    if (acts.length === 0) return;
+    const { random } = this.served.moves.board.strategy;
+    const at = acts.length === 1 ? 0 : random.below(acts.length);
+    try {
+      acts[at]();
+    } catch (thrown) {
+      this.served.ends.uncaught(thrown);
+    }
+  }
+
+  /** @returns {(() => void)[]} */
+  #choices() {
+    const { ports, events, timers: own } = this.served;
+    // Node runs no other task between the immediates of a round.
+    if (own.inRound > 0) return [() => void own.runImmediate()];
+    this.#offerEarly();
+    const acts = ports.ready().map((port) => () => events.deliver(port));
+    const [task] = this.#tasks;
+    if (task !== undefined) {
+      acts.push(() => {
+        this.#tasks.shift();
+        task.act();
+      });
+    }
+    if (own.immediates > 0) acts.push(() => void own.runImmediate());
+    if (own.deadline <= this.#now()) acts.push(() => void own.runTimer());
+    return acts;
+  }
+
+  /** In some of the draws the time of the first timer comes though there is something else to do. */
+  #offerEarly() {
+    const { moves: { board: { clock, strategy } }, timers: own } = this.served;
+    const left = own.deadline - clock.now();
+    if (!(left > 0 && left < SOON_MILLISECONDS)) return;
+    if (strategy.early > 0 && strategy.random.fraction() < strategy.early) clock.pass(left);
+  }
+}
+
+/** @param {import("./timers.mjs").Described} timer @returns {string} */
+function keeperText({ kind, milliseconds, repeats, where }) {
+  const what = kind === "immediate" ? "an immediate" : `${repeats ? "an interval" : "a timer"} of ${milliseconds} ms`;
+  return where === undefined ? what : `${what} from ${where}`;
+}
+

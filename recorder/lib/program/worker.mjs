@@ -1,0 +1,285 @@
+// One thread of a program. It stands ready, with all replaced that shows a program the world, until the run's first
+// thread or another one starts it. Then it evaluates its module, and goes on by its event loop until it ends. It never
+// begins a second time.
+
+import threads from "node:worker_threads";
+import { recordedAtomics } from "../agent/atomics.mjs";
+import { described } from "../agent/described.mjs";
+import { isCalledByAgents, sourceHere } from "../agent/frames.mjs";
+import { watchRealm } from "../agent/ordinary/watch.mjs";
+import { Player } from "../agent/player.mjs";
+import { Chance, simulateChance, simulateTime } from "../agent/time.mjs";
+import { Board } from "../board/board.mjs";
+import { Blocks, MESSAGES } from "../memory/blocks.mjs";
+import { Keepers } from "../memory/keepers.mjs";
+import { WORD } from "../memory/layout.mjs";
+import { Log } from "../memory/log.mjs";
+import { Memory } from "../memory/memory.mjs";
+import { Records } from "../memory/records.mjs";
+import { Sources } from "../memory/sources.mjs";
+import { Stores } from "../memory/stores.mjs";
+import { Buffers } from "./buffers.mjs";
+import { Ends } from "./ends.mjs";
+import { furnishMemory, furnishProcess, furnishRefusals, furnishThreads, furnishTimers } from "./furnish.mjs";
+import { Loop } from "./loop.mjs";
+import { Mesh } from "./mesh.mjs";
+import { Moves } from "./moves.mjs";
+import { PortEvents, servePorts } from "./port-events.mjs";
+import { PortTable } from "./port-table.mjs";
+import { KIND, Ports, channelClass } from "./ports.mjs";
+import { printAtOnce } from "./printing.mjs";
+import { argvOf, evaluated } from "./start.mjs";
+import { Threads } from "./threads.mjs";
+import { Timers } from "./timers.mjs";
+import { workerClass } from "./workers.mjs";
+
+const { Error: EngineError } = globalThis;
+
+/**
+ * @typedef {object} Given what the thread is started with
+ * @property {import("node:worker_threads").MessagePort} port
+ * @property {string} program the URL of the program's main module
+ * @property {string[]} args
+ * @property {"watch" | "store" | "refuse"} ordinary
+ * @property {ReturnType<typeof import("./program-memory.mjs").programMemory>} memory
+ * @property {import("../options/plan.mjs").Plan} plan
+ * @property {import("../board/strategy.mjs").Rules} rules
+ */
+
+/** @typedef {{ start: import("./workers.mjs").Start, number: number, ports: any[], ids: number[] }} Handed */
+
+const { port, program, args, memory: shared, plan, rules } = /** @type {Given} */ (threads.workerData);
+const receive = threads.receiveMessageOnPort;
+const chance = new Chance();
+
+/** @type {{ player: Player | undefined, buffers: Buffers | undefined }} none before the thread knows which one it is */
+const self = { player: undefined, buffers: undefined };
+
+const isPlaying = () => self.player !== undefined && self.player.isPlaying;
+
+/** @returns {Player} */
+function playing() {
+  if (self.player === undefined) throw new EngineError("the thread has no part in a run yet");
+  return self.player;
+}
+
+/** @returns {string} where the program's code is */
+const here = () => sourceHere() ?? "a place that isn't known";
+
+/** @param {string} why @returns {never} */
+function refuse(why) {
+  return playing().refuse(`${why}, at ${here()}`);
+}
+
+/** @param {unknown} buffer */
+const numberOf = (buffer) => self.buffers?.numberOf(buffer) ?? -1;
+
+/** @param {unknown} buffer @returns {number} its block, or -1 */
+function blockOf(buffer) {
+  const number = numberOf(buffer);
+  return number < 0 || self.buffers === undefined ? -1 : self.buffers.blockOf(number);
+}
+
+/** @type {import("../agent/ordinary/context.mjs").Watching} */
+const watching = {
+  blockOf: numberOf,
+  seen: (place, from, to, writes) => {
+    const { player, buffers } = self;
+    if (player === undefined || buffers === undefined || !player.isPlaying) return;
+    const block = buffers.blockOf(place.block);
+    // Nobody else can reach what is no block yet.
+    if (block < 0) return;
+    place.block = block;
+    player.seen(place, from, to, writes);
+  },
+  isCalledByAgents,
+  refuse: (why) => refuse(`did something that the recorder can't record: ${why}`),
+};
+
+/** Memory that no other thread can reach is nobody's affair: a wait there is how a program sleeps. */
+const private_ = {
+  isAllowed: false, lasting: [], isUsed: () => false, isTheirs: Buffers.isShared, use: () => false, wait: () => {},
+};
+
+/** @param {Moves} moves @returns {typeof Atomics} */
+const atomicsOf = (moves) => recordedAtomics(Atomics, {
+  blockOf,
+  isRecording: isPlaying,
+  make: (call, view, called) => playing().make(call, view, called),
+  simulatesTime: true,
+  sleep: (milliseconds) => moves.sleep(milliseconds),
+  refuse: (why) => refuse(`made a call that the recorder can't record: ${why}`),
+  unseen: /** @type {any} */ (private_),
+  endUnseen: () => /** @type {never} */ (moves.sleep(Infinity)),
+});
+
+/** What the recorder notes of agents that are synchronous. */
+const NOTHING_LATER = /** @type {any} */ ({
+  begin: () => {}, end: () => {}, told: () => undefined, noteLeft: () => {}, write: () => {},
+});
+
+/** @param {number} agent @returns {{ player: Player, blocks: Blocks }} */
+function playerOf(agent) {
+  const board = new Board(shared.board, rules);
+  const memory = new Memory(shared.buffers, shared.copies);
+  const player = new Player(agent, {
+    board,
+    memory,
+    log: new Log(shared.log, board.words, WORD.EVENTS),
+    stores: new Stores(shared.stores, board.words, memory),
+    records: new Records(shared.records[agent]),
+    sources: new Sources(shared.sources[agent]),
+    later: NOTHING_LATER,
+    messages: NOTHING_LATER,
+    unseen: NOTHING_LATER,
+    chance,
+    lengths: plan.buffers,
+    canBlock: true,
+    ordinary: "watch",
+    parks: true,
+  });
+  return { player, blocks: new Blocks(shared.blocks, shared.copies, memory, plan.buffers) };
+}
+
+/** @returns {Promise<any>} the next message, which mustn't have come yet */
+const nextMessage = () => new Promise((done) => {
+  port.once("message", done);
+});
+
+/**
+ * What the thread has of a run.
+ * @param {Player} player
+ * @param {Blocks} blocks
+ * @param {Mesh} mesh
+ */
+function partsOf(player, blocks, mesh) {
+  const { agent, table: { board } } = player;
+  const moves = new Moves(player, shared.buffers[MESSAGES]);
+  const seen = watching.seen;
+  const buffers = new Buffers(blocks, mesh, { seen, refuse });
+  const table = new PortTable(shared.ports);
+  const all = new Threads(agent, board, table, moves);
+  /** @type {{ loop?: Loop }} */
+  const late = {};
+  const later = (/** @type {string} */ name, /** @type {() => void} */ act) => late.loop?.later(name, act);
+  const ports = new Ports({ agent, table, moves, buffers, here, refuse, later });
+  const ends = new Ends({ agent, player, ports, threads: all, here });
+  const events = new PortEvents({ ports, uncaught: (thrown) => ends.uncaught(thrown) });
+  const timers = new Timers({ now: () => board.clock.now(), changed: () => {}, here: () => sourceHere() });
+  const children = new Set();
+  const keepers = new Keepers(shared.keepers[agent]);
+  const loop = new Loop({ moves, ports, events, timers, ends, keepers, children });
+  late.loop = loop;
+  return { moves, buffers, ports, ends, events, timers, loop, children, threads: all, mesh, later };
+}
+
+/** @typedef {ReturnType<typeof partsOf>} Parts */
+
+/** @param {Parts} parts */
+function furnish({ moves, buffers, ports, ends, events, timers }) {
+  const { words } = moves.board;
+  printAtOnce(() => words[WORD.IS_SILENT] === 0 && isPlaying());
+  simulateTime(() => (isPlaying() ? playing().look() : 0));
+  simulateChance(chance);
+  watchRealm(watching);
+  furnishMemory((buffer) => buffers.made(buffer, sourceHere()), refuse);
+  globalThis.Atomics = atomicsOf(moves);
+  furnishTimers(timers);
+  servePorts(events);
+  furnishRefusals(refuse);
+  furnishProcess((code) => ends.exit(code));
+  ends.guard();
+}
+
+/**
+ * What a thread that another one has started was handed.
+ * @param {Parts} parts
+ * @returns {{ start: import("./workers.mjs").Start, parentPort: any }}
+ */
+function taken({ mesh, ports, moves }) {
+  /** @type {Handed[]} */
+  const handed = [];
+  mesh.onItem("start", (item) => void handed.push(item));
+  mesh.take();
+  const [{ start, number, ports: moved, ids }] = handed;
+  moved.forEach((each, at) => ports.adopt(each, ids[at]));
+  moves.receive(number);
+  return { start, parentPort: moved[moved.length - 1] };
+}
+
+/** @type {() => import("./workers.mjs").Start} */
+const mainStart = () =>
+  ({ url: program, isCode: false, workerData: null, argv: args, env: {}, environment: new Map() });
+
+/**
+ * Begins the thread's part in a run.
+ * @param {Parts} parts
+ * @param {(url: string) => Promise<unknown>} load
+ */
+function begin(parts, load) {
+  const { player } = parts.moves;
+  const { agent } = player;
+  const isMain = agent === 0;
+  const { start, parentPort } = isMain ? { start: mainStart(), parentPort: null } : taken(parts);
+  const { moves, mesh, buffers, ports, threads: all, later, ends, loop } = parts;
+  const starting = { ports, moves, mesh, buffers, threads: all, here, refuse, later, environment: start.environment };
+  furnishThreads({
+    agent, workerData: isMain ? null : parts.ports.unpacked(start.workerData), parentPort, argv: argvOf(start),
+    env: isMain ? undefined : start.env, environment: start.environment,
+  }, {
+    Worker: workerClass(starting, parts.children), MessageChannel: channelClass(ports),
+    receiveMessageOnPort: receiverOf(ports, moves),
+  });
+  furnishProcess((code) => ends.exit(code));
+  if (!isMain) {
+    ends.parentPort = parentPort;
+    ports.send(parentPort, undefined, [], undefined, KIND.ONLINE);
+  }
+  evaluated(start, load).then(() => {
+    ends.isEvaluated = true;
+  }, (thrown) => {
+    ends.isEvaluated = true;
+    ends.uncaught(thrown);
+  });
+  loop.begin();
+}
+
+/** @param {Ports} ports @param {Moves} moves */
+const receiverOf = (ports, moves) => (/** @type {any} */ given) => {
+  if (ports.metaOf(given) === undefined) return receive(given);
+  moves.yield();
+  const envelope = ports.take(given);
+  if (envelope === undefined) return undefined;
+  if (envelope.kind === KIND.CLOSE) {
+    ports.close(given);
+    return undefined;
+  }
+  return { message: envelope.value };
+};
+
+/** @param {(url: string) => Promise<unknown>} load imports a module */
+export async function main(load) {
+  const numbered = nextMessage();
+  port.postMessage({ begun: true });
+  const { agent, control } = await numbered;
+  chance.agent = agent;
+  chance.begin(0);
+  const { player, blocks } = playerOf(agent);
+  const { board } = player.table;
+  const mesh = new Mesh(agent, control, port, board.words, WORD.THREADS);
+  const parts = partsOf(player, blocks, mesh);
+  self.player = player;
+  self.buffers = parts.buffers;
+  furnish(parts);
+  port.postMessage({ ready: true });
+  player.awaitOrder();
+  if (agent !== 0) board.turn.sleep(agent);
+  if (board.end.isOver()) board.turn.park(agent);
+  player.begin();
+  try {
+    begin(parts, load);
+  } catch (thrown) {
+    board.end.end("failed", `the recorder can't begin thread ${agent}: ${described(thrown)}`);
+    board.turn.park(agent);
+  }
+}

@@ -1,0 +1,184 @@
+// The Worker of a program. Its thread stands ready: it is told what to run, and joins the run. Its messages, and that it
+// is online, has failed or has ended, come by one port. What it had sent before its end is delivered before `exit`.
+
+import { EventEmitter } from "node:events";
+import { isAbsolute, resolve } from "node:path";
+import process from "node:process";
+import threads from "node:worker_threads";
+import { pathToFileURL } from "node:url";
+import { SCRIPT_LIMITS } from "../../script/limits.mjs";
+import { WORD } from "../memory/layout.mjs";
+import { KIND } from "./ports.mjs";
+import { sent } from "./values.mjs";
+
+const { SHARE_ENV } = threads;
+
+/**
+ * @typedef {object} Starting what workers need of their thread
+ * @property {import("./ports.mjs").Ports} ports
+ * @property {import("./moves.mjs").Moves} moves
+ * @property {import("./mesh.mjs").Mesh} mesh
+ * @property {import("./buffers.mjs").Buffers} buffers
+ * @property {import("./threads.mjs").Threads} threads
+ * @property {() => string} here where the program's code is
+ * @property {(why: string) => never} refuse ends the run
+ * @property {(name: string, act: () => void) => void} later
+ * @property {Map<unknown, unknown>} environment what `setEnvironmentData` has set
+ */
+
+/**
+ * @typedef {object} Start what a thread is to run
+ * @property {string} url or the code, if it is evaluated
+ * @property {boolean} isCode
+ * @property {any} workerData
+ * @property {string[]} argv
+ * @property {Record<string, string | undefined>} env
+ * @property {Map<unknown, unknown>} environment
+ */
+
+/** @param {string} message @param {string} code */
+function typeError(message, code) {
+  return Object.assign(new TypeError(message), { code });
+}
+
+/** @param {unknown} file @param {any} options @returns {string} a URL, or the code that is to be evaluated */
+function urlOf(file, options) {
+  if (options.eval) {
+    if (typeof file !== "string") throw typeError("options.eval must be false when 'filename' is not a string", "ERR_INVALID_ARG_VALUE");
+    return file;
+  }
+  if (file instanceof URL) return file.href;
+  if (typeof file !== "string") {
+    throw typeError('The "filename" argument must be of type string or an instance of URL.', "ERR_INVALID_ARG_TYPE");
+  }
+  if (/^data:/.test(file)) return file;
+  if (isAbsolute(file) || /^\.\.?[\\/]/.test(file)) return pathToFileURL(resolve(file)).href;
+  throw typeError(`The worker script or module filename must be an absolute path or a relative path starting with `
+    + `'./' or '../'. Received "${file}"`, "ERR_WORKER_PATH");
+}
+
+/** What isn't simulated of the options of a Worker. */
+const REFUSED = Object.freeze(["stdin", "stdout", "stderr"]);
+
+/** @param {any} options @param {(why: string) => never} refuse */
+function needsSimulated(options, refuse) {
+  for (const name of REFUSED) {
+    if (options[name]) refuse(`started a Worker with the option ${name}, which isn't simulated`);
+  }
+  if (options.env === SHARE_ENV) refuse("started a Worker with SHARE_ENV, which isn't simulated");
+  if (options.execArgv?.length > 0) refuse("started a Worker with execArgv, which isn't simulated");
+}
+
+/**
+ * Starts a thread.
+ * @param {Starting} starting
+ * @param {unknown} file
+ * @param {any} options
+ * @param {Function} called the function that the program's code has called
+ * @returns {{ agent: number, port: any }} its number, and the port to it
+ */
+function started({ ports, moves, mesh, buffers, threads: all, refuse, environment }, file, options, called) {
+  needsSimulated(options, refuse);
+  const url = urlOf(file, options);
+  const workerData = sent(options.workerData, buffers);
+  const number = moves.send(called);
+  const { words } = moves.board;
+  const agent = words[WORD.JOINED];
+  if (agent === SCRIPT_LIMITS.agents) refuse(`started a Worker more than the ${agent} threads that a run can have`);
+  mesh.needs(agent + 1);
+  const { port1, port2 } = ports.channel();
+  const list = [...options.transferList ?? []];
+  const moved = [...list.filter((each) => ports.metaOf(each) !== undefined), port2];
+  const ids = moved.map((each) => ports.known(each).id);
+  const env = { ...(options.env ?? process.env) };
+  const start = { url, isCode: options.eval === true, workerData, argv: [...options.argv ?? []].map(String), env, environment };
+  mesh.hand(agent, { kind: "start", start, number, ports: moved, ids }, [...list, port2]);
+  for (const each of moved) ports.leave(each);
+  all.start(agent);
+  return { agent, port: port1 };
+}
+
+/**
+ * The class by which the program starts workers.
+ * @param {Starting} starting
+ * @param {Set<{ refed: boolean, where: string }>} children those that haven't ended
+ */
+export function workerClass(starting, children) {
+  const { ports, moves, threads: all, later, here } = starting;
+  return class Worker extends EventEmitter {
+    #agent;
+    #port;
+    #own;
+    #isAlive = true;
+    /** @type {((code: number | undefined) => void)[]} */
+    #awaiting = [];
+
+    /** @param {unknown} file @param {any} [options] */
+    constructor(file, options = {}) {
+      super();
+      const { agent, port } = started(starting, file, options ?? {}, new.target);
+      this.#agent = agent;
+      this.#port = port;
+      this.#own = { refed: true, where: here() };
+      this.threadId = agent;
+      this.stdin = null;
+      this.stdout = null;
+      this.stderr = null;
+      this.resourceLimits = {};
+      children.add(this.#own);
+      ports.known(port).taker = (envelope) => this.#take(envelope);
+      ports.start(port);
+    }
+
+    /** @param {unknown} value @param {unknown} [transfer] */
+    postMessage(value, transfer) {
+      if (this.#isAlive) ports.send(this.#port, value, transfer, this.postMessage);
+    }
+
+    ref() {
+      this.#own.refed = true;
+    }
+
+    unref() {
+      this.#own.refed = false;
+    }
+
+    /** @returns {Promise<number | undefined>} its exit code */
+    terminate() {
+      moves.yield();
+      if (!this.#isAlive) return Promise.resolve(undefined);
+      /** @type {Promise<number | undefined>} */
+      const ended = new Promise((done) => this.#awaiting.push(done));
+      // If it has ended by itself, that comes by its port.
+      if (all.end(this.#agent)) later("exit", () => this.#leave());
+      return ended;
+    }
+
+    /** What was sent before comes before the end. */
+    #leave() {
+      for (let left = ports.take(this.#port); left !== undefined; left = ports.take(this.#port)) {
+        if (left.kind !== KIND.CLOSE) this.#take(left);
+      }
+      this.#gone(1);
+    }
+
+    /** @param {import("./ports.mjs").Envelope} envelope */
+    #take({ kind, value }) {
+      if (kind === KIND.MESSAGE) this.emit("message", value);
+      else if (kind === KIND.ONLINE) this.emit("online");
+      else if (kind === KIND.ERROR) this.emit("error", value);
+      else if (kind === KIND.EXIT) this.#gone(value);
+    }
+
+    /** @param {number} code */
+    #gone(code) {
+      if (!this.#isAlive) return;
+      this.#isAlive = false;
+      this.threadId = -1;
+      children.delete(this.#own);
+      ports.known(this.#port).closed = true;
+      this.emit("exit", code);
+      for (const done of this.#awaiting) done(code);
+    }
+  };
+}
