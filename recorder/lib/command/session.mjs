@@ -148,7 +148,8 @@ export class Session {
     } else if (failing !== undefined && keeper.seed === failing.seed) {
       const outcome = shortened?.shortest ?? failing;
       const { module } = this.options;
-      const command = replayCommand({ ...this.options, module: modulePath(module) });
+      const { isProgram } = this.options;
+      const command = isProgram ? undefined : replayCommand({ ...this.options, module: modulePath(module) });
       const how = { simulator: this.simulator, module, options: optionsText(this.options), command };
       this.leftOut.push(...keepPictures(keeper, outcome, how), ...missingFiles(outcome));
       this.notes.push(...notesOn(keeper, outcome));

@@ -40,6 +40,9 @@ const word = (words, help) => rule(choice(words), words[0], help);
 /** @type {Readonly<Record<string, Option>>} by their names */
 export const OPTIONS = Object.freeze({
   module: { kind: PATH_OR_URL, of: LIBRARY },
+  program: { kind: named("the name of a program's main module"), of: COMMAND, isShared: true,
+    help: ["FILE", "runs a program of several threads, in place of a module of agents: FILE is its main module, and it "
+    + "makes its threads and its shared memory itself"] },
   agents: rule(AGENTS, undefined, ["N", "how many agents; else the module's `setup` says it"]),
   buffers: rule(BUFFERS, undefined,
     ["N,..", "the bytes of each buffer, one to four; else the module's `setup` says it"]),

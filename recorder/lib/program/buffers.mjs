@@ -115,6 +115,15 @@ export class Buffers {
     shown.seen({ block: known.block, kind: WHOLE_BUFFER, offset: 0, length }, 0, length, true);
   }
 
+  /** @param {number} agent that begins, and has to know the blocks that there are */
+  handTo(agent) {
+    const { blocks, mesh } = this;
+    mesh.take();
+    for (let block = 0; block < blocks.count; block += 1) {
+      mesh.hand(agent, { kind: "block", block, buffer: blocks.buffers[block] });
+    }
+  }
+
   /**
    * A buffer has come out of a message.
    * @param {SharedArrayBuffer} buffer
@@ -140,6 +149,7 @@ export class Buffers {
 
   /** @param {number} block @param {SharedArrayBuffer} buffer */
   #adopt(block, buffer) {
+    if (this.blocks.buffers[block] !== undefined) return;
     this.blocks.adopt(block, buffer);
     weakSet(this.#known, buffer, { block, own: NO_BLOCK, place: undefined });
   }

@@ -4,6 +4,7 @@
 
 import process from "node:process";
 import timers from "node:timers";
+import { Random } from "../memory/random.mjs";
 
 const { setImmediate: turnLater } = timers;
 const resources = process.getActiveResourcesInfo.bind(process);
@@ -12,6 +13,9 @@ const runTicks = /** @type {any} */ (process)._tickCallback.bind(process);
 
 /** What is under way while node reads a module. */
 const READING = new Set(["FSReqPromise", "FSReqCallback", "FileHandleCloseReq", "CloseReq"]);
+
+/** From here on are the numbers of the rows by which threads draw tasks. */
+const TASKS = 64;
 
 /** A timer that is further away is never early. */
 const SOON_MILLISECONDS = 1_000;
@@ -34,6 +38,8 @@ export class Loop {
   /** @param {Served} served */
   constructor(served) {
     this.served = served;
+    // Of its own: so a thread goes on alike where only others are drawn in another order.
+    this.random = new Random(new Int32Array(4));
   }
 
   /** @param {string} name of a task of the thread's own @param {() => void} act */
@@ -43,6 +49,9 @@ export class Loop {
 
   /** Begins when the real loop turns. */
   begin() {
+    const { board, agent } = this.served.moves;
+    this.random.seed(board.clock.seed());
+    this.random.branch(TASKS + agent);
     turnLater(this.#turn);
   }
 
@@ -121,8 +130,7 @@ export class Loop {
   #act() {
     const acts = this.#choices();
     if (acts.length === 0) return;
-    const { random } = this.served.moves.board.strategy;
-    const at = acts.length === 1 ? 0 : random.below(acts.length);
+    const at = acts.length === 1 ? 0 : this.random.below(acts.length);
     try {
       acts[at]();
     } catch (thrown) {
@@ -154,7 +162,7 @@ export class Loop {
     const { moves: { board: { clock, strategy } }, timers: own } = this.served;
     const left = own.deadline - clock.now();
     if (!(left > 0 && left < SOON_MILLISECONDS)) return;
-    if (strategy.early > 0 && strategy.random.fraction() < strategy.early) clock.pass(left);
+    if (strategy.early > 0 && this.random.fraction() < strategy.early) clock.pass(left);
   }
 }
 

@@ -35,6 +35,8 @@ export const KIND = Object.freeze({ MESSAGE: 0, CLOSE: 1, ONLINE: 2, ERROR: 3, E
  * @property {boolean} closed
  * @property {string} where the first listener was added
  * @property {((envelope: Envelope) => void) | undefined} taker gets its messages, if they aren't for listeners
+ * @property {boolean} keeps whether it can keep its thread alive
+ * @property {Envelope[] | undefined} queue its messages, if they don't come by node's channel
  */
 
 /**
@@ -43,6 +45,7 @@ export const KIND = Object.freeze({ MESSAGE: 0, CLOSE: 1, ONLINE: 2, ERROR: 3, E
  * @property {import("./port-table.mjs").PortTable} table
  * @property {import("./moves.mjs").Moves} moves
  * @property {import("./buffers.mjs").Buffers} buffers
+ * @property {import("./mesh.mjs").Mesh} mesh
  * @property {() => string} here where the program's code is
  * @property {(why: string) => never} refuse ends the run
  * @property {(name: string, act: () => void) => void} later does something as a task of its own
@@ -96,6 +99,7 @@ export class Ports {
   adopt(port, id) {
     weakSet(this.#metas, port, {
       id, listeners: [], handlers: {}, listens: false, refed: false, closed: false, where: "", taker: undefined,
+      keeps: true, queue: undefined,
     });
     this.mine.set(id, port);
     this.world.table.give(id, this.world.agent);
@@ -131,7 +135,7 @@ export class Ports {
     const peer = id ^ 1;
     if (table.isClosed(peer)) return;
     table.addWaiting(peer, 1);
-    this.#rouse(peer);
+    this.rouse(peer);
   }
 
   /**
@@ -140,9 +144,10 @@ export class Ports {
    */
   take(port) {
     const { table, moves, buffers } = this.world;
-    const { id } = this.known(port);
+    const { id, queue } = this.known(port);
     if (table.waiting(id) === 0) return undefined;
-    const found = receive(port);
+    if (queue !== undefined) this.world.mesh.take();
+    const found = queue === undefined ? receive(port) : { message: queue.shift() };
     table.addWaiting(id, -1);
     if (found === undefined) return { value: undefined, kind: KIND.CLOSE, number: -1, ports: [], ids: [] };
     /** @type {Envelope} */
@@ -151,6 +156,11 @@ export class Ports {
     moves.receive(envelope.number);
     envelope.value = received(envelope.value, buffers);
     return envelope;
+  }
+
+  /** @param {number} id of a port of this thread that has a queue @returns {Envelope[]} */
+  queueOf(id) {
+    return this.known(this.mine.get(id))?.queue ?? [];
   }
 
   /** @param {unknown} value that a thread was started with @returns {unknown} */
@@ -185,14 +195,14 @@ export class Ports {
   keepers() {
     const texts = [];
     for (const port of this.mine.values()) {
-      const { refed, closed, taker, where } = this.known(port);
-      if (refed && !closed && taker === undefined) texts.push(`a port with a listener from ${where}`);
+      const { refed, closed, keeps, where } = this.known(port);
+      if (refed && !closed && keeps) texts.push(`a port with a listener from ${where}`);
     }
     return texts;
   }
 
   /** @param {number} id of a port that has got a message */
-  #rouse(id) {
+  rouse(id) {
     const { table, moves, agent } = this.world;
     const owner = table.owner(id);
     if (owner !== NOBODYS && owner !== agent && table.isStarted(id)) moves.wake(owner);

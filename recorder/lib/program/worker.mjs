@@ -18,6 +18,7 @@ import { Memory } from "../memory/memory.mjs";
 import { Records } from "../memory/records.mjs";
 import { Sources } from "../memory/sources.mjs";
 import { Stores } from "../memory/stores.mjs";
+import { broadcastClass } from "./broadcast.mjs";
 import { Buffers } from "./buffers.mjs";
 import { Ends } from "./ends.mjs";
 import { furnishMemory, furnishProcess, furnishRefusals, furnishThreads, furnishTimers } from "./furnish.mjs";
@@ -162,7 +163,7 @@ function partsOf(player, blocks, mesh) {
   /** @type {{ loop?: Loop }} */
   const late = {};
   const later = (/** @type {string} */ name, /** @type {() => void} */ act) => late.loop?.later(name, act);
-  const ports = new Ports({ agent, table, moves, buffers, here, refuse, later });
+  const ports = new Ports({ agent, table, moves, buffers, mesh, here, refuse, later });
   const ends = new Ends({ agent, player, ports, threads: all, here });
   const events = new PortEvents({ ports, uncaught: (thrown) => ends.uncaught(thrown) });
   const timers = new Timers({ now: () => board.clock.now(), changed: () => {}, here: () => sourceHere() });
@@ -229,6 +230,7 @@ function begin(parts, load) {
   }, {
     Worker: workerClass(starting, parts.children), MessageChannel: channelClass(ports),
     receiveMessageOnPort: receiverOf(ports, moves),
+    BroadcastChannel: broadcastClass({ ports, moves, mesh, buffers, uncaught: (thrown) => ends.uncaught(thrown) }),
   });
   furnishProcess((code) => ends.exit(code));
   if (!isMain) {

@@ -86,6 +86,7 @@ function started({ ports, moves, mesh, buffers, threads: all, refuse, environmen
   const agent = words[WORD.JOINED];
   if (agent === SCRIPT_LIMITS.agents) refuse(`started a Worker more than the ${agent} threads that a run can have`);
   mesh.needs(agent + 1);
+  buffers.handTo(agent);
   const { port1, port2 } = ports.channel();
   const list = [...options.transferList ?? []];
   const moved = [...list.filter((each) => ports.metaOf(each) !== undefined), port2];
@@ -127,6 +128,7 @@ export function workerClass(starting, children) {
       this.resourceLimits = {};
       children.add(this.#own);
       ports.known(port).taker = (envelope) => this.#take(envelope);
+      ports.known(port).keeps = false;
       ports.start(port);
     }
 

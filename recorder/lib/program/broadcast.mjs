@@ -1,0 +1,127 @@
+// The BroadcastChannel of a program. Node's own one starts itself, and its messages would come by the real loop. So a
+// message goes by the hidden ports of threads, to each channel of the name that there is when it is sent.
+
+import { uncurried } from "../primordials.mjs";
+import { sent } from "./values.mjs";
+
+const { DOMException, EventTarget, MessageEvent, TypeError, structuredClone } = globalThis;
+const { imul } = Math;
+const codeAt = uncurried(String.prototype.charCodeAt);
+
+/** @param {string} name @returns {number} the same for each channel of a name, and not 0 */
+function numberOf(name) {
+  let number = 0x811c9dc5;
+  for (let at = 0; at < name.length; at += 1) number = imul(number ^ codeAt(name, at), 0x01000193);
+  return number | 1;
+}
+
+/**
+ * @typedef {object} Casting
+ * @property {import("./ports.mjs").Ports} ports
+ * @property {import("./moves.mjs").Moves} moves
+ * @property {import("./mesh.mjs").Mesh} mesh
+ * @property {import("./buffers.mjs").Buffers} buffers
+ * @property {(thrown: unknown) => void} uncaught
+ */
+
+/**
+ * Sends a message to all channels of a name, except for the one that sends.
+ * @param {Casting} casting
+ * @param {number} from the channel's number
+ * @param {unknown} value
+ * @param {Function} called
+ */
+function cast({ ports, moves, mesh, buffers }, from, value, called) {
+  const { table, agent } = ports.world;
+  const bare = structuredClone(sent(value, buffers));
+  const number = moves.send(called);
+  for (let id = 0; id < table.count; id += 1) {
+    if (id === from || table.name(id) !== table.name(from) || table.isClosed(id)) continue;
+    const owner = table.owner(id);
+    const envelope = { value: bare, kind: 0, number, ports: [], ids: [] };
+    if (owner === agent) ports.queueOf(id).push({ ...envelope, value: structuredClone(bare) });
+    else mesh.hand(owner, { kind: "broadcast", id, envelope });
+    table.addWaiting(id, 1);
+    ports.rouse(id);
+  }
+}
+
+/** @param {Casting} casting @returns {Function} the class by which the program makes such channels */
+export function broadcastClass(casting) {
+  const { ports, moves, mesh, uncaught } = casting;
+  const { table, agent } = ports.world;
+  mesh.onItem("broadcast", ({ id, envelope }) => void ports.queueOf(id).push(envelope));
+  return class BroadcastChannel extends EventTarget {
+    #id;
+    #isClosed = false;
+    /** @type {Record<string, Function | null>} */
+    #handlers = {};
+
+    /** @param {unknown} name */
+    constructor(name) {
+      if (arguments.length === 0) throw new TypeError("The \"name\" argument must be specified");
+      super();
+      moves.yield();
+      this.name = `${name}`;
+      this.#id = table.addPair(agent);
+      ports.adopt(this, this.#id);
+      const meta = ports.known(this);
+      meta.queue = [];
+      meta.refed = true;
+      meta.where = ports.world.here();
+      meta.taker = ({ value }) => this.#take(value);
+      table.setName(this.#id, numberOf(this.name));
+      table.start(this.#id);
+    }
+
+    get onmessage() {
+      return this.#handlers.message ?? null;
+    }
+
+    set onmessage(/** @type {any} */ handler) {
+      this.#handlers.message = handler;
+    }
+
+    /** @param {unknown} value */
+    postMessage(value) {
+      if (arguments.length === 0) throw new TypeError("The \"message\" argument must be specified");
+      if (this.#isClosed) throw new DOMException("BroadcastChannel is closed.", "InvalidStateError");
+      cast(casting, this.#id, value, this.postMessage);
+    }
+
+    close() {
+      if (this.#isClosed) return;
+      this.#isClosed = true;
+      ports.known(this).closed = true;
+      table.close(this.#id);
+      ports.mine.delete(this.#id);
+    }
+
+    ref() {
+      ports.known(this).refed = true;
+      return this;
+    }
+
+    unref() {
+      ports.known(this).refed = false;
+      return this;
+    }
+
+    /** @param {unknown} value */
+    #take(value) {
+      try {
+        this.#handlers.message?.call(this, eventOf(this, value));
+      } catch (thrown) {
+        uncaught(thrown);
+      }
+      this.dispatchEvent(new MessageEvent("message", { data: value }));
+    }
+  };
+}
+
+/** @param {object} target @param {unknown} data */
+function eventOf(target, data) {
+  const event = new MessageEvent("message", { data });
+  for (const name of ["target", "currentTarget"]) Object.defineProperty(event, name, { value: target });
+  return event;
+}
