@@ -1,0 +1,16 @@
+// What whole programs need of node, as `node.d.ts` has the rest. The recorder puts functions of its own in place of
+// these, so it takes them as they are, with whatever they have.
+
+declare module "node:timers" {
+  const all: any;
+  export default all;
+}
+
+declare module "node:timers/promises" {
+  const all: any;
+  export default all;
+}
+
+declare class DOMException extends Error {
+  constructor(message?: string, name?: string);
+}
