@@ -14,3 +14,17 @@ declare module "node:timers/promises" {
 declare class DOMException extends Error {
   constructor(message?: string, name?: string);
 }
+
+declare module "node:events" {
+  export const EventEmitter: { new (): { emit(name: string, ...given: any[]): boolean } };
+}
+
+declare class Event {
+  constructor(type: string);
+}
+declare class MessageEvent extends Event {
+  constructor(type: string, given: { data: unknown });
+}
+declare class EventTarget {
+  dispatchEvent(event: Event): boolean;
+}

@@ -4,7 +4,10 @@
 import { uncurried } from "../primordials.mjs";
 import { sent } from "./values.mjs";
 
-const { DOMException, EventTarget, MessageEvent, TypeError, structuredClone } = globalThis;
+const { TypeError, structuredClone } = globalThis;
+const EngineTarget = EventTarget;
+const EngineException = DOMException;
+const EngineEvent = MessageEvent;
 const { imul } = Math;
 const codeAt = uncurried(String.prototype.charCodeAt);
 
@@ -51,7 +54,7 @@ export function broadcastClass(casting) {
   const { ports, moves, mesh, uncaught } = casting;
   const { table, agent } = ports.world;
   mesh.onItem("broadcast", ({ id, envelope }) => void ports.queueOf(id).push(envelope));
-  return class BroadcastChannel extends EventTarget {
+  return class BroadcastChannel extends EngineTarget {
     #id;
     #isClosed = false;
     /** @type {Record<string, Function | null>} */
@@ -85,7 +88,7 @@ export function broadcastClass(casting) {
     /** @param {unknown} value */
     postMessage(value) {
       if (arguments.length === 0) throw new TypeError("The \"message\" argument must be specified");
-      if (this.#isClosed) throw new DOMException("BroadcastChannel is closed.", "InvalidStateError");
+      if (this.#isClosed) throw new EngineException("BroadcastChannel is closed.", "InvalidStateError");
       cast(casting, this.#id, value, this.postMessage);
     }
 
@@ -114,14 +117,14 @@ export function broadcastClass(casting) {
       } catch (thrown) {
         uncaught(thrown);
       }
-      this.dispatchEvent(new MessageEvent("message", { data: value }));
+      this.dispatchEvent(new EngineEvent("message", { data: value }));
     }
   };
 }
 
 /** @param {object} target @param {unknown} data */
 function eventOf(target, data) {
-  const event = new MessageEvent("message", { data });
+  const event = new EngineEvent("message", { data });
   for (const name of ["target", "currentTarget"]) Object.defineProperty(event, name, { value: target });
   return event;
 }

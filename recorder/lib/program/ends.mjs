@@ -9,6 +9,9 @@ import { KIND } from "./ports.mjs";
 /** The exit code of a thread whose module is still being evaluated when nothing keeps it alive. */
 const UNSETTLED = 13;
 
+/** That of a thread whose listener of `uncaughtException` throws. */
+const LISTENER_THREW = 7;
+
 /**
  * @typedef {object} Leaving
  * @property {number} agent
@@ -20,8 +23,12 @@ const UNSETTLED = 13;
 
 /** @typedef {"uncaughtException" | "unhandledRejection"} Origin */
 
-const emit = process.emit.bind(process);
-const listenersOf = process.listenerCount.bind(process);
+/** @type {any} node's, with more than is written down of it */
+const own = process;
+/** @type {(name: string, ...given: unknown[]) => boolean} */
+const emit = own.emit.bind(own);
+/** @type {(name: string) => number} */
+const listenersOf = own.listenerCount.bind(own);
 
 export class Ends {
   /** Whether this thread's part in the run is over. */
@@ -40,11 +47,9 @@ export class Ends {
 
   /** Takes what node gives to nobody else. */
   guard() {
-    process.on("uncaughtException", (thrown) => {
-      if (listenersOf("uncaughtException") === 1) this.#fail(thrown, "uncaughtException");
-    });
-    process.on("unhandledRejection", (reason) => {
-      if (listenersOf("unhandledRejection") === 1) this.uncaught(reason, "unhandledRejection");
+    // A rejection that nobody handles comes here too.
+    process.on("uncaughtException", (thrown, origin) => {
+      if (listenersOf("uncaughtException") === 1) this.#fail(thrown, origin);
     });
   }
 
@@ -52,19 +57,27 @@ export class Ends {
   uncaught(thrown, origin = "uncaughtException") {
     if (this.isOver) return;
     // This one's own guard is a listener too.
-    if (listenersOf("uncaughtException") > 1) /** @type {any} */ (emit)("uncaughtException", thrown, origin);
-    else this.#fail(thrown, origin);
+    if (listenersOf("uncaughtException") === 1) {
+      this.#fail(thrown, origin);
+      return;
+    }
+    try {
+      emit("uncaughtException", thrown, origin);
+    } catch (problem) {
+      this.isOver = true;
+      this.#go(LISTENER_THREW, `threw in a listener of uncaughtException: ${described(problem)}`);
+    }
   }
 
   /** Nothing is left to be done: the program may find something. */
   beforeExit() {
-    /** @type {any} */ (emit)("beforeExit", this.#code());
+    emit("beforeExit", Number(own.exitCode ?? 0));
   }
 
   /** Nothing keeps the thread alive. */
   leave() {
-    const code = this.#code();
-    this.#end(code, code === 0 ? "" : `exited with code ${code}${this.isEvaluated ? "" : ": its top-level await never settles"}`);
+    if (!this.isEvaluated) own.exitCode ??= UNSETTLED;
+    this.#end(Number(own.exitCode ?? 0), this.isEvaluated ? "" : "has a top-level await that never settles");
   }
 
   /**
@@ -72,14 +85,11 @@ export class Ends {
    * @param {unknown} given the exit code
    */
   exit(given) {
-    const code = Number(given ?? process.exitCode ?? 0);
-    const where = this.leaving.here();
-    if (!this.isOver) this.#end(code, code === 0 ? "" : `exited with code ${code}, at ${where}`);
-  }
-
-  /** @returns {number} */
-  #code() {
-    return Number(process.exitCode ?? (this.isEvaluated ? 0 : UNSETTLED));
+    if (given !== undefined) own.exitCode = Number(given);
+    const where = `calls process.exit at ${this.leaving.here()}`;
+    // A listener of `exit` exits once more.
+    if (this.isOver) this.#go(Number(own.exitCode ?? 0), where);
+    this.#end(Number(own.exitCode ?? 0), where);
   }
 
   /** @param {unknown} thrown @param {Origin} origin */
@@ -95,25 +105,32 @@ export class Ends {
         ports.send(this.parentPort, new Error(String(thrown)), [], undefined, KIND.ERROR);
       }
     }
+    own.exitCode = 1;
     this.#end(1, text);
   }
 
-  /** @param {number} code @param {string} text why the run fails, if this is its first thread */
+  /** @param {number} code that listeners of `exit` get @param {string} text why, if that isn't its natural end */
   #end(code, text) {
-    const { agent, player: { part } } = this.leaving;
     this.isOver = true;
     try {
-      /** @type {any} */ (emit)("exit", code);
+      emit("exit", code);
     } catch {
-      // What a listener of `exit` throws changes the code alone.
+      own.exitCode ||= 1;
     }
-    if (agent !== 0) this.#depart(code);
-    part.enter();
-    if (code === 0 && text === "") part.end(/** @type {any} */ ("finished"), "");
-    part.end("failed", `agent 0 ${text === "" ? `exited with code ${code}` : text}`);
+    this.#go(Number(own.exitCode ?? code), text);
   }
 
-  /** A thread that another one has started goes. @param {number} code @returns {never} */
+  /** @param {number} code @param {string} text @returns {never} */
+  #go(code, text) {
+    const { agent, player: { part } } = this.leaving;
+    if (agent !== 0) return this.#depart(code);
+    part.enter();
+    if (code === 0) part.end("finished", "");
+    const exited = `exited with code ${code}${text === "" ? "" : `: it ${text}`}`;
+    return part.end("failed", `agent 0 ${/^threw\b/.test(text) ? text : exited}`);
+  }
+
+  /** @param {number} code of a thread that another one has started @returns {never} */
   #depart(code) {
     const { agent, player, ports, threads } = this.leaving;
     const { board } = player.table;

@@ -126,8 +126,10 @@ export function furnishThreads({ agent, workerData, parentPort, argv, env, envir
   for (const name of ["MessageChannel", "BroadcastChannel"]) {
     if (classes[name] !== undefined) put(globalThis, name, classes[name]);
   }
-  process.argv = argv;
-  if (env !== undefined) process.env = env;
+  /** @type {any} */
+  const own = process;
+  own.argv = argv;
+  if (env !== undefined) own.env = env;
 }
 
 /**

@@ -1,6 +1,7 @@
 // A group of threads that run a program, and the thread of their referee. Each of a program's threads takes part in one
 // run: afterwards another one takes its place. Some stand ready; a run that needs more gets more.
 
+import { MessageChannel } from "node:worker_threads";
 import { SCRIPT_LIMITS } from "../../script/limits.mjs";
 import { Board } from "../board/board.mjs";
 import { waysOf } from "../board/strategy/ways.mjs";
@@ -22,11 +23,14 @@ const FIRST_THREADS = 3;
 
 const { store, notify } = Atomics;
 
+/** @type {() => { port1: any, port2: any }} */
+const channel = () => new MessageChannel();
+
 export class ProgramGroup extends Group {
   /** @type {Promise<Thread>[]} threads that have begun, and have no number yet */
   #spare = [];
 
-  /** @type {(import("node:worker_threads").MessagePort | undefined)[]} by which each thread gets ports to others */
+  /** @type {any[]} ports by which each thread gets ports to others */
   #controls = [];
 
   /** How many threads stand ready beside those that have a number. */
@@ -108,13 +112,13 @@ export class ProgramGroup extends Group {
    * @param {Thread} thread
    */
   async #hand(agent, thread) {
-    const { port1, port2 } = new MessageChannel();
+    const { port1, port2 } = channel();
     thread.onEnd = (why) => this.board?.turn.die(agent, why);
-    thread.port.postMessage({ agent, control: port2 }, [/** @type {any} */ (port2)]);
+    /** @type {any} */ (thread.port).postMessage({ agent, control: port2 }, [port2]);
     const { ended } = await this.inTime(thread.next());
     if (ended !== undefined) throw new Refused(`a thread for ${this.options.module} ended before it could begin: ${ended}`);
     this.agents[agent] = thread;
-    this.#controls[agent] = /** @type {any} */ (port1);
+    this.#controls[agent] = port1;
     this.#connect(agent);
     this.board?.turn.arrive(agent);
     void this.#listen(thread);
@@ -124,9 +128,9 @@ export class ProgramGroup extends Group {
   #connect(agent) {
     for (const [other, control] of this.#controls.entries()) {
       if (other === agent || control === undefined) continue;
-      const { port1, port2 } = new MessageChannel();
-      this.#controls[agent]?.postMessage({ peer: other, port: port1 }, [/** @type {any} */ (port1)]);
-      control.postMessage({ peer: agent, port: port2 }, [/** @type {any} */ (port2)]);
+      const { port1, port2 } = channel();
+      this.#controls[agent]?.postMessage({ peer: other, port: port1 }, [port1]);
+      control.postMessage({ peer: agent, port: port2 }, [port2]);
     }
   }
 

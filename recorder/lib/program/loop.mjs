@@ -7,9 +7,12 @@ import timers from "node:timers";
 import { Random } from "../memory/random.mjs";
 
 const { setImmediate: turnLater } = timers;
-const resources = process.getActiveResourcesInfo.bind(process);
+/** @type {any} node's, with more than is written down of it */
+const own = process;
+/** @type {() => string[]} */
+const resources = own.getActiveResourcesInfo.bind(own);
 /** @type {() => void} */
-const runTicks = /** @type {any} */ (process)._tickCallback.bind(process);
+const runTicks = own._tickCallback.bind(own);
 
 /** What is under way while node reads a module. */
 const READING = new Set(["FSReqPromise", "FSReqCallback", "FileHandleCloseReq", "CloseReq"]);
@@ -34,6 +37,9 @@ const SOON_MILLISECONDS = 1_000;
 export class Loop {
   /** @type {{ name: string, act: () => void }[]} */
   #tasks = [];
+
+  /** Whether the loop has just turned: then timers come first. */
+  #isTurning = true;
 
   /** @param {Served} served */
   constructor(served) {
@@ -60,7 +66,7 @@ export class Loop {
     for (;;) {
       this.#drain();
       if (ends.isOver) return;
-      if (resources().some((/** @type {string} */ each) => READING.has(each))) {
+      if (resources().some((each) => READING.has(each))) {
         turnLater(this.#turn);
         return;
       }
@@ -119,8 +125,8 @@ export class Loop {
 
   /** @returns {string[]} what keeps the thread alive, in words */
   #keepers() {
-    const { ports, timers: own, children } = this.served;
-    const texts = own.alive ? own.keepers().map(keeperText) : [];
+    const { ports, timers: armed, children } = this.served;
+    const texts = armed.alive ? armed.keepers().map(keeperText) : [];
     if (this.#tasks.length > 0) texts.push("a task");
     for (const { refed, where } of children) if (refed) texts.push(`the worker started at ${where}`);
     return [...texts, ...ports.keepers()];
@@ -138,12 +144,18 @@ export class Loop {
     }
   }
 
-  /** @returns {(() => void)[]} */
+  /**
+   * What may be taken up now. In node the timers that are due come first in each turn of the loop, then messages and
+   * the like, then the immediates: a timer isn't between those, but may be between two messages.
+   * @returns {(() => void)[]}
+   */
   #choices() {
-    const { ports, events, timers: own } = this.served;
-    // Node runs no other task between the immediates of a round.
-    if (own.inRound > 0) return [() => void own.runImmediate()];
+    const { ports, events, timers: armed } = this.served;
+    if (armed.inRound > 0) return [() => this.#runImmediate()];
     this.#offerEarly();
+    const isDue = armed.deadline <= this.#now();
+    if (isDue && this.#isTurning) return [() => void armed.runTimer()];
+    this.#isTurning = false;
     const acts = ports.ready().map((port) => () => events.deliver(port));
     const [task] = this.#tasks;
     if (task !== undefined) {
@@ -152,15 +164,25 @@ export class Loop {
         task.act();
       });
     }
-    if (own.immediates > 0) acts.push(() => void own.runImmediate());
-    if (own.deadline <= this.#now()) acts.push(() => void own.runTimer());
+    if (armed.immediates > 0) acts.push(() => this.#runImmediate());
+    else if (isDue) acts.push(() => void armed.runTimer());
     return acts;
+  }
+
+  /** Behind the last immediate of a round the loop turns. */
+  #runImmediate() {
+    const { timers: armed } = this.served;
+    try {
+      armed.runImmediate();
+    } finally {
+      this.#isTurning = armed.inRound === 0;
+    }
   }
 
   /** In some of the draws the time of the first timer comes though there is something else to do. */
   #offerEarly() {
-    const { moves: { board: { clock, strategy } }, timers: own } = this.served;
-    const left = own.deadline - clock.now();
+    const { moves: { board: { clock, strategy } }, timers: armed } = this.served;
+    const left = armed.deadline - clock.now();
     if (!(left > 0 && left < SOON_MILLISECONDS)) return;
     if (strategy.early > 0 && this.random.fraction() < strategy.early) clock.pass(left);
   }

@@ -5,8 +5,12 @@ import threads from "node:worker_threads";
 import { apply, defineProperty, getOwnPropertyDescriptor, put } from "../primordials.mjs";
 import { KIND } from "./ports.mjs";
 
-const { MessageEvent: EngineMessageEvent, Event: EngineEvent } = globalThis;
+const EngineMessageEvent = MessageEvent;
+const EngineEvent = Event;
 const TYPES = Object.freeze(["message", "messageerror", "close"]);
+
+/** What node itself listens to. */
+const ALWAYS = Object.freeze(["newListener", "removeListener"]);
 
 /**
  * @typedef {object} Serving
@@ -30,12 +34,14 @@ export class PortEvents {
 
   /** @param {any} port that has a message: its listeners get it */
   deliver(port) {
-    const { taker } = this.ports.known(port);
+    const { taker, scope } = this.ports.known(port);
     const envelope = this.ports.take(port);
     if (envelope === undefined) return;
-    if (taker !== undefined) taker(envelope);
-    else if (envelope.kind === KIND.CLOSE) this.#closed(port);
-    else this.emit(port, "message", envelope.value);
+    scope.runInAsyncScope(() => {
+      if (taker !== undefined) taker(envelope);
+      else if (envelope.kind === KIND.CLOSE) this.#closed(port);
+      else this.emit(port, "message", envelope.value);
+    });
   }
 
   /**
@@ -45,26 +51,42 @@ export class PortEvents {
    * @returns {boolean} whether anybody listened
    */
   emit(port, type, data) {
+    return this.#tell(port, type, (isEvent) => {
+      if (isEvent) return [eventOf(port, type, data)];
+      return type === "close" ? [] : [data];
+    });
+  }
+
+  /**
+   * @param {any} port
+   * @param {any} event that its code dispatches by hand: all listeners get the event itself
+   */
+  dispatch(port, event) {
+    for (const name of ["target", "currentTarget", "srcElement"]) defineProperty(event, name, { value: port });
+    this.#tell(port, event.type, () => [event]);
+    return !event.defaultPrevented;
+  }
+
+  /**
+   * @param {any} port
+   * @param {string} type
+   * @param {(isEvent: boolean) => unknown[]} given what a listener gets
+   */
+  #tell(port, type, given) {
     const meta = this.ports.metaOf(port);
     if (meta === undefined) return false;
-    /** @type {(() => void)[]} */
-    const acts = [];
-    for (const each of [...meta.listeners]) {
-      if (each.type !== type) continue;
-      if (each.once) meta.listeners.splice(meta.listeners.indexOf(each), 1);
-      acts.push(() => this.#call(port, each, type, data));
-    }
-    const handler = meta.handlers[type];
-    if (typeof handler === "function") acts.push(() => apply(handler, port, [eventOf(port, type, data)]));
+    const all = meta.listeners.filter((each) => each.type === type);
+    meta.listeners = meta.listeners.filter((each) => each.type !== type || !each.once);
     this.#changed(port);
-    for (const act of acts) {
+    for (const { listener, isEvent } of all) {
       try {
-        act();
+        if (typeof listener === "function") apply(listener, port, given(isEvent));
+        else listener.handleEvent(...given(isEvent));
       } catch (thrown) {
         this.uncaught(thrown);
       }
     }
-    return acts.length > 0;
+    return all.length > 0;
   }
 
   /** @param {any} port @param {import("./ports.mjs").Meta["listeners"][number]} listener */
@@ -96,8 +118,18 @@ export class PortEvents {
 
   /** @param {any} port @param {string} type @param {unknown} handler as it is assigned to `onmessage` */
   handle(port, type, handler) {
-    this.ports.known(port).handlers[type] = typeof handler === "function" ? handler : null;
+    const { listeners } = this.ports.known(port);
+    const at = listeners.findIndex((each) => each.isHandler && each.type === type);
+    const isThere = typeof handler === "function" || (typeof handler === "object" && handler !== null);
+    if (at >= 0 && isThere) listeners[at].listener = handler;
+    else if (at >= 0) listeners.splice(at, 1);
+    else if (isThere) listeners.push({ type, listener: handler, once: false, isEvent: true, isHandler: true });
     this.#changed(port);
+  }
+
+  /** @param {any} port @param {string} type @returns {any} what was assigned */
+  handlerOf(port, type) {
+    return this.ports.known(port).listeners.find((each) => each.isHandler && each.type === type)?.listener ?? null;
   }
 
   /** @param {any} port that the program's code closes */
@@ -119,21 +151,17 @@ export class PortEvents {
     this.emit(port, "close", undefined);
   }
 
-  /** @param {any} port @param {import("./ports.mjs").Meta["listeners"][number]} each @param {string} type @param {any} data */
-  #call(port, { listener, isEvent }, type, data) {
-    if (!isEvent) apply(listener, port, type === "close" ? [] : [data]);
-    else if (typeof listener === "function") apply(listener, port, [eventOf(port, type, data)]);
-    else listener.handleEvent(eventOf(port, type, data));
-  }
-
   /** @param {any} port whose first listener of messages starts it, and whose last one lets its thread end */
   #changed(port) {
     const meta = this.ports.known(port);
-    const listens = meta.listeners.some(({ type }) => type === "message") || typeof meta.handlers.message === "function";
+    const listens = meta.listeners.some(({ type }) => type === "message");
     if (listens === meta.listens) return;
     meta.listens = listens;
     meta.refed = listens && !meta.closed;
-    if (!listens) return;
+    if (!listens) {
+      if (!meta.closed) this.ports.world.table.stop(meta.id);
+      return;
+    }
     meta.where = this.ports.world.here();
     if (!meta.closed) this.ports.start(port);
   }
@@ -163,13 +191,20 @@ function methodsOf(events) {
       if (listener) events.listen(this, { type, listener, once: how?.once === true, isEvent: true });
     },
     removeEventListener(type, listener) { events.unlisten(this, type, listener); },
-    dispatchEvent(event) { return events.emit(this, event.type, event.data); },
+    dispatchEvent(event) { return events.dispatch(this, event); },
     emit(type, value) { return events.emit(this, type, value); },
     listenerCount(type) { return ports.known(this).listeners.filter((each) => each.type === type).length; },
-    eventNames() { return [...new Set(ports.known(this).listeners.map(({ type }) => type))]; },
+    eventNames() { return [...new Set([...ALWAYS, ...ports.known(this).listeners.map(({ type }) => type)])]; },
     start() { if (!ports.known(this).closed) ports.start(this); },
-    close() { events.close(this); },
-    ref() { ports.known(this).refed = !ports.known(this).closed; },
+    close(done) {
+      if (typeof done === "function") add(true, "close", done, this);
+      events.close(this);
+    },
+    ref() {
+      const meta = ports.known(this);
+      meta.refed = !meta.closed;
+      if (meta.where === "") meta.where = ports.world.here();
+    },
     unref() { ports.known(this).refed = false; },
     hasRef() { return ports.known(this).refed; },
   };
@@ -207,7 +242,7 @@ function serveHandler(events, type) {
     ...found,
     get() {
       const meta = ports.metaOf(this);
-      return meta === undefined ? apply(get, this, []) : meta.handlers[type] ?? null;
+      return meta === undefined ? apply(get, this, []) : events.handlerOf(this, type);
     },
     set(handler) {
       if (ports.metaOf(this) === undefined) apply(set, this, [handler]);

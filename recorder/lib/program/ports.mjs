@@ -2,13 +2,18 @@
 // cloned and transferred is as in node. But a port is never started for node: a message waits in it until the run says
 // that it is delivered.
 
+import { AsyncResource } from "node:async_hooks";
 import threads from "node:worker_threads";
 import { put, uncurried, weakGet, weakHas, weakSet } from "../primordials.mjs";
-import { NOBODYS } from "./port-table.mjs";
+import { NOBODYS } from "../board/port-table.mjs";
 import { received, sent } from "./values.mjs";
 
-const { MessageChannel: EngineChannel, receiveMessageOnPort: receive } = threads;
+const { receiveMessageOnPort: receive } = threads;
+/** @type {{ new (): { port1: any, port2: any } }} */
+const EngineChannel = /** @type {any} */ (threads.MessageChannel);
 const { WeakMap: EngineWeakMap } = globalThis;
+/** @type {{ new (type: string): { runInAsyncScope(act: () => void): void } }} */
+const Scope = /** @type {any} */ (AsyncResource);
 const post = uncurried(threads.MessagePort.prototype.postMessage);
 
 /** What a message is, besides one of the program's code. */
@@ -26,23 +31,32 @@ export const KIND = Object.freeze({ MESSAGE: 0, CLOSE: 1, ONLINE: 2, ERROR: 3, E
  */
 
 /**
+ * @typedef {object} Listener
+ * @property {string} type of its events
+ * @property {any} listener
+ * @property {boolean} once
+ * @property {boolean} isEvent whether it gets an event, and not the value
+ * @property {boolean} [isHandler] whether it was assigned, as to `onmessage`
+ */
+
+/**
  * @typedef {object} Meta what a thread knows of a port
  * @property {number} id
- * @property {{ type: string, listener: any, once: boolean, isEvent: boolean }[]} listeners
- * @property {Record<string, Function | null>} handlers by the type of their events
+ * @property {Listener[]} listeners in the order in which they were added
  * @property {boolean} listens whether it has a listener of messages
  * @property {boolean} refed whether it keeps its thread alive
  * @property {boolean} closed
  * @property {string} where the first listener was added
  * @property {((envelope: Envelope) => void) | undefined} taker gets its messages, if they aren't for listeners
  * @property {boolean} keeps whether it can keep its thread alive
+ * @property {{ runInAsyncScope(act: () => void): void }} scope in which its messages are delivered
  * @property {Envelope[] | undefined} queue its messages, if they don't come by node's channel
  */
 
 /**
  * @typedef {object} World what ports need of their thread
  * @property {number} agent
- * @property {import("./port-table.mjs").PortTable} table
+ * @property {import("../board/port-table.mjs").PortTable} table
  * @property {import("./moves.mjs").Moves} moves
  * @property {import("./buffers.mjs").Buffers} buffers
  * @property {import("./mesh.mjs").Mesh} mesh
@@ -98,8 +112,8 @@ export class Ports {
    */
   adopt(port, id) {
     weakSet(this.#metas, port, {
-      id, listeners: [], handlers: {}, listens: false, refed: false, closed: false, where: "", taker: undefined,
-      keeps: true, queue: undefined,
+      id, listeners: [], listens: false, refed: false, closed: false, where: "", taker: undefined,
+      keeps: true, queue: undefined, scope: new Scope("MESSAGEPORT"),
     });
     this.mine.set(id, port);
     this.world.table.give(id, this.world.agent);
@@ -134,7 +148,8 @@ export class Ports {
     for (const each of ports) this.leave(each);
     const peer = id ^ 1;
     if (table.isClosed(peer)) return;
-    table.addWaiting(peer, 1);
+    if (kind === KIND.CLOSE) table.closeFrom(peer);
+    else table.addWaiting(peer, 1);
     this.rouse(peer);
   }
 
@@ -195,8 +210,8 @@ export class Ports {
   keepers() {
     const texts = [];
     for (const port of this.mine.values()) {
-      const { refed, closed, keeps, where } = this.known(port);
-      if (refed && !closed && keeps) texts.push(`a port with a listener from ${where}`);
+      const { refed, closed, keeps, listens, where } = this.known(port);
+      if (refed && !closed && keeps) texts.push(`a port ${listens ? "with a listener from" : "that is kept alive at"} ${where}`);
     }
     return texts;
   }
@@ -205,7 +220,7 @@ export class Ports {
   rouse(id) {
     const { table, moves, agent } = this.world;
     const owner = table.owner(id);
-    if (owner !== NOBODYS && owner !== agent && table.isStarted(id)) moves.wake(owner);
+    if (owner !== NOBODYS && owner !== agent && table.isReady(id)) moves.wake(owner);
   }
 }
 

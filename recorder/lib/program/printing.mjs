@@ -6,7 +6,8 @@ import { Writable } from "node:stream";
 import { put } from "../primordials.mjs";
 
 const { writeSync } = fs;
-const later = process.nextTick;
+/** @type {(act: () => void) => void} */
+const later = /** @type {any} */ (process).nextTick;
 
 /** @param {string | Uint8Array} text */
 function print(text) {

@@ -3,7 +3,7 @@
 import { memoryOf } from "../board/group-memory.mjs";
 import { Blocks, MESSAGE_BYTES, MOST_BLOCKS, MOST_BYTES } from "../memory/blocks.mjs";
 import { Keepers } from "../memory/keepers.mjs";
-import { PortTable } from "./port-table.mjs";
+import { PortTable } from "../board/port-table.mjs";
 
 /** How long each block can be; the last one stands for messages. */
 const longest = () => [...Array.from({ length: MOST_BLOCKS }, () => MOST_BYTES), MESSAGE_BYTES];

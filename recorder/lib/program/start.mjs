@@ -2,7 +2,7 @@
 
 import nodeModule from "node:module";
 import { existsSync, readFileSync } from "node:fs";
-import { dirname, extname, join } from "node:path";
+import { dirname, join } from "node:path";
 import process from "node:process";
 import { fileURLToPath } from "node:url";
 
@@ -16,7 +16,7 @@ const EVALUATED = "[worker eval]";
 
 /** @param {string} file @returns {boolean} whether it is an ES module, by its name or by the package that it is in */
 function isModule(file) {
-  const extension = extname(file);
+  const [extension = ""] = /\.[^./\\]*$/.exec(file) ?? [];
   if (extension === ".mjs") return true;
   if (extension !== ".js" && extension !== "") return false;
   for (let folder = dirname(file); ; folder = dirname(folder)) {
@@ -54,5 +54,5 @@ export async function evaluated({ url, isCode }, load) {
  */
 export function argvOf({ url, isCode, argv }) {
   const file = !isCode && url.startsWith("file:") ? fileURLToPath(url) : isCode ? EVALUATED : url;
-  return [process.execPath, file, ...argv];
+  return [/** @type {any} */ (process).execPath, file, ...argv];
 }

@@ -7,7 +7,7 @@ export class Threads {
   /**
    * @param {number} agent
    * @param {import("../board/board.mjs").Board} board
-   * @param {import("./port-table.mjs").PortTable} table
+   * @param {import("../board/port-table.mjs").PortTable} table
    * @param {import("./moves.mjs").Moves} moves
    */
   constructor(agent, board, table, moves) {
@@ -35,6 +35,7 @@ export class Threads {
    */
   end(agent) {
     if (!this.isAlive(agent)) return false;
+    if (this.board.line.waitsInBlock(agent)) this.table.cut();
     this.closePorts(agent);
     this.endChildren(agent);
     this.board.line.become(agent, PHASE.FINISHED);
@@ -58,8 +59,8 @@ export class Threads {
       const peer = port ^ 1;
       const other = table.owner(peer);
       if (other === agent || other < 0 || table.isClosed(peer)) continue;
-      table.addWaiting(peer, 1);
-      if (table.isStarted(peer) && other !== this.agent) moves.wake(other);
+      table.closeFrom(peer);
+      if (table.isReady(peer) && other !== this.agent) moves.wake(other);
     }
   }
 }

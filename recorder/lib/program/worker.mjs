@@ -26,7 +26,7 @@ import { Loop } from "./loop.mjs";
 import { Mesh } from "./mesh.mjs";
 import { Moves } from "./moves.mjs";
 import { PortEvents, servePorts } from "./port-events.mjs";
-import { PortTable } from "./port-table.mjs";
+import { PortTable } from "../board/port-table.mjs";
 import { KIND, Ports, channelClass } from "./ports.mjs";
 import { printAtOnce } from "./printing.mjs";
 import { argvOf, evaluated } from "./start.mjs";
@@ -177,7 +177,7 @@ function partsOf(player, blocks, mesh) {
 /** @typedef {ReturnType<typeof partsOf>} Parts */
 
 /** @param {Parts} parts */
-function furnish({ moves, buffers, ports, ends, events, timers }) {
+function furnish({ moves, buffers, ends, events, timers }) {
   const { words } = moves.board;
   printAtOnce(() => words[WORD.IS_SILENT] === 0 && isPlaying());
   simulateTime(() => (isPlaying() ? playing().look() : 0));

@@ -11,7 +11,7 @@ import { WORD } from "../memory/layout.mjs";
 import { KIND } from "./ports.mjs";
 import { sent } from "./values.mjs";
 
-const { SHARE_ENV } = threads;
+const { SHARE_ENV } = /** @type {any} */ (threads);
 
 /**
  * @typedef {object} Starting what workers need of their thread

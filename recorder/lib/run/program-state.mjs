@@ -1,9 +1,13 @@
 // What the referee of a program's runs knows besides the board: the blocks that were made, the threads that joined, and
 // what keeps those alive that have nothing to do.
 
+import { PortTable } from "../board/port-table.mjs";
 import { Blocks } from "../memory/blocks.mjs";
 import { Keepers } from "../memory/keepers.mjs";
 import { WORD } from "../memory/layout.mjs";
+
+const CUT = "a thread was terminated while it waited, which no script can have; of such a run sabsim judges the trace "
+  + "alone";
 
 /**
  * @typedef {object} ProgramMemory
@@ -25,15 +29,14 @@ export class ProgramState {
     this.plan = plan;
     this.blocks = new Blocks(shared.blocks, shared.copies, memory, plan.buffers);
     this.keepers = shared.keepers.map((each) => new Keepers(each));
-    this.ports = new Int32Array(shared.ports, 0, 1);
+    this.ports = new PortTable(shared.ports);
   }
 
   /** A run begins. */
   begin() {
     this.blocks.begin();
     for (const keepers of this.keepers) keepers.clear();
-    // None was made.
-    this.ports[0] = 0;
+    this.ports.begin();
   }
 
   /** A run has ended: its plan is known. @returns {number[]} the threads that took part */
@@ -44,6 +47,11 @@ export class ProgramState {
     plan.canBlock.length = plan.agents;
     plan.canBlock.fill(true);
     return this.threads;
+  }
+
+  /** @returns {string | undefined} why the run can't have a script, if so */
+  whyNoScript() {
+    return this.ports.isCut() ? CUT : undefined;
   }
 
   /** @returns {number[]} the threads that took part */

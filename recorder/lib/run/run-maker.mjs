@@ -110,7 +110,7 @@ export class RunMaker {
     const gone = this.#sentHome();
     const endless = gone.filter((agent) => !board.turn.isParked(agent));
     const racy = options.ordinary === "watch" && isRacy(this.log, plan.agents);
-    const named = isBound ? sourceNames.withNames(told.detail) : told.detail;
+    const named = isBound || this.program !== undefined ? sourceNames.withNames(told.detail) : told.detail;
     const idle = this.program === undefined ? [] : this.program.idle(told.ending).map((line) => sourceNames.withNames(line));
     const detail = stray === undefined ? [named, ...idle].filter((line) => line !== "").join("\n") : strayText(stray, named);
     const unseen = this.agents.flatMap((agent) => this.notes[agent].read().map((note) => ({ ...note, agent })));

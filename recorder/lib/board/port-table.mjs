@@ -8,7 +8,8 @@ const { Int32Array, SharedArrayBuffer } = globalThis;
 
 const MOST_PORTS = 8_192;
 const COUNT = 0;
-const PARENTS = 1;
+const CUT = 1;
+const PARENTS = 2;
 const HEAD = PARENTS + SCRIPT_LIMITS.agents;
 const EACH = 4;
 const OWNER = 0;
@@ -18,6 +19,9 @@ const NAME = 3;
 
 const STARTED = 1;
 const CLOSED = 2;
+
+// The last message that it has is that the other side was closed.
+const CLOSING = 4;
 
 /** In place of the agent whose port it is: it is under way in a message. */
 export const NOBODYS = -1;
@@ -36,6 +40,17 @@ export class PortTable {
   /** A run begins. */
   begin() {
     this.words[COUNT] = 0;
+    this.words[CUT] = 0;
+  }
+
+  /** A thread was ended while it waited in a call of Atomics. */
+  cut() {
+    this.words[CUT] = 1;
+  }
+
+  /** @returns {boolean} whether one was */
+  isCut() {
+    return this.words[CUT] === 1;
   }
 
   /** @returns {number} how many there are */
@@ -128,8 +143,20 @@ export class PortTable {
     words[HEAD + port * EACH + STATE] = CLOSED;
   }
 
-  /** @param {number} port @returns {boolean} whether a message of it can be delivered by its owner's event loop */
+  /** @param {number} port whose other side is closed: that is its last message */
+  closeFrom(port) {
+    this.addWaiting(port, 1);
+    this.words[HEAD + port * EACH + STATE] |= CLOSING;
+  }
+
+  /**
+   * Whether a message of a port can be delivered by its owner's event loop. That the other side was closed is, also if
+   * the port isn't started.
+   * @param {number} port
+   */
   isReady(port) {
-    return this.waiting(port) > 0 && this.isStarted(port);
+    const waiting = this.waiting(port);
+    if (waiting > 0 && this.isStarted(port)) return true;
+    return waiting === 1 && (this.words[HEAD + port * EACH + STATE] & CLOSING) !== 0;
   }
 }
