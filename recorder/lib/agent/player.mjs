@@ -95,7 +95,7 @@ export class Player {
    * @param {Call} call
    * @param {object} view its typed array
    * @param {Function} called the function of Atomics that the agent's code has called
-   * @param {() => void} [before] is called when the agent has the turn
+   * @param {() => void} [before] called when the agent has the turn
    * @returns {unknown} what it answers; what it throws, it throws
    */
   make(call, view, called, before) {
@@ -106,23 +106,17 @@ export class Player {
     this.untilTurn();
     before?.();
     this.#stayInRow(call);
-    this.table.records.begin(this.part.made, call);
-    this.part.last = call;
+    this.#made(call);
     if (call.call === WAIT) return this.#wait(call, view, source, called);
     if (call.call === NOTIFY) return this.#notify(call, view, source);
     return this.#access(call, view, source);
   }
 
-  /**
-   * Makes a notify without a draw: the agent has just got the turn.
-   * @param {Call} call
-   * @param {object} view its typed array
-   */
+  /** @param {Call} call a notify that is made without a draw: the agent has just got the turn @param {object} view */
   note(call, view) {
     this.part.enter();
     this.#stayWithin(call);
-    this.table.records.begin(this.part.made, call);
-    this.part.last = call;
+    this.#made(call);
     this.#notify(call, view, 0);
   }
 
@@ -180,7 +174,6 @@ export class Player {
     this.table.board.clock.pass(milliseconds);
   }
 
-  /** Its part in a run begins. */
   begin() {
     const { board, stores, later, messages, unseen, chance } = this.table;
     clearMap(this.views);
@@ -332,6 +325,12 @@ export class Player {
     const from = isWithin(call) ? placeNumber(call.block, byteOf(call)) : 0;
     board.strategy.asks(this.agent, from, isWithin(call) ? from + SIZES[call.kind] : 0, flagsAsked(call));
     board.line.become(this.agent, PHASE.ASKS);
+  }
+
+  /** @param {Call} call that is made now */
+  #made(call) {
+    this.table.records.begin(this.part.made, call);
+    this.part.last = call;
   }
 
   /** Sleeps until the agent's move was picked. */

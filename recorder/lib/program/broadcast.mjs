@@ -49,82 +49,97 @@ function cast({ ports, moves, mesh, buffers }, from, value, called) {
   }
 }
 
-/** @param {Casting} casting @returns {Function} the class by which the program makes such channels */
-export function broadcastClass(casting) {
-  const { ports, moves, mesh, uncaught } = casting;
-  const { table, agent } = ports.world;
-  mesh.onItem("broadcast", ({ id, envelope }) => void ports.queueOf(id).push(envelope));
-  return class BroadcastChannel extends EngineTarget {
-    #id;
-    #isClosed = false;
-    /** @type {Record<string, Function | null>} */
-    #handlers = {};
-
-    /** @param {unknown} name */
-    constructor(name) {
-      if (arguments.length === 0) throw new TypeError("The \"name\" argument must be specified");
-      super();
-      moves.yield();
-      this.name = `${name}`;
-      this.#id = table.addPair(agent);
-      ports.adopt(this, this.#id);
-      const meta = ports.known(this);
-      meta.queue = [];
-      meta.refed = true;
-      meta.where = ports.world.here();
-      meta.taker = ({ value }) => this.#take(value);
-      table.setName(this.#id, numberOf(this.name));
-      table.start(this.#id);
-    }
-
-    get onmessage() {
-      return this.#handlers.message ?? null;
-    }
-
-    set onmessage(/** @type {any} */ handler) {
-      this.#handlers.message = handler;
-    }
-
-    /** @param {unknown} value */
-    postMessage(value) {
-      if (arguments.length === 0) throw new TypeError("The \"message\" argument must be specified");
-      if (this.#isClosed) throw new EngineException("BroadcastChannel is closed.", "InvalidStateError");
-      cast(casting, this.#id, value, this.postMessage);
-    }
-
-    close() {
-      if (this.#isClosed) return;
-      this.#isClosed = true;
-      ports.known(this).closed = true;
-      table.close(this.#id);
-      ports.mine.delete(this.#id);
-    }
-
-    ref() {
-      ports.known(this).refed = true;
-      return this;
-    }
-
-    unref() {
-      ports.known(this).refed = false;
-      return this;
-    }
-
-    /** @param {unknown} value */
-    #take(value) {
-      try {
-        this.#handlers.message?.call(this, eventOf(this, value));
-      } catch (thrown) {
-        uncaught(thrown);
-      }
-      this.dispatchEvent(new EngineEvent("message", { data: value }));
-    }
-  };
-}
-
 /** @param {object} target @param {unknown} data */
 function eventOf(target, data) {
   const event = new EngineEvent("message", { data });
   for (const name of ["target", "currentTarget"]) Object.defineProperty(event, name, { value: target });
   return event;
+}
+
+/** @type {Casting | undefined} a thread has one part in a run */
+let casting;
+
+/** @returns {Casting} */
+function world() {
+  if (casting === undefined) throw new Error("the thread has no part in a run yet");
+  return casting;
+}
+
+/** The BroadcastChannel that the program finds. */
+class BroadcastChannel extends EngineTarget {
+  #id;
+  #isClosed = false;
+  /** @type {Record<string, Function | null>} */
+  #handlers = {};
+
+  /** @param {unknown} name */
+  constructor(name) {
+    if (arguments.length === 0) throw new TypeError("The \"name\" argument must be specified");
+    super();
+    const { ports, moves } = world();
+    const { table, agent } = ports.world;
+    moves.yield();
+    this.name = `${name}`;
+    this.#id = table.addPair(agent);
+    ports.adopt(this, this.#id);
+    const meta = ports.known(this);
+    meta.queue = [];
+    meta.refed = true;
+    meta.where = ports.world.here();
+    meta.taker = ({ value }) => this.#take(value);
+    table.setName(this.#id, numberOf(this.name));
+    table.start(this.#id);
+  }
+
+  get onmessage() {
+    return this.#handlers.message ?? null;
+  }
+
+  set onmessage(/** @type {any} */ handler) {
+    this.#handlers.message = handler;
+  }
+
+  /** @param {unknown} value */
+  postMessage(value) {
+    if (arguments.length === 0) throw new TypeError("The \"message\" argument must be specified");
+    if (this.#isClosed) throw new EngineException("BroadcastChannel is closed.", "InvalidStateError");
+    cast(world(), this.#id, value, this.postMessage);
+  }
+
+  close() {
+    if (this.#isClosed) return;
+    this.#isClosed = true;
+    const { ports } = world();
+    ports.known(this).closed = true;
+    ports.world.table.close(this.#id);
+    ports.mine.delete(this.#id);
+  }
+
+  ref() {
+    world().ports.known(this).refed = true;
+    return this;
+  }
+
+  unref() {
+    world().ports.known(this).refed = false;
+    return this;
+  }
+
+  /** @param {unknown} value */
+  #take(value) {
+    try {
+      this.#handlers.message?.call(this, eventOf(this, value));
+    } catch (thrown) {
+      world().uncaught(thrown);
+    }
+    this.dispatchEvent(new EngineEvent("message", { data: value }));
+  }
+}
+
+/** @param {Casting} given @returns {Function} the class by which the program makes such channels */
+export function broadcastClass(given) {
+  casting = given;
+  const { mesh, ports } = given;
+  mesh.onItem("broadcast", ({ id, envelope }) => void ports.queueOf(id).push(envelope));
+  return BroadcastChannel;
 }

@@ -30,6 +30,7 @@ export class Moves {
     const { words } = this.board;
     // Others may send some before it is this one's turn, so its number is known then.
     const call = this.#edge(0);
+    this.count();
     this.player.make(call, this.view, called, () => {
       call.index = words[WORD.MESSAGES] % MESSAGE_PLACES;
       words[WORD.MESSAGES] += 1;
@@ -51,6 +52,12 @@ export class Moves {
   /** @param {number} message that is received now */
   receive(message) {
     this.player.note(this.#edge(message), this.view);
+  }
+
+  /** Counts the ordinary accesses so far: another thread may end this one where it gives up its turn. */
+  count() {
+    const { board, agent, player: { part } } = this;
+    board.journal.countOrdinary(agent, part.accesses.count);
   }
 
   /** Lets others move before this thread goes on. */
@@ -87,6 +94,7 @@ export class Moves {
   /** @param {number | undefined} milliseconds of a rest; undefined: it was none */
   #goOn(milliseconds) {
     const { player, board, agent } = this;
+    this.count();
     player.untilTurn();
     if (milliseconds !== undefined) board.deadlines.end(agent, milliseconds);
     board.turned();

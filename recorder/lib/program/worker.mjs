@@ -106,7 +106,10 @@ const private_ = {
 const atomicsOf = (moves) => recordedAtomics(Atomics, {
   blockOf,
   isRecording: isPlaying,
-  make: (call, view, called) => playing().make(call, view, called),
+  make: (call, view, called) => {
+    moves.count();
+    return playing().make(call, view, called);
+  },
   simulatesTime: true,
   sleep: (milliseconds) => moves.sleep(milliseconds),
   refuse: (why) => refuse(`made a call that the recorder can't record: ${why}`),
@@ -223,12 +226,13 @@ function begin(parts, load) {
   const isMain = agent === 0;
   const { start, parentPort } = isMain ? { start: mainStart(), parentPort: null } : taken(parts);
   const { moves, mesh, buffers, ports, threads: all, later, ends, loop } = parts;
-  const starting = { ports, moves, mesh, buffers, threads: all, here, refuse, later, environment: start.environment };
+  const starting = { ports, moves, mesh, buffers, threads: all, here, refuse, later, environment: start.environment,
+    children: parts.children };
   furnishThreads({
     agent, workerData: isMain ? null : parts.ports.unpacked(start.workerData), parentPort, argv: argvOf(start),
     env: isMain ? undefined : start.env, environment: start.environment,
   }, {
-    Worker: workerClass(starting, parts.children), MessageChannel: channelClass(ports),
+    Worker: workerClass(starting), MessageChannel: channelClass(ports),
     receiveMessageOnPort: receiverOf(ports, moves),
     BroadcastChannel: broadcastClass({ ports, moves, mesh, buffers, uncaught: (thrown) => ends.uncaught(thrown) }),
   });

@@ -24,6 +24,7 @@ const { SHARE_ENV } = /** @type {any} */ (threads);
  * @property {(why: string) => never} refuse ends the run
  * @property {(name: string, act: () => void) => void} later
  * @property {Map<unknown, unknown>} environment what `setEnvironmentData` has set
+ * @property {Set<{ refed: boolean, where: string }>} children workers that haven't ended
  */
 
 /**
@@ -99,88 +100,99 @@ function started({ ports, moves, mesh, buffers, threads: all, refuse, environmen
   return { agent, port: port1 };
 }
 
-/**
- * The class by which the program starts workers.
- * @param {Starting} starting
- * @param {Set<{ refed: boolean, where: string }>} children those that haven't ended
- */
-export function workerClass(starting, children) {
-  const { ports, moves, threads: all, later, here } = starting;
-  return class Worker extends EventEmitter {
-    #agent;
-    #port;
-    #own;
-    #isAlive = true;
-    /** @type {((code: number | undefined) => void)[]} */
-    #awaiting = [];
+/** @type {Starting | undefined} a thread has one part in a run */
+let starting;
 
-    /** @param {unknown} file @param {any} [options] */
-    constructor(file, options = {}) {
-      super();
-      const { agent, port } = started(starting, file, options ?? {}, new.target);
-      this.#agent = agent;
-      this.#port = port;
-      this.#own = { refed: true, where: here() };
-      this.threadId = agent;
-      this.stdin = null;
-      this.stdout = null;
-      this.stderr = null;
-      this.resourceLimits = {};
-      children.add(this.#own);
-      ports.known(port).taker = (envelope) => this.#take(envelope);
-      ports.known(port).keeps = false;
-      ports.start(port);
-    }
+/** @returns {Starting} */
+function world() {
+  if (starting === undefined) throw new Error("the thread has no part in a run yet");
+  return starting;
+}
 
-    /** @param {unknown} value @param {unknown} [transfer] */
-    postMessage(value, transfer) {
-      if (this.#isAlive) ports.send(this.#port, value, transfer, this.postMessage);
-    }
+/** The Worker that the program finds. */
+class Worker extends EventEmitter {
+  #agent;
+  #port;
+  #own;
+  #isAlive = true;
+  /** @type {((code: number | undefined) => void)[]} */
+  #awaiting = [];
 
-    ref() {
-      this.#own.refed = true;
-    }
+  /** @param {unknown} file @param {any} [options] */
+  constructor(file, options = {}) {
+    super();
+    const { agent, port } = started(world(), file, options ?? {}, new.target);
+    this.#agent = agent;
+    this.#port = port;
+    this.#own = { refed: true, where: world().here() };
+    this.threadId = agent;
+    this.stdin = null;
+    this.stdout = null;
+    this.stderr = null;
+    this.resourceLimits = {};
+    const { ports, children } = world();
+    children.add(this.#own);
+    ports.known(port).taker = (envelope) => this.#take(envelope);
+    ports.known(port).keeps = false;
+    ports.start(port);
+  }
 
-    unref() {
-      this.#own.refed = false;
-    }
+  /** @param {unknown} value @param {unknown} [transfer] */
+  postMessage(value, transfer) {
+    if (this.#isAlive) world().ports.send(this.#port, value, transfer, this.postMessage);
+  }
 
-    /** @returns {Promise<number | undefined>} its exit code */
-    terminate() {
-      moves.yield();
-      if (!this.#isAlive) return Promise.resolve(undefined);
-      /** @type {Promise<number | undefined>} */
-      const ended = new Promise((done) => this.#awaiting.push(done));
-      // If it has ended by itself, that comes by its port.
-      if (all.end(this.#agent)) later("exit", () => this.#leave());
-      return ended;
-    }
+  ref() {
+    this.#own.refed = true;
+  }
 
-    /** What was sent before comes before the end. */
-    #leave() {
-      for (let left = ports.take(this.#port); left !== undefined; left = ports.take(this.#port)) {
-        if (left.kind !== KIND.CLOSE) this.#take(left);
-      }
-      this.#gone(1);
-    }
+  unref() {
+    this.#own.refed = false;
+  }
 
-    /** @param {import("./ports.mjs").Envelope} envelope */
-    #take({ kind, value }) {
-      if (kind === KIND.MESSAGE) this.emit("message", value);
-      else if (kind === KIND.ONLINE) this.emit("online");
-      else if (kind === KIND.ERROR) this.emit("error", value);
-      else if (kind === KIND.EXIT) this.#gone(value);
-    }
+  /** @returns {Promise<number | undefined>} its exit code */
+  terminate() {
+    const { moves, threads: all, later } = world();
+    moves.yield();
+    if (!this.#isAlive) return Promise.resolve(undefined);
+    /** @type {Promise<number | undefined>} */
+    const ended = new Promise((done) => this.#awaiting.push(done));
+    // If it has ended by itself, that comes by its port.
+    if (all.end(this.#agent)) later("exit", () => this.#leave());
+    return ended;
+  }
 
-    /** @param {number} code */
-    #gone(code) {
-      if (!this.#isAlive) return;
-      this.#isAlive = false;
-      this.threadId = -1;
-      children.delete(this.#own);
-      ports.known(this.#port).closed = true;
-      this.emit("exit", code);
-      for (const done of this.#awaiting) done(code);
+  /** What was sent before comes before the end. */
+  #leave() {
+    const { ports } = world();
+    for (let left = ports.take(this.#port); left !== undefined; left = ports.take(this.#port)) {
+      if (left.kind !== KIND.CLOSE) this.#take(left);
     }
-  };
+    this.#gone(1);
+  }
+
+  /** @param {import("./ports.mjs").Envelope} envelope */
+  #take({ kind, value }) {
+    if (kind === KIND.MESSAGE) this.emit("message", value);
+    else if (kind === KIND.ONLINE) this.emit("online");
+    else if (kind === KIND.ERROR) this.emit("error", value);
+    else if (kind === KIND.EXIT) this.#gone(value);
+  }
+
+  /** @param {number} code */
+  #gone(code) {
+    if (!this.#isAlive) return;
+    this.#isAlive = false;
+    this.threadId = -1;
+    world().children.delete(this.#own);
+    world().ports.known(this.#port).closed = true;
+    this.emit("exit", code);
+    for (const done of this.#awaiting) done(code);
+  }
+}
+
+/** @param {Starting} given @returns {Function} the class by which the program starts workers */
+export function workerClass(given) {
+  starting = given;
+  return Worker;
 }
