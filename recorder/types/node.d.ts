@@ -284,6 +284,7 @@ declare module "node:path" {
   export const posix: { dirname(path: string): string; relative(from: string, to: string): string };
   export function basename(path: string): string;
   export function dirname(path: string): string;
+  export function extname(path: string): string;
   export function isAbsolute(path: string): boolean;
   export function join(...parts: string[]): string;
   export function relative(from: string, to: string): string;
