@@ -12,46 +12,8 @@ const { Proxy: EngineProxy } = globalThis;
 const EngineShared = SharedArrayBuffer;
 const EngineMemory = WebAssembly.Memory;
 const { syncBuiltinESMExports } = nodeModule;
-const builtin = nodeModule.createRequire(import.meta.url);
 
 /** @typedef {(why: string) => never} Refuse */
-
-/** Functions that do what isn't simulated, by their modules. */
-const REFUSED = Object.freeze({
-  "node:child_process": ["exec", "execFile", "fork", "spawn"],
-  "node:cluster": ["fork", "setupPrimary"],
-  "node:dgram": ["createSocket"],
-  "node:dns": ["lookup", "resolve", "resolve4", "resolve6", "reverse"],
-  "node:http": ["createServer", "request", "get"],
-  "node:http2": ["createServer", "createSecureServer", "connect"],
-  "node:https": ["createServer", "request", "get"],
-  "node:inspector": ["open", "waitForDebugger"],
-  "node:module": ["register"],
-  "node:net": ["connect", "createConnection", "createServer"],
-  "node:readline": ["createInterface"],
-  "node:tls": ["connect", "createServer"],
-  "node:worker_threads": ["moveMessagePortToContext", "postMessageToThread"],
-  "node:fs": ["watch", "watchFile"],
-});
-
-/**
- * Puts functions that refuse in the place of those that aren't simulated.
- * @param {Refuse} refuse
- */
-export function furnishRefusals(refuse) {
-  for (const [name, functions] of Object.entries(REFUSED)) {
-    const owner = builtin(name);
-    for (const each of functions) {
-      const engine = owner[each];
-      if (typeof engine !== "function") continue;
-      put(owner, each, likeEngine(function refused() {
-        return refuse(`called ${name.slice(5)}.${each}, which isn't simulated`);
-      }, engine));
-    }
-  }
-  put(globalThis, "fetch", () => refuse("called fetch, which isn't simulated"));
-  put(Atomics, "waitAsync", () => refuse("called Atomics.waitAsync, which isn't simulated yet"));
-}
 
 /**
  * Puts a run's timers in the place of node's.

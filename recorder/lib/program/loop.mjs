@@ -5,6 +5,7 @@
 import process from "node:process";
 import timers from "node:timers";
 import { Random } from "../memory/random.mjs";
+import { foreignWork } from "./refusals.mjs";
 
 const { setImmediate: turnLater } = timers;
 /** @type {any} node's, with more than is written down of it */
@@ -31,6 +32,7 @@ const SOON_MILLISECONDS = 1_000;
  * @property {import("./timers.mjs").Timers} timers
  * @property {import("./ends.mjs").Ends} ends
  * @property {import("../memory/keepers.mjs").Keepers} keepers
+ * @property {(why: string) => never} refuse ends the run
  * @property {Set<{ refed: boolean, where: string }>} children workers that this thread has started
  */
 
@@ -66,10 +68,13 @@ export class Loop {
     for (;;) {
       this.#drain();
       if (ends.isOver) return;
-      if (resources().some((each) => READING.has(each))) {
+      const active = resources();
+      if (active.some((each) => READING.has(each))) {
         turnLater(this.#turn);
         return;
       }
+      const foreign = foreignWork(active);
+      if (foreign !== undefined) this.served.refuse(`waits for ${foreign} of node, which isn't simulated`);
       if (this.#hasTask()) moves.yield();
       else {
         const kept = this.#keepers();

@@ -21,7 +21,7 @@ import { Stores } from "../memory/stores.mjs";
 import { broadcastClass } from "./broadcast.mjs";
 import { Buffers } from "./buffers.mjs";
 import { Ends } from "./ends.mjs";
-import { furnishMemory, furnishProcess, furnishRefusals, furnishThreads, furnishTimers } from "./furnish.mjs";
+import { furnishMemory, furnishProcess, furnishThreads, furnishTimers } from "./furnish.mjs";
 import { Loop } from "./loop.mjs";
 import { Mesh } from "./mesh.mjs";
 import { Moves } from "./moves.mjs";
@@ -29,6 +29,7 @@ import { PortEvents, servePorts } from "./port-events.mjs";
 import { PortTable } from "../board/port-table.mjs";
 import { KIND, Ports, channelClass } from "./ports.mjs";
 import { printAtOnce } from "./printing.mjs";
+import { furnishRefusals } from "./refusals.mjs";
 import { argvOf, evaluated } from "./start.mjs";
 import { Threads } from "./threads.mjs";
 import { Timers } from "./timers.mjs";
@@ -94,7 +95,8 @@ const watching = {
     player.seen(place, from, to, writes);
   },
   isCalledByAgents,
-  refuse: (why) => refuse(`did something that the recorder can't record: ${why}`),
+  // There is no other way to watch a program.
+  refuse: (why) => refuse(`did something that the recorder can't record: ${why.replace(": --ordinary store lets it pass", "")}`),
 };
 
 /** Memory that no other thread can reach is nobody's affair: a wait there is how a program sleeps. */
@@ -172,7 +174,7 @@ function partsOf(player, blocks, mesh) {
   const timers = new Timers({ now: () => board.clock.now(), changed: () => {}, here: () => sourceHere() });
   const children = new Set();
   const keepers = new Keepers(shared.keepers[agent]);
-  const loop = new Loop({ moves, ports, events, timers, ends, keepers, children });
+  const loop = new Loop({ moves, ports, events, timers, ends, keepers, children, refuse });
   late.loop = loop;
   return { moves, buffers, ports, ends, events, timers, loop, children, threads: all, mesh, later };
 }
