@@ -48,6 +48,7 @@ declare module "node:worker_threads" {
     transferList?: MessagePort[];
     stdout?: boolean;
     stderr?: boolean;
+    execArgv?: string[];
     resourceLimits?: { maxYoungGenerationSizeMb?: number };
   }
   export class Worker implements Port {

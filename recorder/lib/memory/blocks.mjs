@@ -38,7 +38,7 @@ export class Blocks {
     this.lengths = lengths;
     /** @type {(SharedArrayBuffer | undefined)[]} the buffer of each block that this thread knows */
     this.buffers = [];
-    this.#clear();
+    this.clear();
   }
 
   /** @returns {number} how many blocks there are */
@@ -52,7 +52,7 @@ export class Blocks {
     for (let block = 0; block < words[COUNT]; block += 1) memory.known[block] = new Uint8Array(copies[block]);
     for (let block = 0; block < words[COUNT]; block += 1) memory.known[block].fill(0);
     words[COUNT] = 0;
-    this.#clear();
+    this.clear();
   }
 
   /**
@@ -94,7 +94,8 @@ export class Blocks {
     this.lengths[block] = length;
   }
 
-  #clear() {
+  /** This thread knows none. */
+  clear() {
     const { memory, lengths } = this;
     this.buffers = [];
     for (let block = 0; block < SCRIPT_LIMITS.blocks; block += 1) {

@@ -142,6 +142,13 @@ export class Buffers {
     this.shown.refuse("got shared memory that isn't a SharedArrayBuffer of the program, which can't be simulated");
   }
 
+  /** Nothing of an earlier run is left. */
+  clear() {
+    this.#known = new EngineWeakMap();
+    this.#own = [];
+    this.blocks.clear();
+  }
+
   /** @param {unknown} value @returns {value is SharedArrayBuffer} */
   static isShared(value) {
     return value instanceof EngineShared;

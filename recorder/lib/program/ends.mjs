@@ -77,7 +77,26 @@ export class Ends {
   /** Nothing keeps the thread alive. */
   leave() {
     if (!this.isEvaluated) own.exitCode ??= UNSETTLED;
-    this.#end(Number(own.exitCode ?? 0), this.isEvaluated ? "" : "has a top-level await that never settles");
+    const why = this.isEvaluated ? "" : "has a top-level await that never settles";
+    this.#emitExit(Number(own.exitCode ?? 0));
+    const code = Number(own.exitCode ?? 0);
+    const { agent, player: { table: { board } } } = this.leaving;
+    if (agent !== 0) {
+      this.#depart(code);
+      board.pass(agent);
+      return;
+    }
+    this.#give();
+    board.end.end(code === 0 ? "finished" : "failed", code === 0 ? "" : failedText(code, why));
+  }
+
+  /** Nothing of an earlier run is left. */
+  clear() {
+    this.isOver = false;
+    this.isEvaluated = false;
+    this.parentPort = undefined;
+    own.exitCode = undefined;
+    own._exiting = false;
   }
 
   /**
@@ -111,38 +130,54 @@ export class Ends {
 
   /** @param {number} code that listeners of `exit` get @param {string} text why, if that isn't its natural end */
   #end(code, text) {
+    this.#emitExit(code);
+    this.#go(Number(own.exitCode ?? code), text);
+  }
+
+  /** @param {number} code that listeners of `exit` get */
+  #emitExit(code) {
     this.isOver = true;
     try {
       emit("exit", code);
     } catch {
       own.exitCode ||= 1;
     }
-    this.#go(Number(own.exitCode ?? code), text);
   }
 
-  /** @param {number} code @param {string} text @returns {never} */
+  /** @param {number} code @param {string} text @returns {never} the program's code doesn't go on */
   #go(code, text) {
-    const { agent, player: { part } } = this.leaving;
-    if (agent !== 0) return this.#depart(code);
+    const { agent, player: { part, table: { board } } } = this.leaving;
+    if (agent !== 0) {
+      this.#depart(code);
+      board.turn.lay(agent);
+      board.pass(agent);
+      return board.turn.park(agent);
+    }
     part.enter();
     if (code === 0) part.end("finished", "");
-    const exited = `exited with code ${code}${text === "" ? "" : `: it ${text}`}`;
-    return part.end("failed", `agent 0 ${/^threw\b/.test(text) ? text : exited}`);
+    return part.end("failed", /^threw\b/.test(text) ? `agent 0 ${text}` : failedText(code, text));
   }
 
-  /** @param {number} code of a thread that another one has started @returns {never} */
+  /** What the first thread has done is taken. */
+  #give() {
+    const { agent, player: { part, table: { board } } } = this.leaving;
+    part.enter();
+    board.journal.countOrdinary(agent, part.accesses.count);
+    part.isPlaying = false;
+  }
+
+  /** @param {number} code of a thread that another one has started */
   #depart(code) {
-    const { agent, player, ports, threads } = this.leaving;
-    const { board } = player.table;
+    const { agent, player: { part, table: { board } }, ports, threads } = this.leaving;
     ports.send(this.parentPort, code, [], undefined, KIND.EXIT);
     threads.closePorts(agent);
     threads.endChildren(agent);
-    player.part.enter();
-    board.journal.countOrdinary(agent, player.part.accesses.count);
-    player.part.isPlaying = false;
+    part.enter();
+    board.journal.countOrdinary(agent, part.accesses.count);
+    part.isPlaying = false;
     board.line.become(agent, PHASE.FINISHED);
-    board.turn.lay(agent);
-    board.pass(agent);
-    return board.turn.park(agent);
   }
 }
+
+/** @param {number} code @param {string} why */
+const failedText = (code, why) => `agent 0 exited with code ${code}${why === "" ? "" : `: it ${why}`}`;

@@ -7,6 +7,7 @@ import timers from "node:timers";
 import timersPromises from "node:timers/promises";
 import threads from "node:worker_threads";
 import { construct, likeEngine, put } from "../primordials.mjs";
+import { member } from "./member.mjs";
 
 const { Proxy: EngineProxy } = globalThis;
 const EngineShared = SharedArrayBuffer;
@@ -21,12 +22,12 @@ const { syncBuiltinESMExports } = nodeModule;
  */
 export function furnishTimers(own) {
   for (const [name, each] of Object.entries(own.functions)) {
-    put(globalThis, name, each);
-    put(timers, name, each);
+    member(globalThis, name, each);
+    member(timers, name, each);
   }
-  for (const name of Object.keys(timersPromises)) put(timersPromises, name, own.promises[name]);
-  put(timers, "promises", timersPromises);
-  put(AbortSignal, "timeout", own.timeoutSignal);
+  for (const name of Object.keys(timersPromises)) member(timersPromises, name, own.promises[name]);
+  member(timers, "promises", timersPromises);
+  member(AbortSignal, "timeout", own.timeoutSignal);
 }
 
 /**
@@ -75,18 +76,18 @@ export function furnishMemory(made, refuse) {
  * @param {Record<string, unknown>} classes of `worker_threads`
  */
 export function furnishThreads({ agent, workerData, parentPort, argv, env, environment }, classes) {
-  for (const [name, each] of Object.entries(classes)) put(threads, name, each);
-  put(threads, "isMainThread", agent === 0);
-  put(threads, "threadId", agent);
-  put(threads, "workerData", workerData);
-  put(threads, "parentPort", parentPort);
-  put(threads, "getEnvironmentData", (/** @type {unknown} */ key) => environment.get(key));
-  put(threads, "setEnvironmentData", (/** @type {unknown} */ key, /** @type {unknown} */ value) => {
+  for (const [name, each] of Object.entries(classes)) member(threads, name, each);
+  member(threads, "isMainThread", agent === 0);
+  member(threads, "threadId", agent);
+  member(threads, "workerData", workerData);
+  member(threads, "parentPort", parentPort);
+  member(threads, "getEnvironmentData", (/** @type {unknown} */ key) => environment.get(key));
+  member(threads, "setEnvironmentData", (/** @type {unknown} */ key, /** @type {unknown} */ value) => {
     if (value === undefined) environment.delete(key);
     else environment.set(key, value);
   });
   for (const name of ["MessageChannel", "BroadcastChannel"]) {
-    if (classes[name] !== undefined) put(globalThis, name, classes[name]);
+    if (classes[name] !== undefined) member(globalThis, name, classes[name]);
   }
   /** @type {any} */
   const own = process;
@@ -98,8 +99,28 @@ export function furnishThreads({ agent, workerData, parentPort, argv, env, envir
  * @param {(code: unknown) => void} exit
  */
 export function furnishProcess(exit) {
-  put(process, "exit", likeEngine((/** @type {unknown} */ code) => exit(code), process.exit));
-  put(process, "reallyExit", (/** @type {unknown} */ code) => exit(code));
-  put(process, "abort", () => exit(134));
+  member(process, "exit", likeEngine((/** @type {unknown} */ code) => exit(code), process.exit));
+  member(process, "reallyExit", (/** @type {unknown} */ code) => exit(code));
+  member(process, "abort", () => exit(134));
   syncBuiltinESMExports();
+}
+
+/** @type {Map<string, Function[]>} what listens by itself, by the names of events */
+const listening = new Map();
+
+/** Remembers how the thread's process is before a program runs in it. */
+export function keepProcess() {
+  /** @type {any} */
+  const own = process;
+  own.execArgv = [];
+  for (const name of own.eventNames()) listening.set(name, own.rawListeners(name));
+}
+
+/** Nothing of an earlier run listens, or is a global of evaluated code. */
+export function restoreProcess() {
+  /** @type {any} */
+  const own = process;
+  for (const name of own.eventNames()) own.removeAllListeners(name);
+  for (const [name, listeners] of listening) for (const listener of listeners) own.on(name, listener);
+  delete (/** @type {any} */ (globalThis)).require;
 }

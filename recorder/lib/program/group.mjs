@@ -1,5 +1,5 @@
-// A group of threads that run a program, and the thread of their referee. Each of a program's threads takes part in one
-// run: afterwards another one takes its place. Some stand ready; a run that needs more gets more.
+// A group of threads that run a program, and the thread of their referee. Some stand ready; a run that needs more gets
+// more. A thread that ended amid its code can't begin again: another one takes its place.
 
 import { MessageChannel } from "node:worker_threads";
 import { SCRIPT_LIMITS } from "../../script/limits.mjs";
@@ -8,6 +8,7 @@ import { waysOf } from "../board/strategy/ways.mjs";
 import { WORD } from "../memory/layout.mjs";
 import { Refused } from "../options/refused.mjs";
 import { ownModules } from "../processes/own-modules.cjs";
+import { begunWith } from "../processes/thread.mjs";
 import { Group } from "../run/group.mjs";
 import { programMemory, programPlan } from "./program-memory.mjs";
 
@@ -22,6 +23,12 @@ const REFEREE_MODULE = new URL("../run/referee.mjs", import.meta.url);
 const FIRST_THREADS = 3;
 
 const { store, notify } = Atomics;
+
+/** What a thread needs that makes modules anew, besides the words of this process: see `graph.mjs`. */
+const FLAGS = [...process.execArgv, "--experimental-vm-modules", "--experimental-import-meta-resolve", "--expose-internals"];
+
+/** After so many runs threads are started anew: what a run leaves is little, but it grows. */
+const MOST_RUNS = 500;
 
 /** @type {() => { port1: any, port2: any }} */
 const channel = () => new MessageChannel();
@@ -38,6 +45,9 @@ export class ProgramGroup extends Group {
 
   /** @type {Promise<void>} settled when no more are being added */
   #growing = Promise.resolve();
+
+  /** How many runs were asked for. */
+  #made = 0;
 
   /** @type {number | undefined} the seed whose run prints */
   #loud = undefined;
@@ -67,8 +77,12 @@ export class ProgramGroup extends Group {
    */
   run(seeds, onOutcome) {
     this.#loud ??= seeds[0]?.seed;
-    const quiet = seeds.map((wanted) => (wanted.seed === this.#loud ? wanted : { ...wanted, isSilent: true }));
-    return super.run(quiet, onOutcome);
+    const all = seeds.map((wanted) => {
+      this.#made += 1;
+      const isFresh = wanted.isFresh || this.options.fresh || this.#made % MOST_RUNS === 0;
+      return { ...wanted, isFresh, isSilent: wanted.isSilent || wanted.seed !== this.#loud };
+    });
+    return super.run(all, onOutcome);
   }
 
   /** @param {number} agent whose thread is ended, and another one takes its place */
@@ -85,7 +99,8 @@ export class ProgramGroup extends Group {
     const { module: program, args, ordinary } = this.options;
     const { memory, plan, rules } = this;
     while (this.#spare.length < this.#ahead) {
-      const thread = this.thread();
+      const thread = begunWith(FLAGS);
+      this.threads.add(thread);
       thread.post({ modules, program, args, ordinary, memory, plan, rules });
       this.#spare.push(thread.next().then(() => thread));
     }

@@ -33,6 +33,7 @@ const SOON_MILLISECONDS = 1_000;
  * @property {import("./ends.mjs").Ends} ends
  * @property {import("../memory/keepers.mjs").Keepers} keepers
  * @property {(why: string) => never} refuse ends the run
+ * @property {() => void} goHome is called when the thread's part in the run is over, and none of its code goes on
  * @property {Set<{ refed: boolean, where: string }>} children workers that this thread has started
  */
 
@@ -55,6 +56,12 @@ export class Loop {
     this.#tasks.push({ name, act });
   }
 
+  /** Nothing of an earlier run is left. */
+  clear() {
+    this.#tasks = [];
+    this.#isTurning = true;
+  }
+
   /** Begins when the real loop turns. */
   begin() {
     const { board, agent } = this.served.moves;
@@ -67,7 +74,7 @@ export class Loop {
     const { ends, moves, keepers } = this.served;
     for (;;) {
       this.#drain();
-      if (ends.isOver) return;
+      if (ends.isOver) return this.served.goHome();
       const active = resources();
       if (active.some((each) => READING.has(each))) {
         turnLater(this.#turn);
@@ -75,15 +82,16 @@ export class Loop {
       }
       const foreign = foreignWork(active);
       if (foreign !== undefined) this.served.refuse(`waits for ${foreign} of node, which isn't simulated`);
-      if (this.#hasTask()) moves.yield();
-      else {
+      if (this.#hasTask()) {
+        if (!moves.offer()) return this.served.goHome();
+      } else {
         const kept = this.#keepers();
         if (kept.length === 0) {
-          if (this.#endsNow()) return;
+          if (this.#endsNow()) return this.served.goHome();
           continue;
         }
         keepers.write(kept.join("; "));
-        moves.idle(this.#untilTimer());
+        if (!moves.idle(this.#untilTimer())) return this.served.goHome();
       }
       this.#act();
     }

@@ -2,6 +2,7 @@
 // loop takes it. By them a thread is started, and buffers become known.
 
 import threads from "node:worker_threads";
+import { WORD } from "../memory/layout.mjs";
 import { uncurried } from "../primordials.mjs";
 
 const { receiveMessageOnPort: receive } = threads;
@@ -23,14 +24,12 @@ export class Mesh {
    * @param {Port} control from the thread that has started this one
    * @param {Port} port to that thread
    * @param {Int32Array} words of the board
-   * @param {number} threadsWord in which stands how many threads are ready
    */
-  constructor(agent, control, port, words, threadsWord) {
+  constructor(agent, control, port, words) {
     this.agent = agent;
     this.control = control;
     this.port = port;
     this.words = words;
-    this.threadsWord = threadsWord;
   }
 
   /** @param {string} kind of items @param {(item: any) => void} take */
@@ -43,11 +42,11 @@ export class Mesh {
    * @param {number} count
    */
   needs(count) {
-    const { words, threadsWord } = this;
-    if (load(words, threadsWord) >= count) return;
+    const { words } = this;
+    if (load(words, WORD.THREADS) >= count) return;
     post(this.port, { more: count });
-    for (let there = load(words, threadsWord); there < count; there = load(words, threadsWord)) {
-      wait(words, threadsWord, there);
+    for (let there = load(words, WORD.THREADS); there < count; there = load(words, WORD.THREADS)) {
+      wait(words, WORD.THREADS, there);
     }
   }
 
@@ -59,7 +58,7 @@ export class Mesh {
    */
   hand(agent, item, transferred = []) {
     this.#meet();
-    post(this.#peers[agent], item, transferred);
+    post(this.#peers[agent], { ...item, run: this.words[WORD.RUN] }, transferred);
   }
 
   /** @param {Item} item for all other threads */
@@ -67,7 +66,7 @@ export class Mesh {
     this.#meet();
     for (let agent = 0; agent < this.#peers.length; agent += 1) {
       const peer = this.#peers[agent];
-      if (peer !== undefined) post(peer, item);
+      if (peer !== undefined) post(peer, { ...item, run: this.words[WORD.RUN] });
     }
   }
 
@@ -78,7 +77,8 @@ export class Mesh {
       const peer = this.#peers[agent];
       if (peer === undefined) continue;
       for (let found = receive(peer); found !== undefined; found = receive(peer)) {
-        this.#takers[found.message.kind](found.message);
+        // What another run has left is nobody's.
+        if (found.message.run === this.words[WORD.RUN]) this.#takers[found.message.kind](found.message);
       }
     }
   }

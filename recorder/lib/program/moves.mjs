@@ -62,21 +62,25 @@ export class Moves {
 
   /** Lets others move before this thread goes on. */
   yield() {
-    const { player, board, agent } = this;
-    player.part.enter();
-    board.strategy.asks(agent, 0, 0, 0);
-    board.line.become(agent, PHASE.ASKS);
+    this.#ask();
     this.#goOn(undefined);
   }
 
+  /** The event loop has something to do: others may move before. @returns {boolean} whether the thread goes on */
+  offer() {
+    this.#ask();
+    return this.#resume(undefined);
+  }
+
   /**
-   * Waits until there is something to do.
+   * The event loop waits until there is something to do.
    * @param {number | undefined} milliseconds until a timer is due; undefined: there is none
+   * @returns {boolean} whether the thread goes on: else its run is over, or it was ended
    */
   idle(milliseconds) {
     this.player.part.enter();
     this.board.rest(this.agent, LOOP, milliseconds);
-    this.#goOn(milliseconds ?? 0);
+    return this.#resume(milliseconds ?? 0);
   }
 
   /** @param {number} milliseconds for which nobody can wake this thread; Infinity: nobody ever does */
@@ -93,9 +97,34 @@ export class Moves {
 
   /** @param {number | undefined} milliseconds of a rest; undefined: it was none */
   #goOn(milliseconds) {
-    const { player, board, agent } = this;
     this.count();
-    player.untilTurn();
+    this.player.untilTurn();
+    this.#begin(milliseconds);
+  }
+
+  /** @param {number | undefined} milliseconds as above @returns {boolean} whether the thread goes on */
+  #resume(milliseconds) {
+    const { board, agent, player: { part } } = this;
+    this.count();
+    if (!board.pass(agent)) board.turn.sleep(agent);
+    if (board.end.isOver() || board.line.phase(agent) === PHASE.FINISHED) {
+      part.isPlaying = false;
+      return false;
+    }
+    this.#begin(milliseconds);
+    return true;
+  }
+
+  #ask() {
+    const { player, board, agent } = this;
+    player.part.enter();
+    board.strategy.asks(agent, 0, 0, 0);
+    board.line.become(agent, PHASE.ASKS);
+  }
+
+  /** The thread has the turn. @param {number | undefined} milliseconds as above */
+  #begin(milliseconds) {
+    const { player, board, agent } = this;
     if (milliseconds !== undefined) board.deadlines.end(agent, milliseconds);
     board.turned();
     board.line.become(agent, PHASE.RUNS);

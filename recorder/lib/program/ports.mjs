@@ -15,6 +15,7 @@ const { WeakMap: EngineWeakMap } = globalThis;
 /** @type {{ new (type: string): { runInAsyncScope(act: () => void): void } }} */
 const Scope = /** @type {any} */ (AsyncResource);
 const post = uncurried(threads.MessagePort.prototype.postMessage);
+const close = uncurried(threads.MessagePort.prototype.close);
 
 /** What a message is, besides one of the program's code. */
 export const KIND = Object.freeze({ MESSAGE: 0, CLOSE: 1, ONLINE: 2, ERROR: 3, EXIT: 4 });
@@ -82,6 +83,13 @@ export class Ports {
   /** @param {World} world */
   constructor(world) {
     this.world = world;
+  }
+
+  /** Nothing of an earlier run is left. */
+  clear() {
+    for (const port of this.mine.values()) if (this.known(port).queue === undefined) close(port);
+    this.mine = new Map();
+    this.#metas = new EngineWeakMap();
   }
 
   /** @param {unknown} port @returns {Meta | undefined} */

@@ -2,7 +2,8 @@
 
 import nodeModule from "node:module";
 import process from "node:process";
-import { apply, defineProperty, getOwnPropertyDescriptor, getPrototypeOf, likeEngine, ownKeys, put } from "../primordials.mjs";
+import { apply, defineProperty, getOwnPropertyDescriptor, getPrototypeOf, likeEngine, ownKeys } from "../primordials.mjs";
+import { member } from "./member.mjs";
 
 const builtin = nodeModule.createRequire(import.meta.url);
 
@@ -45,18 +46,17 @@ const GLOBALS = Object.freeze(["fetch"]);
 /** What is there in a thread by itself, and isn't work that is under way. */
 const OURS = new Set(["Immediate", "MessagePort", "Timeout"]);
 
-/** @param {string} name of a module @param {string} member */
-const said = (name, member) => `${name.slice(name.indexOf(":") + 1)}.${member}, which isn't simulated`;
+/** @param {string} name of a module @param {string} what of it */
+const said = (name, what) => `${name.slice(name.indexOf(":") + 1)}.${what}, which isn't simulated`;
 
 /**
- * @param {Refuse} refuse
  * @param {Record<string, readonly string[]>} table
- * @param {(owner: any, name: string, member: string) => void} replace
+ * @param {(owner: any, name: string, key: string) => void} replace
  */
-function each(refuse, table, replace) {
-  for (const [name, members] of Object.entries(table)) {
+function each(table, replace) {
+  for (const [name, keys] of Object.entries(table)) {
     const owner = builtin(name);
-    for (const member of members) if (typeof owner[member] === "function") replace(owner, name, member);
+    for (const key of keys) if (typeof owner[key] === "function") replace(owner, name, key);
   }
 }
 
@@ -65,39 +65,37 @@ function each(refuse, table, replace) {
  * @param {Refuse} refuse
  */
 export function furnishRefusals(refuse) {
-  each(refuse, REFUSED, (owner, name, member) => {
-    put(owner, member, likeEngine(() => refuse(`called ${said(name, member)}`), owner[member]));
+  each(REFUSED, (owner, name, key) => {
+    member(owner, key, likeEngine(() => refuse(`called ${said(name, key)}`), owner[key]));
   });
-  each(refuse, REFUSED_LATER, (owner, name, member) => {
-    const engine = owner[member];
-    put(owner, member, likeEngine((/** @type {any[]} */ ...given) => {
-      if (typeof given[given.length - 1] === "function") {
-        refuse(`called ${said(name, `${member} with a callback`)}`);
-      }
+  each(REFUSED_LATER, (owner, name, key) => {
+    const engine = owner[key];
+    member(owner, key, likeEngine((/** @type {any[]} */ ...given) => {
+      if (typeof given[given.length - 1] === "function") refuse(`called ${said(name, `${key} with a callback`)}`);
       return apply(engine, owner, given);
     }, engine));
   });
-  each(refuse, REFUSED_CLASSES, (owner, name, member) => {
-    const engine = owner[member];
+  each(REFUSED_CLASSES, (owner, name, key) => {
+    const engine = owner[key];
     const Refused = function Refused() {
-      return refuse(`made a ${said(name, member)}`);
+      return refuse(`made a ${said(name, key)}`);
     };
     Refused.prototype = engine.prototype;
-    put(owner, member, likeEngine(Refused, engine));
+    member(owner, key, likeEngine(Refused, engine));
   });
   refuseOthers(refuse);
 }
 
 /** @param {Refuse} refuse */
 function refuseOthers(refuse) {
-  for (const name of GLOBALS) put(globalThis, name, () => refuse(`called ${name}, which isn't simulated`));
-  put(Atomics, "waitAsync", () => refuse("called Atomics.waitAsync, which isn't simulated yet"));
+  for (const name of GLOBALS) member(globalThis, name, () => refuse(`called ${name}, which isn't simulated`));
+  member(Atomics, "waitAsync", () => refuse("called Atomics.waitAsync, which isn't simulated yet"));
   const { subtle } = builtin("node:crypto").webcrypto;
   const methods = getPrototypeOf(subtle) ?? {};
   for (const name of ownKeys(methods)) {
     const found = getOwnPropertyDescriptor(methods, name);
     if (name === "constructor" || typeof found?.value !== "function") continue;
-    put(methods, name, () => refuse(`called crypto.subtle.${String(name)}, which isn't simulated`));
+    member(methods, name, () => refuse(`called crypto.subtle.${String(name)}, which isn't simulated`));
   }
   defineProperty(process, "stdin", { configurable: true, get: () => refuse("read process.stdin, which isn't simulated") });
 }

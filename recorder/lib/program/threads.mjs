@@ -38,8 +38,12 @@ export class Threads {
     if (this.board.line.waitsInBlock(agent)) this.table.cut();
     this.closePorts(agent);
     this.endChildren(agent);
-    this.board.line.become(agent, PHASE.FINISHED);
-    this.board.turn.lay(agent);
+    const { line, turn } = this.board;
+    const isIdle = line.isIdle(agent);
+    line.become(agent, PHASE.FINISHED);
+    // Its code is at no call, so its thread can begin again.
+    if (isIdle) turn.wake(agent);
+    else turn.lay(agent);
     return true;
   }
 

@@ -1,7 +1,9 @@
-// One thread of a program. It stands ready, with all replaced that shows a program the world, until the run's first
-// thread or another one starts it. Then it evaluates its module, and goes on by its event loop until it ends. It never
-// begins a second time.
+// One thread of a program. It stands ready, with all replaced that shows a program the world, until a run begins or
+// another thread starts it. Then it evaluates its module, made anew, and goes on by its event loop until it ends. If it
+// ends amid its code, it never begins again.
 
+import process from "node:process";
+import nodeTimers from "node:timers";
 import threads from "node:worker_threads";
 import { recordedAtomics } from "../agent/atomics.mjs";
 import { described } from "../agent/described.mjs";
@@ -18,10 +20,13 @@ import { Memory } from "../memory/memory.mjs";
 import { Records } from "../memory/records.mjs";
 import { Sources } from "../memory/sources.mjs";
 import { Stores } from "../memory/stores.mjs";
+import { onceMore } from "../processes/garbage.mjs";
 import { broadcastClass } from "./broadcast.mjs";
 import { Buffers } from "./buffers.mjs";
 import { Ends } from "./ends.mjs";
-import { furnishMemory, furnishProcess, furnishThreads, furnishTimers } from "./furnish.mjs";
+import {
+  furnishMemory, furnishProcess, furnishThreads, furnishTimers, keepProcess, restoreProcess,
+} from "./furnish.mjs";
 import { Loop } from "./loop.mjs";
 import { Mesh } from "./mesh.mjs";
 import { Moves } from "./moves.mjs";
@@ -52,6 +57,9 @@ const { Error: EngineError } = globalThis;
 
 const { port, program, args, memory: shared, plan, rules } = /** @type {Given} */ (threads.workerData);
 const receive = threads.receiveMessageOnPort;
+const { setImmediate: turnLater } = nodeTimers;
+const firstEnv = { ...process.env };
+const GRAPH_MODULE = new URL("./graph.mjs", import.meta.url);
 const chance = new Chance();
 
 /** @type {{ player: Player | undefined, buffers: Buffers | undefined }} none before the thread knows which one it is */
@@ -174,9 +182,11 @@ function partsOf(player, blocks, mesh) {
   const timers = new Timers({ now: () => board.clock.now(), changed: () => {}, here: () => sourceHere() });
   const children = new Set();
   const keepers = new Keepers(shared.keepers[agent]);
-  const loop = new Loop({ moves, ports, events, timers, ends, keepers, children, refuse });
+  /** @type {{ goHome: () => void }} */
+  const after = { goHome: () => {} };
+  const loop = new Loop({ moves, ports, events, timers, ends, keepers, children, refuse, goHome: () => after.goHome() });
   late.loop = loop;
-  return { moves, buffers, ports, ends, events, timers, loop, children, threads: all, mesh, later };
+  return { moves, buffers, ports, ends, events, timers, loop, children, threads: all, mesh, later, after };
 }
 
 /** @typedef {ReturnType<typeof partsOf>} Parts */
@@ -195,6 +205,7 @@ function furnish({ moves, buffers, ends, events, timers }) {
   furnishRefusals(refuse);
   furnishProcess((code) => ends.exit(code));
   ends.guard();
+  keepProcess();
 }
 
 /**
@@ -215,41 +226,79 @@ function taken({ mesh, ports, moves }) {
 
 /** @type {() => import("./workers.mjs").Start} */
 const mainStart = () =>
-  ({ url: program, isCode: false, workerData: null, argv: args, env: {}, environment: new Map() });
+  ({ url: program, isCode: false, workerData: null, argv: args, env: { ...firstEnv }, environment: new Map() });
 
 /**
  * Begins the thread's part in a run.
  * @param {Parts} parts
- * @param {(url: string) => Promise<unknown>} load
+ * @param {import("./graph.mjs").Graph} graph
  */
-function begin(parts, load) {
-  const { player } = parts.moves;
-  const { agent } = player;
-  const isMain = agent === 0;
-  const { start, parentPort } = isMain ? { start: mainStart(), parentPort: null } : taken(parts);
+function begin(parts, graph) {
+  const { agent } = parts.moves;
+  const { start, parentPort } = agent === 0 ? { start: mainStart(), parentPort: null } : taken(parts);
   const { moves, mesh, buffers, ports, threads: all, later, ends, loop } = parts;
-  const starting = { ports, moves, mesh, buffers, threads: all, here, refuse, later, environment: start.environment,
-    children: parts.children };
+  const starting = {
+    ports, moves, mesh, buffers, threads: all, here, refuse, later, environment: start.environment,
+    children: parts.children,
+  };
   furnishThreads({
-    agent, workerData: isMain ? null : parts.ports.unpacked(start.workerData), parentPort, argv: argvOf(start),
-    env: isMain ? undefined : start.env, environment: start.environment,
+    agent, workerData: agent === 0 ? null : ports.unpacked(start.workerData), parentPort, argv: argvOf(start),
+    env: start.env, environment: start.environment,
   }, {
     Worker: workerClass(starting), MessageChannel: channelClass(ports),
     receiveMessageOnPort: receiverOf(ports, moves),
     BroadcastChannel: broadcastClass({ ports, moves, mesh, buffers, uncaught: (thrown) => ends.uncaught(thrown) }),
   });
-  furnishProcess((code) => ends.exit(code));
-  if (!isMain) {
+  graph.begin();
+  if (agent !== 0) {
     ends.parentPort = parentPort;
     ports.send(parentPort, undefined, [], undefined, KIND.ONLINE);
   }
-  evaluated(start, load).then(() => {
+  evaluated(start, graph).then(() => {
     ends.isEvaluated = true;
   }, (thrown) => {
     ends.isEvaluated = true;
     ends.uncaught(thrown);
   });
   loop.begin();
+}
+
+/**
+ * Leaves nothing of a run in the thread, except for what its code has changed in the realm.
+ * @param {Parts} parts
+ */
+function clear({ buffers, ports, timers, loop, ends, children }) {
+  buffers.clear();
+  ports.clear();
+  timers.clear();
+  loop.clear();
+  ends.clear();
+  children.clear();
+  restoreProcess();
+}
+
+/**
+ * Awaits the thread's next part in a run, and begins it. It is called by the real loop.
+ * @param {Parts} parts
+ * @param {import("./graph.mjs").Graph} graph
+ */
+function serve(parts, graph) {
+  const { agent, player, board } = parts.moves;
+  onceMore();
+  player.awaitOrder();
+  if (agent !== 0) board.turn.sleep(agent);
+  if (board.end.isOver()) {
+    board.turn.goHome(agent);
+    turnLater(() => serve(parts, graph));
+    return;
+  }
+  player.begin();
+  try {
+    begin(parts, graph);
+  } catch (thrown) {
+    board.end.end("failed", `the recorder can't begin thread ${agent}: ${described(thrown)}`);
+    board.turn.park(agent);
+  }
 }
 
 /** @param {Ports} ports @param {Moves} moves */
@@ -265,29 +314,26 @@ const receiverOf = (ports, moves) => (/** @type {any} */ given) => {
   return { message: envelope.value };
 };
 
-/** @param {(url: string) => Promise<unknown>} load imports a module */
+/** @param {(url: string) => Promise<any>} load imports a module */
 export async function main(load) {
   const numbered = nextMessage();
+  const { Graph } = await load(GRAPH_MODULE.href);
+  const graph = new Graph({ refuse: (/** @type {string} */ what) => refuse(`used ${what}, which isn't simulated`) });
   port.postMessage({ begun: true });
   const { agent, control } = await numbered;
   chance.agent = agent;
   chance.begin(0);
   const { player, blocks } = playerOf(agent);
   const { board } = player.table;
-  const mesh = new Mesh(agent, control, port, board.words, WORD.THREADS);
-  const parts = partsOf(player, blocks, mesh);
+  const parts = partsOf(player, blocks, new Mesh(agent, control, port, board.words));
   self.player = player;
   self.buffers = parts.buffers;
   furnish(parts);
+  parts.after.goHome = () => {
+    clear(parts);
+    board.turn.goHome(agent);
+    turnLater(() => serve(parts, graph));
+  };
   port.postMessage({ ready: true });
-  player.awaitOrder();
-  if (agent !== 0) board.turn.sleep(agent);
-  if (board.end.isOver()) board.turn.park(agent);
-  player.begin();
-  try {
-    begin(parts, load);
-  } catch (thrown) {
-    board.end.end("failed", `the recorder can't begin thread ${agent}: ${described(thrown)}`);
-    board.turn.park(agent);
-  }
+  serve(parts, graph);
 }
