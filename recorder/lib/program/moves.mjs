@@ -122,7 +122,7 @@ export class Moves {
     board.line.become(agent, PHASE.ASKS);
   }
 
-  /** The thread has the turn. @param {number | undefined} milliseconds as above */
+  /** @param {number | undefined} milliseconds as above: the thread has the turn now */
   #begin(milliseconds) {
     const { player, board, agent } = this;
     if (milliseconds !== undefined) board.deadlines.end(agent, milliseconds);

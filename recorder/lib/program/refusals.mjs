@@ -2,6 +2,7 @@
 
 import nodeModule from "node:module";
 import process from "node:process";
+import { isCalledByAgents } from "../agent/frames.mjs";
 import { apply, defineProperty, getOwnPropertyDescriptor, getPrototypeOf, likeEngine, ownKeys } from "../primordials.mjs";
 import { member } from "./member.mjs";
 
@@ -97,7 +98,9 @@ function refuseOthers(refuse) {
     if (name === "constructor" || typeof found?.value !== "function") continue;
     member(methods, name, () => refuse(`called crypto.subtle.${String(name)}, which isn't simulated`));
   }
-  defineProperty(process, "stdin", { configurable: true, get: () => refuse("read process.stdin, which isn't simulated") });
+  // Node itself, and what lists the members of its modules, gets none.
+  const get = () => (isCalledByAgents(get) ? refuse("read process.stdin, which isn't simulated") : undefined);
+  defineProperty(process, "stdin", { configurable: true, get });
 }
 
 /**

@@ -2,8 +2,11 @@
 // another thread starts it. Then it evaluates its module, made anew, and goes on by its event loop until it ends. If it
 // ends amid its code, it never begins again.
 
+import buffer from "node:buffer";
+import crypto from "node:crypto";
 import process from "node:process";
 import nodeTimers from "node:timers";
+import util from "node:util";
 import threads from "node:worker_threads";
 import { recordedAtomics } from "../agent/atomics.mjs";
 import { described } from "../agent/described.mjs";
@@ -28,6 +31,7 @@ import {
   furnishMemory, furnishProcess, furnishThreads, furnishTimers, keepProcess, restoreProcess,
 } from "./furnish.mjs";
 import { Loop } from "./loop.mjs";
+import { listingOf } from "./member.mjs";
 import { Mesh } from "./mesh.mjs";
 import { Moves } from "./moves.mjs";
 import { PortEvents, servePorts } from "./port-events.mjs";
@@ -193,6 +197,7 @@ function partsOf(player, blocks, mesh) {
 
 /** @param {Parts} parts */
 function furnish({ moves, buffers, ends, events, timers }) {
+  const listAgain = listingOf([globalThis, buffer, crypto, process, util]);
   const { words } = moves.board;
   printAtOnce(() => words[WORD.IS_SILENT] === 0 && isPlaying());
   simulateTime(() => (isPlaying() ? playing().look() : 0));
@@ -205,6 +210,7 @@ function furnish({ moves, buffers, ends, events, timers }) {
   furnishRefusals(refuse);
   furnishProcess((code) => ends.exit(code));
   ends.guard();
+  listAgain();
   keepProcess();
 }
 
