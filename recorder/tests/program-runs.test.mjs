@@ -168,4 +168,50 @@ describe("the seed", () => {
     assert.ok(once.every(({ trace }) => trace !== undefined));
     assert.ok(new Set(once.map(({ script }) => script)).size > 3);
   });
+
+  it("draws which of a thread's tasks comes next", async (context) => {
+    const outcomes = await runsOf(context, {
+      "main.mjs": `import { MessageChannel } from "node:worker_threads";
+        let order = "";
+        for (const name of ["a", "b"]) {
+          const { port1, port2 } = new MessageChannel();
+          port2.once("message", () => { order += name; });
+          port1.postMessage(name);
+        }
+        setImmediate(() => { order += "i"; });
+        process.on("exit", () => { if (order !== "abi") throw process.exit(1 + ["aib", "bai", "bia", "iab", "iba"].indexOf(order)); });`,
+    }, { seeds: seedsTo(40) });
+    assert.ok(new Set(outcomes.map(({ detail }) => detail)).size >= 4);
+  });
+});
+
+describe("threads that are kept", () => {
+  it("find nothing of an earlier run, except for what its code has changed in the realm", async (context) => {
+    const outcomes = await runsOf(context, {
+      "main.mjs": `${MAIN}import { once } from "node:events";
+        import { count } from "./count.mjs";
+        import { createRequire } from "node:module";
+        const { counted } = createRequire(import.meta.url)("./counted.cjs");
+        if (count() !== 1 || counted() !== 1) throw new Error("a module is still there");
+        if (process.listenerCount("mine") > 0 || process.env.LEFT || process.exitCode) throw new Error("the process isn't new");
+        process.on("mine", () => {});
+        process.env.LEFT = "yes";
+        setInterval(() => {}, 10).unref();
+        globalThis.runs = (globalThis.runs ?? 0) + 1;
+        const word = new Int32Array(new SharedArrayBuffer(4));
+        const [worker, other] = [started(word), started(word)];
+        worker.postMessage("never taken");
+        await once(other, "exit");
+        other.terminate();
+        worker.unref();
+        if (Atomics.load(word, 0) < 1 || globalThis.runs > 1) process.exitCode = 40 + globalThis.runs;`,
+      "worker.mjs": `${WORKER}import { count } from "./count.mjs";
+        if (count() !== 1) throw new Error("a module is still there");
+        Atomics.add(workerData, 0, 1);`,
+      "count.mjs": "let counted = 0;\nexport const count = () => (counted += 1);",
+      "counted.cjs": "let counted = 0;\nexports.counted = () => (counted += 1);",
+    }, { seeds: seedsTo(4) });
+    // The realm's globals show that the thread is the same. Each run is made twice, the second time to learn its lines.
+    assert.deepEqual(outcomes.map(({ detail }) => detail), ["", ...[3, 5, 7].map((run) => `agent 0 exited with code 4${run}`)]);
+  });
 });
