@@ -3,6 +3,7 @@
 
 import Module, { createRequire } from "node:module";
 import path from "node:path";
+import v8 from "node:v8";
 import vm from "node:vm";
 import { fileURLToPath } from "node:url";
 import { CommonJS } from "./commonjs.mjs";
@@ -78,6 +79,9 @@ export class Graph {
    * @param {(name: string) => void} given.refuse called with what a program does that isn't simulated
    */
   constructor({ refuse }) {
+    // V8 keeps each compiled module for a later one with the same text, and never finds it, since each has callbacks of
+    // its own. Without this, 4,000 runs take 30 times as long for a module as the first, and memory grows.
+    /** @type {any} */ (v8).setFlagsFromString("--no-compilation-cache");
     makeWithoutWarning();
     /** @type {import("./commonjs.mjs").Import} */
     const importModule = (specifier, parent, attributes) => this.#dynamic(specifier, parent, attributes);
