@@ -17,6 +17,9 @@ const WAITING = 1;
 const STATE = 2;
 const NAME = 3;
 
+// Beside the number of who has started a thread.
+const BEGUN = 64;
+
 const STARTED = 1;
 const CLOSED = 2;
 
@@ -94,7 +97,17 @@ export class PortTable {
 
   /** @param {number} agent @returns {number} who has started it; of the first one it is `NOBODYS` */
   parent(agent) {
-    return agent === 0 ? NOBODYS : this.words[PARENTS + agent];
+    return agent === 0 ? NOBODYS : this.words[PARENTS + agent] & ~BEGUN;
+  }
+
+  /** @param {number} agent whose part in the run begins */
+  begins(agent) {
+    this.words[PARENTS + agent] |= BEGUN;
+  }
+
+  /** @param {number} agent @returns {boolean} whether its part has begun */
+  hasBegun(agent) {
+    return (this.words[PARENTS + agent] & BEGUN) !== 0;
   }
 
   /** @param {number} port @returns {number} how many messages wait there */

@@ -23,6 +23,11 @@ export class Threads {
     this.board.join(agent);
   }
 
+  /** @param {number} agent @returns {boolean} whether its part in the run has begun */
+  hasBegun(agent) {
+    return this.table.hasBegun(agent);
+  }
+
   /** @param {number} agent @returns {boolean} whether it hasn't ended */
   isAlive(agent) {
     return this.board.words[wordOf(agent, AGENT_WORD.PHASE)] !== PHASE.FINISHED;

@@ -64,6 +64,7 @@ const receive = threads.receiveMessageOnPort;
 const { setImmediate: turnLater } = nodeTimers;
 const firstEnv = { ...process.env };
 const GRAPH_MODULE = new URL("./graph.mjs", import.meta.url);
+const SURFACE_MODULE = new URL("./surface.mjs", import.meta.url);
 const chance = new Chance();
 
 /** @type {{ player: Player | undefined, buffers: Buffers | undefined }} none before the thread knows which one it is */
@@ -220,6 +221,7 @@ function furnish({ moves, buffers, ends, events, timers }) {
  * @returns {{ start: import("./workers.mjs").Start, parentPort: any }}
  */
 function taken({ mesh, ports, moves }) {
+  ports.world.table.begins(moves.agent);
   /** @type {Handed[]} */
   const handed = [];
   mesh.onItem("start", (item) => void handed.push(item));
@@ -324,6 +326,7 @@ const receiverOf = (ports, moves) => (/** @type {any} */ given) => {
 export async function main(load) {
   const numbered = nextMessage();
   const { Graph } = await load(GRAPH_MODULE.href);
+  const { refuseRest } = await load(SURFACE_MODULE.href);
   const graph = new Graph({ refuse: (/** @type {string} */ what) => refuse(`used ${what}, which isn't simulated`) });
   port.postMessage({ begun: true });
   const { agent, control } = await numbered;
@@ -335,6 +338,7 @@ export async function main(load) {
   self.player = player;
   self.buffers = parts.buffers;
   furnish(parts);
+  refuseRest({ refuse: (/** @type {string} */ name) => refuse(`called ${name}, which isn't simulated`), isPlaying });
   parts.after.goHome = () => {
     clear(parts);
     board.turn.goHome(agent);

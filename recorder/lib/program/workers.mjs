@@ -158,17 +158,18 @@ class Worker extends EventEmitter {
     /** @type {Promise<number | undefined>} */
     const ended = new Promise((done) => this.#awaiting.push(done));
     // If it has ended by itself, that comes by its port.
-    if (all.end(this.#agent)) later("exit", () => this.#leave());
+    const code = all.hasBegun(this.#agent) ? 1 : 0;
+    if (all.end(this.#agent)) later("exit", () => this.#leave(code));
     return ended;
   }
 
-  /** What was sent before comes before the end. */
-  #leave() {
+  /** @param {number} code of its end: what was sent before comes before that */
+  #leave(code) {
     const { ports } = world();
     for (let left = ports.take(this.#port); left !== undefined; left = ports.take(this.#port)) {
       if (left.kind !== KIND.CLOSE) this.#take(left);
     }
-    this.#gone(1);
+    this.#gone(code);
   }
 
   /** @param {import("./ports.mjs").Envelope} envelope */
