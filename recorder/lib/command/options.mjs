@@ -32,6 +32,7 @@ const helpOf = ([name, { help: [argument, text] = [], letter }]) =>
 const ROWS = rowsOf("command");
 
 export const USAGE = `usage: ${usageWords("record")} MODULE [options] [-- arguments for the agents]
+       ${usageWords("record")} --program FILE [options] [-- arguments for the program]
 
 Runs the agents of a module under seeded schedules, and keeps the first run that fails as a script for sabsim.
 
