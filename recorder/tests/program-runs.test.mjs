@@ -196,7 +196,7 @@ describe("threads that are kept", () => {
         if (process.listenerCount("mine") > 0 || process.env.LEFT || process.exitCode) throw new Error("the process isn't new");
         process.on("mine", () => {});
         process.env.LEFT = "yes";
-        await new Promise((done) => setTimeout(done, 50));
+        await new Promise((done) => setTimeout(done, 3_000));
         globalThis.runs = (globalThis.runs ?? 0) + 1;
         const word = new Int32Array(new SharedArrayBuffer(4));
         const [worker, other] = [started(word), started(word)];
@@ -205,7 +205,7 @@ describe("threads that are kept", () => {
         other.terminate();
         worker.unref();
         if (Atomics.load(word, 0) < 1 || globalThis.runs > 1) process.exitCode = 40 + globalThis.runs;
-        setTimeout(() => { process.exitCode = 9; throw new Error("a timer is still there"); }, 20).unref();`,
+        setTimeout(() => { process.exitCode = 9; throw new Error("a timer is still there"); }, 2_000).unref();`,
       "worker.mjs": `${WORKER}import { count } from "./count.mjs";
         if (count() !== 1) throw new Error("a module is still there");
         Atomics.add(workerData, 0, 1);`,
