@@ -196,8 +196,8 @@ describe("threads that are kept", () => {
         if (process.listenerCount("mine") > 0 || process.env.LEFT || process.exitCode) throw new Error("the process isn't new");
         process.on("mine", () => {});
         process.env.LEFT = "yes";
-        await new Promise((done) => setTimeout(done, 3_000));
         globalThis.runs = (globalThis.runs ?? 0) + 1;
+        await new Promise((done) => setTimeout(done, 3_000 * globalThis.runs));
         const word = new Int32Array(new SharedArrayBuffer(4));
         const [worker, other] = [started(word), started(word)];
         worker.postMessage("never taken");
