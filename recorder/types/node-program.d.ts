@@ -14,3 +14,12 @@ declare module "node:timers/promises" {
 declare class DOMException extends Error {
   constructor(message?: string, name?: string);
 }
+
+declare module "node:events" {
+  export const EventEmitter: any;
+}
+
+declare module "node:readline" {
+  const all: any;
+  export default all;
+}
