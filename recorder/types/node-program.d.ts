@@ -16,7 +16,12 @@ declare class DOMException extends Error {
 }
 
 declare module "node:events" {
-  export const EventEmitter: { new (): { emit(name: string, ...given: any[]): boolean } };
+  export const EventEmitter: any;
+}
+
+declare module "node:readline" {
+  const all: any;
+  export default all;
 }
 
 declare class Event {

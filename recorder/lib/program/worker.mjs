@@ -64,6 +64,7 @@ const receive = threads.receiveMessageOnPort;
 const { setImmediate: turnLater } = nodeTimers;
 const firstEnv = { ...process.env };
 const GRAPH_MODULE = new URL("./graph.mjs", import.meta.url);
+const TWINS_MODULE = new URL("./twins.mjs", import.meta.url);
 const SURFACE_MODULE = new URL("./surface.mjs", import.meta.url);
 const chance = new Chance();
 
@@ -196,14 +197,18 @@ function partsOf(player, blocks, mesh) {
 
 /** @typedef {ReturnType<typeof partsOf>} Parts */
 
-/** @param {Parts} parts */
-function furnish({ moves, buffers, ends, events, timers }) {
+/**
+ * @param {Parts} parts
+ * @param {(given: import("./twin-calls.mjs").Given) => void} putTwins of `twins.mjs`
+ */
+function furnish({ moves, buffers, ends, events, timers, later }, putTwins) {
   const listAgain = listingOf([globalThis, buffer, crypto, process, util]);
   const { words } = moves.board;
   printAtOnce(() => words[WORD.IS_SILENT] === 0 && isPlaying());
   simulateTime(() => (isPlaying() ? playing().look() : 0));
   simulateChance(chance);
   watchRealm(watching);
+  putTwins({ later, isPlaying });
   furnishMemory((buffer) => buffers.made(buffer, sourceHere()), refuse);
   globalThis.Atomics = atomicsOf(moves);
   furnishTimers(timers);
@@ -327,6 +332,7 @@ export async function main(load) {
   const numbered = nextMessage();
   const { Graph } = await load(GRAPH_MODULE.href);
   const { refuseRest } = await load(SURFACE_MODULE.href);
+  const { putTwins } = await load(TWINS_MODULE.href);
   const graph = new Graph({ refuse: (/** @type {string} */ what) => refuse(`used ${what}, which isn't simulated`) });
   port.postMessage({ begun: true });
   const { agent, control } = await numbered;
@@ -337,7 +343,7 @@ export async function main(load) {
   const parts = partsOf(player, blocks, new Mesh(agent, control, port, board.words));
   self.player = player;
   self.buffers = parts.buffers;
-  furnish(parts);
+  furnish(parts, putTwins);
   refuseRest({ refuse: (/** @type {string} */ name) => refuse(`called ${name}, which isn't simulated`), isPlaying });
   parts.after.goHome = () => {
     clear(parts);
