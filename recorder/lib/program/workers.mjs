@@ -126,9 +126,8 @@ class Worker extends EventEmitter {
     this.#port = port;
     this.#own = { refed: true, where: world().here() };
     this.threadId = agent;
-    this.stdin = null;
-    this.stdout = null;
-    this.stderr = null;
+    // Nobody reads or writes them: what asks for them is refused.
+    for (const name of REFUSED) /** @type {any} */ (this)[name] = null;
     this.resourceLimits = {};
     const { ports, children } = world();
     children.add(this.#own);
@@ -153,7 +152,8 @@ class Worker extends EventEmitter {
   /** @returns {Promise<number | undefined>} its exit code */
   terminate() {
     const { moves, threads: all, later } = world();
-    moves.yield();
+    // In node, too, one that has just been started is ended before it begins.
+    if (all.hasBegun(this.#agent)) moves.yield();
     if (!this.#isAlive) return Promise.resolve(undefined);
     /** @type {Promise<number | undefined>} */
     const ended = new Promise((done) => this.#awaiting.push(done));
