@@ -21,6 +21,7 @@ const WITHOUT = Object.freeze({
 export function runFrom(given, positionals) {
   const { program } = given;
   if (program === undefined) {
+    if (given.stuck !== undefined) throw new Refused("--stuck stands beside --program: only programs can be stuck");
     if (positionals.length === 1) return { module: positionals[0], isProgram: false };
     const why = positionals.length === 0 ? "the agents' module is missing" : "there may be one module of agents only";
     throw new Refused(`${why}; --help shows more`);

@@ -75,6 +75,9 @@ export const OPTIONS = Object.freeze({
   unrecorded: word(["fail", "allow"],
     ["HOW", "shared memory that isn't recorded, as a SharedArrayBuffer that the code makes itself. fail: a run in which "
     + "agents use some fails; allow: it is only reported (fail)"]),
+  stuck: { kind: choice(["fail", "allow"]), of: COMMAND, isShared: true,
+    help: ["HOW", "fail: a run of a program that is stuck fails; allow: it is only reported, as for a program that people "
+    + "end by Ctrl-C (fail)"] },
   clock: word(["run", "real"],
     ["WHICH", "the time that clocks tell agents: run (the run's own, which comes from the seed) or real (run)"]),
   maxMoves: rule(whole(1, SCRIPT_LIMITS.moves), SCRIPT_LIMITS.moves,

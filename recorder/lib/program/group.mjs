@@ -65,7 +65,7 @@ export class ProgramGroup extends Group {
     this.memory = programMemory(plan, this.options.logEvents);
     this.board = new Board(this.memory.board, this.rules);
     const options = this.refereeOptions({ hasInit: false, hasCheck: false });
-    referee.post({ memory: this.memory, plan, rules: this.rules, options: { ...options, isProgram: true, fresh: false } });
+    referee.post({ memory: this.memory, plan, rules: this.rules, options: { ...options, stuck: this.options.stuck, isProgram: true, fresh: false } });
     this.#prepare();
     meanwhile();
     await this.#grow(FIRST_THREADS);
@@ -76,7 +76,8 @@ export class ProgramGroup extends Group {
    * @param {Parameters<Group["run"]>[1]} onOutcome
    */
   run(seeds, onOutcome) {
-    this.#loud ??= seeds[0]?.seed;
+    // Of several jobs the one prints that makes the first run of all.
+    this.#loud ??= /** @type {{ first?: number }} */ (this.options).first ?? seeds[0]?.seed;
     const all = seeds.map((wanted) => {
       this.#made += 1;
       const isFresh = wanted.isFresh || this.options.fresh || this.#made % MOST_RUNS === 0;

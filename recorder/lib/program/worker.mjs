@@ -192,7 +192,7 @@ function partsOf(player, blocks, mesh) {
   const after = { goHome: () => {} };
   const loop = new Loop({ moves, ports, events, timers, ends, keepers, children, refuse, goHome: () => after.goHome() });
   late.loop = loop;
-  return { moves, buffers, ports, ends, events, timers, loop, children, threads: all, mesh, later, after };
+  return { moves, buffers, ports, ends, events, timers, loop, children, threads: all, mesh, later, after, keepers };
 }
 
 /** @typedef {ReturnType<typeof partsOf>} Parts */
@@ -237,9 +237,12 @@ function taken({ mesh, ports, moves }) {
   return { start, parentPort: moved[moved.length - 1] };
 }
 
+/** @param {string} url @returns {string} the last part of its path */
+const fileName = (url) => (url.startsWith("data:") ? "a data: URL" : url.slice(url.lastIndexOf("/") + 1));
+
 /** @type {() => import("./workers.mjs").Start} */
 const mainStart = () =>
-  ({ url: program, isCode: false, workerData: null, argv: args, env: { ...firstEnv }, environment: new Map() });
+  ({ url: program, isCode: false, workerData: null, argv: args, env: { ...firstEnv }, environment: new Map(), where: "" });
 
 /**
  * Begins the thread's part in a run.
@@ -263,6 +266,7 @@ function begin(parts, graph) {
     BroadcastChannel: broadcastClass({ ports, moves, mesh, buffers, uncaught: (thrown) => ends.uncaught(thrown) }),
   });
   graph.begin();
+  parts.keepers.setName(`${start.isCode ? "evaluated code" : fileName(start.url)}, started at ${start.where}`);
   if (agent !== 0) {
     ends.parentPort = parentPort;
     ports.send(parentPort, undefined, [], undefined, KIND.ONLINE);

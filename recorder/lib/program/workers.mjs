@@ -35,6 +35,7 @@ const { SHARE_ENV } = /** @type {any} */ (threads);
  * @property {string[]} argv
  * @property {Record<string, string | undefined>} env
  * @property {Map<unknown, unknown>} environment
+ * @property {string} where it was started
  */
 
 /** @param {string} message @param {string} code */
@@ -78,7 +79,7 @@ function needsSimulated(options, refuse) {
  * @param {Function} called the function that the program's code has called
  * @returns {{ agent: number, port: any }} its number, and the port to it
  */
-function started({ ports, moves, mesh, buffers, threads: all, refuse, environment }, file, options, called) {
+function started({ ports, moves, mesh, buffers, threads: all, refuse, environment, here }, file, options, called) {
   needsSimulated(options, refuse);
   const url = urlOf(file, options);
   const workerData = sent(options.workerData, buffers);
@@ -93,7 +94,10 @@ function started({ ports, moves, mesh, buffers, threads: all, refuse, environmen
   const moved = [...list.filter((each) => ports.metaOf(each) !== undefined), port2];
   const ids = moved.map((each) => ports.known(each).id);
   const env = { ...(options.env ?? process.env) };
-  const start = { url, isCode: options.eval === true, workerData, argv: [...options.argv ?? []].map(String), env, environment };
+  const start = {
+    url, isCode: options.eval === true, workerData, argv: [...options.argv ?? []].map(String), env, environment,
+    where: here(),
+  };
   mesh.hand(agent, { kind: "start", start, number, ports: moved, ids }, [...list, port2]);
   for (const each of moved) ports.leave(each);
   all.start(agent);

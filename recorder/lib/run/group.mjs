@@ -30,6 +30,7 @@ import { within } from "./within.mjs";
 /**
  * @typedef {object} GroupOptions
  * @property {string} module the URL of the agents' module
+ * @property {"fail" | "allow"} [stuck] whether a run of a program that is stuck fails
  * @property {boolean} [isProgram] whether the module is a program that starts its threads itself
  * @property {string[]} args for the agents
  * @property {number} [agents] how many

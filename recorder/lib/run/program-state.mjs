@@ -60,13 +60,17 @@ export class ProgramState {
   }
 
   /**
-   * Each thread that has nothing to do, with what keeps it alive.
+   * What each thread is, and what keeps those alive that have nothing to do.
    * @param {string} ending of the run
    * @returns {string[]} a line each
    */
   idle(ending) {
     if (ending !== "stuck" && ending !== "deadlock") return [];
+    const named = this.threads.filter((agent) => agent > 0 && this.keepers[agent].name() !== "");
     const idle = this.threads.filter((agent) => this.board.line.isIdle(agent));
-    return idle.map((agent) => `agent ${agent} has nothing to do, and is kept alive by ${this.keepers[agent].read()}`);
+    return [
+      ...named.map((agent) => `agent ${agent} is ${this.keepers[agent].name()}`),
+      ...idle.map((agent) => `agent ${agent} has nothing to do, and is kept alive by ${this.keepers[agent].read()}`),
+    ];
   }
 }

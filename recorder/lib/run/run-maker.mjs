@@ -47,6 +47,7 @@ import { unseenText } from "./unseen.mjs";
  * @property {"fail" | "allow"} unrecorded
  * @property {"library" | "module" | undefined} init whose it is, if there is one
  * @property {"library" | "module" | undefined} check whose it is, if there is one
+ * @property {"fail" | "allow"} [stuck] whether a run of a program that is stuck fails
  * @property {boolean} [isProgram] whether a program of several threads is run, and no module of agents
  */
 

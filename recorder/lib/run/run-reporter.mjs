@@ -44,7 +44,8 @@ export class RunReporter {
     const { deadlines, journal, row } = maker.board;
     const draws = row.told();
     const unrecorded = unrecordedIn(found.unseen, this.sourceNames.placeName);
-    const fails = ending !== "finished" && !(ending === "bound" && options.bounds === "allow");
+    const isAllowed = (ending === "bound" && options.bounds === "allow") || (ending === "stuck" && options.stuck === "allow");
+    const fails = ending !== "finished" && !isAllowed;
     const early = deadlines.early();
     return {
       seed,
