@@ -302,14 +302,19 @@ test("a file that is written anew is read anew", async () => {
     "main.mjs": `
       import { writeFileSync } from "fs"; import { createRequire } from "module";
       globalThis.times = (globalThis.times ?? 0) + 1;
+      const { times } = globalThis;
       for (const [name, text] of [["made.mjs", "export const n = "], ["made.cjs", "exports.n = "]]) {
-        writeFileSync(new URL(name, import.meta.url), text + globalThis.times);
+        writeFileSync(new URL(name, import.meta.url), text + times);
       }
+      writeFileSync(new URL("either.js", import.meta.url), times === 2 ? "export const way = 'module';" : "exports.way = 'commonjs';");
+      writeFileSync(new URL("names.cjs", import.meta.url), "exports.name" + times + " = 1;");
+      console.log((await import("./either.js")).way, Object.keys(await import("./names.cjs")).join());
       console.log((await import("./made.mjs")).n === globalThis.times, (await import("./made.cjs")).n === globalThis.times,
         createRequire(import.meta.url)("./made.cjs").n === globalThis.times);`,
   });
   const [runs] = await ownRuns([pathToFileURL(join(folder, "written/main.mjs")).href]);
-  assert.deepEqual(runs, Array(3).fill(["true true true"]));
+  assert.deepEqual(runs, ["commonjs", "module", "commonjs"].map((way, at) =>
+    [`${way} default,name${at + 1}`, "true true true"]));
 });
 
 test("a thread makes graphs as a process does, without a warning", async () => {
@@ -350,4 +355,16 @@ test("graphs that are over are garbage: memory and time of a run stay", async ()
   const { heaps, times } = JSON.parse((await execute(process.execPath, words)).stdout);
   assert.ok(heaps[3] < heaps[0] * 1.2, `bytes after each 150 runs: ${heaps}`);
   assert.ok(times[3] < times[0] * 2, `microseconds of each 150 runs: ${times}`);
+});
+
+test("a file that is gone isn't found where it was in the run before", async () => {
+  programIn(join(folder, "gone"), {
+    "main.cjs": `
+      const fs = require("fs"); globalThis.goneTimes = (globalThis.goneTimes ?? 0) + 1; const file = require("path").join(__dirname, "x.js");
+      if (globalThis.goneTimes === 1) fs.writeFileSync(file, "module.exports = 1;"); else fs.rmSync(file, { force: true });
+      try { console.log(require("./x")); } catch (error) { console.log(error.code); }
+      import("./x.js").then((m) => console.log(m.default), (error) => console.log(error.code));`,
+  });
+  const [runs] = await ownRuns([pathToFileURL(join(folder, "gone/main.cjs")).href], 2);
+  assert.deepEqual(runs, [["1", "1"], ["MODULE_NOT_FOUND", "ERR_MODULE_NOT_FOUND"]]);
 });

@@ -84,6 +84,7 @@ function inProcess(code) {
 
 test("all that is refused calls `refuse` with its name, by require, node: and getBuiltinModule", () => {
   const found = inProcess(`
+    const early = by(() => process.getBuiltinModule("node:dgram").createSocket());
     const ofMembers = [by(() => require("fs").promises.watch()), by(() => require("dns").promises.lookup())];
     // What several modules export is refused by one of its names.
     const names = new Map();
@@ -105,7 +106,7 @@ test("all that is refused calls `refuse` with its name, by require, node: and ge
       const isMade = shown.includes(made) || made === "TypeError: value is not a constructor";
       return shown.includes(called) && isMade ? [] : [[shown, called, made]];
     });
-    console.log(JSON.stringify([wrong, names.size > 150 || names.size, by(() => process.getBuiltinModule("node:dgram").createSocket()),
+    console.log(JSON.stringify([wrong, names.size > 150 || names.size, early,
       by(() => require("node:cluster").fork()), by(() => new Blob([]).text()), by(() => crypto.subtle.digest()),
       by(() => WebAssembly.compileStreaming()), by(() => process.umask(0)), by(() => typeof process.umask()),
       by(() => require("inspector").console.log(1)), by(() => fetch("http://x")),
