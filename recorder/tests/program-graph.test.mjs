@@ -9,8 +9,10 @@ import { dirname, join } from "node:path";
 import { after, test } from "node:test";
 import { fileURLToPath, pathToFileURL } from "node:url";
 import { promisify } from "node:util";
+import { Worker } from "node:worker_threads";
+import { GRAPH_FLAGS } from "../lib/program/graph-flags.mjs";
 
-const FLAGS = ["--no-warnings", "--experimental-vm-modules", "--experimental-import-meta-resolve", "--expose-internals"];
+const FLAGS = ["--no-warnings", ...GRAPH_FLAGS];
 const PROCESS = fileURLToPath(new URL("helpers/graph-process.mjs", import.meta.url));
 
 function programIn(folder, files) {
@@ -300,12 +302,69 @@ test("a file that is written anew is read anew", async () => {
     "main.mjs": `
       import { writeFileSync } from "fs"; import { createRequire } from "module";
       globalThis.times = (globalThis.times ?? 0) + 1;
+      const { times } = globalThis;
       for (const [name, text] of [["made.mjs", "export const n = "], ["made.cjs", "exports.n = "]]) {
-        writeFileSync(new URL(name, import.meta.url), text + globalThis.times);
+        writeFileSync(new URL(name, import.meta.url), text + times);
       }
+      writeFileSync(new URL("either.js", import.meta.url), times === 2 ? "export const way = 'module';" : "exports.way = 'commonjs';");
+      writeFileSync(new URL("names.cjs", import.meta.url), "exports.name" + times + " = 1;");
+      console.log((await import("./either.js")).way, Object.keys(await import("./names.cjs")).join());
       console.log((await import("./made.mjs")).n === globalThis.times, (await import("./made.cjs")).n === globalThis.times,
         createRequire(import.meta.url)("./made.cjs").n === globalThis.times);`,
   });
   const [runs] = await ownRuns([pathToFileURL(join(folder, "written/main.mjs")).href]);
-  assert.deepEqual(runs, Array(3).fill(["true true true"]));
+  assert.deepEqual(runs, ["commonjs", "module", "commonjs"].map((way, at) =>
+    [`${way} default,name${at + 1}`, "true true true"]));
+});
+
+test("a thread makes graphs as a process does, without a warning", async () => {
+  programIn(join(folder, "thread"), {
+    "main.mjs": `import { threadId } from "worker_threads"; import c from "./c.cjs"; console.log(threadId > 0, c, await import("./d.mjs"));`,
+    "c.cjs": `module.exports = typeof require;`, "d.mjs": `export const d = 1;`,
+  });
+  const argv = [JSON.stringify([pathToFileURL(join(folder, "thread/main.mjs")).href]), "2"];
+  const worker = new Worker(PROCESS, { argv, execArgv: [...GRAPH_FLAGS], stdout: true, stderr: true });
+  const texts = { stdout: "", stderr: "" };
+  for (const name of ["stdout", "stderr"]) worker[name].on("data", (data) => { texts[name] += data; });
+  await new Promise((done) => worker.on("exit", done));
+  assert.equal(texts.stderr, "");
+  assert.deepEqual(JSON.parse(texts.stdout), [Array(2).fill(["true function [Module: null prototype] { d: 1 }"])]);
+});
+
+test("graphs that are over are garbage: memory and time of a run stay", async () => {
+  programIn(join(folder, "memory"), {
+    "main.mjs": `import { a } from "./a.mjs"; import c from "./c.cjs"; import fs from "fs"; globalThis.sum = a + c.c + (await import("./d.mjs")).d;`,
+    "a.mjs": `export { a } from "./b.mjs"; export const list = Array.from({ length: 1_000 }, (_, at) => at);`,
+    "b.mjs": `export const a = 1;`, "c.cjs": `exports.c = 2; exports.later = () => import("./d.mjs");`, "d.mjs": `export const d = 3;`,
+  });
+  const url = pathToFileURL(join(folder, "memory/main.mjs")).href;
+  const graph = new URL("../lib/program/graph.mjs", import.meta.url).href;
+  const code = `
+    import { Graph } from ${JSON.stringify(graph)};
+    const graph = new Graph({ refuse() {} }); const turn = () => new Promise((done) => setTimeout(done, 10));
+    const heaps = []; const times = [];
+    for (let part = 0; part < 4; part += 1) {
+      const begun = process.cpuUsage().user;
+      for (let run = 0; run < 150; run += 1) { graph.begin(); await graph.enter(${JSON.stringify(url)}); }
+      times.push(process.cpuUsage().user - begun);
+      for (let time = 0; time < 3; time += 1) { gc(); await turn(); }
+      heaps.push(process.memoryUsage().heapUsed);
+    }
+    console.log(JSON.stringify({ heaps, times }));`;
+  const words = ["--expose-gc", ...FLAGS, "--input-type=module", "--eval", code];
+  const { heaps, times } = JSON.parse((await execute(process.execPath, words)).stdout);
+  assert.ok(heaps[3] < heaps[0] * 1.2, `bytes after each 150 runs: ${heaps}`);
+  assert.ok(times[3] < times[0] * 2, `microseconds of each 150 runs: ${times}`);
+});
+
+test("a file that is gone isn't found where it was in the run before", async () => {
+  programIn(join(folder, "gone"), {
+    "main.cjs": `
+      const fs = require("fs"); globalThis.goneTimes = (globalThis.goneTimes ?? 0) + 1; const file = require("path").join(__dirname, "x.js");
+      if (globalThis.goneTimes === 1) fs.writeFileSync(file, "module.exports = 1;"); else fs.rmSync(file, { force: true });
+      try { console.log(require("./x")); } catch (error) { console.log(error.code); }
+      import("./x.js").then((m) => console.log(m.default), (error) => console.log(error.code));`,
+  });
+  const [runs] = await ownRuns([pathToFileURL(join(folder, "gone/main.cjs")).href], 2);
+  assert.deepEqual(runs, [["1", "1"], ["MODULE_NOT_FOUND", "ERR_MODULE_NOT_FOUND"]]);
 });

@@ -84,6 +84,8 @@ function inProcess(code) {
 
 test("all that is refused calls `refuse` with its name, by require, node: and getBuiltinModule", () => {
   const found = inProcess(`
+    const early = by(() => process.getBuiltinModule("node:dgram").createSocket());
+    const ofMembers = [by(() => require("fs").promises.watch()), by(() => require("dns").promises.lookup())];
     // What several modules export is refused by one of its names.
     const names = new Map();
     const see = (owner, name, shown) => {
@@ -104,15 +106,15 @@ test("all that is refused calls `refuse` with its name, by require, node: and ge
       const isMade = shown.includes(made) || made === "TypeError: value is not a constructor";
       return shown.includes(called) && isMade ? [] : [[shown, called, made]];
     });
-    console.log(JSON.stringify([wrong, names.size > 150 || names.size, by(() => process.getBuiltinModule("node:dgram").createSocket()),
+    console.log(JSON.stringify([wrong, names.size > 150 || names.size, early,
       by(() => require("node:cluster").fork()), by(() => new Blob([]).text()), by(() => crypto.subtle.digest()),
       by(() => WebAssembly.compileStreaming()), by(() => process.umask(0)), by(() => typeof process.umask()),
       by(() => require("inspector").console.log(1)), by(() => fetch("http://x")),
-      by(() => require("domain")), by(() => require("node:domain")),
+      by(() => require("domain")), by(() => require("node:domain")), ofMembers,
       PerformanceObserver === require("perf_hooks").PerformanceObserver,
       CompressionStream === require("stream/web").CompressionStream]));`);
   assert.deepEqual(found, [[], true, "dgram.createSocket", "cluster.fork", "Blob.text", "SubtleCrypto.digest",
-    "WebAssembly.compileStreaming", "process.umask", "did", "inspector.console.log", "fetch", "domain", "domain", true, true]);
+    "WebAssembly.compileStreaming", "process.umask", "did", "inspector.console.log", "fetch", "domain", "domain", ["fs/promises.watch", "dns/promises.lookup"], true, true]);
 });
 
 test("what is replaced keeps its type, name, length and instances, and classes that extend it", () => {

@@ -57,6 +57,8 @@ export class CommonJS {
   /** Forgets all modules, for the next run. */
   begin() {
     for (const file of Object.keys(Modules._cache)) delete Modules._cache[file];
+    // Where files were found. They may be gone.
+    for (const request of Object.keys(Modules._pathCache)) delete Modules._pathCache[request];
     for (const name of GLOBALS) delete (/** @type {any} */ (globalThis))[name];
     /** @type {any} */ (process).mainModule = undefined;
   }

@@ -1,5 +1,5 @@
 // The modules of a program, made anew for each run in a thread that is kept. ES modules are vm.SourceTextModule; the
-// thread needs the flags below. Load this file before anything replaces what node's modules export.
+// thread needs the flags of `graph-flags.mjs`. Load this file before anything replaces what node's modules export.
 
 import Module, { createRequire } from "node:module";
 import path from "node:path";
@@ -8,11 +8,6 @@ import vm from "node:vm";
 import { fileURLToPath } from "node:url";
 import { CommonJS } from "./commonjs.mjs";
 import { formatOf, nodeError, resolved, textOf, urlOf } from "./module-urls.mjs";
-
-/** The `execArgv` of a thread that has a graph. */
-export const GRAPH_FLAGS = Object.freeze([
-  "--experimental-vm-modules", "--experimental-import-meta-resolve", "--expose-internals",
-]);
 
 const { SourceTextModule, SyntheticModule } = /** @type {any} */ (vm);
 const Modules = /** @type {any} */ (Module);

@@ -10,6 +10,7 @@ import { Refused } from "../options/refused.mjs";
 import { ownModules } from "../processes/own-modules.cjs";
 import { begunWith } from "../processes/thread.mjs";
 import { Group } from "../run/group.mjs";
+import { GRAPH_FLAGS } from "./graph-flags.mjs";
 import { programMemory, programPlan } from "./program-memory.mjs";
 
 /** @typedef {import("../processes/thread.mjs").Thread} Thread */
@@ -25,7 +26,7 @@ const FIRST_THREADS = 3;
 const { store, notify } = Atomics;
 
 /** What a thread needs that makes modules anew, besides the words of this process: see `graph.mjs`. */
-const FLAGS = [...process.execArgv, "--experimental-vm-modules", "--experimental-import-meta-resolve", "--expose-internals"];
+const FLAGS = [...process.execArgv, ...GRAPH_FLAGS];
 
 /** After so many runs threads are started anew: what a run leaves is little, but it grows. */
 const MOST_RUNS = 500;

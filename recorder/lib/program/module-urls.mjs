@@ -108,14 +108,26 @@ export function isModuleSyntax(error, text) {
   }
 }
 
+/** @type {Map<string, { text: string, format: Format }>} what was found in code, by URL */
+const found = new Map();
+
 /** @param {string} url @returns {Format} of a file whose package has no type */
 function detected(url) {
   const text = textOf(url);
+  const known = found.get(url);
+  if (known !== undefined && known.text === text) return known.format;
+  const format = isCommonJS(text) ? "commonjs" : "module";
+  found.set(url, { text, format });
+  return format;
+}
+
+/** @param {string} text @returns {boolean} */
+function isCommonJS(text) {
   try {
     /** @type {any} */ (vm).compileFunction(text, NAMES);
-    return "commonjs";
+    return true;
   } catch (error) {
-    return isModuleSyntax(error, text) ? "module" : "commonjs";
+    return !isModuleSyntax(error, text);
   }
 }
 

@@ -69,8 +69,8 @@ export const MODULES = Object.freeze({
       fchmodSync fdatasyncSync fstatSync fsyncSync ftruncateSync futimesSync lchownSync lchmodSync linkSync lstatSync
       lutimesSync mkdirSync mkdtempSync openSync readdirSync readSync readvSync readFileSync readlinkSync realpathSync
       renameSync rmSync rmdirSync statSync statfsSync symlinkSync truncateSync unlinkSync utimesSync writeFileSync
-      writeSync writevSync Dirent Stats _toUnixTimestamp opendirSync F_OK R_OK W_OK X_OK constants Dir`,
-    refused: "openAsBlob unwatchFile watch watchFile opendir",
+      writeSync writevSync Dirent Stats _toUnixTimestamp F_OK R_OK W_OK X_OK constants`,
+    refused: "openAsBlob unwatchFile watch watchFile opendir opendirSync Dir",
   },
   "fs/promises": {
     simulated: `access copyFile cp open rename truncate rm rmdir mkdir readdir readlink symlink lstat stat statfs link

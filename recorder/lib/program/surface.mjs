@@ -139,6 +139,9 @@ const WITH_ARGUMENTS = Object.freeze(["umask"]);
 /** Modules that change the thread as soon as they are loaded, so loading them is refused. */
 const AS_LOADED = Object.freeze(["domain"]);
 
+/** Modules that are members of another one, which hands them out without loading them. */
+const MEMBERS = Object.freeze(/** @type {Record<string, string>} */ ({ fs: "fs/promises", dns: "dns/promises" }));
+
 /** @param {Given} given */
 function refuseOfProcess({ refuse, isPlaying = () => true }) {
   for (const name of WITH_ARGUMENTS) {
@@ -172,6 +175,7 @@ export function refuseRest(given) {
     if (AS_LOADED.includes(id) && (given.isPlaying?.() ?? true)) given.refuse(id);
     if (done.has(id)) return;
     done.add(id);
+    if (MEMBERS[id] !== undefined) refuseOf(MEMBERS[id]);
     const exports = engineLoad(request, undefined, false);
     for (const name of namesIn(exports)) {
       if (kindOf(id, name) === "refused") replace(exports, name, `${id.replace("node:", "")}.${name}`, given);
