@@ -115,7 +115,7 @@ export class Ends {
   #fail(thrown, origin) {
     if (this.isOver) return;
     const { ports } = this.leaving;
-    const what = origin === "unhandledRejection" ? "threw, by a rejection that nobody handles," : "threw";
+    const what = origin === "unhandledRejection" ? "threw (a rejection that nobody handles)" : "threw";
     const text = `${what} ${described(thrown)}`;
     if (this.parentPort !== undefined) {
       try {
