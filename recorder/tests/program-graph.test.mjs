@@ -87,6 +87,16 @@ const PROGRAMS = {
     "shared.mjs": `console.log("shared runs"); await null; export const shared = "shared";`,
     "cycle.mjs": `export let self = "not yet"; import("./cycle.mjs").then((m) => { self = m.self + "!"; });`,
   },
+  "dynamic imports at once of what hangs together": {
+    "main.mjs": `
+      const names = ["./one.mjs", "./two.mjs", "./d1.mjs", "./d3.mjs", "./shared.mjs"];
+      const all = await Promise.all(names.map((name) => import(name)));
+      console.log(all.map((each) => each.n).join());`,
+    "one.mjs": `export { n } from "./shared.mjs";`, "two.mjs": `import "./d2.mjs"; export { n } from "./shared.mjs";`,
+    "shared.mjs": `export { n } from "./d1.mjs";`, "d1.mjs": `export { n } from "./d2.mjs";`,
+    "d2.mjs": `export { n } from "./d3.mjs";`, "d3.mjs": `export { n } from "./d4.mjs"; console.log("d3");`,
+    "d4.mjs": `import "./one.mjs"; console.log("d4"); export const n = 4;`,
+  },
   "import.meta": {
     "main.mjs": `
       console.log(Object.keys(import.meta).join(), import.meta.url.endsWith("main.mjs"), Object.getPrototypeOf(import.meta));
