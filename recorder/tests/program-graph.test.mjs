@@ -308,10 +308,13 @@ test("code of a worker with eval: true has its globals, and starts anew each tim
 });
 
 test("what one program leaves in require and module isn't there for the next", async () => {
-  const code = `console.log(typeof globalThis.require); require("path"); globalThis.left = 1;`;
+  const code = `console.log(typeof globalThis.module); require("path"); globalThis.left = 1;`;
+  writeFileSync(join(folder, "main-module.cjs"), `console.log(process.mainModule === module);`);
   writeFileSync(join(folder, "sees.mjs"), `console.log(typeof require, typeof module, typeof process.mainModule);`);
-  const [, runs] = await ownRuns([code, pathToFileURL(join(folder, "sees.mjs")).href], 2);
-  for (const run of runs) assert.deepEqual(run, ["undefined undefined undefined"]);
+  const files = ["main-module.cjs", "sees.mjs"].map((name) => pathToFileURL(join(folder, name)).href);
+  const [, first, second] = await ownRuns([code, ...files], 2);
+  assert.deepEqual(first, Array(2).fill(["true"]));
+  assert.deepEqual(second, Array(2).fill(["undefined undefined undefined"]));
 });
 
 test("require of an ES module is refused by name", async () => {
