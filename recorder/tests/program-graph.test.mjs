@@ -65,7 +65,8 @@ const PROGRAMS = {
     "package.json": `{ "type": "module" }`,
   },
   "top-level await, and modules that wait side by side": {
-    "main.mjs": `import { a } from "./a.mjs"; import "./b.mjs"; console.log("main", a); await null; console.log("end");`,
+    "main.mjs": `import { a } from "./a.mjs"; import "./b.mjs"; console.log("main", a); await null;
+    console.log("end");`,
     "a.mjs": `console.log("a begins"); export const a = await Promise.resolve(1); console.log("a ends");`,
     "b.mjs": `console.log("b begins"); await null; await null; console.log("b ends");`,
   },
@@ -85,6 +86,16 @@ const PROGRAMS = {
     "two.mjs": `import { shared } from "./shared.mjs"; export default shared;`,
     "shared.mjs": `console.log("shared runs"); await null; export const shared = "shared";`,
     "cycle.mjs": `export let self = "not yet"; import("./cycle.mjs").then((m) => { self = m.self + "!"; });`,
+  },
+  "dynamic imports at once of what hangs together": {
+    "main.mjs": `
+      const names = ["./one.mjs", "./two.mjs", "./d1.mjs", "./d3.mjs", "./shared.mjs"];
+      const all = await Promise.all(names.map((name) => import(name)));
+      console.log(all.map((each) => each.n).join());`,
+    "one.mjs": `export { n } from "./shared.mjs";`, "two.mjs": `import "./d2.mjs"; export { n } from "./shared.mjs";`,
+    "shared.mjs": `export { n } from "./d1.mjs";`, "d1.mjs": `export { n } from "./d2.mjs";`,
+    "d2.mjs": `export { n } from "./d3.mjs";`, "d3.mjs": `export { n } from "./d4.mjs"; console.log("d3");`,
+    "d4.mjs": `import "./one.mjs"; console.log("d4"); export const n = 4;`,
   },
   "import.meta": {
     "main.mjs": `
@@ -112,9 +123,11 @@ const PROGRAMS = {
       try { require("./throws.js"); } catch (e) { console.log(e.message, e.stack.split("\\n")[1]); }
       try { require("./throws.js"); } catch (e) { console.log(e.message); }
       try { require("./syntax.js"); } catch (e) { console.log(e.stack.split("\\n").slice(0, 5).join("|")); }`,
-    "a.js": `exports.early = true; const b = require("./b"); console.log("a", b); exports.done = b.done; exports.parent = module.parent.id;`,
+    "a.js": `exports.early = true; const b = require("./b"); console.log("a", b); exports.done = b.done;
+    exports.parent = module.parent.id;`,
     "b.js": `const a = require("./a"); console.log("b", a.early, a.done); exports.done = 1;`,
-    "count.js": `global.counted = (global.counted || 0) + 1; console.log("count runs"); module.exports = 5; delete global.counted;`,
+    "count.js": `global.counted = (global.counted || 0) + 1; console.log("count runs"); module.exports = 5;
+    delete global.counted;`,
     "data.json": `{ "value": 3 }`, "bad.json": `{`, "dir/index.js": `module.exports = "dir";`,
     "throws.js": `\n  throw new Error("thrown");`, "syntax.js": `const a = ;`,
   },
@@ -131,19 +144,25 @@ const PROGRAMS = {
   },
   "CommonJS imported by ES modules: names, order, default": {
     "main.mjs": `
-      import "./before.mjs"; import whole, { a, b } from "./c.cjs"; import * as all from "./c.cjs"; import "./after.mjs";
-      import * as again from "./reexports.cjs"; import * as compiled from "./compiled.cjs"; import fn, { extra } from "./fn.cjs";
+      import "./before.mjs"; import whole, { a, b } from "./c.cjs"; import * as all from "./c.cjs";
+      import "./after.mjs";
+      import * as again from "./reexports.cjs"; import * as compiled from "./compiled.cjs";
+      import fn, { extra } from "./fn.cjs";
       import * as none from "./none.cjs"; import nothing from "./nothing.cjs"; import { inner } from "pack";
       console.log(whole, a, b, all, again, compiled, fn(), extra, none, nothing, inner);
       console.log(whole === all.default);`,
     "before.mjs": `console.log("before");`, "after.mjs": `console.log("after");`,
-    "c.cjs": `console.log("c runs"); exports.a = 1; exports.b = { c: 2 }; Object.defineProperty(exports, "hidden", { get: () => 3 });`,
+    "c.cjs": `console.log("c runs"); exports.a = 1; exports.b = { c: 2 };
+    Object.defineProperty(exports, "hidden", { get: () => 3 });`,
     "reexports.cjs": `module.exports = { ...require("./c.cjs"), own: 1 }; module.exports.late = 2;`,
-    "compiled.cjs": `Object.defineProperty(exports, "__esModule", { value: true }); exports.default = 5; exports.named = 6;`,
+    "compiled.cjs": `Object.defineProperty(exports, "__esModule", { value: true }); exports.default = 5;
+    exports.named = 6;`,
     "fn.cjs": `module.exports = () => "called"; module.exports.extra = 1;`,
-    "none.cjs": `const make = () => ({ computed: 1 }); module.exports = make();`, "nothing.cjs": `module.exports = null;`,
+    "none.cjs": `const make = () => ({ computed: 1 });
+    module.exports = make();`, "nothing.cjs": `module.exports = null;`,
     "node_modules/pack/package.json": `{ "main": "./lib" }`,
-    "node_modules/pack/lib/index.js": `__exportStar(require("./inner"), exports); function __exportStar(from, to) { Object.assign(to, from); }`,
+    "node_modules/pack/lib/index.js": `__exportStar(require("./inner"), exports);
+    function __exportStar(from, to) { Object.assign(to, from); }`,
     "node_modules/pack/lib/inner.js": `exports.inner = "inner";`,
   },
   "JSON": {
@@ -184,12 +203,14 @@ const PROGRAMS = {
     "main.mjs": `
       ${TRY}
       for (const name of ["./missing.mjs", "./imports-missing.mjs", "none", "./dir", "./syntax.mjs", "./no-export.mjs",
-        "./no-export.cjs.mjs", "./throws.mjs", "./throws.cjs", "./unknown.foo", "node:nothing", "http://a/b", "./a%2fb.mjs",
+        "./no-export.cjs.mjs", "./throws.mjs", "./throws.cjs", "./unknown.foo", "node:nothing", "http://a/b",
+          "./a%2fb.mjs",
         "data:text/plain,x", "./uses-require.mjs", "./renamed.mjs"]) {
         await attempt(() => import(name));
         await attempt(() => import(name));
       }`,
-    "imports-missing.mjs": `import "./fine.mjs"; import "./gone.mjs"; console.log("never");`, "fine.mjs": `console.log("never");`,
+    "imports-missing.mjs": `import "./fine.mjs"; import "./gone.mjs";
+    console.log("never");`, "fine.mjs": `console.log("never");`,
     "dir/index.mjs": "", "syntax.mjs": `export const a = 1;\nexport const b = ;`,
     "no-export.mjs": `import { gone } from "./some.mjs";`, "some.mjs": `export const here = 1;`,
     "no-export.cjs.mjs": `import { gone } from "./some.cjs";`, "some.cjs": `exports.here = 1;`,
@@ -210,7 +231,8 @@ const PROGRAMS = {
   },
   "builtins: names, defaults, live bindings": {
     "main.mjs": `
-      import fs, { readFileSync, promises } from "node:fs"; import * as all from "fs"; import { syncBuiltinESMExports } from "module";
+      import fs, { readFileSync, promises } from "node:fs"; import * as all from "fs";
+      import { syncBuiltinESMExports } from "module";
       import * as paths from "path/posix"; import * as test from "node:test"; import { mine } from "./mine.mjs";
       const before = fs.readFileSync;
       console.log(fs.readFileSync === readFileSync, all.default === fs, Object.keys(all).length > 90, promises === fs.promises);
@@ -222,7 +244,8 @@ const PROGRAMS = {
   },
   "types of files: by extension, by package, by syntax": {
     "main.mjs": `
-      for (const name of ["./commonjs.js", "./syntax.js", "./noext", "./typed/a.js", "./typed/noext", "./typed/c.cjs", "./cjstyped/a.js",
+      for (const name of ["./commonjs.js", "./syntax.js", "./noext", "./typed/a.js", "./typed/noext",
+        "./typed/c.cjs", "./cjstyped/a.js",
         "./await.js", "./node_modules/deep/index.js", "./meta.js"]) console.log(name, await import(name));`,
     "commonjs.js": `exports.way = typeof require;`, "syntax.js": `export const way = typeof require;`,
     "noext": `exports.way = typeof module;`, "typed/package.json": `{ "type": "module" }`, "typed/a.js": `export const way = 1;`,
@@ -232,9 +255,11 @@ const PROGRAMS = {
   },
   "stacks have the names of files, and lines": {
     "main.mjs": `
-      import { fail } from "./fail.mjs"; import { createRequire } from "module"; const require = createRequire(import.meta.url);
+      import { fail } from "./fail.mjs"; import { createRequire } from "module";
+      const require = createRequire(import.meta.url);
       const shown = (e) => e.stack.split("\\n").filter((line) => !/node:|graph\\.mjs/.test(line)).slice(0, 3).join("|");
-      for (const act of [fail, require("./fail.cjs").fail, () => { null.x; }]) try { act(); } catch (e) { console.log(shown(e)); }
+      for (const act of [fail, require("./fail.cjs").fail, () => { null.x; }]) try { act();
+      } catch (e) { console.log(shown(e)); }
       const later = async () => { await null; fail(); }; await later().catch((e) => console.log(shown(e)));`,
     "fail.mjs": `\n\nexport function fail() {\n  throw new Error("in a module");\n}`,
     "fail.cjs": `\n\nexports.fail = function fail() {\n    throw new Error("in CommonJS");\n};`,
@@ -244,9 +269,11 @@ const PROGRAMS = {
   },
   "state of modules is fresh": {
     "main.mjs": `
-      import { next } from "./esm.mjs"; import cjs from "./cjs.cjs"; import { createRequire } from "module"; import data from "./d.json" with { type: "json" };
+      import { next } from "./esm.mjs"; import cjs from "./cjs.cjs"; import { createRequire } from "module";
+      import data from "./d.json" with { type: "json" };
       console.log(next(), next(), cjs.next(), createRequire(import.meta.url)("./cjs.cjs").next(), data.n); data.n = 9;`,
-    "esm.mjs": `let n = 0; export const next = () => n += 1;`, "cjs.cjs": `let n = 0; exports.next = () => n += 1;`, "d.json": `{"n":1}`,
+    "esm.mjs": `let n = 0; export const next = () => n += 1;`, "cjs.cjs": `let n = 0;
+    exports.next = () => n += 1;`, "d.json": `{"n":1}`,
   },
 };
 
@@ -281,15 +308,19 @@ test("code of a worker with eval: true has its globals, and starts anew each tim
 });
 
 test("what one program leaves in require and module isn't there for the next", async () => {
-  const code = `console.log(typeof globalThis.require); require("path"); globalThis.left = 1;`;
+  const code = `console.log(typeof globalThis.module); require("path"); globalThis.left = 1;`;
+  writeFileSync(join(folder, "main-module.cjs"), `console.log(process.mainModule === module);`);
   writeFileSync(join(folder, "sees.mjs"), `console.log(typeof require, typeof module, typeof process.mainModule);`);
-  const [, runs] = await ownRuns([code, pathToFileURL(join(folder, "sees.mjs")).href], 2);
-  for (const run of runs) assert.deepEqual(run, ["undefined undefined undefined"]);
+  const files = ["main-module.cjs", "sees.mjs"].map((name) => pathToFileURL(join(folder, name)).href);
+  const [, first, second] = await ownRuns([code, ...files], 2);
+  assert.deepEqual(first, Array(2).fill(["true"]));
+  assert.deepEqual(second, Array(2).fill(["undefined undefined undefined"]));
 });
 
 test("require of an ES module is refused by name", async () => {
   programIn(join(folder, "refused"), {
-    "main.cjs": `try { require("./a.mjs"); } catch {} try { require("./typed"); } catch {} try { require("./b.js"); } catch {}`,
+    "main.cjs": `try { require("./a.mjs"); } catch {} try { require("./typed"); } catch {} try { require("./b.js");
+    } catch {}`,
     "a.mjs": `console.log("never");`, "b.js": `export const b = 1; console.log("never");`,
     "typed/package.json": `{ "type": "module" }`, "typed/index.js": `console.log("never");`,
   });
@@ -319,7 +350,8 @@ test("a file that is written anew is read anew", async () => {
 
 test("a thread makes graphs as a process does, without a warning", async () => {
   programIn(join(folder, "thread"), {
-    "main.mjs": `import { threadId } from "worker_threads"; import c from "./c.cjs"; console.log(threadId > 0, c, await import("./d.mjs"));`,
+    "main.mjs": `import { threadId } from "worker_threads"; import c from "./c.cjs";
+    console.log(threadId > 0, c, await import("./d.mjs"));`,
     "c.cjs": `module.exports = typeof require;`, "d.mjs": `export const d = 1;`,
   });
   const argv = [JSON.stringify([pathToFileURL(join(folder, "thread/main.mjs")).href]), "2"];
@@ -333,9 +365,11 @@ test("a thread makes graphs as a process does, without a warning", async () => {
 
 test("graphs that are over are garbage: memory and time of a run stay", async () => {
   programIn(join(folder, "memory"), {
-    "main.mjs": `import { a } from "./a.mjs"; import c from "./c.cjs"; import fs from "fs"; globalThis.sum = a + c.c + (await import("./d.mjs")).d;`,
+    "main.mjs": `import { a } from "./a.mjs"; import c from "./c.cjs"; import fs from "fs";
+    globalThis.sum = a + c.c + (await import("./d.mjs")).d;`,
     "a.mjs": `export { a } from "./b.mjs"; export const list = Array.from({ length: 1_000 }, (_, at) => at);`,
-    "b.mjs": `export const a = 1;`, "c.cjs": `exports.c = 2; exports.later = () => import("./d.mjs");`, "d.mjs": `export const d = 3;`,
+    "b.mjs": `export const a = 1;`, "c.cjs": `exports.c = 2;
+    exports.later = () => import("./d.mjs");`, "d.mjs": `export const d = 3;`,
   });
   const url = pathToFileURL(join(folder, "memory/main.mjs")).href;
   const graph = new URL("../lib/program/graph.mjs", import.meta.url).href;
@@ -360,8 +394,10 @@ test("graphs that are over are garbage: memory and time of a run stay", async ()
 test("a file that is gone isn't found where it was in the run before", async () => {
   programIn(join(folder, "gone"), {
     "main.cjs": `
-      const fs = require("fs"); globalThis.goneTimes = (globalThis.goneTimes ?? 0) + 1; const file = require("path").join(__dirname, "x.js");
-      if (globalThis.goneTimes === 1) fs.writeFileSync(file, "module.exports = 1;"); else fs.rmSync(file, { force: true });
+      const fs = require("fs"); globalThis.goneTimes = (globalThis.goneTimes ?? 0) + 1;
+      const file = require("path").join(__dirname, "x.js");
+      if (globalThis.goneTimes === 1) fs.writeFileSync(file, "module.exports = 1;");
+      else fs.rmSync(file, { force: true });
       try { console.log(require("./x")); } catch (error) { console.log(error.code); }
       import("./x.js").then((m) => console.log(m.default), (error) => console.log(error.code));`,
   });

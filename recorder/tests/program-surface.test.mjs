@@ -67,10 +67,12 @@ function inProcess(code) {
   const surface = new URL("../lib/program/surface.mjs", import.meta.url).href;
   const all = `
     import { refuseRest, kindOf, kindOfGlobal } from ${JSON.stringify(surface)};
-    import Module, { createRequire } from "node:module"; import { METHODS } from ${JSON.stringify(surface.replace(".mjs", "-table.mjs"))};
+    import Module, { createRequire } from "node:module";
+    import { METHODS } from ${JSON.stringify(surface.replace(".mjs", "-table.mjs"))};
     const require = createRequire(import.meta.url); const refused = []; let playing = true;
     class Refused extends Error {}
-    const by = (act) => { try { act(); return "did"; } catch (error) { return error instanceof Refused ? error.message : String(error); } };
+    const by = (act) => { try { act(); return "did";
+    } catch (error) { return error instanceof Refused ? error.message : String(error); } };
     void [process.stdin, process.stdout, process.stderr]; // Made by node of sockets, when they are asked for first.
     const net = require("net"); const { Socket } = net; const socket = new Socket();
     refuseRest({ refuse: (name) => { throw new Refused(name); }, isPlaying: () => playing });
@@ -114,29 +116,36 @@ test("all that is refused calls `refuse` with its name, by require, node: and ge
       PerformanceObserver === require("perf_hooks").PerformanceObserver,
       CompressionStream === require("stream/web").CompressionStream]));`);
   assert.deepEqual(found, [[], true, "dgram.createSocket", "cluster.fork", "Blob.text", "SubtleCrypto.digest",
-    "WebAssembly.compileStreaming", "process.umask", "did", "inspector.console.log", "fetch", "domain", "domain", ["fs/promises.watch", "dns/promises.lookup"], true, true]);
+    "WebAssembly.compileStreaming", "process.umask", "did", "inspector.console.log", "fetch", "domain",
+      "domain", ["fs/promises.watch", "dns/promises.lookup"], true, true]);
 });
 
 test("what is replaced keeps its type, name, length and instances, and classes that extend it", () => {
   const found = inProcess(`
     const { Socket: Stand } = require("net"); class Own extends Stand {}
     console.log(JSON.stringify([Stand === Socket, socket instanceof Stand, socket.constructor === Socket, typeof Stand, Stand.name,
-      Stand.length === Socket.length, Stand.prototype === Socket.prototype, by(() => new Own()), by(() => Stand()), typeof fetch,
+      Stand.length === Socket.length, Stand.prototype === Socket.prototype, by(() => new Own()),
+        by(() => Stand()), typeof fetch,
       require("child_process").spawn.name]));`);
-  assert.deepEqual(found, [false, true, true, "function", "Socket", true, true, "net.Socket", "net.Socket", "function", "spawn"]);
+  assert.deepEqual(found, [false, true, true, "function", "Socket", true, true, "net.Socket", "net.Socket",
+    "function", "spawn"]);
 });
 
 test("nothing is refused until the program plays, and what is harmless works", () => {
   const found = inProcess(`
     playing = false;
-    const before = by(() => new (require("net").Socket)()); const { createGzip } = require("zlib"); const gzip = by(() => createGzip());
+    const before = by(() => new (require("net").Socket)()); const { createGzip } = require("zlib");
+    const gzip = by(() => createGzip());
     playing = true;
     const again = by(() => createGzip());
     const { EventEmitter } = require("events"); const { Readable } = require("stream");
-    console.log(JSON.stringify([before, gzip, again, by(() => new EventEmitter().emit("x")), by(() => Readable.from([1])),
+    console.log(JSON.stringify([before, gzip, again, by(() => new EventEmitter().emit("x")),
+      by(() => Readable.from([1])),
       by(() => require("zlib").gunzipSync(require("zlib").gzipSync("text"))), by(() => new (require("http").Agent)()),
-      by(() => require("readline").createInterface({ input: Readable.from([]) }).close()), by(() => require("tty").isatty(1)),
-      by(() => require("util").inspect(process)), by(() => new URL("http://a")), by(() => new Headers()), by(() => new Response("x"))]));`);
+      by(() => require("readline").createInterface({ input: Readable.from([]) }).close()),
+        by(() => require("tty").isatty(1)),
+      by(() => require("util").inspect(process)), by(() => new URL("http://a")), by(() => new Headers()),
+        by(() => new Response("x"))]));`);
   assert.deepEqual(found, ["did", "did", "zlib.createGzip", ...Array(10).fill("did")]);
 });
 

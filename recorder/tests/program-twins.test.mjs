@@ -101,32 +101,43 @@ const SCENARIOS = {
     for (const [name, ...given] of [
       ["readFile", at("a.txt")], ["readFile", at("a.txt"), "utf8"], ["readFile", at("a.txt"), { encoding: "latin1" }],
       ["access", at("a.txt")], ["stat", at("a.txt")], ["stat", at("a.txt"), { bigint: true }], ["lstat", at("dir")],
-      ["readdir", at("dir")], ["readdir", at("."), { recursive: true }], ["readdir", at("dir"), { withFileTypes: true }],
+      ["readdir", at("dir")], ["readdir", at("."), { recursive: true }],
+      ["readdir", at("dir"), { withFileTypes: true }],
       ["realpath", at("dir/../a.txt")], ["statfs", at(".")], ["writeFile", at("w.txt"), "written"],
       ["appendFile", at("w.txt"), "more"], ["copyFile", at("w.txt"), at("x.txt")], ["rename", at("x.txt"), at("y.txt")],
-      ["chmod", at("y.txt"), 0o600], ["utimes", at("y.txt"), 1, 2], ["lutimes", at("y.txt"), 1, 2], ["truncate", at("y.txt"), 3],
+      ["chmod", at("y.txt"), 0o600], ["utimes", at("y.txt"), 1, 2], ["lutimes", at("y.txt"), 1, 2],
+      ["truncate", at("y.txt"), 3],
       ["readFile", at("y.txt"), "utf8"], ["link", at("y.txt"), at("l.txt")], ["symlink", at("y.txt"), at("s.txt")],
       ["readlink", at("s.txt")], ["lstat", at("s.txt")], ["unlink", at("s.txt")], ["mkdir", at("m")],
       ["mkdir", at("m/n/o"), { recursive: true }], ["mkdir", at("m/n/o"), { recursive: true }], ["rmdir", at("m/n/o")],
-      ["rm", at("m"), { recursive: true }], ["rm", at("none"), { force: true }], ["cp", at("dir"), at("copied"), { recursive: true }],
+      ["rm", at("m"), { recursive: true }], ["rm", at("none"), { force: true }],
+      ["cp", at("dir"), at("copied"), { recursive: true }],
       ["readdir", at("copied"), { recursive: true }],
     ]) await noted(log, name, (done) => fs[name](...given, done));
     await noted(log, "exists", (done) => fs.exists(at("a.txt"), done));
     await noted(log, "exists", (done) => fs.exists(at("none"), done));
     await noted(log, "native", (done) => fs.realpath.native(at("dir/../a.txt"), done));
-    await noted((name, error, path) => log(name, error, path.length), "mkdtemp", (done) => fs.mkdtemp(at("tmp-"), done));
+    await noted((name, error, path) => log(name, error, path.length), "mkdtemp",
+      (done) => fs.mkdtemp(at("tmp-"), done));
     log(await util.promisify(fs.exists)(at("a.txt")), await util.promisify(fs.readFile)(at("a.txt"), "utf8"));
   },
   "fs with callbacks: errors": async (at, log) => {
     for (const [name, ...given] of [
-      ["readFile", at("none")], ["readFile", at("dir")], ["readFile", at("a.txt"), "no-encoding"], ["readFile", undefined],
-      ["access", at("none")], ["stat", at("none")], ["stat", at("none"), { throwIfNoEntry: false }], ["lstat", at("none")],
+      ["readFile", at("none")], ["readFile", at("dir")], ["readFile", at("a.txt"), "no-encoding"],
+      ["readFile", undefined],
+      ["access", at("none")], ["stat", at("none")], ["stat", at("none"), { throwIfNoEntry: false }],
+      ["lstat", at("none")],
       ["readdir", at("none")], ["readdir", at("a.txt")], ["realpath", at("none")], ["writeFile", at("none/a"), "x"],
-      ["writeFile", at("w"), 5], ["copyFile", at("none"), at("x")], ["rename", at("none"), at("x")], ["chmod", at("none"), 0o600],
-      ["utimes", at("none"), 1, 2], ["truncate", at("none"), 1], ["link", at("none"), at("x")], ["symlink", at("a.txt"), at("dir")],
-      ["readlink", at("a.txt")], ["unlink", at("none")], ["unlink", at("dir/none")], ["mkdir", at("dir")], ["mkdir", at("none/a")],
-      ["rmdir", at("none")], ["rmdir", at("dir")], ["rm", at("none")], ["rm", at("dir")], ["mkdtemp", at("none/x")], ["open", at("none")],
-      ["open", at("a.txt"), "wx"], ["statfs", at("none")], ["fstat", 987654], ["ftruncate", 987654, 1], ["fsync", 987654], ["close", 987654],
+      ["writeFile", at("w"), 5], ["copyFile", at("none"), at("x")], ["rename", at("none"), at("x")],
+      ["chmod", at("none"), 0o600],
+      ["utimes", at("none"), 1, 2], ["truncate", at("none"), 1], ["link", at("none"), at("x")],
+      ["symlink", at("a.txt"), at("dir")],
+      ["readlink", at("a.txt")], ["unlink", at("none")], ["unlink", at("dir/none")], ["mkdir", at("dir")],
+      ["mkdir", at("none/a")],
+      ["rmdir", at("none")], ["rmdir", at("dir")], ["rm", at("none")], ["rm", at("dir")], ["mkdtemp", at("none/x")],
+      ["open", at("none")],
+      ["open", at("a.txt"), "wx"], ["statfs", at("none")], ["fstat", 987654], ["ftruncate", 987654, 1],
+      ["fsync", 987654], ["close", 987654],
     ]) await noted(log, name, (done) => fs[name](...given, done));
     for (const name of ["readFile", "stat", "open", "writeFile", "rename"]) {
       try { fs[name](at("a.txt"), "utf8"); } catch (error) { log(name, error); }
@@ -142,11 +153,13 @@ const SCENARIOS = {
     await noted(log, "read", (done) => fs.read(fd, Buffer.alloc(5), 0, 5, 0, done));
     await noted(log, "read", (done) => fs.read(fd, Buffer.alloc(4), { position: 3, length: 2 }, done));
     await noted(log, "read", (done) => fs.read(fd, { buffer: Buffer.alloc(3), position: 10 }, done));
-    await noted((name, error, n, buffer) => log(name, error, n, buffer.length), "read", (done) => fs.read(fd, { position: 2 }, done));
+    await noted((name, error, n, buffer) => log(name, error, n, buffer.length), "read",
+      (done) => fs.read(fd, { position: 2 }, done));
     await noted((name, error, n, buffer) => log(name, error, n, buffer.length), "read", (done) => fs.read(fd, done));
     await noted(log, "readv", (done) => fs.readv(fd, [Buffer.alloc(2), Buffer.alloc(3)], 0, done));
     log(await util.promisify(fs.read)(fd, Buffer.alloc(2), 0, 2, 1));
-    for (const [name, ...given] of [["fstat"], ["fchmod", 0o600], ["futimes", 1, 2], ["ftruncate", 4], ["fsync"], ["fdatasync"]]) {
+    for (const [name, ...given] of [["fstat"], ["fchmod", 0o600], ["futimes", 1, 2], ["ftruncate", 4], ["fsync"],
+      ["fdatasync"]]) {
       await noted(log, name, (done) => fs[name](fd, ...given, done));
     }
     await noted(log, "read", (done) => fs.read(fd, Buffer.alloc(2), 5, 9, 0, done));
@@ -157,19 +170,30 @@ const SCENARIOS = {
   "fs.promises": async (at, log) => {
     const { promises } = fs;
     for (const [name, ...given] of [
-      ["readFile", at("a.txt")], ["readFile", at("a.txt"), "utf8"], ["readFile", at("none")], ["readFile", at("dir")], ["readFile", 5],
-      ["access", at("a.txt")], ["access", at("none")], ["stat", at("a.txt")], ["stat", at("none")], ["stat", at("none"), { throwIfNoEntry: false }],
-      ["lstat", at("dir")], ["readdir", at("dir")], ["readdir", at("."), { recursive: true }], ["readdir", at("none")], ["realpath", at("dir/..")],
-      ["realpath", at("none")], ["writeFile", at("w"), "written"], ["writeFile", at("w"), 5], ["writeFile", at("none/x"), "x"],
-      ["appendFile", at("w"), "more"], ["readFile", at("w"), "utf8"], ["copyFile", at("w"), at("x")], ["copyFile", at("none"), at("x")],
-      ["rename", at("x"), at("y")], ["rename", at("none"), at("y")], ["chmod", at("y"), 0o600], ["utimes", at("y"), 1, 2], ["lutimes", at("y"), 1, 2],
-      ["truncate", at("y"), 3], ["truncate", at("none")], ["link", at("y"), at("l")], ["symlink", at("y"), at("s")], ["readlink", at("s")],
-      ["readlink", at("y")], ["unlink", at("s")], ["unlink", at("none")], ["mkdir", at("m")], ["mkdir", at("m")], ["mkdir", at("m/n/o"), { recursive: true }],
-      ["rmdir", at("m/n/o")], ["rmdir", at("m")], ["rm", at("m")], ["rm", at("m"), { recursive: true }], ["rm", at("none")], ["cp", at("dir"), at("c"), { recursive: true }],
-      ["readdir", at("c"), { recursive: true }], ["cp", at("none"), at("c2")], ["mkdtemp", at("none/x")], ["statfs", at(".")], ["chmod", at("none"), 0],
+      ["readFile", at("a.txt")], ["readFile", at("a.txt"), "utf8"], ["readFile", at("none")],
+      ["readFile", at("dir")], ["readFile", 5],
+      ["access", at("a.txt")], ["access", at("none")], ["stat", at("a.txt")], ["stat", at("none")],
+      ["stat", at("none"), { throwIfNoEntry: false }],
+      ["lstat", at("dir")], ["readdir", at("dir")], ["readdir", at("."), { recursive: true }],
+      ["readdir", at("none")], ["realpath", at("dir/..")],
+      ["realpath", at("none")], ["writeFile", at("w"), "written"], ["writeFile", at("w"), 5],
+      ["writeFile", at("none/x"), "x"],
+      ["appendFile", at("w"), "more"], ["readFile", at("w"), "utf8"], ["copyFile", at("w"), at("x")],
+      ["copyFile", at("none"), at("x")],
+      ["rename", at("x"), at("y")], ["rename", at("none"), at("y")], ["chmod", at("y"), 0o600],
+      ["utimes", at("y"), 1, 2], ["lutimes", at("y"), 1, 2],
+      ["truncate", at("y"), 3], ["truncate", at("none")], ["link", at("y"), at("l")], ["symlink", at("y"), at("s")],
+      ["readlink", at("s")],
+      ["readlink", at("y")], ["unlink", at("s")], ["unlink", at("none")], ["mkdir", at("m")], ["mkdir", at("m")],
+      ["mkdir", at("m/n/o"), { recursive: true }],
+      ["rmdir", at("m/n/o")], ["rmdir", at("m")], ["rm", at("m")], ["rm", at("m"), { recursive: true }],
+      ["rm", at("none")], ["cp", at("dir"), at("c"), { recursive: true }],
+      ["readdir", at("c"), { recursive: true }], ["cp", at("none"), at("c2")], ["mkdtemp", at("none/x")],
+      ["statfs", at(".")], ["chmod", at("none"), 0],
     ]) await settled(log, name, () => promises[name](...given));
     await settled(log, "pieces", () => promises.writeFile(at("p"), Readable.from(["one", "two"])));
-    await settled(log, "pieces", () => promises.writeFile(at("p2"), (function* () { yield "a"; yield Buffer.from("b"); })()));
+    await settled(log, "pieces", () => promises.writeFile(at("p2"), (function* () { yield "a";
+    yield Buffer.from("b"); })()));
     log(await promises.readFile(at("p"), "utf8"), await promises.readFile(at("p2"), "utf8"));
     await settled(log, "aborted", () => promises.readFile(at("a.txt"), { signal: AbortSignal.abort() }));
     const controller = new AbortController();
@@ -188,7 +212,8 @@ const SCENARIOS = {
     await settled(log, "read", () => handle.read({ buffer: Buffer.alloc(3), position: 0 }));
     await settled((name, { bytesRead, buffer }) => log(name, bytesRead, buffer.length), "read", () => handle.read());
     await settled(log, "readv", () => handle.readv([Buffer.alloc(2)], 2));
-    for (const [name, ...given] of [["stat"], ["truncate", 6], ["chmod", 0o600], ["utimes", 1, 2], ["sync"], ["datasync"], ["appendFile", "end"]]) {
+    for (const [name, ...given] of [["stat"], ["truncate", 6], ["chmod", 0o600], ["utimes", 1, 2], ["sync"],
+      ["datasync"], ["appendFile", "end"]]) {
       await settled(log, name, () => handle[name](...given));
     }
     const { fd } = handle;
@@ -240,9 +265,11 @@ const SCENARIOS = {
   },
   "zlib": async (at, log) => {
     const text = "text ".repeat(50);
-    for (const [make, open] of [["gzip", "gunzip"], ["deflate", "inflate"], ["deflateRaw", "inflateRaw"], ["brotliCompress", "brotliDecompress"], ["gzip", "unzip"]]) {
+    for (const [make, open] of [["gzip", "gunzip"], ["deflate", "inflate"], ["deflateRaw", "inflateRaw"],
+      ["brotliCompress", "brotliDecompress"], ["gzip", "unzip"]]) {
       const [, packed] = await noted(log, make, (done) => zlib[make](text, done));
-      await noted((name, error, data) => log(name, error, data.toString() === text), open, (done) => zlib[open](packed, done));
+      await noted((name, error, data) => log(name, error, data.toString() === text), open,
+        (done) => zlib[open](packed, done));
       await noted(log, open, (done) => zlib[open](Buffer.from("not packed"), done));
       await noted(log, make, (done) => zlib[make](text, { level: 1 }, done));
       await noted(log, make, (done) => zlib[make](5, done));
@@ -256,21 +283,30 @@ const SCENARIOS = {
     // OpenSSL keeps some errors for the next function, so this one comes first.
     await noted(log, "sign", (done) => crypto.sign("sha256", Buffer.from("x"), "no key", done));
     for (const [name, ...given] of [
-      ["pbkdf2", "secret", "salt", 10, 16, "sha256"], ["pbkdf2", "secret", "salt", 10, 16, "none"], ["pbkdf2", "secret", "salt", 0, 16, "sha256"],
-      ["pbkdf2", 5, "salt", 1, 1, "sha256"], ["scrypt", "secret", "salt", 16], ["scrypt", "secret", "salt", 16, { N: 3 }], ["scrypt", "secret", "salt", 16, { N: 2 ** 20 }],
-      ["hkdf", "sha256", "key", "salt", "info", 16], ["hkdf", "none", "key", "salt", "info", 16], ["hkdf", "sha256", "key", "salt", "info", 1e9],
-      ["checkPrime", 7n], ["checkPrime", 8n, { checks: 2 }], ["checkPrime", "7"], ["randomBytes", -1], ["randomInt", 5, 5], ["randomInt", 3.5],
+      ["pbkdf2", "secret", "salt", 10, 16, "sha256"], ["pbkdf2", "secret", "salt", 10, 16, "none"],
+      ["pbkdf2", "secret", "salt", 0, 16, "sha256"],
+      ["pbkdf2", 5, "salt", 1, 1, "sha256"], ["scrypt", "secret", "salt", 16],
+      ["scrypt", "secret", "salt", 16, { N: 3 }], ["scrypt", "secret", "salt", 16, { N: 2 ** 20 }],
+      ["hkdf", "sha256", "key", "salt", "info", 16], ["hkdf", "none", "key", "salt", "info", 16],
+      ["hkdf", "sha256", "key", "salt", "info", 1e9],
+      ["checkPrime", 7n], ["checkPrime", 8n, { checks: 2 }], ["checkPrime", "7"], ["randomBytes", -1],
+      ["randomInt", 5, 5], ["randomInt", 3.5],
       ["randomFill", "x"], ["generateKey", "none", {}], ["generateKey", "hmac", {}], ["generateKeyPair", "none", {}],
     ]) await noted(log, name, (done) => crypto[name](...given, done));
-    await noted((name, error, bytes) => log(name, error, bytes.length), "randomBytes", (done) => crypto.randomBytes(7, done));
-    await noted((name, error, number) => log(name, error, number >= 3 && number < 9), "randomInt", (done) => crypto.randomInt(3, 9, done));
+    await noted((name, error, bytes) => log(name, error, bytes.length), "randomBytes",
+      (done) => crypto.randomBytes(7, done));
+    await noted((name, error, number) => log(name, error, number >= 3 && number < 9), "randomInt",
+      (done) => crypto.randomInt(3, 9, done));
     const into = Buffer.alloc(9);
     await noted((name, error, filled) => log(name, error, filled === into, into.some((byte) => byte > 0)), "randomFill", (done) => crypto.randomFill(into, 1, 5, done));
-    await noted((name, error, key) => log(name, error, key.type), "generateKey", (done) => crypto.generateKey("hmac", { length: 64 }, done));
-    await noted((name, error, prime) => log(name, error, prime.byteLength), "generatePrime", (done) => crypto.generatePrime(16, done));
+    await noted((name, error, key) => log(name, error, key.type), "generateKey",
+      (done) => crypto.generateKey("hmac", { length: 64 }, done));
+    await noted((name, error, prime) => log(name, error, prime.byteLength), "generatePrime",
+      (done) => crypto.generatePrime(16, done));
     const [, publicKey, privateKey] = await noted((name, error, one, two) => log(name, error, one.type, two.type), "generateKeyPair",
       (done) => crypto.generateKeyPair("ed25519", {}, done));
-    const [, signature] = await noted((name, error, signed) => log(name, error, signed.length), "sign", (done) => crypto.sign(null, Buffer.from("x"), privateKey, done));
+    const [, signature] = await noted((name, error, signed) => log(name, error, signed.length), "sign",
+      (done) => crypto.sign(null, Buffer.from("x"), privateKey, done));
     await noted(log, "verify", (done) => crypto.verify(null, Buffer.from("x"), publicKey, signature, done));
     await noted(log, "verify", (done) => crypto.verify(null, Buffer.from("y"), publicKey, signature, done));
     log(Object.keys(await util.promisify(crypto.generateKeyPair)("ed25519", {})), (await util.promisify(crypto.randomBytes)(3)).length);
@@ -281,15 +317,18 @@ const SCENARIOS = {
     const importing = new Uint8Array([...bytes, 1, 4, 1, 96, 0, 0, 2, 7, 1, 1, 109, 1, 102, 0, 0]);
     log(Object.keys(await WebAssembly.instantiate(bytes)), (await WebAssembly.compile(bytes)) instanceof WebAssembly.Module);
     log((await WebAssembly.instantiate(new WebAssembly.Module(bytes))) instanceof WebAssembly.Instance);
-    for (const act of [() => WebAssembly.compile(new Uint8Array([1, 2])), () => WebAssembly.instantiate(new Uint8Array([1, 2])), () => WebAssembly.compile(5),
-      () => WebAssembly.instantiate(importing, {}), () => WebAssembly.instantiate(importing, { m: { f: 1 } }), () => WebAssembly.instantiate(importing),
+    for (const act of [() => WebAssembly.compile(new Uint8Array([1, 2])),
+      () => WebAssembly.instantiate(new Uint8Array([1, 2])), () => WebAssembly.compile(5),
+      () => WebAssembly.instantiate(importing, {}), () => WebAssembly.instantiate(importing, { m: { f: 1 } }),
+        () => WebAssembly.instantiate(importing),
       () => WebAssembly.instantiate(importing, { m: { f() {} } }).then((made) => Object.keys(made))]) await settled(log, "wasm", act);
   },
   "AsyncLocalStorage holds, and callbacks come later": async (at, log) => {
     const storage = new AsyncLocalStorage();
     await storage.run("store", async () => {
       let later = false;
-      const reading = new Promise((done) => fs.readFile(at("a.txt"), () => { log(storage.getStore(), later); done(); }));
+      const reading = new Promise((done) => fs.readFile(at("a.txt"), () => { log(storage.getStore(), later); done();
+      }));
       later = true;
       await reading;
       await new Promise((done) => zlib.gzip("x", () => { log(storage.getStore()); done(); }));
