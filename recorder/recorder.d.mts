@@ -123,7 +123,7 @@ export interface ExploreOptions extends Omit<RecordOptions, "seed" | "shorten"> 
 }
 
 /** How a run ended; `race`: it finished, `check` found nothing, and it has unordered accesses. */
-export type Ending = "finished" | "deadlock" | "failed" | "check" | "race" | "bound";
+export type Ending = "finished" | "deadlock" | "stuck" | "failed" | "check" | "race" | "bound";
 
 /** What a run came to. */
 export interface Outcome {

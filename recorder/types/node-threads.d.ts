@@ -49,6 +49,7 @@ declare module "node:worker_threads" {
     transferList?: MessagePort[];
     stdout?: boolean;
     stderr?: boolean;
+    execArgv?: string[];
     resourceLimits?: { maxYoungGenerationSizeMb?: number };
   }
   export class Worker implements Port {

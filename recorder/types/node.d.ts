@@ -162,6 +162,7 @@ declare module "node:async_hooks" {
     init(id: number, type: string, trigger: number, resource: object): void;
   }
   export function createHook(hooks: Hooks): { enable(): void };
+  export const AsyncResource: { prototype: any };
 }
 
 declare module "node:buffer" {
@@ -283,6 +284,7 @@ declare module "node:path" {
   export const posix: { dirname(path: string): string; relative(from: string, to: string): string };
   export function basename(path: string): string;
   export function dirname(path: string): string;
+  export function extname(path: string): string;
   export function isAbsolute(path: string): boolean;
   export function join(...parts: string[]): string;
   export function relative(from: string, to: string): string;
@@ -353,7 +355,11 @@ declare module "node:util" {
     positionals: string[];
   }
   export function parseArgs(words: Words): Parsed;
-  const util: { inspect(value: unknown, options?: object): string; types: object };
+  interface Promisify {
+    (call: Function): Function;
+    readonly custom: symbol;
+  }
+  const util: { inspect(value: unknown, options?: object): string; types: object; promisify: Promisify };
   export default util;
 }
 

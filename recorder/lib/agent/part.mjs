@@ -146,7 +146,7 @@ export class Part {
   /** @returns {never} */
   over() {
     if (this.isOver) this.caught += 1;
-    if (this.caught > MOST_CAUGHT) this.table.board.turn.park(this.agent);
+    if (this.caught > MOST_CAUGHT || this.table.parks === true) this.table.board.turn.park(this.agent);
     this.isOver = true;
     this.isInside = false;
     throw new RunIsOver();

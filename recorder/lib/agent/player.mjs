@@ -60,7 +60,7 @@ export class Player {
    * @param {(thrown: unknown) => string} described what was thrown, as a text
    */
   play(body, described) {
-    this.#begin();
+    this.begin();
     let problem;
     try {
       const answer = body();
@@ -96,20 +96,29 @@ export class Player {
    * @param {Call} call
    * @param {object} view its typed array
    * @param {Function} called the function of Atomics that the agent's code has called
+   * @param {() => void} [before] called when the agent has the turn
    * @returns {unknown} what it answers; what it throws, it throws
    */
-  make(call, view, called) {
+  make(call, view, called, before) {
     this.part.enter();
     this.#stayWithin(call);
     const source = this.#source(called);
     this.#ask(call);
-    this.#untilTurn();
+    this.untilTurn();
+    before?.();
     this.#stayInRow(call);
-    this.table.records.begin(this.part.made, call);
-    this.part.last = call;
+    this.#made(call);
     if (call.call === WAIT) return this.#wait(call, view, source, called);
     if (call.call === NOTIFY) return this.#notify(call, view, source);
     return this.#access(call, view, source);
+  }
+
+  /** @param {Call} call a notify that is made without a draw: the agent has just got the turn @param {object} view */
+  note(call, view) {
+    this.part.enter();
+    this.#stayWithin(call);
+    this.#made(call);
+    this.#notify(call, view, 0);
   }
 
   /**
@@ -166,7 +175,7 @@ export class Player {
     this.table.board.clock.pass(milliseconds);
   }
 
-  #begin() {
+  begin() {
     const { board, stores, later, messages, unseen, chance } = this.table;
     clearMap(this.views);
     this.part.begin();
@@ -231,7 +240,7 @@ export class Player {
     board.did(this.agent, JOIN);
     const milliseconds = call.limit === undefined ? undefined : call.milliseconds ?? call.limit;
     board.wait(this.agent, call.block, byteOf(call), milliseconds);
-    this.#untilTurn();
+    this.untilTurn();
     this.#stayInRow();
     const end = board.deadlines.end(this.agent, milliseconds ?? 0);
     if (end === END.WOKEN) {
@@ -319,8 +328,14 @@ export class Player {
     board.line.become(this.agent, PHASE.ASKS);
   }
 
+  /** @param {Call} call that is made now */
+  #made(call) {
+    this.table.records.begin(this.part.made, call);
+    this.part.last = call;
+  }
+
   /** Sleeps until the agent's move was picked. */
-  #untilTurn() {
+  untilTurn() {
     const { board } = this.table;
     if (!board.pass(this.agent)) board.turn.sleep(this.agent);
     if (board.end.isOver()) this.part.sentHome();

@@ -14,6 +14,7 @@
  * @property {number[]} lengths of the buffers
  * @property {boolean} canBlock
  * @property {"watch" | "store" | "refuse"} ordinary
+ * @property {boolean} [parks] whether its thread sleeps for good when its run is over
  */
 
 export {};

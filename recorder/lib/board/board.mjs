@@ -8,7 +8,7 @@ import { Random } from "../memory/random.mjs";
 import { Clock } from "./clock.mjs";
 import { Deadlines } from "./deadlines.mjs";
 import { End } from "./end.mjs";
-import { Journal, MOVES } from "./journal.mjs";
+import { Journal, MOST_MOVES, MOVES } from "./journal.mjs";
 import { Line } from "./line.mjs";
 import { Row, STRAYS } from "./row.mjs";
 import { Spins } from "./spins.mjs";
@@ -74,7 +74,9 @@ export class Board {
    */
   begin(seed, isPilot = false) {
     this.#prepare(ORDER.PLAY);
-    this.line.begin();
+    this.line.begin(this.rules.starts);
+    this.words[WORD.JOINED] = this.strategy.starts;
+    this.words[WORD.MESSAGES] = 0;
     this.journal.begin();
     this.clock.begin(seed);
     this.deadlines.begin();
@@ -123,7 +125,7 @@ export class Board {
     }
     const next = strategy.next();
     if (next === STRAYS) end.end("failed", "");
-    else if (next === NOBODY_MOVES) end.end(this.#anyAgent((each) => line.waits(each)) ? "deadlock" : "finished", "");
+    else if (next === NOBODY_MOVES) end.end(this.#standstill(), "");
     else if (next !== agent) turn.give(next);
     return next === agent;
   }
@@ -150,6 +152,42 @@ export class Board {
   did(agent, event) {
     this.journal.count(agent, event);
     this.clock.advance(MOVES[event]);
+  }
+
+  /**
+   * A thread of a program joins the run: it can be drawn from now on.
+   * @param {number} agent
+   */
+  join(agent) {
+    this.words[WORD.JOINED] += 1;
+    this.strategy.asks(agent, 0, 0, 0);
+    this.line.become(agent, PHASE.ASKS);
+    this.turn.call(agent);
+  }
+
+  /**
+   * The event loop of an agent has nothing to do: it waits for what others bring.
+   * @param {number} agent that has the turn
+   * @param {number} where `LOOP`, or `NOWHERE` if nobody can wake it
+   * @param {number | undefined} milliseconds until it goes on by itself
+   */
+  rest(agent, where, milliseconds) {
+    this.strategy.asks(agent, 0, 0, 0);
+    this.line.join(agent, where, agent, milliseconds !== undefined);
+    if (milliseconds !== undefined) this.clock.setDeadline(agent, milliseconds);
+  }
+
+  /** An agent's event loop takes up something: that is a move, though none of a script. */
+  turned() {
+    this.words[WORD.MOVES] += MOST_MOVES;
+    this.clock.advance(MOST_MOVES);
+  }
+
+  /** @returns {import("./end.mjs").Ended} how a run ends in which nobody can move */
+  #standstill() {
+    const { line } = this;
+    if (this.#anyAgent((each) => line.waits(each) && !line.isIdle(each))) return "deadlock";
+    return this.#anyAgent((each) => line.isIdle(each)) ? "stuck" : "finished";
   }
 
   /** @param {number} order */

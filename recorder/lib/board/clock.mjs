@@ -48,6 +48,11 @@ export class Clock {
     return this.times[NOW];
   }
 
+  /** @returns {number} what time it is, for who looks at it without taking time */
+  now() {
+    return this.times[NOW];
+  }
+
   /** @param {number} milliseconds for which somebody sleeps who has the turn */
   pass(milliseconds) {
     if (!(milliseconds > 0)) return;

@@ -8,10 +8,10 @@ const { load, store, compareExchange, wait, notify } = Atomics;
 const encode = uncurried(TextEncoder.prototype.encodeInto);
 const encoder = new TextEncoder();
 
-/** @typedef {"finished" | "deadlock" | "failed" | "bound"} Ended how a run ends by itself */
+/** @typedef {"finished" | "deadlock" | "failed" | "bound" | "stuck"} Ended how a run ends by itself */
 
 /** @type {readonly Ended[]} */
-const ENDINGS = Object.freeze(["finished", "deadlock", "failed", "bound"]);
+const ENDINGS = Object.freeze(["finished", "deadlock", "failed", "bound", "stuck"]);
 
 // The word ENDED.
 const GOES_ON = 0;

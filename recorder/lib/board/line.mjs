@@ -1,6 +1,6 @@
 // Who is at what, and the line of waiters: who waits where, in order of arrival.
 
-import { AGENT_WORD, PHASE, WORD, wordOf } from "../memory/layout.mjs";
+import { AGENT_WORD, LOOP, PHASE, WORD, wordOf } from "../memory/layout.mjs";
 
 const { load } = Atomics;
 
@@ -11,10 +11,12 @@ export class Line {
     this.agents = agents;
   }
 
-  /** Nobody waits. */
-  begin() {
+  /** Nobody waits. @param {number} [starts] how many agents begin by themselves: the others are none yet */
+  begin(starts = this.agents) {
     this.words[WORD.TICKETS] = 0;
-    for (let agent = 0; agent < this.agents; agent += 1) this.become(agent, PHASE.RUNS);
+    for (let agent = 0; agent < this.agents; agent += 1) {
+      this.become(agent, agent < starts ? PHASE.RUNS : PHASE.FINISHED);
+    }
   }
 
   /** @param {number} agent @returns {number} one of `PHASE` */
@@ -64,7 +66,7 @@ export class Line {
   /** @returns {{ agent: number, block: number, byte: number }[]} who waits where, in order of arrival */
   waiting() {
     const { words } = this;
-    const all = Array.from({ length: this.agents }, (_, agent) => agent).filter((agent) => this.waits(agent));
+    const all = Array.from({ length: this.agents }, (_, agent) => agent).filter((agent) => this.waitsInBlock(agent));
     return all.sort((one, other) => this.#ticket(one) - this.#ticket(other)).map((agent) => ({
       agent,
       block: words[wordOf(agent, AGENT_WORD.WHERE_BLOCK)],
@@ -88,6 +90,16 @@ export class Line {
   waits(agent) {
     const phase = this.words[wordOf(agent, AGENT_WORD.PHASE)];
     return phase === PHASE.WAITS || phase === PHASE.WAITS_TIMED;
+  }
+
+  /** @param {number} agent @returns {boolean} whether it waits at a place of a block, and not in its event loop */
+  waitsInBlock(agent) {
+    return this.waits(agent) && this.words[wordOf(agent, AGENT_WORD.WHERE_BLOCK)] >= 0;
+  }
+
+  /** @param {number} agent @returns {boolean} whether its event loop has nothing to do */
+  isIdle(agent) {
+    return this.waits(agent) && this.words[wordOf(agent, AGENT_WORD.WHERE_BLOCK)] === LOOP;
   }
 
   /**

@@ -17,6 +17,7 @@ import { PILOT_WAYS } from "./strategy/ways.mjs";
  * @property {number | "never"} timeouts in how many draws the end of a timed wait is offered while something else can
  * move; never: it isn't, and not where nothing else can move either
  * @property {number} maxMoves
+ * @property {number} [starts] how many agents begin by themselves, the others when they are started; all, if it isn't given
  */
 
 /** @typedef {import("./strategy/ways.mjs").Way} Way */
@@ -45,6 +46,7 @@ export class Strategy {
   constructor(words, rules, random, places, row, deadlines) {
     this.words = words;
     this.rules = rules;
+    this.starts = rules.starts ?? rules.agents;
     this.early = rules.timeouts === NEVER ? 0 : rules.timeouts;
     this.random = random;
     this.row = row;
@@ -81,7 +83,7 @@ export class Strategy {
   /** @returns {number} the next agent that hasn't been started, or `NOBODY_MOVES` */
   nextToStart() {
     const { words } = this;
-    if (words[WORD.STARTED] >= this.rules.agents) return NOBODY_MOVES;
+    if (words[WORD.STARTED] >= this.starts) return NOBODY_MOVES;
     words[WORD.STARTED] += 1;
     return words[WORD.STARTED] - 1;
   }

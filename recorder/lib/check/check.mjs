@@ -123,7 +123,10 @@ export function checkedBy(simulator, { outcome, judgement }, every = 1) {
     return { ...outcome, checked: false, unchecked: "the options say that sabsim isn't asked" };
   }
   const unchecked = whyNot(outcome, every);
-  if (unchecked !== undefined) return { ...outcome, checked: false, unchecked };
+  if (unchecked !== undefined) {
+    if (outcome.noScript !== undefined && judgement !== undefined) checkRaces(simulator, outcome, judgement);
+    return { ...outcome, checked: false, unchecked };
+  }
   checkReplay(simulator, outcome);
   if (judgement !== undefined) checkRaces(simulator, outcome, judgement);
   return { ...outcome, checked: true };

@@ -23,11 +23,11 @@ function isFile(url) {
   }
 }
 
-/** @param {string} module @returns {string} its URL */
-function existing(module) {
+/** @param {import("./options.mjs").Options} options @returns {string} the URL of what is run */
+function existing({ module, isProgram }) {
   const url = moduleUrl(module);
   if (!isFile(url)) throw new Refused(`there is no file ${module}`);
-  needsAgents(url, module);
+  if (!isProgram) needsAgents(url, module);
   return url;
 }
 
@@ -48,7 +48,7 @@ async function run(words, job) {
       await print(asked.text);
       return { failed: false, problems: [] };
     }
-    const module = existing(asked.module);
+    const module = existing(asked);
     if (asked.replay === undefined) return await new Session(asked, module, job).run();
     return await new Replay(asked, module, asked.replay).run();
   } catch (problem) {

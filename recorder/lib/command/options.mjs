@@ -7,6 +7,7 @@ import { Refused } from "../options/refused.mjs";
 import { defaultsOf, optionsOf as rowsOf, wordOf } from "../options/table.mjs";
 import { counted } from "../run/words.mjs";
 import { countOf, shardOf } from "../seeds/ranges.mjs";
+import { runFrom } from "./whole-program.mjs";
 
 // How many characters a line of help has at most, and where what it says begins.
 const WIDTH = 120;
@@ -31,6 +32,7 @@ const helpOf = ([name, { help: [argument, text] = [], letter }]) =>
 const ROWS = rowsOf("command");
 
 export const USAGE = `usage: ${usageWords("record")} MODULE [options] [-- arguments for the agents]
+       ${usageWords("record")} --program FILE [options] [-- arguments for the program]
 
 Runs the agents of a module under seeded schedules, and keeps the first run that fails as a script for sabsim.
 
@@ -112,7 +114,8 @@ function replayOf({ replay: file, seeds }) {
 /**
  * @typedef {object} Own what a command line says besides the options of many runs
  * @property {string} module as it is named
- * @property {string[]} args for the agents
+ * @property {boolean} isProgram whether that is a program, and no module of agents
+ * @property {string[]} args for the agents, or for the program
  * @property {import("../seeds/ranges.mjs").Range} asked the seeds of all shards
  * @property {import("../seeds/ranges.mjs").Shard | undefined} shard
  * @property {boolean} untilCovered
@@ -138,17 +141,13 @@ export function optionsOf(words) {
   const { values, positionals } = parsed(end < 0 ? words : words.slice(0, end));
   if (values.help) return { text: USAGE };
   if (values.version) return { text: versionLine("record") };
-  if (positionals.length !== 1) {
-    const why = positionals.length === 0 ? "the agents' module is missing" : "there may be one module of agents only";
-    throw new Refused(`${why}; --help shows more`);
-  }
   const given = givenBy(values);
   /** @type {Record<string, any>} */
   const chosen = { ...defaultsOf("command"), ...given };
   const { seeds, shard, noShorten, help: _help, version: _version, ...all } = chosen;
   const asked = given.seeds === undefined && all.untilCovered ? SEEDS_UNTIL_COVERED : seeds;
   return /** @type {Options} */ ({
-    ...all, module: positionals[0], args: end < 0 ? [] : words.slice(end + 1),
+    ...all, ...runFrom(given, positionals), args: end < 0 ? [] : words.slice(end + 1),
     ...shardFrom(asked, shard), shorten: !noShorten, replay: replayOf(given),
   });
 }

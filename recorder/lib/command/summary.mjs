@@ -33,7 +33,7 @@ import { Tally } from "./tally.mjs";
  */
 
 // In the order in which they are told.
-const FAILING = ["deadlock", "failed", "check", "race", "bound"];
+const FAILING = ["deadlock", "stuck", "failed", "check", "race", "bound"];
 const PASSING = ["finished", ...FAILING];
 
 const CHANGES_ALONE =

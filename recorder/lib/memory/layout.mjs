@@ -31,6 +31,10 @@ export const WORD = Object.freeze({
   EARLY_OTHER: 26,
   EARLY_CALL: 27,
   IS_SILENT: 28,
+  /** Of a program: how many threads have joined its run, how many messages were sent, and how many threads stand ready. */
+  JOINED: 29,
+  MESSAGES: 30,
+  THREADS: 31,
 });
 
 /** Words of each agent; each agent has a line of the processor's cache for itself. */
@@ -73,9 +77,14 @@ export const ORDER = Object.freeze({ PLAY: 0, INIT: 1, CHECK: 2 });
 
 // The word TURN: nobody's, or an agent's while its own code runs (even) or while it is in a call of Atomics (odd).
 export const NOBODY = -1;
+
 /** @param {number} agent */
 export const inCode = (agent) => 2 * agent;
 /** @param {number} agent */
 export const inCall = (agent) => 2 * agent + 1;
 /** @param {number} turn */
 export const agentOf = (turn) => turn >> 1;
+
+/** In place of the block at which an agent waits: its event loop has nothing to do, or nobody can wake it. */
+export const LOOP = -1;
+export const NOWHERE = -2;

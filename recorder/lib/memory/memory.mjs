@@ -27,7 +27,7 @@ export class Memory {
 
   /** @returns {string[]} the known bytes of each block, two hexadecimal digits for each */
   hex() {
-    return this.known.map((bytes) => Buffer.from(bytes.buffer).toString("hex"));
+    return this.known.map(({ buffer, byteOffset, length }) => Buffer.from(buffer, byteOffset, length).toString("hex"));
   }
 
   /**

@@ -28,13 +28,14 @@ export class Thread {
   /**
    * @param {URL} file
    * @param {object} workerData
-   * @param {{ ownPort?: boolean }} options with `ownPort` messages go by a port that is `workerData.port` there: code
+   * @param {{ ownPort?: boolean, execArgv?: string[] }} options words of node's command line; with `ownPort` messages go by a port that is `workerData.port` there: code
    * that shares the worker, and its `parentPort` with it, can't listen in or answer
    */
-  constructor(file, workerData, { ownPort = false } = {}) {
+  constructor(file, workerData, { ownPort = false, execArgv } = {}) {
     const { port1, port2 } = ownPort ? new MessageChannel() : NO_PORTS;
     const own = { workerData: { ...workerData, port: port2 }, transferList: port2 === undefined ? [] : [port2] };
-    this.worker = new Worker(file, { ...(ownPort ? own : { workerData }), resourceLimits: workerLimits() });
+    const words = execArgv === undefined ? {} : { execArgv };
+    this.worker = new Worker(file, { ...(ownPort ? own : { workerData }), ...words, resourceLimits: workerLimits() });
     /** Where messages come from and go to. */
     this.port = port1 ?? this.worker;
     /** @type {Item[]} */
@@ -134,6 +135,9 @@ const begun = [];
 export function beginThreads(count) {
   for (let each = 0; each < count; each += 1) begun.push(new Thread(OWN_WORKER, {}, { ownPort: true }));
 }
+
+/** @param {string[]} execArgv words of node's command line @returns {Thread} the same, begun just now */
+export const begunWith = (execArgv) => new Thread(OWN_WORKER, {}, { ownPort: true, execArgv });
 
 /** @returns {Thread} one that awaits its data, with the recorder's modules that it is to evaluate */
 export function begunThread() {

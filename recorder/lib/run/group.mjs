@@ -30,6 +30,8 @@ import { within } from "./within.mjs";
 /**
  * @typedef {object} GroupOptions
  * @property {string} module the URL of the agents' module
+ * @property {"fail" | "allow"} [stuck] whether a run of a program that is stuck fails
+ * @property {boolean} [isProgram] whether the module is a program that starts its threads itself
  * @property {string[]} args for the agents
  * @property {number} [agents] how many
  * @property {number[]} [buffers] their bytes
@@ -103,9 +105,9 @@ export class Group {
    * @returns {Promise<Group>}
    */
   static async open(options, meanwhile = () => {}) {
-    const group = new Group(options);
+    const group = new this(options);
     try {
-      await group.#start(meanwhile);
+      await group.start(meanwhile);
       return group;
     } catch (error) {
       await group.close();
@@ -166,7 +168,7 @@ export class Group {
       if (message.outcome) onOutcome(message.outcome, message.judgement, message.aside);
       if (message.outcome?.fails) referee.post({ taken: true });
       if (message.replace) {
-        await Promise.all(message.replace.map((/** @type {number} */ agent) => this.#replace(agent)));
+        await Promise.all(message.replace.map((/** @type {number} */ agent) => this.replace(agent)));
         referee.post({ replaced: true });
       }
       if (message.ask) referee.post({ problem: this.#askedHere(message.ask) });
@@ -194,9 +196,9 @@ export class Group {
   }
 
   /** @param {() => void} meanwhile */
-  async #start(meanwhile) {
+  async start(meanwhile) {
     this.#beginUpTo(firstWorkers(this.options));
-    const referee = this.#thread();
+    const referee = this.thread();
     this.referee = referee;
     // It evaluates them while the agents' module is loaded.
     referee.post({ modules: ownModules(REFEREE_MODULE) });
@@ -205,7 +207,7 @@ export class Group {
     this.plan = planOf(this.options, told.setup);
     const { strategy, everywhere, timeouts, maxMoves } = this.options;
     this.rules = { agents: this.plan.agents, ways: waysOf(strategy, everywhere), timeouts, maxMoves };
-    const options = this.#refereeOptions(told);
+    const options = this.refereeOptions(told);
     if (options.init !== undefined && this.plan.agents === SCRIPT_LIMITS.agents) {
       throw new Refused(`with ${SCRIPT_LIMITS.agents} agents none is left for the stores of \`init\`: give one less`);
     }
@@ -236,7 +238,7 @@ export class Group {
   }
 
   /** Begins a worker. */
-  #thread() {
+  thread() {
     const thread = begunThread();
     this.threads.add(thread);
     return thread;
@@ -245,7 +247,7 @@ export class Group {
   /** @param {number} count how many agents' workers are to have begun */
   #beginUpTo(count) {
     const { module, args, ordinary, clock, unrecorded } = this.options;
-    const begun = Array.from({ length: count - this.begun.length }, () => this.#thread());
+    const begun = Array.from({ length: count - this.begun.length }, () => this.thread());
     // They are read while the workers begin.
     const modules = ownModules(AGENT_MODULE);
     /** @type {((thread: Thread) => void)[]} */
@@ -261,7 +263,7 @@ export class Group {
    * What the referee goes by.
    * @param {{ hasInit: boolean, hasCheck: boolean }} module
    */
-  #refereeOptions({ hasInit, hasCheck }) {
+  refereeOptions({ hasInit, hasCheck }) {
     const { init, check, module, seconds, fresh, trace, tellsMeetings, isBrief, ordinary } = this.options;
     const { races, bounds, unrecorded } = this.options;
     /** @type {(own: OfBuffers | undefined, isTheirs: boolean) => "library" | "module" | undefined} */
@@ -294,7 +296,7 @@ export class Group {
   }
 
   /** @param {number} agent whose worker is ended, and started anew */
-  async #replace(agent) {
+  async replace(agent) {
     const loading = this.next[agent] ?? this.#loaded(agent);
     delete this.next[agent];
     await this.agents[agent].stop();
@@ -319,9 +321,9 @@ export class Group {
   async #loaded(agent) {
     const { module } = this.options;
     this.#beginUpTo(1);
-    const thread = await this.#inTime(/** @type {Promise<Thread>} */ (this.begun.shift()));
+    const thread = await this.inTime(/** @type {Promise<Thread>} */ (this.begun.shift()));
     thread.post({ agent });
-    const { message, ended } = await this.#inTime(thread.next());
+    const { message, ended } = await this.inTime(thread.next());
     if (ended !== undefined) throw new Refused(`${module} can't be loaded: its worker ended (${ended})`);
     if (message.failed !== undefined) throw new Refused(loadProblem(module, message.failed));
     return { thread, has: message };
@@ -333,7 +335,7 @@ export class Group {
     const { memory, plan, rules } = this;
     thread.onEnd = (why) => started(this.board).turn.die(agent, why);
     thread.post({ memory, plan, rules });
-    const { ended } = await this.#inTime(thread.next());
+    const { ended } = await this.inTime(thread.next());
     if (ended !== undefined) throw new Refused(`${this.options.module} can't be loaded: its worker ended (${ended})`);
   }
 
@@ -342,7 +344,7 @@ export class Group {
    * @param {Promise<T>} promise that is awaited, but not for ever
    * @returns {Promise<T>}
    */
-  async #inTime(promise) {
+  async inTime(promise) {
     const { loadSeconds: seconds } = this.options;
     const told = await within(promise, seconds);
     if (told === undefined) throw new Refused(`${this.options.module} wasn't loaded within ${seconds} s`);

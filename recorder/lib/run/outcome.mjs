@@ -1,6 +1,6 @@
 // What is asked of one run, and what comes of it: types alone.
 
-/** @typedef {"finished" | "deadlock" | "failed" | "check" | "race" | "bound"} Ending */
+/** @typedef {"finished" | "deadlock" | "stuck" | "failed" | "check" | "race" | "bound"} Ending */
 
 /**
  * @typedef {object} Outcome of one run

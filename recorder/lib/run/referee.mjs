@@ -151,7 +151,9 @@ class Referee {
       if (wantsTrace) outcome.noTrace = goneText(found.endless);
       return;
     }
-    const again = await maker.made(wanted, true);
+    // A program's output is shown once.
+    const isSilent = wanted.isSilent || this.options.isProgram;
+    const again = await maker.made({ ...wanted, isSilent }, true);
     const same = areSame(reporter.brief(wanted, await maker.judgedAgain(again, found)), outcome);
     await this.#replace(again);
     if (same) reporter.addSources(outcome, wantsTrace);

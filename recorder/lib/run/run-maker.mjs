@@ -10,6 +10,7 @@ import { Notes } from "../memory/notes.mjs";
 import { Stores } from "../memory/stores.mjs";
 import { initialStores } from "./initial.mjs";
 import { PILOT_SECONDS } from "./pilots.mjs";
+import { ProgramState } from "./program-state.mjs";
 import { isRacy } from "./races.mjs";
 import { unseenText } from "./unseen.mjs";
 
@@ -46,6 +47,8 @@ import { unseenText } from "./unseen.mjs";
  * @property {"fail" | "allow"} unrecorded
  * @property {"library" | "module" | undefined} init whose it is, if there is one
  * @property {"library" | "module" | undefined} check whose it is, if there is one
+ * @property {"fail" | "allow"} [stuck] whether a run of a program that is stuck fails
+ * @property {boolean} [isProgram] whether a program of several threads is run, and no module of agents
  */
 
 /**
@@ -79,6 +82,7 @@ export class RunMaker {
     this.stores = new Stores(memory.stores, this.board.words, this.memory);
     this.notes = memory.notes.map((each) => new Notes(each));
     this.agents = plan.canBlock.map((_, agent) => agent);
+    this.program = options.isProgram ? new ProgramState(/** @type {any} */ (memory), this.board, this.memory, plan) : undefined;
   }
 
   /**
@@ -101,6 +105,7 @@ export class RunMaker {
     board.words[WORD.TELLS_SOURCES] = tellsSources ? 1 : 0;
     board.begin(wanted.seed);
     const told = await this.#ended();
+    if (this.program !== undefined) this.agents = this.program.learn();
     const stray = board.row.strayed();
     const bytes = memory.hex();
     const isBound = told.ending === "bound";
@@ -109,8 +114,11 @@ export class RunMaker {
     const gone = this.#sentHome();
     const endless = gone.filter((agent) => !board.turn.isParked(agent));
     const racy = options.ordinary === "watch" && isRacy(this.log, plan.agents);
-    const named = isBound ? sourceNames.withNames(told.detail) : this.#named(told.detail);
-    const detail = stray === undefined ? named : strayText(stray, named);
+    const isWhole = this.program !== undefined;
+    const named = isBound || isWhole ? sourceNames.withNames(told.detail) : this.#named(told.detail);
+    const idle = (this.program?.idle(told.ending) ?? []).map((line) => sourceNames.withNames(line));
+    const lines = [named, ...idle].filter((line) => line !== "");
+    const detail = stray === undefined ? lines.join("\n") : strayText(stray, named);
     const unseen = this.agents.flatMap((agent) => this.notes[agent].read().map((note) => ({ ...note, agent })));
     return { ending: told.ending, detail, bytes, gone, endless, racy, initial, waiting, asking, unseen, stray };
   }
@@ -121,7 +129,7 @@ export class RunMaker {
     const unseen = unseenText(found.unseen, unrecorded, this.sourceNames.placeName);
     if (unseen !== "" && found.stray === undefined) return failedFor(unseen, found);
     if (found.ending !== "finished") return found;
-    if (this.#triedNothing()) return { ...found, ending: "failed", detail: NOTHING_TRIED };
+    if (this.program === undefined && this.#triedNothing()) return { ...found, ending: "failed", detail: NOTHING_TRIED };
     const problem = check === undefined ? "" : await this.#asked("check");
     if (problem !== "") return { ...found, ending: "check", detail: `check ${problem}` };
     return found.racy && races === "fail" ? { ...found, ending: "race" } : found;
@@ -171,6 +179,11 @@ export class RunMaker {
     return this.callCount() === 0 && this.accessCount() === 0 && this.board.words[WORD.STORES] === 0;
   }
 
+  /** @param {string[]} bytes of each block @returns {string[]} of those that the code that is run has made */
+  ownBytes(bytes) {
+    return this.program === undefined ? bytes : bytes.slice(0, this.program.blocks.count);
+  }
+
   /** How many calls of Atomics were begun. */
   callCount() {
     return this.agents.reduce((sum, agent) => sum + this.board.journal.progress(agent).calls, 0);
@@ -186,7 +199,8 @@ export class RunMaker {
    * @param {Wanted} wanted
    */
   #clear(wanted) {
-    this.memory.reset();
+    if (this.program === undefined) this.memory.reset();
+    this.program?.begin();
     this.board.row.begin(wanted);
     this.log.begin();
     this.stores.begin();

@@ -44,7 +44,8 @@ export class RunReporter {
     const { deadlines, journal, row } = maker.board;
     const draws = row.told();
     const unrecorded = unrecordedIn(found.unseen, this.sourceNames.placeName);
-    const fails = ending !== "finished" && !(ending === "bound" && options.bounds === "allow");
+    const isAllowed = (ending === "bound" && options.bounds === "allow") || (ending === "stuck" && options.stuck === "allow");
+    const fails = ending !== "finished" && !isAllowed;
     const early = deadlines.early();
     return {
       seed,
@@ -55,7 +56,7 @@ export class RunReporter {
       calls: maker.callCount(),
       ordinary: maker.accessCount(),
       progress: maker.agents.map((agent) => journal.progress(agent)),
-      state: this.states.of(ending, found.bytes),
+      state: this.states.of(ending, maker.ownBytes(found.bytes)),
       races: [],
       ...(draws === undefined ? {} : { row: draws }),
       ...(unrecorded.length === 0 ? {} : { unrecorded }),
@@ -87,6 +88,12 @@ export class RunReporter {
       return;
     }
     const { maker: { stores, agents }, options, run } = this;
+    const why = this.maker.program?.whyNoScript();
+    if (why !== undefined) {
+      this.#addFailure(outcome, found, transcriptOf(run, []));
+      outcome.noScript = why;
+      return;
+    }
     const whole = { ...run, isOrdinary: this.#isOrdinary() };
     const { transcript, script, holds, bytes = [], noScript } = fitted(whole, stores, found.initial, found.bytes);
     this.#addFailure(outcome, found, transcript);
@@ -151,10 +158,12 @@ export class RunReporter {
    * @param {Made} found
    * @returns {import("./outcome.mjs").Judgement | undefined}
    */
-  judgement({ script }, { racy, initial }) {
-    if (script === undefined || this.options.ordinary !== "watch") return undefined;
+  judgement({ script }, found) {
+    const isTold = script !== undefined || this.maker.program !== undefined;
+    if (!isTold || found.isUnseen || this.options.ordinary !== "watch") return undefined;
+    const { racy, initial } = found;
     // The stores of `init` are none of the run's accesses, and ordinary reads are in no script.
-    return { racy, events: this.run.log.taken(), isInScript: !this.#isOrdinary() && initial.length === 0 };
+    return { racy, events: this.run.log.taken(), isInScript: script !== undefined && !this.#isOrdinary() && initial.length === 0 };
   }
 
   /**

@@ -39,7 +39,7 @@ export class SourceNames {
 
   /** @param {string} text @returns {string} a text in which places of the code are named so */
   withNames(text) {
-    return text.replace(/(?:file:\/\/)?\/[^\s:]+:\d+:\d+/g, (source) => this.nameOf(source));
+    return text.replace(/(?<![\w.])(?:file:\/\/)?\/[^\s:]+:\d+:\d+/g, (source) => this.nameOf(source));
   }
 
   /**

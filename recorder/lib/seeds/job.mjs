@@ -3,6 +3,7 @@
 // caller's functions, and no process has to be started. It is used as a `RemoteJob` is.
 
 import { checkedBy } from "../check/check.mjs";
+import { ProgramGroup } from "../program/group.mjs";
 import { Group } from "../run/group.mjs";
 import { FirstFailing } from "../run/order.mjs";
 import { shorten } from "../shorter/shorten.mjs";
@@ -59,7 +60,8 @@ export class Job {
     this.#simulator = checks ? simulatorAt(sabsim) : undefined;
     this.#every = checkEvery;
     this.#isBrief = isBrief;
-    this.#group = Group.open(options, () => this.#simulator?.prepare());
+    const Kind = options.isProgram ? ProgramGroup : Group;
+    this.#group = Kind.open(options, () => this.#simulator?.prepare());
     await this.#group;
   }
 

@@ -19,16 +19,24 @@ import { watchThreads } from "./threads.mjs";
  * @param {import("./context.mjs").Watching} watching
  */
 export function watchOrdinary(watching) {
+  watchRealm(watching);
+  watchThreads(threads);
+  syncBuiltinESMExports();
+}
+
+/**
+ * The same, except for what gives memory to other threads.
+ * @param {import("./context.mjs").Watching} watching
+ */
+export function watchRealm(watching) {
   begin(watching);
   watchArrays();
   watchDataView();
   watchBuffers();
   watchNodeBuffer(buffer);
   watchCloning();
-  watchThreads(threads);
   watchInspection();
   watchNatives();
-  syncBuiltinESMExports();
 }
 
 /**

@@ -1,0 +1,107 @@
+// The blocks of a program, whose memory comes to be while its run goes on. A buffer becomes a block when two threads can
+// reach it. The last block stands for messages: sending one and receiving it are acts on the waiters of a place there,
+// so that what was done before the one comes before what is done after the other.
+
+import { SCRIPT_LIMITS } from "../../script/limits.mjs";
+
+const { Int32Array, Uint8Array, SharedArrayBuffer } = globalThis;
+
+/** The block that stands for messages, how many bytes it has, and how many places. */
+export const MESSAGES = SCRIPT_LIMITS.blocks - 1;
+export const MESSAGE_BYTES = 16_384;
+export const MESSAGE_PLACES = MESSAGE_BYTES / 4;
+
+/** How many blocks a program can have for its memory, and how long each can be. */
+export const MOST_BLOCKS = MESSAGES;
+export const MOST_BYTES = SCRIPT_LIMITS.bytes;
+
+const COUNT = 0;
+const LENGTHS = 1;
+const WORDS = LENGTHS + SCRIPT_LIMITS.blocks;
+
+export class Blocks {
+  /** @returns {SharedArrayBuffer} */
+  static memory() {
+    return new SharedArrayBuffer(WORDS * 4);
+  }
+
+  /**
+   * @param {SharedArrayBuffer} shared what `memory` has made
+   * @param {SharedArrayBuffer[]} copies for each block, as long as it can be
+   * @param {import("./memory.mjs").Memory} memory whose blocks these are
+   * @param {number[]} lengths of the blocks, which are kept as they are
+   */
+  constructor(shared, copies, memory, lengths) {
+    this.words = new Int32Array(shared);
+    this.copies = copies;
+    this.memory = memory;
+    this.lengths = lengths;
+    /** @type {(SharedArrayBuffer | undefined)[]} the buffer of each block that this thread knows */
+    this.buffers = [];
+    this.clear();
+  }
+
+  /** @returns {number} how many blocks there are */
+  get count() {
+    return this.words[COUNT];
+  }
+
+  /** A run begins, in which nothing was made yet. The referee calls it. */
+  begin() {
+    const { copies, memory, words } = this;
+    for (let block = 0; block < words[COUNT]; block += 1) memory.known[block] = new Uint8Array(copies[block]);
+    for (let block = 0; block < words[COUNT]; block += 1) memory.known[block].fill(0);
+    words[COUNT] = 0;
+    this.clear();
+  }
+
+  /**
+   * A buffer of this thread becomes a block. There must be room for it.
+   * @param {SharedArrayBuffer} buffer
+   * @returns {number} its number
+   */
+  add(buffer) {
+    const { words } = this;
+    const block = words[COUNT];
+    words[LENGTHS + block] = buffer.byteLength;
+    words[COUNT] += 1;
+    this.adopt(block, buffer);
+    return block;
+  }
+
+  /**
+   * This thread gets to know a block.
+   * @param {number} block
+   * @param {SharedArrayBuffer} buffer
+   */
+  adopt(block, buffer) {
+    this.buffers[block] = buffer;
+    this.memory.real[block] = new Uint8Array(buffer);
+    this.#learn(block, buffer.byteLength);
+  }
+
+  /** The referee gets to know all blocks that were made. */
+  refresh() {
+    const { words } = this;
+    for (let block = 0; block < words[COUNT]; block += 1) this.#learn(block, words[LENGTHS + block]);
+    // Nobody writes there.
+    this.memory.known[MESSAGES] = new Uint8Array(this.copies[MESSAGES]);
+  }
+
+  /** @param {number} block @param {number} length */
+  #learn(block, length) {
+    this.memory.known[block] = new Uint8Array(this.copies[block], 0, length);
+    this.lengths[block] = length;
+  }
+
+  /** This thread knows none. */
+  clear() {
+    const { memory, lengths } = this;
+    this.buffers = [];
+    for (let block = 0; block < SCRIPT_LIMITS.blocks; block += 1) {
+      memory.real[block] = new Uint8Array(0);
+      memory.known[block] = new Uint8Array(0);
+      lengths[block] = block === MESSAGES ? MESSAGE_BYTES : 0;
+    }
+  }
+}

@@ -1,0 +1,145 @@
+// The BroadcastChannel of a program. Node's own one starts itself, and its messages would come by the real loop. So a
+// message goes by the hidden ports of threads, to each channel of the name that there is when it is sent.
+
+import { uncurried } from "../primordials.mjs";
+import { sent } from "./values.mjs";
+
+const { TypeError, structuredClone } = globalThis;
+const EngineTarget = EventTarget;
+const EngineException = DOMException;
+const EngineEvent = MessageEvent;
+const { imul } = Math;
+const codeAt = uncurried(String.prototype.charCodeAt);
+
+/** @param {string} name @returns {number} the same for each channel of a name, and not 0 */
+function numberOf(name) {
+  let number = 0x811c9dc5;
+  for (let at = 0; at < name.length; at += 1) number = imul(number ^ codeAt(name, at), 0x01000193);
+  return number | 1;
+}
+
+/**
+ * @typedef {object} Casting
+ * @property {import("./ports.mjs").Ports} ports
+ * @property {import("./moves.mjs").Moves} moves
+ * @property {import("./mesh.mjs").Mesh} mesh
+ * @property {import("./buffers.mjs").Buffers} buffers
+ * @property {(thrown: unknown) => void} uncaught
+ */
+
+/**
+ * Sends a message to all channels of a name, except for the one that sends.
+ * @param {Casting} casting
+ * @param {number} from the channel's number
+ * @param {unknown} value
+ * @param {Function} called
+ */
+function cast({ ports, moves, mesh, buffers }, from, value, called) {
+  const { table, agent } = ports.world;
+  const bare = structuredClone(sent(value, buffers));
+  const number = moves.send(called);
+  for (let id = 0; id < table.count; id += 1) {
+    if (id === from || table.name(id) !== table.name(from) || table.isClosed(id)) continue;
+    const owner = table.owner(id);
+    const envelope = { value: bare, kind: 0, number, ports: [], ids: [] };
+    if (owner === agent) ports.queueOf(id).push({ ...envelope, value: structuredClone(bare) });
+    else mesh.hand(owner, { kind: "broadcast", id, envelope });
+    table.addWaiting(id, 1);
+    ports.rouse(id);
+  }
+}
+
+/** @param {object} target @param {unknown} data */
+function eventOf(target, data) {
+  const event = new EngineEvent("message", { data });
+  for (const name of ["target", "currentTarget"]) Object.defineProperty(event, name, { value: target });
+  return event;
+}
+
+/** @type {Casting | undefined} a thread has one part in a run */
+let casting;
+
+/** @returns {Casting} */
+function world() {
+  if (casting === undefined) throw new Error("the thread has no part in a run yet");
+  return casting;
+}
+
+/** The BroadcastChannel that the program finds. */
+class BroadcastChannel extends EngineTarget {
+  #id;
+  #isClosed = false;
+  /** @type {Record<string, Function | null>} */
+  #handlers = {};
+
+  /** @param {unknown} name */
+  constructor(name) {
+    if (arguments.length === 0) throw new TypeError("The \"name\" argument must be specified");
+    super();
+    const { ports, moves } = world();
+    const { table, agent } = ports.world;
+    moves.yield();
+    this.name = `${name}`;
+    this.#id = table.addPair(agent);
+    ports.adopt(this, this.#id);
+    const meta = ports.known(this);
+    meta.queue = [];
+    meta.refed = true;
+    meta.where = ports.world.here();
+    meta.taker = ({ value }) => this.#take(value);
+    table.setName(this.#id, numberOf(this.name));
+    table.start(this.#id);
+  }
+
+  get onmessage() {
+    return this.#handlers.message ?? null;
+  }
+
+  set onmessage(/** @type {any} */ handler) {
+    this.#handlers.message = handler;
+  }
+
+  /** @param {unknown} value */
+  postMessage(value) {
+    if (arguments.length === 0) throw new TypeError("The \"message\" argument must be specified");
+    if (this.#isClosed) throw new EngineException("BroadcastChannel is closed.", "InvalidStateError");
+    cast(world(), this.#id, value, this.postMessage);
+  }
+
+  close() {
+    if (this.#isClosed) return;
+    this.#isClosed = true;
+    const { ports } = world();
+    ports.known(this).closed = true;
+    ports.world.table.close(this.#id);
+    ports.mine.delete(this.#id);
+  }
+
+  ref() {
+    world().ports.known(this).refed = true;
+    return this;
+  }
+
+  unref() {
+    world().ports.known(this).refed = false;
+    return this;
+  }
+
+  /** @param {unknown} value */
+  #take(value) {
+    try {
+      this.#handlers.message?.call(this, eventOf(this, value));
+    } catch (thrown) {
+      world().uncaught(thrown);
+    }
+    this.dispatchEvent(new EngineEvent("message", { data: value }));
+  }
+}
+
+/** @param {Casting} given @returns {Function} the class by which the program makes such channels */
+export function broadcastClass(given) {
+  casting = given;
+  const { mesh, ports } = given;
+  mesh.onItem("broadcast", ({ id, envelope }) => void ports.queueOf(id).push(envelope));
+  return BroadcastChannel;
+}

@@ -1,0 +1,163 @@
+// The shared buffers of a program's thread. One that no other thread can reach is nobody else's affair. When it is put
+// into a message it becomes a block, before the message is sent: what was done to it until then comes before all that
+// others do. What comes out of a message is another object on the same memory: which block that is, is found by writing.
+
+import { learn } from "../agent/ordinary/context.mjs";
+import { WHOLE_BUFFER } from "../agent/ordinary/watched.mjs";
+import { MOST_BLOCKS, MOST_BYTES } from "../memory/blocks.mjs";
+import { sharedLengthOf, weakGet, weakSet } from "../primordials.mjs";
+
+const { SharedArrayBuffer: EngineShared, Uint8Array, WeakMap: EngineWeakMap } = globalThis;
+const { load, store } = Atomics;
+
+/** From here on are the numbers of buffers that are no blocks yet. */
+const FIRST_OWN = 16;
+
+const NO_BLOCK = -1;
+
+/** @typedef {{ block: number, own: number, place: string | undefined }} Known a buffer: its block, or its own number */
+
+/**
+ * Whether two buffers have the same memory. Nobody else writes meanwhile.
+ * @param {SharedArrayBuffer} one
+ * @param {SharedArrayBuffer} other
+ */
+function areSame(one, other) {
+  const mine = new Uint8Array(one, 0, 1);
+  const theirs = new Uint8Array(other, 0, 1);
+  const before = load(mine, 0);
+  let same = true;
+  for (const value of [before ^ 0x55, before ^ 0xaa]) {
+    store(mine, 0, value);
+    if (load(theirs, 0) !== value) same = false;
+  }
+  store(mine, 0, before);
+  return same;
+}
+
+/** @param {SharedArrayBuffer} buffer @returns {boolean} */
+function hasBytes(buffer) {
+  const bytes = new Uint8Array(buffer);
+  for (let byte = 0; byte < bytes.length; byte += 1) if (bytes[byte] !== 0) return true;
+  return false;
+}
+
+/**
+ * @typedef {object} Shown
+ * @property {(place: import("../agent/ordinary/context.mjs").Place, from: number, to: number, writes: boolean) => void}
+ * seen gets an ordinary access that is about to be made
+ * @property {(why: string) => never} refuse ends the run
+ */
+
+export class Buffers {
+  /** @type {WeakMap<object, Known>} */
+  #known = new EngineWeakMap();
+
+  /** @type {Known[]} those that were made here, by their own numbers less the first one */
+  #own = [];
+
+  /**
+   * @param {import("../memory/blocks.mjs").Blocks} blocks
+   * @param {import("./mesh.mjs").Mesh} mesh
+   * @param {Shown} shown
+   */
+  constructor(blocks, mesh, shown) {
+    this.blocks = blocks;
+    this.mesh = mesh;
+    this.shown = shown;
+    mesh.onItem("block", ({ block, buffer }) => this.#adopt(block, buffer));
+  }
+
+  /**
+   * The program has made a buffer.
+   * @param {SharedArrayBuffer} buffer
+   * @param {string | undefined} place where
+   */
+  made(buffer, place) {
+    const known = { block: NO_BLOCK, own: FIRST_OWN + this.#own.length, place };
+    this.#own[this.#own.length] = known;
+    weakSet(this.#known, buffer, known);
+  }
+
+  /** @param {unknown} buffer @returns {number} a number by which it is known, or -1 */
+  numberOf(buffer) {
+    const known = weakGet(this.#known, buffer);
+    if (known === undefined) return NO_BLOCK;
+    return known.block < 0 ? known.own : known.block;
+  }
+
+  /** @param {number} number of a buffer @returns {number} its block, or -1 */
+  blockOf(number) {
+    return number < FIRST_OWN ? number : this.#own[number - FIRST_OWN].block;
+  }
+
+  /**
+   * Another thread can reach a buffer from now on.
+   * @param {SharedArrayBuffer} buffer
+   */
+  share(buffer) {
+    const known = weakGet(this.#known, buffer);
+    if (known === undefined || known.block >= 0 || sharedLengthOf(buffer) === 0) return;
+    const { blocks, mesh, shown } = this;
+    const length = sharedLengthOf(buffer);
+    const where = known.place === undefined ? "" : ` made at ${known.place}`;
+    if (length > MOST_BYTES) {
+      shown.refuse(`gave another thread a SharedArrayBuffer of ${length} bytes${where}: a run of a program has `
+        + `blocks of ${MOST_BYTES} bytes at most`);
+    }
+    if (blocks.count === MOST_BLOCKS) {
+      shown.refuse(`gave another thread a SharedArrayBuffer${where}: a run of a program has ${MOST_BLOCKS} that `
+        + "several threads reach, and this would be one more");
+    }
+    known.block = blocks.add(buffer);
+    mesh.handAll({ kind: "block", block: known.block, buffer });
+    if (!hasBytes(buffer)) return;
+    shown.seen({ block: known.block, kind: WHOLE_BUFFER, offset: 0, length }, 0, length, true);
+  }
+
+  /** @param {number} agent that begins, and has to know the blocks that there are */
+  handTo(agent) {
+    const { blocks, mesh } = this;
+    mesh.take();
+    for (let block = 0; block < blocks.count; block += 1) {
+      mesh.hand(agent, { kind: "block", block, buffer: blocks.buffers[block] });
+    }
+  }
+
+  /**
+   * A buffer has come out of a message.
+   * @param {SharedArrayBuffer} buffer
+   */
+  received(buffer) {
+    if (weakGet(this.#known, buffer) !== undefined || sharedLengthOf(buffer) === 0) return;
+    this.mesh.take();
+    const { blocks } = this;
+    for (let block = 0; block < blocks.count; block += 1) {
+      const other = blocks.buffers[block];
+      if (other === undefined || sharedLengthOf(other) !== sharedLengthOf(buffer) || !areSame(buffer, other)) continue;
+      learn(buffer, other);
+      weakSet(this.#known, buffer, { block, own: NO_BLOCK, place: undefined });
+      return;
+    }
+    this.shown.refuse("got shared memory that isn't a SharedArrayBuffer of the program, which can't be simulated");
+  }
+
+  /** Nothing of an earlier run is left. */
+  clear() {
+    this.#known = new EngineWeakMap();
+    this.#own = [];
+    this.blocks.clear();
+  }
+
+  /** @param {unknown} value @returns {value is SharedArrayBuffer} */
+  static isShared(value) {
+    return value instanceof EngineShared;
+  }
+
+  /** @param {number} block @param {SharedArrayBuffer} buffer */
+  #adopt(block, buffer) {
+    if (this.blocks.buffers[block] !== undefined) return;
+    this.blocks.adopt(block, buffer);
+    weakSet(this.#known, buffer, { block, own: NO_BLOCK, place: undefined });
+  }
+}

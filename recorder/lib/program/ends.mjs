@@ -1,0 +1,183 @@
+// How a program's thread ends: nothing keeps it alive, it exits, or it throws what nobody catches. The first thread's end
+// is the run's. Another one lets the thread know that has started it.
+
+import process from "node:process";
+import { described } from "../agent/described.mjs";
+import { PHASE } from "../memory/layout.mjs";
+import { KIND } from "./ports.mjs";
+
+/** The exit code of a thread whose module is still being evaluated when nothing keeps it alive. */
+const UNSETTLED = 13;
+
+/** That of a thread whose listener of `uncaughtException` throws. */
+const LISTENER_THREW = 7;
+
+/**
+ * @typedef {object} Leaving
+ * @property {number} agent
+ * @property {import("../agent/player.mjs").Player} player
+ * @property {import("./ports.mjs").Ports} ports
+ * @property {import("./threads.mjs").Threads} threads
+ * @property {() => string} here where the program's code is
+ */
+
+/** @typedef {"uncaughtException" | "unhandledRejection"} Origin */
+
+/** @type {any} node's, with more than is written down of it */
+const own = process;
+/** @type {(name: string, ...given: unknown[]) => boolean} */
+const emit = own.emit.bind(own);
+/** @type {(name: string) => number} */
+const listenersOf = own.listenerCount.bind(own);
+
+export class Ends {
+  /** Whether this thread's part in the run is over. */
+  isOver = false;
+
+  /** Whether the program's module of this thread is evaluated. */
+  isEvaluated = false;
+
+  /** @type {any} the port to the thread that has started this one */
+  parentPort = undefined;
+
+  /** @param {Leaving} leaving */
+  constructor(leaving) {
+    this.leaving = leaving;
+  }
+
+  /** Takes what node gives to nobody else. */
+  guard() {
+    // A rejection that nobody handles comes here too.
+    process.on("uncaughtException", (thrown, origin) => {
+      if (listenersOf("uncaughtException") === 1) this.#fail(thrown, origin);
+    });
+  }
+
+  /** @param {unknown} thrown @param {Origin} [origin] */
+  uncaught(thrown, origin = "uncaughtException") {
+    if (this.isOver) return;
+    // This one's own guard is a listener too.
+    if (listenersOf("uncaughtException") === 1) {
+      this.#fail(thrown, origin);
+      return;
+    }
+    try {
+      emit("uncaughtException", thrown, origin);
+    } catch (problem) {
+      this.isOver = true;
+      this.#go(LISTENER_THREW, `threw in a listener of uncaughtException: ${described(problem)}`);
+    }
+  }
+
+  /** Nothing is left to be done: the program may find something. */
+  beforeExit() {
+    emit("beforeExit", Number(own.exitCode ?? 0));
+  }
+
+  /** Nothing keeps the thread alive. */
+  leave() {
+    if (!this.isEvaluated) own.exitCode ??= UNSETTLED;
+    const why = this.isEvaluated ? "" : "has a top-level await that never settles";
+    this.#emitExit(Number(own.exitCode ?? 0));
+    const code = Number(own.exitCode ?? 0);
+    const { agent, player: { table: { board } } } = this.leaving;
+    if (agent !== 0) {
+      this.#depart(code);
+      board.pass(agent);
+      return;
+    }
+    this.#give();
+    board.end.end(code === 0 ? "finished" : "failed", code === 0 ? "" : failedText(code, why));
+  }
+
+  /** Nothing of an earlier run is left. */
+  clear() {
+    this.isOver = false;
+    this.isEvaluated = false;
+    this.parentPort = undefined;
+    own.exitCode = undefined;
+    own._exiting = false;
+  }
+
+  /**
+   * The program's code ends its thread. It doesn't go on.
+   * @param {unknown} given the exit code
+   */
+  exit(given) {
+    if (given !== undefined) own.exitCode = Number(given);
+    const where = `calls process.exit at ${this.leaving.here()}`;
+    // A listener of `exit` exits once more.
+    if (this.isOver) this.#go(Number(own.exitCode ?? 0), where);
+    this.#end(Number(own.exitCode ?? 0), where);
+  }
+
+  /** @param {unknown} thrown @param {Origin} origin */
+  #fail(thrown, origin) {
+    if (this.isOver) return;
+    const { ports } = this.leaving;
+    const what = origin === "unhandledRejection" ? "threw (a rejection that nobody handles)" : "threw";
+    const text = `${what} ${described(thrown)}`;
+    if (this.parentPort !== undefined) {
+      try {
+        ports.send(this.parentPort, thrown, [], undefined, KIND.ERROR);
+      } catch {
+        ports.send(this.parentPort, new Error(String(thrown)), [], undefined, KIND.ERROR);
+      }
+    }
+    own.exitCode = 1;
+    this.#end(1, text);
+  }
+
+  /** @param {number} code that listeners of `exit` get @param {string} text why, if that isn't its natural end */
+  #end(code, text) {
+    this.#emitExit(code);
+    this.#go(Number(own.exitCode ?? code), text);
+  }
+
+  /** @param {number} code that listeners of `exit` get */
+  #emitExit(code) {
+    this.isOver = true;
+    try {
+      emit("exit", code);
+    } catch {
+      own.exitCode ||= 1;
+    }
+  }
+
+  /** @param {number} code @param {string} text @returns {never} the program's code doesn't go on */
+  #go(code, text) {
+    const { agent, player: { part, table: { board } } } = this.leaving;
+    if (agent !== 0) {
+      this.#depart(code);
+      board.turn.lay(agent);
+      board.pass(agent);
+      return board.turn.park(agent);
+    }
+    part.enter();
+    if (code === 0) part.end("finished", "");
+    return part.end("failed", /^threw\b/.test(text) ? `agent 0 ${text}` : failedText(code, text));
+  }
+
+  /** What the first thread has done is taken. */
+  #give() {
+    const { agent, player: { part, table: { board } } } = this.leaving;
+    part.enter();
+    board.journal.countOrdinary(agent, part.accesses.count);
+    part.isPlaying = false;
+  }
+
+  /** @param {number} code of a thread that another one has started */
+  #depart(code) {
+    const { agent, player: { part, table: { board } }, ports, threads } = this.leaving;
+    ports.send(this.parentPort, code, [], undefined, KIND.EXIT);
+    threads.closePorts(agent);
+    threads.endChildren(agent);
+    part.enter();
+    board.journal.countOrdinary(agent, part.accesses.count);
+    part.isPlaying = false;
+    board.line.become(agent, PHASE.FINISHED);
+  }
+}
+
+/** @param {number} code @param {string} why */
+const failedText = (code, why) => `agent 0 exited with code ${code}${why === "" ? "" : `: it ${why}`}`;

@@ -1,0 +1,126 @@
+// What a program's thread finds in place of node's own: threads, ports, timers, memory, process. What isn't simulated
+// ends the run by its name and line.
+
+import nodeModule from "node:module";
+import process from "node:process";
+import timers from "node:timers";
+import timersPromises from "node:timers/promises";
+import threads from "node:worker_threads";
+import { construct, likeEngine, put } from "../primordials.mjs";
+import { member } from "./member.mjs";
+
+const { Proxy: EngineProxy } = globalThis;
+const EngineShared = SharedArrayBuffer;
+const EngineMemory = WebAssembly.Memory;
+const { syncBuiltinESMExports } = nodeModule;
+
+/** @typedef {(why: string) => never} Refuse */
+
+/**
+ * Puts a run's timers in the place of node's.
+ * @param {import("./timers.mjs").Timers} own
+ */
+export function furnishTimers(own) {
+  for (const [name, each] of Object.entries(own.functions)) {
+    member(globalThis, name, each);
+    member(timers, name, each);
+  }
+  for (const name of Object.keys(timersPromises)) member(timersPromises, name, own.promises[name]);
+  member(timers, "promises", timersPromises);
+  member(AbortSignal, "timeout", own.timeoutSignal);
+}
+
+/**
+ * Has each shared buffer known that the program makes.
+ * @param {(buffer: SharedArrayBuffer) => void} made
+ * @param {Refuse} refuse
+ */
+export function furnishMemory(made, refuse) {
+  const traps = {
+    /** @param {Function} target @param {any[]} given @param {Function} asked */
+    construct(target, given, asked) {
+      const { maxByteLength } = Object(given[1]);
+      if (maxByteLength !== undefined) refuse("made a SharedArrayBuffer that grows, which isn't simulated yet");
+      const buffer = construct(target, given, asked === StandIn ? target : asked);
+      made(buffer);
+      return buffer;
+    },
+  };
+  /** @type {any} */
+  const StandIn = new EngineProxy(EngineShared, traps);
+  put(EngineShared.prototype, "constructor", StandIn);
+  put(globalThis, "SharedArrayBuffer", StandIn);
+  /** @type {any} */
+  const Memory = new EngineProxy(EngineMemory, {
+    construct(target, given) {
+      if (Object(given[0]).shared === true) refuse("made a shared WebAssembly.Memory, which isn't simulated");
+      return construct(target, given);
+    },
+  });
+  put(WebAssembly, "Memory", Memory);
+}
+
+/**
+ * @typedef {object} Place what a thread is in its run
+ * @property {number} agent
+ * @property {unknown} workerData
+ * @property {any} parentPort null in the first thread
+ * @property {string[]} argv
+ * @property {Record<string, string | undefined> | undefined} env
+ * @property {Map<unknown, unknown>} environment
+ */
+
+/**
+ * Tells the thread's code what it is, and by which classes it gets to others.
+ * @param {Place} place
+ * @param {Record<string, unknown>} classes of `worker_threads`
+ */
+export function furnishThreads({ agent, workerData, parentPort, argv, env, environment }, classes) {
+  for (const [name, each] of Object.entries(classes)) member(threads, name, each);
+  member(threads, "isMainThread", agent === 0);
+  member(threads, "threadId", agent);
+  member(threads, "workerData", workerData);
+  member(threads, "parentPort", parentPort);
+  member(threads, "getEnvironmentData", (/** @type {unknown} */ key) => environment.get(key));
+  member(threads, "setEnvironmentData", (/** @type {unknown} */ key, /** @type {unknown} */ value) => {
+    if (value === undefined) environment.delete(key);
+    else environment.set(key, value);
+  });
+  for (const name of ["MessageChannel", "BroadcastChannel"]) {
+    if (classes[name] !== undefined) member(globalThis, name, classes[name]);
+  }
+  /** @type {any} */
+  const own = process;
+  own.argv = argv;
+  if (env !== undefined) own.env = env;
+}
+
+/**
+ * @param {(code: unknown) => void} exit
+ */
+export function furnishProcess(exit) {
+  member(process, "exit", likeEngine((/** @type {unknown} */ code) => exit(code), process.exit));
+  member(process, "reallyExit", (/** @type {unknown} */ code) => exit(code));
+  member(process, "abort", () => exit(134));
+  syncBuiltinESMExports();
+}
+
+/** @type {Map<string, Function[]>} what listens by itself, by the names of events */
+const listening = new Map();
+
+/** Remembers how the thread's process is before a program runs in it. */
+export function keepProcess() {
+  /** @type {any} */
+  const own = process;
+  own.execArgv = [];
+  for (const name of own.eventNames()) listening.set(name, own.rawListeners(name));
+}
+
+/** Nothing of an earlier run listens, or is a global of evaluated code. */
+export function restoreProcess() {
+  /** @type {any} */
+  const own = process;
+  for (const name of own.eventNames()) own.removeAllListeners(name);
+  for (const [name, listeners] of listening) for (const listener of listeners) own.on(name, listener);
+  delete (/** @type {any} */ (globalThis)).require;
+}

@@ -1,0 +1,162 @@
+// A group of threads that run a program, and the thread of their referee. Some stand ready; a run that needs more gets
+// more. A thread that ended amid its code can't begin again: another one takes its place.
+
+import { MessageChannel } from "node:worker_threads";
+import { SCRIPT_LIMITS } from "../../script/limits.mjs";
+import { Board } from "../board/board.mjs";
+import { waysOf } from "../board/strategy/ways.mjs";
+import { WORD } from "../memory/layout.mjs";
+import { Refused } from "../options/refused.mjs";
+import { ownModules } from "../processes/own-modules.cjs";
+import { begunWith } from "../processes/thread.mjs";
+import { Group } from "../run/group.mjs";
+import { GRAPH_FLAGS } from "./graph-flags.mjs";
+import { programMemory, programPlan } from "./program-memory.mjs";
+
+/** @typedef {import("../processes/thread.mjs").Thread} Thread */
+/** @typedef {import("../run/outcome.mjs").Wanted} Wanted */
+/** @typedef {{ thread: Thread, control: import("node:worker_threads").MessagePort }} Standing a thread of a slot */
+
+const PROGRAM_MODULE = new URL("./worker.mjs", import.meta.url);
+const REFEREE_MODULE = new URL("../run/referee.mjs", import.meta.url);
+
+/** How many threads stand ready at first: the program's own one, and two workers. */
+const FIRST_THREADS = 3;
+
+const { store, notify } = Atomics;
+
+/** What a thread needs that makes modules anew, besides the words of this process: see `graph.mjs`. */
+const FLAGS = [...process.execArgv, ...GRAPH_FLAGS];
+
+/** After so many runs threads are started anew: what a run leaves is little, but it grows. */
+const MOST_RUNS = 500;
+
+/** @type {() => { port1: any, port2: any }} */
+const channel = () => new MessageChannel();
+
+export class ProgramGroup extends Group {
+  /** @type {Promise<Thread>[]} threads that have begun, and have no number yet */
+  #spare = [];
+
+  /** @type {any[]} ports by which each thread gets ports to others */
+  #controls = [];
+
+  /** How many threads stand ready beside those that have a number. */
+  #ahead = FIRST_THREADS;
+
+  /** @type {Promise<void>} settled when no more are being added */
+  #growing = Promise.resolve();
+
+  /** How many runs were asked for. */
+  #made = 0;
+
+  /** @type {number | undefined} the seed whose run prints */
+  #loud = undefined;
+
+  /** @param {() => void} meanwhile */
+  async start(meanwhile) {
+    const referee = this.thread();
+    this.referee = referee;
+    referee.post({ modules: ownModules(REFEREE_MODULE) });
+    const { strategy, timeouts, maxMoves } = this.options;
+    const plan = programPlan(SCRIPT_LIMITS.agents);
+    const ways = waysOf(strategy, true);
+    this.plan = plan;
+    this.rules = { agents: plan.agents, starts: 1, ways, timeouts, maxMoves };
+    this.memory = programMemory(plan, this.options.logEvents);
+    this.board = new Board(this.memory.board, this.rules);
+    const options = this.refereeOptions({ hasInit: false, hasCheck: false });
+    referee.post({ memory: this.memory, plan, rules: this.rules, options: { ...options, stuck: this.options.stuck, isProgram: true, fresh: false } });
+    this.#prepare();
+    meanwhile();
+    await this.#grow(FIRST_THREADS);
+  }
+
+  /**
+   * @param {Wanted[]} seeds
+   * @param {Parameters<Group["run"]>[1]} onOutcome
+   */
+  run(seeds, onOutcome) {
+    // Of several jobs the one prints that makes the first run of all.
+    this.#loud ??= /** @type {{ first?: number }} */ (this.options).first ?? seeds[0]?.seed;
+    const all = seeds.map((wanted) => {
+      this.#made += 1;
+      const isFresh = wanted.isFresh || this.options.fresh || this.#made % MOST_RUNS === 0;
+      return { ...wanted, isFresh, isSilent: wanted.isSilent || wanted.seed !== this.#loud };
+    });
+    return super.run(all, onOutcome);
+  }
+
+  /** @param {number} agent whose thread is ended, and another one takes its place */
+  async replace(agent) {
+    this.#prepare();
+    const [next] = await Promise.all([this.#taken(), this.agents[agent].stop()]);
+    this.threads.delete(this.agents[agent]);
+    await this.#hand(agent, next);
+  }
+
+  /** Keeps some threads ready. */
+  #prepare() {
+    const modules = ownModules(PROGRAM_MODULE);
+    const { module: program, args, ordinary } = this.options;
+    const { memory, plan, rules } = this;
+    while (this.#spare.length < this.#ahead) {
+      const thread = begunWith(FLAGS);
+      this.threads.add(thread);
+      thread.post({ modules, program, args, ordinary, memory, plan, rules });
+      this.#spare.push(thread.next().then(() => thread));
+    }
+  }
+
+  /** @returns {Promise<Thread>} */
+  #taken() {
+    this.#prepare();
+    return this.inTime(/** @type {Promise<Thread>} */ (this.#spare.shift()));
+  }
+
+  /** @param {number} count how many threads are to have a number */
+  async #grow(count) {
+    for (let agent = this.agents.length; agent < count; agent += 1) await this.#hand(agent, await this.#taken());
+    this.#ahead = Math.max(this.#ahead, count);
+    const words = this.board?.words ?? new Int32Array(0);
+    store(words, WORD.THREADS, this.agents.length);
+    notify(words, WORD.THREADS);
+  }
+
+  /**
+   * Gives a thread its number, and a port to each other one.
+   * @param {number} agent
+   * @param {Thread} thread
+   */
+  async #hand(agent, thread) {
+    const { port1, port2 } = channel();
+    thread.onEnd = (why) => this.board?.turn.die(agent, why);
+    /** @type {any} */ (thread.port).postMessage({ agent, control: port2 }, [port2]);
+    const { ended } = await this.inTime(thread.next());
+    if (ended !== undefined) throw new Refused(`a thread for ${this.options.module} ended before it could begin: ${ended}`);
+    this.agents[agent] = thread;
+    this.#controls[agent] = port1;
+    this.#connect(agent);
+    this.board?.turn.arrive(agent);
+    void this.#listen(thread);
+  }
+
+  /** @param {number} agent that gets a port to each other one, and each of them one to it */
+  #connect(agent) {
+    for (const [other, control] of this.#controls.entries()) {
+      if (other === agent || control === undefined) continue;
+      const { port1, port2 } = channel();
+      this.#controls[agent]?.postMessage({ peer: other, port: port1 }, [port1]);
+      control.postMessage({ peer: agent, port: port2 }, [port2]);
+    }
+  }
+
+  /** @param {Thread} thread that may ask for more threads */
+  async #listen(thread) {
+    for (;;) {
+      const { message, ended } = await thread.next();
+      if (ended !== undefined) return;
+      if (message.more !== undefined) this.#growing = this.#growing.then(() => this.#grow(message.more));
+    }
+  }
+}

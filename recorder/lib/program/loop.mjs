@@ -1,0 +1,209 @@
+// The event loop of a program's thread. Ticks and microtasks run while the thread keeps its turn. Then one task is taken
+// up: a message, a timer, an immediate, or an own one of the thread; the seed draws which. The thread's real loop turns
+// only while modules are being read.
+
+import process from "node:process";
+import timers from "node:timers";
+import { Random } from "../memory/random.mjs";
+import { foreignWork } from "./refusals.mjs";
+
+const { setImmediate: turnLater } = timers;
+/** @type {any} node's, with more than is written down of it */
+const own = process;
+/** @type {() => string[]} */
+const resources = own.getActiveResourcesInfo.bind(own);
+/** @type {() => void} */
+const runTicks = own._tickCallback.bind(own);
+
+/** What is under way while node reads a module. */
+const READING = new Set(["FSReqPromise", "FSReqCallback", "FileHandleCloseReq", "CloseReq"]);
+
+/** From here on are the numbers of the rows by which threads draw tasks. */
+const TASKS = 64;
+
+/** A timer that is further away is never early. */
+const SOON_MILLISECONDS = 1_000;
+
+/**
+ * @typedef {object} Served
+ * @property {import("./moves.mjs").Moves} moves
+ * @property {import("./ports.mjs").Ports} ports
+ * @property {import("./port-events.mjs").PortEvents} events
+ * @property {import("./timers.mjs").Timers} timers
+ * @property {import("./ends.mjs").Ends} ends
+ * @property {import("../memory/keepers.mjs").Keepers} keepers
+ * @property {(why: string) => never} refuse ends the run
+ * @property {() => void} goHome is called when the thread's part in the run is over, and none of its code goes on
+ * @property {Set<{ refed: boolean, where: string }>} children workers that this thread has started
+ */
+
+export class Loop {
+  /** @type {{ name: string, act: () => void }[]} */
+  #tasks = [];
+
+  /** Whether the loop has just turned: then timers come first. */
+  #isTurning = true;
+
+  /** @param {Served} served */
+  constructor(served) {
+    this.served = served;
+    // Of its own: so a thread goes on alike where only others are drawn in another order.
+    this.random = new Random(new Int32Array(4));
+  }
+
+  /** @param {string} name of a task of the thread's own @param {() => void} act */
+  later(name, act) {
+    this.#tasks.push({ name, act });
+  }
+
+  /** Nothing of an earlier run is left. */
+  clear() {
+    this.#tasks = [];
+    this.#isTurning = true;
+  }
+
+  /** Begins when the real loop turns. */
+  begin() {
+    const { board, agent } = this.served.moves;
+    this.random.seed(board.clock.seed());
+    this.random.branch(TASKS + agent);
+    turnLater(this.#turn);
+  }
+
+  #turn = () => {
+    const { ends, moves, keepers } = this.served;
+    for (;;) {
+      this.#drain();
+      if (ends.isOver) return this.served.goHome();
+      const active = resources();
+      if (active.some((each) => READING.has(each))) {
+        turnLater(this.#turn);
+        return;
+      }
+      const foreign = foreignWork(active);
+      if (foreign !== undefined) this.served.refuse(`waits for ${foreign} of node, which isn't simulated`);
+      if (this.#hasTask()) {
+        if (!moves.offer()) return this.served.goHome();
+      } else {
+        const kept = this.#keepers();
+        if (kept.length === 0) {
+          if (this.#endsNow()) return this.served.goHome();
+          continue;
+        }
+        keepers.write(kept.join("; "));
+        if (!moves.idle(this.#untilTimer())) return this.served.goHome();
+      }
+      this.#act();
+    }
+  };
+
+  /** Runs ticks and microtasks until there are none. */
+  #drain() {
+    for (let again = true; again;) {
+      again = false;
+      try {
+        runTicks();
+      } catch (thrown) {
+        this.served.ends.uncaught(thrown);
+        again = !this.served.ends.isOver;
+      }
+    }
+  }
+
+  /** Nothing keeps the thread alive. @returns {boolean} whether it has ended */
+  #endsNow() {
+    const { ends } = this.served;
+    ends.beforeExit();
+    this.#drain();
+    if (ends.isOver) return true;
+    if (this.#hasTask() || this.#keepers().length > 0) return false;
+    ends.leave();
+    return true;
+  }
+
+  #now() {
+    return this.served.moves.board.clock.now();
+  }
+
+  #hasTask() {
+    const { ports, timers: { deadline, immediates } } = this.served;
+    return this.#tasks.length > 0 || immediates > 0 || deadline <= this.#now() || ports.ready().length > 0;
+  }
+
+  /** @returns {number | undefined} how long it is until the first timer is due */
+  #untilTimer() {
+    const { deadline } = this.served.timers;
+    return deadline === Infinity ? undefined : Math.max(0, deadline - this.#now());
+  }
+
+  /** @returns {string[]} what keeps the thread alive, in words */
+  #keepers() {
+    const { ports, timers: armed, children } = this.served;
+    const texts = armed.alive ? armed.keepers().map(keeperText) : [];
+    if (this.#tasks.length > 0) texts.push("a task");
+    for (const { refed, where } of children) if (refed) texts.push(`the worker started at ${where}`);
+    return [...texts, ...ports.keepers()];
+  }
+
+  /** Takes up one of the tasks that are there. */
+  #act() {
+    const acts = this.#choices();
+    if (acts.length === 0) return;
+    const at = acts.length === 1 ? 0 : this.random.below(acts.length);
+    try {
+      acts[at]();
+    } catch (thrown) {
+      this.served.ends.uncaught(thrown);
+    }
+  }
+
+  /**
+   * What may be taken up now. In node the timers that are due come first in each turn of the loop, then messages and
+   * the like, then the immediates: a timer isn't between those, but may be between two messages.
+   * @returns {(() => void)[]}
+   */
+  #choices() {
+    const { ports, events, timers: armed } = this.served;
+    if (armed.inRound > 0) return [() => this.#runImmediate()];
+    this.#offerEarly();
+    const isDue = armed.deadline <= this.#now();
+    if (isDue && this.#isTurning) return [() => void armed.runTimer()];
+    this.#isTurning = false;
+    const acts = ports.ready().map((port) => () => events.deliver(port));
+    const [task] = this.#tasks;
+    if (task !== undefined) {
+      acts.push(() => {
+        this.#tasks.shift();
+        task.act();
+      });
+    }
+    if (armed.immediates > 0) acts.push(() => this.#runImmediate());
+    else if (isDue) acts.push(() => void armed.runTimer());
+    return acts;
+  }
+
+  /** Behind the last immediate of a round the loop turns. */
+  #runImmediate() {
+    const { timers: armed } = this.served;
+    try {
+      armed.runImmediate();
+    } finally {
+      this.#isTurning = armed.inRound === 0;
+    }
+  }
+
+  /** In some of the draws the time of the first timer comes though there is something else to do. */
+  #offerEarly() {
+    const { moves: { board: { clock, strategy } }, timers: armed } = this.served;
+    const left = armed.deadline - clock.now();
+    if (!(left > 0 && left < SOON_MILLISECONDS)) return;
+    if (strategy.early > 0 && this.random.fraction() < strategy.early) clock.pass(left);
+  }
+}
+
+/** @param {import("./timers.mjs").Described} timer @returns {string} */
+function keeperText({ kind, milliseconds, repeats, where }) {
+  const what = kind === "immediate" ? "an immediate" : `${repeats ? "an interval" : "a timer"} of ${milliseconds} ms`;
+  return where === undefined ? what : `${what} from ${where}`;
+}
+

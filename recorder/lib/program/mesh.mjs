@@ -1,0 +1,93 @@
+// Hidden ports between each two threads of a program. What is posted there waits until the other thread looks: no event
+// loop takes it. By them a thread is started, and buffers become known.
+
+import threads from "node:worker_threads";
+import { WORD } from "../memory/layout.mjs";
+import { uncurried } from "../primordials.mjs";
+
+const { receiveMessageOnPort: receive } = threads;
+const post = uncurried(threads.MessagePort.prototype.postMessage);
+const { load, wait } = Atomics;
+
+/** @typedef {import("node:worker_threads").MessagePort} Port */
+/** @typedef {Record<string, any>} Item what one thread hands to another */
+
+export class Mesh {
+  /** @type {(Port | undefined)[]} by the agents to which they lead */
+  #peers = [];
+
+  /** @type {Record<string, (item: any) => void>} what is done with an item, by its kind */
+  #takers = {};
+
+  /**
+   * @param {number} agent
+   * @param {Port} control from the thread that has started this one
+   * @param {Port} port to that thread
+   * @param {Int32Array} words of the board
+   */
+  constructor(agent, control, port, words) {
+    this.agent = agent;
+    this.control = control;
+    this.port = port;
+    this.words = words;
+  }
+
+  /** @param {string} kind of items @param {(item: any) => void} take */
+  onItem(kind, take) {
+    this.#takers[kind] = take;
+  }
+
+  /**
+   * Waits until so many threads are ready. Meanwhile this thread keeps its turn.
+   * @param {number} count
+   */
+  needs(count) {
+    const { words } = this;
+    if (load(words, WORD.THREADS) >= count) return;
+    post(this.port, { more: count });
+    for (let there = load(words, WORD.THREADS); there < count; there = load(words, WORD.THREADS)) {
+      wait(words, WORD.THREADS, there);
+    }
+  }
+
+  /**
+   * Hands an item to another thread.
+   * @param {number} agent
+   * @param {Item} item
+   * @param {unknown[]} [transferred]
+   */
+  hand(agent, item, transferred = []) {
+    this.#meet();
+    post(this.#peers[agent], { ...item, run: this.words[WORD.RUN] }, transferred);
+  }
+
+  /** @param {Item} item for all other threads */
+  handAll(item) {
+    this.#meet();
+    for (let agent = 0; agent < this.#peers.length; agent += 1) {
+      const peer = this.#peers[agent];
+      if (peer !== undefined) post(peer, { ...item, run: this.words[WORD.RUN] });
+    }
+  }
+
+  /** Takes what others have handed. */
+  take() {
+    this.#meet();
+    for (let agent = 0; agent < this.#peers.length; agent += 1) {
+      const peer = this.#peers[agent];
+      if (peer === undefined) continue;
+      for (let found = receive(peer); found !== undefined; found = receive(peer)) {
+        // What another run has left is nobody's.
+        if (found.message.run === this.words[WORD.RUN]) this.#takers[found.message.kind](found.message);
+      }
+    }
+  }
+
+  /** Takes the ports to threads that have come since. */
+  #meet() {
+    for (let found = receive(this.control); found !== undefined; found = receive(this.control)) {
+      const { peer, port } = found.message;
+      this.#peers[peer] = port;
+    }
+  }
+}

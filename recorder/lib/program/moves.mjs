@@ -1,0 +1,142 @@
+// The moves of a program's thread besides its calls of Atomics. A message is two acts on the waiters of a place of its
+// own, one where it is sent and one where it is received: notifies that wake nobody. An event loop that has nothing to
+// do waits; one that has something asks for the turn.
+
+import { CALL_NUMBERS, KINDS } from "../../script/kinds.mjs";
+import { MESSAGES, MESSAGE_PLACES } from "../memory/blocks.mjs";
+import { LOOP, NOWHERE, PHASE, WORD } from "../memory/layout.mjs";
+
+const { Int32Array } = globalThis;
+const INT32 = KINDS.indexOf("Int32");
+
+export class Moves {
+  /**
+   * @param {import("../agent/player.mjs").Player} player
+   * @param {SharedArrayBuffer} messages the memory of the block that stands for messages
+   */
+  constructor(player, messages) {
+    this.player = player;
+    this.agent = player.agent;
+    this.board = player.table.board;
+    this.view = new Int32Array(messages, 0, MESSAGE_PLACES);
+  }
+
+  /**
+   * Asks for the turn to send a message.
+   * @param {Function} called the function that the program's code has called
+   * @returns {number} the message's number
+   */
+  send(called) {
+    const { words } = this.board;
+    // Others may send some before it is this one's turn, so its number is known then.
+    const call = this.#edge(0);
+    this.count();
+    this.player.make(call, this.view, called, () => {
+      call.index = words[WORD.MESSAGES] % MESSAGE_PLACES;
+      words[WORD.MESSAGES] += 1;
+    });
+    return words[WORD.MESSAGES] - 1;
+  }
+
+  /**
+   * Sends a message without a draw.
+   * @returns {number} its number
+   */
+  sendNow() {
+    const { words } = this.board;
+    words[WORD.MESSAGES] += 1;
+    this.player.note(this.#edge(words[WORD.MESSAGES] - 1), this.view);
+    return words[WORD.MESSAGES] - 1;
+  }
+
+  /** @param {number} message that is received now */
+  receive(message) {
+    this.player.note(this.#edge(message), this.view);
+  }
+
+  /** Counts the ordinary accesses so far: another thread may end this one where it gives up its turn. */
+  count() {
+    const { board, agent, player: { part } } = this;
+    board.journal.countOrdinary(agent, part.accesses.count);
+  }
+
+  /** Lets others move before this thread goes on. */
+  yield() {
+    this.#ask();
+    this.#goOn(undefined);
+  }
+
+  /** The event loop has something to do: others may move before. @returns {boolean} whether the thread goes on */
+  offer() {
+    this.#ask();
+    return this.#resume(undefined);
+  }
+
+  /**
+   * The event loop waits until there is something to do.
+   * @param {number | undefined} milliseconds until a timer is due; undefined: there is none
+   * @returns {boolean} whether the thread goes on: else its run is over, or it was ended
+   */
+  idle(milliseconds) {
+    this.player.part.enter();
+    this.board.rest(this.agent, LOOP, milliseconds);
+    return this.#resume(milliseconds ?? 0);
+  }
+
+  /** @param {number} milliseconds for which nobody can wake this thread; Infinity: nobody ever does */
+  sleep(milliseconds) {
+    this.player.part.enter();
+    this.board.rest(this.agent, NOWHERE, milliseconds === Infinity ? undefined : milliseconds);
+    this.#goOn(milliseconds);
+  }
+
+  /** @param {number} agent whose event loop has something to do now */
+  wake(agent) {
+    this.board.line.notify(LOOP, agent, 1);
+  }
+
+  /** @param {number | undefined} milliseconds of a rest; undefined: it was none */
+  #goOn(milliseconds) {
+    this.count();
+    this.player.untilTurn();
+    this.#begin(milliseconds);
+  }
+
+  /** @param {number | undefined} milliseconds as above @returns {boolean} whether the thread goes on */
+  #resume(milliseconds) {
+    const { board, agent, player: { part } } = this;
+    this.count();
+    if (!board.pass(agent)) board.turn.sleep(agent);
+    if (board.end.isOver() || board.line.phase(agent) === PHASE.FINISHED) {
+      part.isPlaying = false;
+      return false;
+    }
+    this.#begin(milliseconds);
+    return true;
+  }
+
+  #ask() {
+    const { player, board, agent } = this;
+    player.part.enter();
+    board.strategy.asks(agent, 0, 0, 0);
+    board.line.become(agent, PHASE.ASKS);
+  }
+
+  /** @param {number | undefined} milliseconds as above: the thread has the turn now */
+  #begin(milliseconds) {
+    const { player, board, agent } = this;
+    if (milliseconds !== undefined) board.deadlines.end(agent, milliseconds);
+    board.turned();
+    board.line.become(agent, PHASE.RUNS);
+    player.part.goOn();
+    board.turn.leave(agent);
+  }
+
+  /** @param {number} message @returns {import("../memory/records.mjs").Call} */
+  #edge(message) {
+    return {
+      call: CALL_NUMBERS.notify, kind: INT32, block: MESSAGES, offset: 0, length: MESSAGE_PLACES,
+      index: message % MESSAGE_PLACES, operands: [], limit: 0,
+    };
+  }
+}

@@ -1,0 +1,249 @@
+// The ports of a program's thread. They are node's own, and messages go by node's own channels, so that what can be
+// cloned and transferred is as in node. But a port is never started for node: a message waits in it until the run says
+// that it is delivered.
+
+import { AsyncResource } from "node:async_hooks";
+import threads from "node:worker_threads";
+import { put, uncurried, weakGet, weakHas, weakSet } from "../primordials.mjs";
+import { NOBODYS } from "../board/port-table.mjs";
+import { received, sent } from "./values.mjs";
+
+const { receiveMessageOnPort: receive } = threads;
+/** @type {{ new (): { port1: any, port2: any } }} */
+const EngineChannel = /** @type {any} */ (threads.MessageChannel);
+const { WeakMap: EngineWeakMap } = globalThis;
+/** @type {{ new (type: string): { runInAsyncScope(act: () => void): void } }} */
+const Scope = /** @type {any} */ (AsyncResource);
+const post = uncurried(threads.MessagePort.prototype.postMessage);
+const close = uncurried(threads.MessagePort.prototype.close);
+
+/** What a message is, besides one of the program's code. */
+export const KIND = Object.freeze({ MESSAGE: 0, CLOSE: 1, ONLINE: 2, ERROR: 3, EXIT: 4 });
+
+/** @typedef {import("node:worker_threads").MessagePort} Port */
+
+/**
+ * @typedef {object} Envelope a message as it is under way
+ * @property {any} value
+ * @property {number} kind one of `KIND`
+ * @property {number} number of the message in the run
+ * @property {Port[]} ports that are transferred in it
+ * @property {number[]} ids of these
+ */
+
+/**
+ * @typedef {object} Listener
+ * @property {string} type of its events
+ * @property {any} listener
+ * @property {boolean} once
+ * @property {boolean} isEvent whether it gets an event, and not the value
+ * @property {boolean} [isHandler] whether it was assigned, as to `onmessage`
+ */
+
+/**
+ * @typedef {object} Meta what a thread knows of a port
+ * @property {number} id
+ * @property {Listener[]} listeners in the order in which they were added
+ * @property {boolean} listens whether it has a listener of messages
+ * @property {boolean} refed whether it keeps its thread alive
+ * @property {boolean} closed
+ * @property {string} where the first listener was added
+ * @property {((envelope: Envelope) => void) | undefined} taker gets its messages, if they aren't for listeners
+ * @property {boolean} keeps whether it can keep its thread alive
+ * @property {{ runInAsyncScope(act: () => void): void }} scope in which its messages are delivered
+ * @property {Envelope[] | undefined} queue its messages, if they don't come by node's channel
+ */
+
+/**
+ * @typedef {object} World what ports need of their thread
+ * @property {number} agent
+ * @property {import("../board/port-table.mjs").PortTable} table
+ * @property {import("./moves.mjs").Moves} moves
+ * @property {import("./buffers.mjs").Buffers} buffers
+ * @property {import("./mesh.mjs").Mesh} mesh
+ * @property {() => string} here where the program's code is
+ * @property {(why: string) => never} refuse ends the run
+ * @property {(name: string, act: () => void) => void} later does something as a task of its own
+ */
+
+/** @param {any} transfer as `postMessage` gets it @returns {any[]} */
+function listOf(transfer) {
+  if (transfer === null || transfer === undefined) return [];
+  if (typeof transfer === "object" && Symbol.iterator in transfer) return [...transfer];
+  return transfer.transfer === undefined ? [] : [...transfer.transfer];
+}
+
+export class Ports {
+  /** @type {WeakMap<object, Meta>} */
+  #metas = new EngineWeakMap();
+
+  /** @type {Map<number, any>} the ports that this thread has, by their numbers */
+  mine = new Map();
+
+  /** @param {World} world */
+  constructor(world) {
+    this.world = world;
+  }
+
+  /** Nothing of an earlier run is left. */
+  clear() {
+    for (const port of this.mine.values()) if (this.known(port).queue === undefined) close(port);
+    this.mine = new Map();
+    this.#metas = new EngineWeakMap();
+  }
+
+  /** @param {unknown} port @returns {Meta | undefined} */
+  metaOf(port) {
+    return weakGet(this.#metas, port);
+  }
+
+  /** @param {unknown} port @returns {Meta} of a port that this thread has */
+  known(port) {
+    return weakGet(this.#metas, port);
+  }
+
+  /** @returns {{ port1: any, port2: any }} a channel of node's, both ports of which this thread has */
+  channel() {
+    const { table, agent, refuse } = this.world;
+    if (!table.hasRoom()) refuse("made more ports than a run of a program can have");
+    const { port1, port2 } = new EngineChannel();
+    const first = table.addPair(agent);
+    this.adopt(port1, first);
+    this.adopt(port2, first + 1);
+    return { port1, port2 };
+  }
+
+  /**
+   * This thread has a port now.
+   * @param {any} port
+   * @param {number} id
+   */
+  adopt(port, id) {
+    weakSet(this.#metas, port, {
+      id, listeners: [], listens: false, refed: false, closed: false, where: "", taker: undefined,
+      keeps: true, queue: undefined, scope: new Scope("MESSAGEPORT"),
+    });
+    this.mine.set(id, port);
+    this.world.table.give(id, this.world.agent);
+  }
+
+  /** @param {any} port that goes to another thread, or to this one once more */
+  leave(port) {
+    const { id } = this.known(port);
+    this.mine.delete(id);
+    this.#metas.delete(port);
+    this.world.table.give(id, NOBODYS);
+    this.world.table.stop(id);
+  }
+
+  /**
+   * Sends a message.
+   * @param {any} port
+   * @param {unknown} value
+   * @param {unknown} transfer
+   * @param {Function} [called] the function that the program's code has called; undefined: the thread itself sends
+   * @param {number} [kind] one of `KIND`
+   */
+  send(port, value, transfer, called, kind = KIND.MESSAGE) {
+    const { table, moves, buffers } = this.world;
+    const { id } = this.known(port);
+    const list = listOf(transfer);
+    const ports = list.filter((each) => weakHas(this.#metas, each));
+    const bare = sent(value, buffers);
+    const number = called === undefined ? moves.sendNow() : moves.send(called);
+    const ids = ports.map((each) => this.known(each).id);
+    post(port, { value: bare, kind, number, ports, ids }, list);
+    for (const each of ports) this.leave(each);
+    const peer = id ^ 1;
+    if (table.isClosed(peer)) return;
+    if (kind === KIND.CLOSE) table.closeFrom(peer);
+    else table.addWaiting(peer, 1);
+    this.rouse(peer);
+  }
+
+  /**
+   * @param {any} port
+   * @returns {Envelope | undefined} its next message, if one waits
+   */
+  take(port) {
+    const { table, moves, buffers } = this.world;
+    const { id, queue } = this.known(port);
+    if (table.waiting(id) === 0) return undefined;
+    if (queue !== undefined) this.world.mesh.take();
+    const found = queue === undefined ? receive(port) : { message: queue.shift() };
+    table.addWaiting(id, -1);
+    if (found === undefined) return { value: undefined, kind: KIND.CLOSE, number: -1, ports: [], ids: [] };
+    /** @type {Envelope} */
+    const envelope = found.message;
+    envelope.ports.forEach((each, at) => this.adopt(each, envelope.ids[at]));
+    moves.receive(envelope.number);
+    envelope.value = received(envelope.value, buffers);
+    return envelope;
+  }
+
+  /** @param {number} id of a port of this thread that has a queue @returns {Envelope[]} */
+  queueOf(id) {
+    return this.known(this.mine.get(id))?.queue ?? [];
+  }
+
+  /** @param {unknown} value that a thread was started with @returns {unknown} */
+  unpacked(value) {
+    return received(value, this.world.buffers);
+  }
+
+  /** @param {any} port whose messages are delivered from now on */
+  start(port) {
+    this.world.table.start(this.known(port).id);
+  }
+
+  /** @param {any} port that is closed by this thread: the other side gets to know it behind what was sent before */
+  close(port) {
+    const meta = this.known(port);
+    if (meta.closed) return;
+    const { table } = this.world;
+    meta.closed = true;
+    meta.refed = false;
+    if (!table.isClosed(meta.id ^ 1)) this.send(port, undefined, [], undefined, KIND.CLOSE);
+    table.close(meta.id);
+  }
+
+  /** @returns {any[]} the ports of this thread that have a message to be delivered, in the order of their numbers */
+  ready() {
+    const { table } = this.world;
+    const ready = [...this.mine.keys()].filter((id) => table.isReady(id)).sort((one, other) => one - other);
+    return ready.map((id) => this.mine.get(id));
+  }
+
+  /** @returns {string[]} what keeps this thread alive, in words */
+  keepers() {
+    const texts = [];
+    for (const port of this.mine.values()) {
+      const { refed, closed, keeps, listens, where } = this.known(port);
+      if (refed && !closed && keeps) texts.push(`a port ${listens ? "with a listener from" : "that is kept alive at"} ${where}`);
+    }
+    return texts;
+  }
+
+  /** @param {number} id of a port that has got a message */
+  rouse(id) {
+    const { table, moves, agent } = this.world;
+    const owner = table.owner(id);
+    if (owner !== NOBODYS && owner !== agent && table.isReady(id)) moves.wake(owner);
+  }
+}
+
+/**
+ * The class by which the program makes channels.
+ * @param {Ports} ports
+ */
+export function channelClass(ports) {
+  class MessageChannel {
+    constructor() {
+      const { port1, port2 } = ports.channel();
+      this.port1 = port1;
+      this.port2 = port2;
+    }
+  }
+  put(MessageChannel.prototype, Symbol.toStringTag, "MessageChannel");
+  return MessageChannel;
+}

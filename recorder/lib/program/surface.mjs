@@ -1,0 +1,195 @@
+// What a program may use of node, by the table beside this file. What is refused is replaced: it keeps what `typeof`
+// and `instanceof` say, and reports its name when it is called. Modules of node that took it before keep their own.
+
+import Module, { createRequire } from "node:module";
+import { GLOBALS, METHODS, MODULES, SCHEME_MODULES } from "./surface-table.mjs";
+import { apply, construct, defineProperty, getOwnPropertyDescriptor, ownKeys } from "../primordials.mjs";
+
+/** @typedef {import("./surface-table.mjs").Kind} Kind */
+/** @typedef {import("./surface-table.mjs").Row} Row */
+/** @typedef {{ refuse: (name: string) => void, isPlaying?: () => boolean }} Given */
+
+const Modules = /** @type {any} */ (Module);
+const require = createRequire(import.meta.url);
+const isBuiltin = Modules.isBuiltin;
+
+/** The major versions of node whose exports and order of events were compared with the tables and tests. */
+export const VERSIONS_TRIED = Object.freeze([20]);
+
+/** @param {string} [version] of node @returns {boolean} whether it was tried */
+export const isTried = (version = process.versions.node) => VERSIONS_TRIED.includes(Number.parseInt(version, 10));
+
+/** What each function has, and each module that is one. */
+const OF_FUNCTIONS = Object.freeze(["length", "name", "prototype", "arguments", "caller"]);
+
+/** @param {string | undefined} names @returns {string[]} */
+const words = (names = "") => names.split(/\s+/).filter((name) => name !== "");
+
+/** @param {Partial<Record<Kind, string>>} row @param {string} name @returns {Kind | undefined} */
+const kindIn = (row, name) =>
+  /** @type {Kind[]} */ (["simulated", "harmless", "refused"]).find((kind) => words(row[kind]).includes(name));
+
+/** @param {string} id with or without `node:` @returns {Row | undefined} */
+const rowOf = (id) => SCHEME_MODULES[id] ?? MODULES[id.replace(/^node:/, "")];
+
+/**
+ * What becomes of an export of a module.
+ * @param {string} id the module, with or without `node:`
+ * @param {string} name
+ * @returns {Kind | undefined} none for what the table doesn't know
+ */
+export function kindOf(id, name) {
+  const row = rowOf(id);
+  return row === undefined || typeof row === "string" ? row : kindIn(row, name);
+}
+
+/** @param {string} name @returns {Kind | undefined} what becomes of a global; none for what the table doesn't know */
+export const kindOfGlobal = (name) => kindIn(GLOBALS, name);
+
+/** @param {any} exports @returns {string[]} the names that a module exports */
+const namesIn = (exports) => Object.getOwnPropertyNames(exports).filter((name) =>
+  !(typeof exports === "function" && OF_FUNCTIONS.includes(name)));
+
+/**
+ * What this version of node has and the tables don't know. A number does nothing, so those of zlib aren't in them.
+ * @returns {string[]} as `fs.readFile` and `fetch`
+ */
+export function unknownNames() {
+  const ids = [...Modules.builtinModules, ...Object.keys(SCHEME_MODULES)];
+  const publicIds = ids.filter((id) => !id.startsWith("internal/"));
+  const exported = publicIds.flatMap((id) => {
+    const row = rowOf(id);
+    if (row === undefined) return [id];
+    if (typeof row === "string") return [];
+    const exports = require(id);
+    const unknown = namesIn(exports).filter((name) => kindIn(row, name) === undefined);
+    return unknown.filter((name) => typeof exports[name] !== "number").map((name) => `${id}.${name}`);
+  });
+  const globals = Object.getOwnPropertyNames(globalThis).filter((name) => kindOfGlobal(name) === undefined);
+  // Of a program that `node --eval` runs, each module is a global.
+  return [...exported, ...globals.filter((name) => rowOf(name) === undefined)];
+}
+
+/** @type {WeakMap<Function, Function>} what stands for a function, also if it is exported under several names */
+const standIns = new WeakMap();
+/** @type {WeakSet<Function>} */
+const areStandIns = new WeakSet();
+
+/**
+ * What stands for something that is refused.
+ * @param {Function} real
+ * @param {string} name
+ * @param {Given} given
+ * @returns {Function}
+ */
+function standIn(real, name, { refuse, isPlaying = () => true }) {
+  if (areStandIns.has(real)) return real;
+  const check = () => {
+    if (!isPlaying()) return;
+    refuse(name);
+    throw new Error(`${name} isn't simulated`);
+  };
+  const stand = standIns.get(real) ?? new Proxy(real, {
+    apply(target, receiver, all) {
+      check();
+      return apply(target, receiver, all);
+    },
+    construct(target, all, newTarget) {
+      check();
+      return construct(target, all, newTarget);
+    },
+  });
+  standIns.set(real, stand);
+  areStandIns.add(stand);
+  return stand;
+}
+
+/** @param {string} name of a global. Some are read of a module when they are asked for first @param {Given} given */
+function replaceGlobal(name, given) {
+  const found = getOwnPropertyDescriptor(globalThis, name);
+  if (found === undefined) return;
+  const value = standIn(/** @type {any} */ (globalThis)[name], name, given);
+  defineProperty(globalThis, name, { value, writable: true, enumerable: found.enumerable, configurable: true });
+}
+
+/**
+ * Replaces a function, or the functions that an object has.
+ * @param {any} owner
+ * @param {string} name
+ * @param {string} shown
+ * @param {Given} given
+ */
+function replace(owner, name, shown, given) {
+  const found = getOwnPropertyDescriptor(owner, name);
+  if (found === undefined || !("value" in found) || !(found.writable || found.configurable)) return;
+  const { value } = found;
+  if (typeof value === "function") {
+    defineProperty(owner, name, { ...found, value: standIn(value, shown, given) });
+  } else if (value !== null && typeof value === "object") {
+    for (const each of ownKeys(value)) {
+      const member = getOwnPropertyDescriptor(value, each)?.value;
+      if (typeof each === "string" && typeof member === "function") replace(value, each, `${shown}.${each}`, given);
+    }
+  }
+}
+
+/** Calls that are refused with some arguments only: `process.umask(0)` fails in a thread, `process.umask()` doesn't. */
+const WITH_ARGUMENTS = Object.freeze(["umask"]);
+
+/** Modules that change the thread as soon as they are loaded, so loading them is refused. */
+const AS_LOADED = Object.freeze(["domain"]);
+
+/** Modules that are members of another one, which hands them out without loading them. */
+const MEMBERS = Object.freeze(/** @type {Record<string, string>} */ ({ fs: "fs/promises", dns: "dns/promises" }));
+
+/** @param {Given} given */
+function refuseOfProcess({ refuse, isPlaying = () => true }) {
+  for (const name of WITH_ARGUMENTS) {
+    const real = /** @type {any} */ (process)[name];
+    defineProperty(process, name, { value: new Proxy(real, {
+      apply(target, receiver, all) {
+        if (isPlaying() && all.length > 0 && all[0] !== undefined) refuse(`process.${name}`);
+        return apply(target, receiver, all);
+      },
+    }), writable: true, enumerable: true, configurable: true });
+  }
+}
+
+/**
+ * Replaces what the tables refuse: of globals and `process` now, of each other module as a program loads it, since
+ * some do something when they are loaded. Call it once in a thread. Ask for `process.stdout` and so on before, if they
+ * aren't replaced: node makes them of sockets in a first thread.
+ * @param {Given} given `refuse` gets names as `net.connect` and doesn't return; until `isPlaying`, nothing is refused
+ */
+export function refuseRest(given) {
+  for (const name of words(GLOBALS.refused)) replaceGlobal(name, given);
+  for (const [path, names] of Object.entries(METHODS)) {
+    const owner = path.split(".").reduce((from, name) => from[name], /** @type {any} */ (globalThis));
+    for (const name of words(names)) replace(owner, name, `${path}.${name}`.replace(".prototype.", "."), given);
+  }
+  refuseOfProcess(given);
+  /** @type {Set<string>} */
+  const done = new Set();
+  const refuseOf = (/** @type {string} */ request) => {
+    const id = SCHEME_MODULES[request] === undefined ? request.replace(/^node:/, "") : request;
+    if (AS_LOADED.includes(id) && (given.isPlaying?.() ?? true)) given.refuse(id);
+    if (done.has(id)) return;
+    done.add(id);
+    if (MEMBERS[id] !== undefined) refuseOf(MEMBERS[id]);
+    const exports = engineLoad(request, undefined, false);
+    for (const name of namesIn(exports)) {
+      if (kindOf(id, name) === "refused") replace(exports, name, `${id.replace("node:", "")}.${name}`, given);
+    }
+  };
+  const engineLoad = Modules._load;
+  Modules._load = function (/** @type {any} */ request, /** @type {any} */ parent, /** @type {any} */ isMain) {
+    if (isBuiltin(request)) refuseOf(request);
+    return apply(engineLoad, this, [request, parent, isMain]);
+  };
+  const { getBuiltinModule } = /** @type {any} */ (process);
+  /** @type {any} */ (process).getBuiltinModule &&= function (/** @type {any} */ id) {
+    if (isBuiltin(id)) refuseOf(id);
+    return getBuiltinModule(id);
+  };
+  refuseOf("process");
+}

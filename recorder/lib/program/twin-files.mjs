@@ -1,0 +1,138 @@
+// `fs` and `fs.promises` by their synchronous twins. Streams over files call the functions of `fs`, so they are served
+// by these.
+
+import fs from "node:fs";
+import util from "node:util";
+import { FileHandle } from "./file-handle.mjs";
+import { callLater, isThrown, outcomeOf, promiseLater, putTwin, replaceCall } from "./twin-calls.mjs";
+import { apply, defineProperty, getOwnPropertyDescriptor } from "../primordials.mjs";
+
+/** @typedef {import("./twin-calls.mjs").Given} Given */
+/** @typedef {import("./twin-calls.mjs").Outcome} Outcome */
+
+const files = /** @type {any} */ (fs);
+const engine = { ...files };
+const enginePromises = { ...files.promises };
+
+const PLAIN = Object.freeze([
+  "access", "appendFile", "chmod", "chown", "copyFile", "fchmod", "fchown", "fdatasync", "fstat", "fsync",
+  "ftruncate", "futimes", "lchown", "link", "lutimes", "mkdir", "mkdtemp", "open", "readFile", "readdir", "readlink",
+  "realpath", "rename", "rm", "rmdir", "statfs", "symlink", "truncate", "unlink", "utimes", "writeFile",
+]);
+const STATS = Object.freeze(["stat", "lstat"]);
+
+const BUFFER_SIZE = 16_384;
+
+/** @param {any[]} all without the callback @returns {any[]} with the option that only the twins have */
+const statArguments = ([path, options]) => [path, { ...options, throwIfNoEntry: true }];
+
+/**
+ * What the callback of read and write gets, and of their forms for several buffers.
+ * @param {Outcome} outcome
+ * @param {any[]} all
+ */
+const counted = ({ value = 0, problem = null }, [, data]) => [problem, value, data];
+
+/** @param {Given} given */
+function putReads(given) {
+  const { isPlaying = () => true } = given;
+  for (const name of ["write", "readv", "writev"]) {
+    putTwin(given, files, name, engine[`${name}Sync`], { answer: counted });
+  }
+  replaceCall(files, "read", /** @this {any} */ function (/** @type {any[]} */ ...all) {
+    const done = all.at(-1);
+    if (!isPlaying() || typeof done !== "function") return apply(engine.read, this, all);
+    const [fd, ...rest] = all.slice(0, -1);
+    const buffer = ArrayBuffer.isView(rest[0]) ? rest.shift() : rest[0]?.buffer ?? Buffer.alloc(BUFFER_SIZE);
+    const outcome = outcomeOf(() => engine.readSync(fd, buffer, ...rest));
+    if (isThrown(outcome.problem)) throw outcome.problem;
+    return callLater(given, "read", done, counted(outcome, [fd, buffer]));
+  });
+}
+
+/** @param {Given} given */
+function putCallbacks(given) {
+  const { isPlaying = () => true } = given;
+  for (const name of PLAIN) putTwin(given, files, name, engine[`${name}Sync`]);
+  for (const name of STATS) {
+    putTwin(given, files, name, (...all) => engine[`${name}Sync`](...statArguments(all)));
+  }
+  putTwin(given, files, "cp", engine.cpSync, {
+    answer: ({ value, problem }) => (problem === undefined ? [null, value] : [problem]),
+  });
+  putReads(given);
+  const native = { native: engine.realpath.native };
+  putTwin(given, native, "native", engine.realpathSync.native);
+  files.realpath.native = native.native;
+  replaceCall(files, "close", (/** @type {number} */ fd, /** @type {Function | undefined} */ done) => {
+    if (!isPlaying() || (done !== undefined && typeof done !== "function")) return engine.close(fd, done);
+    const { problem = null } = outcomeOf(() => engine.closeSync(fd));
+    if (isThrown(problem)) throw problem;
+    return callLater(given, "close", done ?? throwIt, [problem]);
+  });
+  replaceCall(files, "exists", (/** @type {any} */ path, /** @type {any} */ done) => {
+    if (!isPlaying() || typeof done !== "function") return engine.exists(path, done);
+    return callLater(given, "exists", done, [engine.existsSync(path)]);
+  });
+  const value = (/** @type {any} */ path) => new Promise((resolve) => files.exists(path, resolve));
+  const found = getOwnPropertyDescriptor(files.exists, util.promisify.custom);
+  if (found?.configurable || found?.writable) defineProperty(files.exists, util.promisify.custom, { ...found, value });
+}
+
+/** @param {unknown} problem */
+function throwIt(problem) {
+  if (problem) throw problem;
+}
+
+/** @param {any} data @returns {boolean} whether it comes in pieces */
+const isInPieces = (data) => data !== null && typeof data === "object" && !ArrayBuffer.isView(data)
+  && (Symbol.iterator in data || Symbol.asyncIterator in data);
+
+/** @param {Given} given */
+function putPromises(given) {
+  const { isPlaying = () => true } = given;
+  const { promises } = files;
+  /** @param {string} name @param {(...all: any[]) => any} sync */
+  const put = (name, sync) => replaceCall(promises, name, (/** @type {any[]} */ ...all) => {
+    const signal = all.at(-1)?.signal;
+    if (!isPlaying() || signal?.aborted) return enginePromises[name](...all);
+    return promiseLater(given, name, () => sync(...all), signal);
+  });
+  const hasTwin = (/** @type {string} */ name) =>
+    typeof promises[name] === "function" && typeof engine[`${name}Sync`] === "function";
+  for (const name of PLAIN.filter((each) => each !== "open" && hasTwin(each))) put(name, engine[`${name}Sync`]);
+  for (const name of STATS) put(name, (...all) => engine[`${name}Sync`](...statArguments(all)));
+  put("cp", engine.cpSync);
+  put("realpath", engine.realpathSync.native);
+  put("open", (...all) => new FileHandle(given, engine.openSync(...all)));
+  for (const name of ["readFile", "writeFile", "appendFile"]) {
+    const onPath = promises[name];
+    replaceCall(promises, name, (/** @type {any} */ file, /** @type {any[]} */ ...rest) => {
+      if (file instanceof FileHandle) return file[/** @type {"readFile"} */ (name)](...rest);
+      // A descriptor's number is none of what these take.
+      if (typeof file === "number") return enginePromises[name](file, ...rest);
+      if (isPlaying() && name === "writeFile" && isInPieces(rest[0])) return writePieces(promises, file, rest);
+      return onPath(file, ...rest);
+    });
+  }
+}
+
+/** @param {any} promises @param {any} path @param {any[]} rest */
+async function writePieces(promises, path, [data, options]) {
+  const { flag = "w", mode } = /** @type {any} */ (typeof options === "object" && options !== null ? options : {});
+  const handle = await promises.open(path, flag, mode);
+  try {
+    await handle.writeFile(data, options);
+  } finally {
+    await handle.close();
+  }
+}
+
+/**
+ * Replaces what `fs` and `fs/promises` have.
+ * @param {Given} given
+ */
+export function putFiles(given) {
+  putCallbacks(given);
+  putPromises(given);
+}

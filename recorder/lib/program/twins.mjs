@@ -1,0 +1,90 @@
+// What node does slowly, by threads of its own, is done at once here, and answered later by a task of the run. So it
+// repeats. Load this file before anything replaces functions of these modules; numbers drawn at random come from what
+// `crypto` has when `putTwins` is called.
+
+import crypto from "node:crypto";
+import zlib from "node:zlib";
+import { putFiles } from "./twin-files.mjs";
+import { promiseLater, putTwin, replaceCall } from "./twin-calls.mjs";
+
+/** @typedef {import("./twin-calls.mjs").Given} Given */
+
+const ZLIB = Object.freeze([
+  "brotliCompress", "brotliDecompress", "deflate", "deflateRaw", "gunzip", "gzip", "inflate", "inflateRaw", "unzip",
+]);
+const CRYPTO = Object.freeze([
+  "checkPrime", "generateKey", "generatePrime", "hkdf", "pbkdf2", "randomFill", "scrypt",
+]);
+const CRYPTO_ITSELF = Object.freeze([
+  "prng", "pseudoRandomBytes", "randomBytes", "randomInt", "rng", "sign", "verify",
+]);
+
+/** Those whose callback gets undefined, not null, when there is no error. */
+const WITHOUT_NULL = Object.freeze(["checkPrime", "generatePrime", "randomInt"]);
+const withoutNull = (/** @type {import("./twin-calls.mjs").Outcome} */ { value, problem }) =>
+  (problem === undefined ? [undefined, value] : [problem]);
+
+/** @param {any} problem @returns {boolean} whether node's crypto throws it before it begins */
+const isOfArguments = (problem) => typeof problem?.code === "string" && problem.code.startsWith("ERR_");
+
+/** @param {Given} given */
+function putCrypto(given) {
+  const owner = /** @type {any} */ (crypto);
+  /** @param {string} name */
+  const howOf = (name) => ({ throws: isOfArguments, ...(WITHOUT_NULL.includes(name) && { answer: withoutNull }) });
+  for (const name of CRYPTO) putTwin(given, owner, name, owner[`${name}Sync`], howOf(name));
+  for (const name of CRYPTO_ITSELF) putTwin(given, owner, name, owner[name], howOf(name));
+  putTwin(given, owner, "generateKeyPair", owner.generateKeyPairSync, {
+    throws: isOfArguments,
+    answer: ({ value, problem }) => (problem === undefined ? [null, value.publicKey, value.privateKey] : [problem]),
+  });
+}
+
+/**
+ * An error of WebAssembly with the name of the function that was called.
+ * @param {() => any} act
+ * @param {string} name
+ */
+function named(act, name) {
+  try {
+    return act();
+  } catch (error) {
+    const problem = /** @type {any} */ (error);
+    if (typeof problem?.message === "string") {
+      problem.message = problem.message.replace(/^WebAssembly\.(?:Module|Instance)\(\)/, `WebAssembly.${name}()`);
+    }
+    throw problem;
+  }
+}
+
+/** @param {Given} given */
+function putWebAssembly(given) {
+  const owner = /** @type {any} */ (globalThis).WebAssembly;
+  const { Module, Instance, compile, instantiate } = owner;
+  const { isPlaying = () => true } = given;
+  replaceCall(owner, "compile", (/** @type {any} */ bytes) => {
+    if (!isPlaying()) return compile(bytes);
+    return promiseLater(given, "WebAssembly.compile", () => named(() => new Module(bytes), "compile"));
+  });
+  replaceCall(owner, "instantiate", (/** @type {any} */ source, /** @type {any} */ imports) => {
+    if (!isPlaying()) return instantiate(source, imports);
+    return promiseLater(given, "WebAssembly.instantiate", () => named(() => {
+      if (source instanceof Module) return new Instance(source, imports);
+      const module = new Module(source);
+      return { module, instance: new Instance(module, imports) };
+    }, "instantiate"));
+  });
+}
+
+/**
+ * Replaces the slow functions of `fs`, `fs/promises`, `zlib`, `crypto` and WebAssembly. Call it once in a thread, and
+ * `syncBuiltinESMExports` behind it.
+ * @param {Given} given
+ */
+export function putTwins(given) {
+  putFiles(given);
+  const owner = /** @type {any} */ (zlib);
+  for (const name of ZLIB) putTwin(given, owner, name, owner[`${name}Sync`]);
+  putCrypto(given);
+  putWebAssembly(given);
+}

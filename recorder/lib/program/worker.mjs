@@ -1,0 +1,359 @@
+// One thread of a program. It stands ready, with all replaced that shows a program the world, until a run begins or
+// another thread starts it. Then it evaluates its module, made anew, and goes on by its event loop until it ends. If it
+// ends amid its code, it never begins again.
+
+import buffer from "node:buffer";
+import crypto from "node:crypto";
+import process from "node:process";
+import nodeTimers from "node:timers";
+import util from "node:util";
+import threads from "node:worker_threads";
+import { recordedAtomics } from "../agent/atomics.mjs";
+import { described } from "../agent/described.mjs";
+import { isCalledByAgents, sourceHere } from "../agent/frames.mjs";
+import { watchRealm } from "../agent/ordinary/watch.mjs";
+import { Player } from "../agent/player.mjs";
+import { Chance, simulateChance, simulateTime } from "../agent/time.mjs";
+import { Board } from "../board/board.mjs";
+import { Blocks, MESSAGES } from "../memory/blocks.mjs";
+import { Keepers } from "../memory/keepers.mjs";
+import { WORD } from "../memory/layout.mjs";
+import { Log } from "../memory/log.mjs";
+import { Memory } from "../memory/memory.mjs";
+import { Records } from "../memory/records.mjs";
+import { Sources } from "../memory/sources.mjs";
+import { Stores } from "../memory/stores.mjs";
+import { onceMore } from "../processes/garbage.mjs";
+import { broadcastClass } from "./broadcast.mjs";
+import { Buffers } from "./buffers.mjs";
+import { Ends } from "./ends.mjs";
+import {
+  furnishMemory, furnishProcess, furnishThreads, furnishTimers, keepProcess, restoreProcess,
+} from "./furnish.mjs";
+import { Loop } from "./loop.mjs";
+import { listingOf } from "./member.mjs";
+import { Mesh } from "./mesh.mjs";
+import { Moves } from "./moves.mjs";
+import { PortEvents, servePorts } from "./port-events.mjs";
+import { PortTable } from "../board/port-table.mjs";
+import { KIND, Ports, channelClass } from "./ports.mjs";
+import { printAtOnce } from "./printing.mjs";
+import { furnishRefusals } from "./refusals.mjs";
+import { argvOf, evaluated } from "./start.mjs";
+import { Threads } from "./threads.mjs";
+import { Timers } from "./timers.mjs";
+import { workerClass } from "./workers.mjs";
+
+const { Error: EngineError } = globalThis;
+
+/**
+ * @typedef {object} Given what the thread is started with
+ * @property {import("node:worker_threads").MessagePort} port
+ * @property {string} program the URL of the program's main module
+ * @property {string[]} args
+ * @property {"watch" | "store" | "refuse"} ordinary
+ * @property {ReturnType<typeof import("./program-memory.mjs").programMemory>} memory
+ * @property {import("../options/plan.mjs").Plan} plan
+ * @property {import("../board/strategy.mjs").Rules} rules
+ */
+
+/** @typedef {{ start: import("./workers.mjs").Start, number: number, ports: any[], ids: number[] }} Handed */
+
+const { port, program, args, memory: shared, plan, rules } = /** @type {Given} */ (threads.workerData);
+const receive = threads.receiveMessageOnPort;
+const { setImmediate: turnLater } = nodeTimers;
+const firstEnv = { ...process.env };
+const GRAPH_MODULE = new URL("./graph.mjs", import.meta.url);
+const TWINS_MODULE = new URL("./twins.mjs", import.meta.url);
+const SURFACE_MODULE = new URL("./surface.mjs", import.meta.url);
+const chance = new Chance();
+
+/** @type {{ player: Player | undefined, buffers: Buffers | undefined }} none before the thread knows which one it is */
+const self = { player: undefined, buffers: undefined };
+
+const isPlaying = () => self.player !== undefined && self.player.isPlaying;
+
+/** @returns {Player} */
+function playing() {
+  if (self.player === undefined) throw new EngineError("the thread has no part in a run yet");
+  return self.player;
+}
+
+/** @returns {string} where the program's code is */
+const here = () => sourceHere() ?? "a place that isn't known";
+
+/** @param {string} why @returns {never} */
+function refuse(why) {
+  return playing().refuse(`${why}, at ${here()}`);
+}
+
+/** @param {unknown} buffer */
+const numberOf = (buffer) => self.buffers?.numberOf(buffer) ?? -1;
+
+/** @param {unknown} buffer @returns {number} its block, or -1 */
+function blockOf(buffer) {
+  const number = numberOf(buffer);
+  return number < 0 || self.buffers === undefined ? -1 : self.buffers.blockOf(number);
+}
+
+/** @type {import("../agent/ordinary/context.mjs").Watching} */
+const watching = {
+  blockOf: numberOf,
+  seen: (place, from, to, writes) => {
+    const { player, buffers } = self;
+    if (player === undefined || buffers === undefined || !player.isPlaying) return;
+    const block = buffers.blockOf(place.block);
+    // Nobody else can reach what is no block yet.
+    if (block < 0) return;
+    place.block = block;
+    player.seen(place, from, to, writes);
+  },
+  isCalledByAgents,
+  // There is no other way to watch a program.
+  refuse: (why) => refuse(`did something that the recorder can't record: ${why.replace(": --ordinary store lets it pass", "")}`),
+};
+
+/** Memory that no other thread can reach is nobody's affair: a wait there is how a program sleeps. */
+const private_ = {
+  isAllowed: false, lasting: [], isUsed: () => false, isTheirs: Buffers.isShared, use: () => false, wait: () => {},
+};
+
+/** @param {Moves} moves @returns {typeof Atomics} */
+const atomicsOf = (moves) => recordedAtomics(Atomics, {
+  blockOf,
+  isRecording: isPlaying,
+  make: (call, view, called) => {
+    moves.count();
+    return playing().make(call, view, called);
+  },
+  simulatesTime: true,
+  sleep: (milliseconds) => moves.sleep(milliseconds),
+  refuse: (why) => refuse(`made a call that the recorder can't record: ${why}`),
+  unseen: /** @type {any} */ (private_),
+  endUnseen: () => /** @type {never} */ (moves.sleep(Infinity)),
+});
+
+/** What the recorder notes of agents that are synchronous. */
+const NOTHING_LATER = /** @type {any} */ ({
+  begin: () => {}, end: () => {}, told: () => undefined, noteLeft: () => {}, write: () => {},
+});
+
+/** @param {number} agent @returns {{ player: Player, blocks: Blocks }} */
+function playerOf(agent) {
+  const board = new Board(shared.board, rules);
+  const memory = new Memory(shared.buffers, shared.copies);
+  const player = new Player(agent, {
+    board,
+    memory,
+    log: new Log(shared.log, board.words, WORD.EVENTS),
+    stores: new Stores(shared.stores, board.words, memory),
+    records: new Records(shared.records[agent]),
+    sources: new Sources(shared.sources[agent]),
+    later: NOTHING_LATER,
+    messages: NOTHING_LATER,
+    unseen: NOTHING_LATER,
+    chance,
+    lengths: plan.buffers,
+    canBlock: true,
+    ordinary: "watch",
+    parks: true,
+  });
+  return { player, blocks: new Blocks(shared.blocks, shared.copies, memory, plan.buffers) };
+}
+
+/** @returns {Promise<any>} the next message, which mustn't have come yet */
+const nextMessage = () => new Promise((done) => {
+  port.once("message", done);
+});
+
+/**
+ * What the thread has of a run.
+ * @param {Player} player
+ * @param {Blocks} blocks
+ * @param {Mesh} mesh
+ */
+function partsOf(player, blocks, mesh) {
+  const { agent, table: { board } } = player;
+  const moves = new Moves(player, shared.buffers[MESSAGES]);
+  const seen = watching.seen;
+  const buffers = new Buffers(blocks, mesh, { seen, refuse });
+  const table = new PortTable(shared.ports);
+  const all = new Threads(agent, board, table, moves);
+  /** @type {{ loop?: Loop }} */
+  const late = {};
+  const later = (/** @type {string} */ name, /** @type {() => void} */ act) => late.loop?.later(name, act);
+  const ports = new Ports({ agent, table, moves, buffers, mesh, here, refuse, later });
+  const ends = new Ends({ agent, player, ports, threads: all, here });
+  const events = new PortEvents({ ports, uncaught: (thrown) => ends.uncaught(thrown) });
+  const timers = new Timers({ now: () => board.clock.now(), changed: () => {}, here: () => sourceHere() });
+  const children = new Set();
+  const keepers = new Keepers(shared.keepers[agent]);
+  /** @type {{ goHome: () => void }} */
+  const after = { goHome: () => {} };
+  const loop = new Loop({ moves, ports, events, timers, ends, keepers, children, refuse, goHome: () => after.goHome() });
+  late.loop = loop;
+  return { moves, buffers, ports, ends, events, timers, loop, children, threads: all, mesh, later, after, keepers };
+}
+
+/** @typedef {ReturnType<typeof partsOf>} Parts */
+
+/**
+ * @param {Parts} parts
+ * @param {(given: import("./twin-calls.mjs").Given) => void} putTwins of `twins.mjs`
+ */
+function furnish({ moves, buffers, ends, events, timers, later }, putTwins) {
+  const listAgain = listingOf([globalThis, buffer, crypto, process, util]);
+  const { words } = moves.board;
+  printAtOnce(() => words[WORD.IS_SILENT] === 0 && isPlaying());
+  simulateTime(() => (isPlaying() ? playing().look() : 0));
+  simulateChance(chance);
+  watchRealm(watching);
+  putTwins({ later, isPlaying });
+  furnishMemory((buffer) => buffers.made(buffer, sourceHere()), refuse);
+  globalThis.Atomics = atomicsOf(moves);
+  furnishTimers(timers);
+  servePorts(events);
+  furnishRefusals(refuse);
+  furnishProcess((code) => ends.exit(code));
+  ends.guard();
+  listAgain();
+  keepProcess();
+}
+
+/**
+ * What a thread that another one has started was handed.
+ * @param {Parts} parts
+ * @returns {{ start: import("./workers.mjs").Start, parentPort: any }}
+ */
+function taken({ mesh, ports, moves }) {
+  ports.world.table.begins(moves.agent);
+  /** @type {Handed[]} */
+  const handed = [];
+  mesh.onItem("start", (item) => void handed.push(item));
+  mesh.take();
+  const [{ start, number, ports: moved, ids }] = handed;
+  moved.forEach((each, at) => ports.adopt(each, ids[at]));
+  moves.receive(number);
+  return { start, parentPort: moved[moved.length - 1] };
+}
+
+/** @param {string} url @returns {string} the last part of its path */
+const fileName = (url) => (url.startsWith("data:") ? "a data: URL" : url.slice(url.lastIndexOf("/") + 1));
+
+/** @type {() => import("./workers.mjs").Start} */
+const mainStart = () =>
+  ({ url: program, isCode: false, workerData: null, argv: args, env: { ...firstEnv }, environment: new Map(), where: "" });
+
+/**
+ * Begins the thread's part in a run.
+ * @param {Parts} parts
+ * @param {import("./graph.mjs").Graph} graph
+ */
+function begin(parts, graph) {
+  const { agent } = parts.moves;
+  const { start, parentPort } = agent === 0 ? { start: mainStart(), parentPort: null } : taken(parts);
+  const { moves, mesh, buffers, ports, threads: all, later, ends, loop } = parts;
+  const starting = {
+    ports, moves, mesh, buffers, threads: all, here, refuse, later, environment: start.environment,
+    children: parts.children,
+  };
+  furnishThreads({
+    agent, workerData: agent === 0 ? null : ports.unpacked(start.workerData), parentPort, argv: argvOf(start),
+    env: start.env, environment: start.environment,
+  }, {
+    Worker: workerClass(starting), MessageChannel: channelClass(ports),
+    receiveMessageOnPort: receiverOf(ports, moves),
+    BroadcastChannel: broadcastClass({ ports, moves, mesh, buffers, uncaught: (thrown) => ends.uncaught(thrown) }),
+  });
+  graph.begin();
+  parts.keepers.setName(`${start.isCode ? "evaluated code" : fileName(start.url)}, started at ${start.where}`);
+  if (agent !== 0) {
+    ends.parentPort = parentPort;
+    ports.send(parentPort, undefined, [], undefined, KIND.ONLINE);
+  }
+  evaluated(start, graph).then(() => {
+    ends.isEvaluated = true;
+  }, (thrown) => {
+    ends.isEvaluated = true;
+    ends.uncaught(thrown);
+  });
+  loop.begin();
+}
+
+/**
+ * Leaves nothing of a run in the thread, except for what its code has changed in the realm.
+ * @param {Parts} parts
+ */
+function clear({ buffers, ports, timers, loop, ends, children }) {
+  buffers.clear();
+  ports.clear();
+  timers.clear();
+  loop.clear();
+  ends.clear();
+  children.clear();
+  restoreProcess();
+}
+
+/**
+ * Awaits the thread's next part in a run, and begins it. It is called by the real loop.
+ * @param {Parts} parts
+ * @param {import("./graph.mjs").Graph} graph
+ */
+function serve(parts, graph) {
+  const { agent, player, board } = parts.moves;
+  onceMore();
+  player.awaitOrder();
+  if (agent !== 0) board.turn.sleep(agent);
+  if (board.end.isOver()) {
+    board.turn.goHome(agent);
+    turnLater(() => serve(parts, graph));
+    return;
+  }
+  player.begin();
+  try {
+    begin(parts, graph);
+  } catch (thrown) {
+    board.end.end("failed", `the recorder can't begin thread ${agent}: ${described(thrown)}`);
+    board.turn.park(agent);
+  }
+}
+
+/** @param {Ports} ports @param {Moves} moves */
+const receiverOf = (ports, moves) => (/** @type {any} */ given) => {
+  if (ports.metaOf(given) === undefined) return receive(given);
+  moves.yield();
+  const envelope = ports.take(given);
+  if (envelope === undefined) return undefined;
+  if (envelope.kind === KIND.CLOSE) {
+    ports.close(given);
+    return undefined;
+  }
+  return { message: envelope.value };
+};
+
+/** @param {(url: string) => Promise<any>} load imports a module */
+export async function main(load) {
+  const numbered = nextMessage();
+  const { Graph } = await load(GRAPH_MODULE.href);
+  const { refuseRest } = await load(SURFACE_MODULE.href);
+  const { putTwins } = await load(TWINS_MODULE.href);
+  const graph = new Graph({ refuse: (/** @type {string} */ what) => refuse(`used ${what}, which isn't simulated`) });
+  port.postMessage({ begun: true });
+  const { agent, control } = await numbered;
+  chance.agent = agent;
+  chance.begin(0);
+  const { player, blocks } = playerOf(agent);
+  const { board } = player.table;
+  const parts = partsOf(player, blocks, new Mesh(agent, control, port, board.words));
+  self.player = player;
+  self.buffers = parts.buffers;
+  furnish(parts, putTwins);
+  refuseRest({ refuse: (/** @type {string} */ name) => refuse(`called ${name}, which isn't simulated`), isPlaying });
+  parts.after.goHome = () => {
+    clear(parts);
+    board.turn.goHome(agent);
+    turnLater(() => serve(parts, graph));
+  };
+  port.postMessage({ ready: true });
+  serve(parts, graph);
+}

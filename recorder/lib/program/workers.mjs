@@ -1,0 +1,203 @@
+// The Worker of a program. Its thread stands ready: it is told what to run, and joins the run. Its messages, and that it
+// is online, has failed or has ended, come by one port. What it had sent before its end is delivered before `exit`.
+
+import { EventEmitter } from "node:events";
+import { isAbsolute, resolve } from "node:path";
+import process from "node:process";
+import threads from "node:worker_threads";
+import { pathToFileURL } from "node:url";
+import { SCRIPT_LIMITS } from "../../script/limits.mjs";
+import { WORD } from "../memory/layout.mjs";
+import { KIND } from "./ports.mjs";
+import { sent } from "./values.mjs";
+
+const { SHARE_ENV } = /** @type {any} */ (threads);
+
+/**
+ * @typedef {object} Starting what workers need of their thread
+ * @property {import("./ports.mjs").Ports} ports
+ * @property {import("./moves.mjs").Moves} moves
+ * @property {import("./mesh.mjs").Mesh} mesh
+ * @property {import("./buffers.mjs").Buffers} buffers
+ * @property {import("./threads.mjs").Threads} threads
+ * @property {() => string} here where the program's code is
+ * @property {(why: string) => never} refuse ends the run
+ * @property {(name: string, act: () => void) => void} later
+ * @property {Map<unknown, unknown>} environment what `setEnvironmentData` has set
+ * @property {Set<{ refed: boolean, where: string }>} children workers that haven't ended
+ */
+
+/**
+ * @typedef {object} Start what a thread is to run
+ * @property {string} url or the code, if it is evaluated
+ * @property {boolean} isCode
+ * @property {any} workerData
+ * @property {string[]} argv
+ * @property {Record<string, string | undefined>} env
+ * @property {Map<unknown, unknown>} environment
+ * @property {string} where it was started
+ */
+
+/** @param {string} message @param {string} code */
+function typeError(message, code) {
+  return Object.assign(new TypeError(message), { code });
+}
+
+/** @param {unknown} file @param {any} options @returns {string} a URL, or the code that is to be evaluated */
+function urlOf(file, options) {
+  if (options.eval) {
+    if (typeof file !== "string") throw typeError("options.eval must be false when 'filename' is not a string", "ERR_INVALID_ARG_VALUE");
+    return file;
+  }
+  if (file instanceof URL) return file.href;
+  if (typeof file !== "string") {
+    throw typeError('The "filename" argument must be of type string or an instance of URL.', "ERR_INVALID_ARG_TYPE");
+  }
+  if (/^data:/.test(file)) return file;
+  if (isAbsolute(file) || /^\.\.?[\\/]/.test(file)) return pathToFileURL(resolve(file)).href;
+  throw typeError(`The worker script or module filename must be an absolute path or a relative path starting with `
+    + `'./' or '../'. Received "${file}"`, "ERR_WORKER_PATH");
+}
+
+/** What isn't simulated of the options of a Worker. */
+const REFUSED = Object.freeze(["stdin", "stdout", "stderr"]);
+
+/** @param {any} options @param {(why: string) => never} refuse */
+function needsSimulated(options, refuse) {
+  for (const name of REFUSED) {
+    if (options[name]) refuse(`started a Worker with the option ${name}, which isn't simulated`);
+  }
+  if (options.env === SHARE_ENV) refuse("started a Worker with SHARE_ENV, which isn't simulated");
+  if (options.execArgv?.length > 0) refuse("started a Worker with execArgv, which isn't simulated");
+}
+
+/**
+ * Starts a thread.
+ * @param {Starting} starting
+ * @param {unknown} file
+ * @param {any} options
+ * @param {Function} called the function that the program's code has called
+ * @returns {{ agent: number, port: any }} its number, and the port to it
+ */
+function started({ ports, moves, mesh, buffers, threads: all, refuse, environment, here }, file, options, called) {
+  needsSimulated(options, refuse);
+  const url = urlOf(file, options);
+  const workerData = sent(options.workerData, buffers);
+  const number = moves.send(called);
+  const { words } = moves.board;
+  const agent = words[WORD.JOINED];
+  if (agent === SCRIPT_LIMITS.agents) refuse(`started a Worker more than the ${agent} threads that a run can have`);
+  mesh.needs(agent + 1);
+  buffers.handTo(agent);
+  const { port1, port2 } = ports.channel();
+  const list = [...options.transferList ?? []];
+  const moved = [...list.filter((each) => ports.metaOf(each) !== undefined), port2];
+  const ids = moved.map((each) => ports.known(each).id);
+  const env = { ...(options.env ?? process.env) };
+  const start = {
+    url, isCode: options.eval === true, workerData, argv: [...options.argv ?? []].map(String), env, environment,
+    where: here(),
+  };
+  mesh.hand(agent, { kind: "start", start, number, ports: moved, ids }, [...list, port2]);
+  for (const each of moved) ports.leave(each);
+  all.start(agent);
+  return { agent, port: port1 };
+}
+
+/** @type {Starting | undefined} a thread has one part in a run */
+let starting;
+
+/** @returns {Starting} */
+function world() {
+  if (starting === undefined) throw new Error("the thread has no part in a run yet");
+  return starting;
+}
+
+/** The Worker that the program finds. */
+class Worker extends EventEmitter {
+  #agent;
+  #port;
+  #own;
+  #isAlive = true;
+  /** @type {((code: number | undefined) => void)[]} */
+  #awaiting = [];
+
+  /** @param {unknown} file @param {any} [options] */
+  constructor(file, options = {}) {
+    super();
+    const { agent, port } = started(world(), file, options ?? {}, new.target);
+    this.#agent = agent;
+    this.#port = port;
+    this.#own = { refed: true, where: world().here() };
+    this.threadId = agent;
+    // Nobody reads or writes them: what asks for them is refused.
+    for (const name of REFUSED) /** @type {any} */ (this)[name] = null;
+    this.resourceLimits = {};
+    const { ports, children } = world();
+    children.add(this.#own);
+    ports.known(port).taker = (envelope) => this.#take(envelope);
+    ports.known(port).keeps = false;
+    ports.start(port);
+  }
+
+  /** @param {unknown} value @param {unknown} [transfer] */
+  postMessage(value, transfer) {
+    if (this.#isAlive) world().ports.send(this.#port, value, transfer, this.postMessage);
+  }
+
+  ref() {
+    this.#own.refed = true;
+  }
+
+  unref() {
+    this.#own.refed = false;
+  }
+
+  /** @returns {Promise<number | undefined>} its exit code */
+  terminate() {
+    const { moves, threads: all, later } = world();
+    // In node, too, one that has just been started is ended before it begins.
+    if (all.hasBegun(this.#agent)) moves.yield();
+    if (!this.#isAlive) return Promise.resolve(undefined);
+    /** @type {Promise<number | undefined>} */
+    const ended = new Promise((done) => this.#awaiting.push(done));
+    // If it has ended by itself, that comes by its port.
+    const code = all.hasBegun(this.#agent) ? 1 : 0;
+    if (all.end(this.#agent)) later("exit", () => this.#leave(code));
+    return ended;
+  }
+
+  /** @param {number} code of its end: what was sent before comes before that */
+  #leave(code) {
+    const { ports } = world();
+    for (let left = ports.take(this.#port); left !== undefined; left = ports.take(this.#port)) {
+      if (left.kind !== KIND.CLOSE) this.#take(left);
+    }
+    this.#gone(code);
+  }
+
+  /** @param {import("./ports.mjs").Envelope} envelope */
+  #take({ kind, value }) {
+    if (kind === KIND.MESSAGE) this.emit("message", value);
+    else if (kind === KIND.ONLINE) this.emit("online");
+    else if (kind === KIND.ERROR) this.emit("error", value);
+    else if (kind === KIND.EXIT) this.#gone(value);
+  }
+
+  /** @param {number} code */
+  #gone(code) {
+    if (!this.#isAlive) return;
+    this.#isAlive = false;
+    this.threadId = -1;
+    world().children.delete(this.#own);
+    world().ports.known(this.#port).closed = true;
+    this.emit("exit", code);
+    for (const done of this.#awaiting) done(code);
+  }
+}
+
+/** @param {Starting} given @returns {Function} the class by which the program starts workers */
+export function workerClass(given) {
+  starting = given;
+  return Worker;
+}

@@ -1,0 +1,61 @@
+// Runs a program several times in one thread with all parts together: graph, timers, twins, and the rest refused. Its
+// loop is simple: a task, else an immediate, else a timer, else the clock goes on. Prints each run's lines as JSON.
+
+import Module from "node:module";
+import timers from "node:timers";
+import timersPromises from "node:timers/promises";
+import util from "node:util";
+import { Graph } from "../../lib/program/graph.mjs";
+import { refuseRest } from "../../lib/program/surface.mjs";
+import { Timers } from "../../lib/program/timers.mjs";
+import { putTwins } from "../../lib/program/twins.mjs";
+
+const [url, runs] = process.argv.slice(2);
+const { setImmediate: turn } = timers;
+const { log } = console;
+void [process.stdin, process.stdout, process.stderr];
+
+let playing = false;
+let now = 0;
+let tasks = [];
+const isPlaying = () => playing;
+const refuse = (name) => { throw new Error(`refused: ${name}`); };
+const own = new Timers({ now: () => now, changed() {} });
+const graph = new Graph({ refuse });
+refuseRest({ refuse, isPlaying });
+putTwins({ isPlaying, later: (name, act) => tasks.push(act) });
+Object.assign(globalThis, own.functions);
+Object.assign(timers, own.functions);
+Object.assign(timersPromises, own.promises);
+Module.syncBuiltinESMExports();
+
+/** @returns {boolean} whether there was anything to do */
+function step() {
+  if (tasks.length > 0) tasks.shift()();
+  else if (own.immediates > 0) own.runImmediate();
+  else if (!own.runTimer()) {
+    if (own.deadline === Infinity) return false;
+    now = own.deadline;
+  }
+  return true;
+}
+
+const all = [];
+for (let run = 0; run < Number(runs); run += 1) {
+  const lines = [];
+  console.log = (...given) => lines.push(util.format(...given));
+  graph.begin();
+  own.clear();
+  [now, tasks, playing] = [0, [], true];
+  graph.enter(url).catch((error) => lines.push(`failed: ${error.stack}`));
+  let steps = 0;
+  for (let isOver = false; !isOver; steps += 1) {
+    await new Promise((done) => turn(() => {
+      isOver = !step();
+      turn(done);
+    }));
+  }
+  playing = false;
+  all.push({ lines, steps, now });
+}
+log(JSON.stringify(all));

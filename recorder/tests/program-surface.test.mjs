@@ -1,0 +1,158 @@
+// The table of what a program may use of node, and what becomes of it.
+
+import assert from "node:assert/strict";
+import { spawnSync } from "node:child_process";
+import Module, { createRequire } from "node:module";
+import { test } from "node:test";
+import { fileURLToPath } from "node:url";
+import { GLOBALS, METHODS, MODULES, SCHEME_MODULES } from "../lib/program/surface-table.mjs";
+import { isTried, kindOf, kindOfGlobal, refuseRest, unknownNames } from "../lib/program/surface.mjs";
+
+const require = createRequire(import.meta.url);
+const KINDS = ["simulated", "harmless", "refused"];
+const words = (text) => text.split(/\s+/).filter((word) => word !== "");
+
+test("node has no module, export or global that the tables don't know", () => {
+  assert.ok(isTried(), "another major version of node needs tables of its own");
+  assert.deepEqual(unknownNames(), []);
+});
+
+test("no name is of two kinds, and each kind is one of three", () => {
+  for (const [id, row] of [...Object.entries(MODULES), ...Object.entries(SCHEME_MODULES), ["globals", GLOBALS]]) {
+    if (typeof row === "string") {
+      assert.ok(KINDS.includes(row), id);
+      continue;
+    }
+    assert.ok(Object.keys(row).every((kind) => KINDS.includes(kind)), id);
+    const all = Object.values(row).flatMap(words);
+    assert.deepEqual(all.filter((name, at) => all.indexOf(name) !== at), [], id);
+  }
+});
+
+test("a name that is new is reported: in a module, as a module, as a global", () => {
+  const { builtinModules } = Module;
+  const fs = require("fs");
+  fs.newInFs = () => {};
+  globalThis.newGlobal = 1;
+  Module.builtinModules = [...builtinModules, "new_module"];
+  try {
+    assert.deepEqual(unknownNames(), ["fs.newInFs", "new_module", "newGlobal"]);
+  } finally {
+    delete fs.newInFs;
+    delete globalThis.newGlobal;
+    Module.builtinModules = builtinModules;
+  }
+});
+
+test("kinds are found with and without node:", () => {
+  assert.equal(kindOf("net", "connect"), "refused");
+  assert.equal(kindOf("node:net", "connect"), "refused");
+  assert.equal(kindOf("node:net", "isIP"), "harmless");
+  assert.equal(kindOf("fs", "readFile"), "simulated");
+  assert.equal(kindOf("child_process", "anything"), "refused");
+  assert.equal(kindOf("node:test", "test"), "refused");
+  assert.equal(kindOf("test", "test"), undefined);
+  assert.equal(kindOf("fs", "nothing"), undefined);
+  assert.equal(kindOfGlobal("fetch"), "refused");
+  assert.equal(kindOfGlobal("nothing"), undefined);
+});
+
+test("the versions that were tried are those of node 20", () => {
+  assert.deepEqual(["20.0.0", "20.20.2", "2.0.0", "18.1.0", "22.1.0", "200.1.0"].map((each) => isTried(each)),
+    [true, true, false, false, false, false]);
+});
+
+/** Runs code in a process of its own in which the rest is refused; `refused` has the names. */
+function inProcess(code) {
+  const surface = new URL("../lib/program/surface.mjs", import.meta.url).href;
+  const all = `
+    import { refuseRest, kindOf, kindOfGlobal } from ${JSON.stringify(surface)};
+    import Module, { createRequire } from "node:module";
+    import { METHODS } from ${JSON.stringify(surface.replace(".mjs", "-table.mjs"))};
+    const require = createRequire(import.meta.url); const refused = []; let playing = true;
+    class Refused extends Error {}
+    const by = (act) => { try { act(); return "did";
+    } catch (error) { return error instanceof Refused ? error.message : String(error); } };
+    void [process.stdin, process.stdout, process.stderr]; // Made by node of sockets, when they are asked for first.
+    const net = require("net"); const { Socket } = net; const socket = new Socket();
+    refuseRest({ refuse: (name) => { throw new Refused(name); }, isPlaying: () => playing });
+    ${code}`;
+  const { stdout, stderr } = spawnSync(process.execPath, ["--no-warnings", "--input-type=module", "--eval", all], {
+    encoding: "utf8", timeout: 60_000, cwd: fileURLToPath(new URL(".", import.meta.url)),
+  });
+  assert.equal(stderr, "");
+  return JSON.parse(stdout);
+}
+
+test("all that is refused calls `refuse` with its name, by require, node: and getBuiltinModule", () => {
+  const found = inProcess(`
+    const early = by(() => process.getBuiltinModule("node:dgram").createSocket());
+    const ofMembers = [by(() => require("fs").promises.watch()), by(() => require("dns").promises.lookup())];
+    // What several modules export is refused by one of its names.
+    const names = new Map();
+    const see = (owner, name, shown) => {
+      if (typeof owner[name] !== "function") return;
+      names.set(owner[name], [...(names.get(owner[name]) ?? []), shown]);
+    };
+    for (const id of [...Module.builtinModules, "node:test"].filter((each) => each !== "domain")) {
+      const exports = require(id);
+      for (const name of Object.getOwnPropertyNames(exports)) {
+        if (["length", "name", "prototype", "default"].includes(name) || kindOf(id, name) !== "refused") continue;
+        const descriptor = Object.getOwnPropertyDescriptor(exports, name);
+        if ("value" in descriptor) see(exports, name, id.replace("node:", "") + "." + name);
+      }
+    }
+    for (const name of Object.getOwnPropertyNames(globalThis)) if (kindOfGlobal(name) === "refused") see(globalThis, name, name);
+    const wrong = [...names].flatMap(([value, shown]) => {
+      const called = by(() => value()), made = by(() => new value());
+      const isMade = shown.includes(made) || made === "TypeError: value is not a constructor";
+      return shown.includes(called) && isMade ? [] : [[shown, called, made]];
+    });
+    console.log(JSON.stringify([wrong, names.size > 150 || names.size, early,
+      by(() => require("node:cluster").fork()), by(() => new Blob([]).text()), by(() => crypto.subtle.digest()),
+      by(() => WebAssembly.compileStreaming()), by(() => process.umask(0)), by(() => typeof process.umask()),
+      by(() => require("inspector").console.log(1)), by(() => fetch("http://x")),
+      by(() => require("domain")), by(() => require("node:domain")), ofMembers,
+      PerformanceObserver === require("perf_hooks").PerformanceObserver,
+      CompressionStream === require("stream/web").CompressionStream]));`);
+  assert.deepEqual(found, [[], true, "dgram.createSocket", "cluster.fork", "Blob.text", "SubtleCrypto.digest",
+    "WebAssembly.compileStreaming", "process.umask", "did", "inspector.console.log", "fetch", "domain",
+      "domain", ["fs/promises.watch", "dns/promises.lookup"], true, true]);
+});
+
+test("what is replaced keeps its type, name, length and instances, and classes that extend it", () => {
+  const found = inProcess(`
+    const { Socket: Stand } = require("net"); class Own extends Stand {}
+    console.log(JSON.stringify([Stand === Socket, socket instanceof Stand, socket.constructor === Socket, typeof Stand, Stand.name,
+      Stand.length === Socket.length, Stand.prototype === Socket.prototype, by(() => new Own()),
+        by(() => Stand()), typeof fetch,
+      require("child_process").spawn.name]));`);
+  assert.deepEqual(found, [false, true, true, "function", "Socket", true, true, "net.Socket", "net.Socket",
+    "function", "spawn"]);
+});
+
+test("nothing is refused until the program plays, and what is harmless works", () => {
+  const found = inProcess(`
+    playing = false;
+    const before = by(() => new (require("net").Socket)()); const { createGzip } = require("zlib");
+    const gzip = by(() => createGzip());
+    playing = true;
+    const again = by(() => createGzip());
+    const { EventEmitter } = require("events"); const { Readable } = require("stream");
+    console.log(JSON.stringify([before, gzip, again, by(() => new EventEmitter().emit("x")),
+      by(() => Readable.from([1])),
+      by(() => require("zlib").gunzipSync(require("zlib").gzipSync("text"))), by(() => new (require("http").Agent)()),
+      by(() => require("readline").createInterface({ input: Readable.from([]) }).close()),
+        by(() => require("tty").isatty(1)),
+      by(() => require("util").inspect(process)), by(() => new URL("http://a")), by(() => new Headers()),
+        by(() => new Response("x"))]));`);
+  assert.deepEqual(found, ["did", "did", "zlib.createGzip", ...Array(10).fill("did")]);
+});
+
+test("each method that is refused is there", () => {
+  for (const [path, names] of Object.entries(METHODS)) {
+    const owner = path.split(".").reduce((from, name) => from[name], globalThis);
+    for (const name of words(names)) assert.equal(typeof owner[name], "function", `${path}.${name}`);
+  }
+  assert.equal(typeof refuseRest, "function");
+});
