@@ -452,3 +452,14 @@ test("timers that node itself made before are cleared by the run's functions", a
   await new Promise((done) => REAL.setTimeout(done, 20));
   assert.equal(ran, 0);
 });
+
+test("of timers that are due at the same time, one whose milliseconds were asked for first comes first", () => {
+  const loop = new Loop();
+  const ran = [];
+  loop.timers.functions.setTimeout(() => ran.push("10 at 0"), 10);
+  loop.now = 4;
+  loop.timers.functions.setTimeout(() => ran.push("6 at 4"), 6);
+  loop.now = 10;
+  while (loop.timers.runTimer());
+  assert.deepEqual(ran, ["10 at 0", "6 at 4"]);
+});
