@@ -63,8 +63,7 @@ export class Player {
     this.begin();
     let problem;
     try {
-      const answer = body();
-      problem = leftOpen(answer, "an agent", this.table.later.place);
+      problem = leftOpen(body(), "an agent", this.table.later.place);
     } catch (thrown) {
       problem = `threw ${described(thrown)}`;
     }
