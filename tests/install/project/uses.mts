@@ -2,7 +2,8 @@
 
 import { explore, record, Difference, LostJob, NoSabsim, Refused } from "sabsim";
 import type { Accesses, Agent, AgentRun, Ending, ExploreOptions, Outcome, Race, RaceSide } from "sabsim";
-import type { Kind, NamedPart, NamedPlace, OnlyByTime, RecordOptions, Setup, Shortened, WithBuffers } from "sabsim";
+import type { Kind, NamedPart, NamedPlace, OnlyByTime, RecordOptions, Setup, Shortened, Standing } from "sabsim";
+import type { WithBuffers } from "sabsim";
 
 const kind: Kind = "Uint8";
 const slots: NamedPlace = [kind, 1];
@@ -52,6 +53,9 @@ const shortening = ({ runs, changes, calls, stopped = "", unchanged = "" }: Shor
 const waitText = ({ agent, line, milliseconds, block, byte }: OnlyByTime): string =>
   [agent, line ?? "unknown", milliseconds, block, byte].join(" ");
 
+const standingText = ({ agent, does, call, place, block, byte, file, line, column }: Standing): string =>
+  [agent, does === "waits", call ?? "none", place ?? "unnamed", block, byte, file ?? "unknown", line, column].join(" ");
+
 const accessText = ({ arrays, made }: Accesses): string => [
   ...arrays.map(({ name, kind, block, offset, length }) => `${name} ${kind} ${block} ${offset} ${length}`),
   ...made.map(([event, array, value]) => `${event} ${array} ${value ?? "none"}`),
@@ -63,12 +67,13 @@ function summary(outcome: Outcome): string {
   const numbers = [seed, moves, calls, ordinary, ...progress.map(({ returned, calls }) => calls - returned)];
   const texts = [ending, String(fails), detail, state.hash, ...state.shown, ...races.map(raceText)];
   const { bytes = [], answers = [], script, scriptHolds = "all", noScript = "", report = "", trace = "" } = outcome;
-  const { onlyIf = "", onlyByTime = [], served = [], unrecorded = [], remembers } = outcome;
+  const { onlyIf = "", onlyByTime = [], served = [], standing = [], unrecorded = [], remembers } = outcome;
   const accesses = outcome.accesses === undefined ? "" : accessText(outcome.accesses);
   const timed = [accesses, onlyIf, ...onlyByTime.map(waitText), ...served.map(({ block, byte }) => `${block} ${byte}`)];
   const answered = [...timed, ...answers.flat().map((answer) => answer ?? "waits")];
-  return [...numbers, ...texts, ...bytes, ...answered, script?.length, scriptHolds, noScript, report, trace,
-    ...unrecorded, remembers?.seed, remembers?.differs, remembers?.was, remembers?.is].join(" ");
+  const stands = standing.map(standingText);
+  return [...numbers, ...texts, ...bytes, ...answered, ...stands, script?.length, scriptHolds, noScript, report, trace,
+    ...unrecorded, remembers?.seed, remembers?.differs, remembers?.was, remembers?.is, remembers?.threw].join(" ");
 }
 
 export async function told(): Promise<string> {
