@@ -125,10 +125,10 @@ describe("init and check", { concurrency: 2 }, () => {
     const outcomes = await recorded(program("unfinished", { trace: true }), seedsTo(4));
     const place = "\n    at checked.mjs:4:3";
     assert.deepEqual(outcomes.map(({ ending, fails, detail }) => [ending, fails, detail]), [
-      ["check", true, `check answered a promise, but it must be synchronous${place}`],
+      ["check", true, `check returned a promise, but it must be synchronous${place}`],
       ["check", true, `check goes on later, by a promise, but it must be synchronous${place}`],
-      ["check", true, "check answered an iterator, whose code nobody runs: it is a generator"],
-      ["failed", true, `init answered a promise, but it must be synchronous${place}`],
+      ["check", true, "check returned an iterator, whose code nobody runs: it is a generator"],
+      ["failed", true, `init returned a promise, but it must be synchronous${place}`],
     ]);
   });
 
@@ -140,14 +140,14 @@ describe("init and check", { concurrency: 2 }, () => {
       export const check = ([buffer], { args: [what] }) =>
         (what === "error" ? new RangeError("lost") : new Int32Array(buffer)[0] === Number(what));
     `);
-    const told = [["7", "finished", ""], ["8", "check", "check answered false"],
-      ["error", "check", "check answered RangeError: lost"]];
+    const told = [["7", "finished", ""], ["8", "check", "check returned false"],
+      ["error", "check", "check returned RangeError: lost"]];
     for (const [what, ending, detail] of told) {
       const outcome = await record({ module: path, args: [what], sabsim: CHECKER });
       assert.deepEqual([outcome.ending, outcome.detail], [ending, detail]);
     }
     const outcome = await record({ module: path, args: ["7"], sabsim: CHECKER, check: () => false });
-    assert.deepEqual([outcome.ending, outcome.detail], ["check", "check answered false"]);
+    assert.deepEqual([outcome.ending, outcome.detail], ["check", "check returned false"]);
   });
 
   it("a CommonJS module has them as properties of its function; setup has no other member", async (test) => {
@@ -222,7 +222,7 @@ describe("init and check", { concurrency: 2 }, () => {
     assert.deepEqual(outcomes.map(({ ending, fails }) => [ending, fails]), [
       ["check", true], ["check", true], ["failed", true],
     ]);
-    for (const { detail } of outcomes) assert.match(detail, /^(check|init) answered /);
+    for (const { detail } of outcomes) assert.match(detail, /^(check|init) returned /);
   });
 
   it("with 16 agents none is left for the stores of init", async () => {

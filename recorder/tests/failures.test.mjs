@@ -24,7 +24,7 @@ test("what was thrown goes by its first lines, and the innermost line of code th
   const evaluated = "    at eval (eval at agent (file:///a.mjs:3:1), <anonymous>:1:7)";
   const last = ["agent 1 threw Error: no", evaluated, stack[2]];
   assert.deepEqual(thrownIn(last.join("\n"), names), { message: [last[0]], sources: ["lock.agents.mjs:9:1"] });
-  assert.deepEqual(thrownIn("check answered false", names), { message: ["check answered false"], sources: [] });
+  assert.deepEqual(thrownIn("check returned false", names), { message: ["check returned false"], sources: [] });
 });
 
 test("of a long message three lines are kept, and 160 characters of each", () => {

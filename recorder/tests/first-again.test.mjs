@@ -128,7 +128,7 @@ test("the two endings are in words for people", () => {
   const thrown = { ...run, ending: "failed", detail: "agent 1 threw Error: no" };
   const stopped = { ...run, ending: "failed", detail: "agent 1 made no call for 10 s" };
   const bound = { ...run, ending: "bound", detail: "the run has made 100 moves" };
-  const check = { ...run, ending: "check", detail: "check answered false" };
+  const check = { ...run, ending: "check", detail: "check returned false" };
   const pairs = [
     [thrown, check, "threw, then check failed"], [stopped, bound, "stopped, then limit met"],
     [bound, thrown, "limit met, then threw"],

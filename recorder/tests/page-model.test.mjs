@@ -144,7 +144,7 @@ test("what fails is the last wait of a deadlock, and what an agent did last that
   assert.deepEqual(runOf().failing, [8]);
   assert.deepEqual(runOf({ ending: "failed", detail: "agent 0 threw Error: no" }).failing, [5]);
   assert.deepEqual(runOf({ ending: "bound", detail: "agent 1 spins at a.mjs:7:1" }).failing, [8]);
-  assert.deepEqual(runOf({ ending: "check", detail: "check answered false" }).failing, [9]);
+  assert.deepEqual(runOf({ ending: "check", detail: "check returned false" }).failing, [9]);
 });
 
 test("of a race both accesses fail, each in its turn", () => {

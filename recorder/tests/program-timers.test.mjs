@@ -402,7 +402,7 @@ test("nothing keeps a thread alive once its timers have run, were cleared, or ar
   assert.equal(loop.timers.alive, false);
 });
 
-test("a round of immediates is told from the next one", () => {
+test("an immediate that an immediate makes belongs to the next round", () => {
   const { timers: own } = new Loop();
   own.functions.setImmediate(() => own.functions.setImmediate(() => {}));
   const second = own.functions.setImmediate(() => {});

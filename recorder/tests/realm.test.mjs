@@ -105,10 +105,10 @@ describe("work that goes on later", () => {
 
   test("is told of an agent that is a generator or asynchronous itself", async (context) => {
     const kinds = [
-      ["function* agent() { throw new Error('never seen'); }", /^agent 0 answered an iterator, whose code nobody runs/],
-      ["async function* agent() { throw new Error('never seen'); }", /^agent 0 answered an iterator/],
-      ["async function agent() {}", /^agent 0 answered a promise, but an agent must be synchronous$/],
-      ["() => ({ then() {} })", /^agent 0 answered a promise/],
+      ["function* agent() { throw new Error('never seen'); }", /^agent 0 returned an iterator, whose code nobody runs/],
+      ["async function* agent() { throw new Error('never seen'); }", /^agent 0 returned an iterator/],
+      ["async function agent() {}", /^agent 0 returned a promise, but an agent must be synchronous$/],
+      ["() => ({ then() {} })", /^agent 0 returned a promise/],
     ];
     for (const [agent, told] of kinds) {
       const outcome = await recordText(context, `export default ${agent}`);

@@ -73,7 +73,7 @@ test("a kept run is made again, and the simulator says the same of it", async (c
     `replayed ${file}, with the clocks and random numbers of seed 4`,
     "1 of 1 run failed: 1 check failed",
     "first failing seed: 4, check failed",
-    "  check answered false",
+    "  check returned false",
     "1 final state: how it ended, and the bytes",
     // What agent 1 has added is a random number of the seed.
     `  1 run check failed, seed 4 the first: ${outcome.bytes[0].slice(0, 48)}…`,

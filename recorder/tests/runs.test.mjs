@@ -105,7 +105,7 @@ test("what is thrown is told with its message and its causes", async (context) =
 test("an agent that answers a promise fails the run", async () => {
   const outcome = await recordCase("promises");
   assert.deepEqual([outcome.ending, outcome.detail],
-    ["failed", "agent 0 answered a promise, but an agent must be synchronous"]);
+    ["failed", "agent 0 returned a promise, but an agent must be synchronous"]);
 });
 
 test("an agent that spins for ever comes to the bound of calls, or of moves", async () => {

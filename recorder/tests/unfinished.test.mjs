@@ -44,10 +44,10 @@ it("what comes after a promise from before is left too, where the run settles th
 
 // Agents that go on later, each with the line on which they do so; an agent that only returns a promise has none.
 const LINES = {
-  "async function agent({ buffers }) {\n  call(buffers);\n  await 5;\n  call(buffers);\n}": "answered a promise, 3:3",
-  "async function agent({ buffers }) {\n  call(buffers);\n}": "answered a promise, ",
-  "({ buffers }) => {\n  call(buffers);\n  return Promise.resolve(1)\n    .then(() => call(buffers));\n}": "answered a promise, 4:6",
-  "async function agent({ buffers }) {\n  for await (const buffer of buffers) call([buffer]);\n}": "answered a promise, 2:20",
+  "async function agent({ buffers }) {\n  call(buffers);\n  await 5;\n  call(buffers);\n}": "returned a promise, 3:3",
+  "async function agent({ buffers }) {\n  call(buffers);\n}": "returned a promise, ",
+  "({ buffers }) => {\n  call(buffers);\n  return Promise.resolve(1)\n    .then(() => call(buffers));\n}": "returned a promise, 4:6",
+  "async function agent({ buffers }) {\n  for await (const buffer of buffers) call([buffer]);\n}": "returned a promise, 2:20",
   "({ buffers }) => {\n  call(buffers);\n  void later();\n}": "goes on later, by a promise, 6:3",
   "({ buffers }) => {\n  call(buffers);\n  void later();\n  call(buffers);\n}": "goes on later, by a promise, 7:3",
   "({ buffers }) => {\n  call(buffers);\n  queueMicrotask(\n    () => {});\n}": "goes on later, by queueMicrotask, 3:3",

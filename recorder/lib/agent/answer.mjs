@@ -10,8 +10,8 @@ const { Error: EngineError } = globalThis;
  * @returns {string | undefined} in words that go on after who it was; undefined where it finds nothing
  */
 export function foundBy(answer) {
-  if (answer === false) return "answered false";
-  return answer instanceof EngineError ? `answered ${answer.name}: ${answer.message}` : undefined;
+  if (answer === false) return "returned false";
+  return answer instanceof EngineError ? `returned ${answer.name}: ${answer.message}` : undefined;
 }
 
 /**
@@ -24,7 +24,7 @@ export function foundBy(answer) {
 export function leftOpen(answer, who, place) {
   if (answer === null || (typeof answer !== "object" && typeof answer !== "function")) return undefined;
   const answered = /** @type {Record<string, unknown>} */ (answer);
-  if (typeof answered.then === "function") return `answered a promise, but ${who} must be synchronous${atText(place)}`;
-  if (typeof answered.next === "function") return "answered an iterator, whose code nobody runs: it is a generator";
+  if (typeof answered.then === "function") return `returned a promise, but ${who} must be synchronous${atText(place)}`;
+  if (typeof answered.next === "function") return "returned an iterator, whose code nobody runs: it is a generator";
   return undefined;
 }

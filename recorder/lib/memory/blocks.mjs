@@ -1,12 +1,12 @@
-// The blocks of a program, whose memory comes to be while its run goes on. A buffer becomes a block when two threads can
-// reach it. The last block stands for messages: sending one and receiving it are acts on the waiters of a place there,
-// so that what was done before the one comes before what is done after the other.
+// The blocks of a program. The program makes their memory during its run, and a buffer becomes a block when two threads
+// can reach it. The last block is for messages: to send one and to receive it are acts on the waiters of a place there.
+// So what was done before it was sent happens before what is done after it is received.
 
 import { SCRIPT_LIMITS } from "../../script/limits.mjs";
 
 const { Int32Array, Uint8Array, SharedArrayBuffer } = globalThis;
 
-/** The block that stands for messages, how many bytes it has, and how many places. */
+/** The block for messages, how many bytes it has, and how many places. */
 export const MESSAGES = SCRIPT_LIMITS.blocks - 1;
 export const MESSAGE_BYTES = 16_384;
 export const MESSAGE_PLACES = MESSAGE_BYTES / 4;

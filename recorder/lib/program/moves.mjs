@@ -12,7 +12,7 @@ const INT32 = KINDS.indexOf("Int32");
 export class Moves {
   /**
    * @param {import("../agent/player.mjs").Player} player
-   * @param {SharedArrayBuffer} messages the memory of the block that stands for messages
+   * @param {SharedArrayBuffer} messages the memory of the block for messages
    */
   constructor(player, messages) {
     this.player = player;

@@ -1,4 +1,4 @@
-// What node does slowly, by threads of its own, is done at once here, and answered later by a task of the run. So it
+// What node does slowly, by threads of its own, is done at once here. A task of the run has the result later. So it
 // repeats. Load this file before anything replaces functions of these modules; numbers drawn at random come from what
 // `crypto` has when `putTwins` is called.
 

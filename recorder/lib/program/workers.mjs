@@ -1,5 +1,6 @@
-// The Worker of a program. Its thread stands ready: it is told what to run, and joins the run. Its messages, and that it
-// is online, has failed or has ended, come by one port. What it had sent before its end is delivered before `exit`.
+// The Worker of a program. A thread stands ready for it, gets what it has to run, and joins the run. One port has the
+// Worker's messages, and says that it is online, has failed or has ended. What it sent before its end is delivered
+// before `exit`.
 
 import { EventEmitter } from "node:events";
 import { isAbsolute, resolve } from "node:path";

@@ -7,11 +7,11 @@ const later = () => {};
 
 /** Of each way what is told of it; none where nothing is left undone. @type {[string | undefined, Function][]} */
 export const WAYS = [
-  ["answered an iterator", (own) => (function* iterate() {
+  ["returned an iterator", (own) => (function* iterate() {
     yield call(own);
   })()],
-  ["answered a promise", async (own) => call(own)],
-  ["answered a promise", () => ({ then: later })],
+  ["returned a promise", async (own) => call(own)],
+  ["returned a promise", () => ({ then: later })],
   ["goes on later, by a timer", () => void setTimeout(later, 0)],
   ["goes on later, by a timer", () => void setInterval(later, 1_000)],
   ["goes on later, by setImmediate", () => void setImmediate(later)],

@@ -1,4 +1,4 @@
-// Runs of whole programs, which tests write themselves. Each is told whole, and checked by the simulator.
+// Runs of whole programs that tests write. Each outcome has all its parts, and the simulator checks it.
 
 import { mkdirSync, writeFileSync } from "node:fs";
 import { dirname, join } from "node:path";

@@ -44,7 +44,7 @@ fn elements_are_little_endian(rt: HostRuntime) -> Result<(), Fail> {
     expect(is_written && is_read, "another element")
 }
 
-/// What accesses show; a script of one agent that makes them; and what each answers, and then the bytes.
+/// What accesses show; a script of one agent that makes them; and what each returns, and then the bytes.
 const ROWS: [(&str, &str, &str); 8] = [
     (
         "a store answers the operand unwrapped",
@@ -111,7 +111,7 @@ const ROWS: [(&str, &str, &str); 8] = [
     ),
 ];
 
-/// What a call answers that is an access through a view of a block.
+/// What a call returns that is an access through a view of a block.
 fn answer_of(block: &mut Block, plan: &Plan, call: Call) -> Option<Answer> {
     let Call::Access { view, access } = call else {
         return None;
@@ -126,7 +126,7 @@ fn answer_of(block: &mut Block, plan: &Plan, call: Call) -> Option<Answer> {
     })
 }
 
-/// The answers of a plan's first agent, as its accesses are made one by one on a block.
+/// What the accesses of a plan's first agent return, as they are made one by one on a block.
 fn answers(alloc: Global, block: &mut Block, plan: &Plan) -> Result<Vec<Entry>, Fail> {
     let script = plan.scripts().first().ok_or("no agent")?;
     let mut journal = Vec::new(alloc);

@@ -49,7 +49,7 @@ const SHOWN: [(bool, i128, &str); 6] = [
     ),
 ];
 
-/// Whether an operand is told from the others, and shows this.
+/// Whether an operand is a BigInt or not as it was made, has its whole number, and shows this text.
 fn is_shown(alloc: Global, big: bool, whole: i128, text: &str) -> Result<bool, AllocError> {
     match operand(big, whole) {
         Some(operand) => {

@@ -1,4 +1,4 @@
-// Right: the worker exits with 3 when it is told so, and main expects that.
+// Right: the worker exits with the status 3, which main has sent it, and main expects that.
 import { once } from "node:events";
 import { Worker } from "node:worker_threads";
 

@@ -1,4 +1,4 @@
-// Main and three workers use two permits, and whoever holds one counts how many do.
+// Main and three workers use two permits. A thread that holds a permit counts how many threads hold one.
 import { once } from "node:events";
 import { Worker, isMainThread, workerData } from "node:worker_threads";
 

@@ -1,4 +1,4 @@
-// It says that it is ready, and listens until it is told to end.
+// It says that it is ready, and listens until main sends a message.
 import { parentPort } from "node:worker_threads";
 
 parentPort.on("message", () => parentPort.close());
