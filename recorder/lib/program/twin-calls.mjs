@@ -1,4 +1,4 @@
-// How a slow function is done at once, by its synchronous twin, and answered later, by a task of the run.
+// How a slow function is done at once, by its synchronous twin. A task of the run has its result later.
 
 import { AsyncResource } from "node:async_hooks";
 import { apply, construct, copyProperty, defineProperty, ownKeys } from "../primordials.mjs";
