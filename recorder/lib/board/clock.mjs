@@ -48,7 +48,7 @@ export class Clock {
     return this.times[NOW];
   }
 
-  /** @returns {number} what time it is, for who looks at it without taking time */
+  /** @returns {number} what time it is: this look takes no time */
   now() {
     return this.times[NOW];
   }

@@ -17,7 +17,7 @@ const WAITING = 1;
 const STATE = 2;
 const NAME = 3;
 
-// Beside the number of who has started a thread.
+// Beside the number of the agent that has started a thread.
 const BEGUN = 64;
 
 const STARTED = 1;
@@ -26,7 +26,7 @@ const CLOSED = 2;
 // The last message that it has is that the other side was closed.
 const CLOSING = 4;
 
-/** In place of the agent whose port it is: it is under way in a message. */
+/** In place of the agent that owns a port: the port is under way in a message. */
 export const NOBODYS = -1;
 
 export class PortTable {
@@ -95,7 +95,7 @@ export class PortTable {
     this.words[PARENTS + agent] = parent;
   }
 
-  /** @param {number} agent @returns {number} who has started it; of the first one it is `NOBODYS` */
+  /** @param {number} agent @returns {number} the agent that has started it; `NOBODYS` for the first one */
   parent(agent) {
     return agent === 0 ? NOBODYS : this.words[PARENTS + agent] & ~BEGUN;
   }

@@ -17,7 +17,7 @@ import { PILOT_WAYS } from "./strategy/ways.mjs";
  * @property {number | "never"} timeouts in how many draws the end of a timed wait is offered while something else can
  * move; never: it isn't, and not where nothing else can move either
  * @property {number} maxMoves
- * @property {number} [starts] how many agents begin by themselves, the others when they are started; all, if it isn't given
+ * @property {number} [starts] how many agents begin by themselves; others start the rest. If it isn't given, all begin
  */
 
 /** @typedef {import("./strategy/ways.mjs").Way} Way */
