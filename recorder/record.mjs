@@ -6,7 +6,12 @@ import { createRequire } from "node:module";
 import { startJob } from "./lib/seeds/start-job.mjs";
 
 const words = process.argv.slice(2);
-const child = words.some((word) => /^(-[hV]$|--(help|version|replay))/.test(word)) ? undefined : startJob();
+/** @param {RegExp} pattern @returns {boolean} */
+const hasWord = (pattern) => words.some((word) => pattern.test(word));
+const child = hasWord(/^(-[hV]$|--(help|version|replay))/) ? undefined : startJob(hasWord(/^--program(=|$)/));
 const { evaluated, ownModules } = createRequire(import.meta.url)("./lib/processes/own-modules.cjs");
 const { main } = evaluated(ownModules(new URL("./lib/command/main.mjs", import.meta.url)));
-process.exitCode = await main(words, child);
+const status = await main(words, child);
+// All is written. What the engine still compiles in other threads isn't awaited.
+if (child === undefined) process.exitCode = status;
+else process.exit(status);

@@ -6,6 +6,7 @@ import assert from "node:assert/strict";
 import { readFileSync, readdirSync } from "node:fs";
 import { describe, it } from "node:test";
 import { RemoteJob } from "../lib/seeds/remote-job.mjs";
+import { startJob } from "../lib/seeds/start-job.mjs";
 import { keptScript } from "../lib/shorter/kept-script.mjs";
 import { CHECKER } from "./helpers/needs.mjs";
 
@@ -26,7 +27,7 @@ const SIDE_BY_SIDE = 4;
  * @param {string} name of its file
  */
 async function runsOf(name) {
-  const job = new RemoteJob();
+  const job = new RemoteJob(startJob());
   const module = new URL(name, FOLDER).href;
   /** @param {object[]} wanted */
   const made = async (wanted) => {

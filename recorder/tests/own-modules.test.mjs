@@ -1,12 +1,13 @@
 // The recorder's own modules as its workers get them: as node's loader would have them.
 
 import assert from "node:assert/strict";
+import { spawnSync } from "node:child_process";
 import { readFileSync, writeFileSync } from "node:fs";
 import { join } from "node:path";
 import { test } from "node:test";
 import { fileURLToPath, pathToFileURL } from "node:url";
 import { evaluated, ownModules } from "../lib/processes/own-modules.cjs";
-import { temporaryFolder } from "./helpers/common.mjs";
+import { RECORD, agentsPath, temporaryFolder } from "./helpers/common.mjs";
 
 const ROOTS = ["agent/worker.mjs", "run/referee.mjs"].map((path) => new URL(`../lib/${path}`, import.meta.url));
 // The first one begins to work where it is evaluated.
@@ -38,7 +39,8 @@ for (const root of ROOTS) {
       const own = code.split("\n");
       lines.slice(1, -1).forEach((line, at) => {
         if (!/^(import|export|\} from)\b/.test(line) && !line.includes("import.meta.url")) {
-          assert.equal(own[at + 1], line, `${url}:${at + 2}`);
+          const later = (_, from) => `await loaded("${new URL(from, url)}")`;
+          assert.equal(own[at + 1], line.replace(/await import\("(\.[^"]*)"\)/, later), `${url}:${at + 2}`);
         }
       });
     }
@@ -81,6 +83,71 @@ test("a module of CommonJS is required as it is, once", (context) => {
     assert.deepEqual([list.length, evaluated(list).two], [1, 2]);
   }
   assert.equal(globalThis.evaluatedOnes, 1);
+});
+
+test("a module that another one imports later is read then, and evaluated once", async (context) => {
+  const folder = temporaryFolder(context);
+  const files = {
+    "one.mjs": "export const counted = { times: 0 };\n",
+    "root.mjs": 'import { counted } from "./one.mjs";\nexport const now = counted;\n' +
+      'export const loadLater = async () => (await import("./later.mjs")).same;\n',
+  };
+  for (const [name, code] of Object.entries(files)) writeFileSync(join(folder, name), code);
+  const list = ownModules(pathToFileURL(join(folder, "root.mjs")));
+  assert.deepEqual(list.map((each) => each.url.split("/").at(-1)), ["one.mjs", "root.mjs"]);
+  const { loadLater, now } = evaluated(list);
+  const later = 'import { counted } from "./one.mjs";\ncounted.times += 1;\nexport const same = counted;\n';
+  writeFileSync(join(folder, "later.mjs"), later);
+  assert.equal(await loadLater(), now);
+  assert.equal(await loadLater(), now);
+  assert.equal(now.times, 1);
+});
+
+/** What is read to note the paths of the recorder's own modules that a process and its threads read, a line each. */
+const NOTING = `
+  const fs = require("node:fs");
+  const { readFileSync } = fs;
+  fs.readFileSync = (file, ...rest) => {
+    if (file instanceof URL) fs.appendFileSync(process.env.NOTED, file.pathname + "\\n");
+    return readFileSync(file, ...rest);
+  };
+`;
+
+/**
+ * The paths in the folder `lib` of the modules that a command reads.
+ * @param {import("node:test").TestContext} context
+ * @param {string[]} words of the command line
+ */
+function readBy(context, words) {
+  const folder = temporaryFolder(context);
+  const [noting, noted] = [join(folder, "noting.cjs"), join(folder, "noted")];
+  writeFileSync(noting, NOTING);
+  const env = { ...process.env, NOTED: noted };
+  const all = ["--require", noting, RECORD, ...words];
+  const { status, stderr } = spawnSync(process.execPath, all, { env, encoding: "utf8" });
+  assert.equal(stderr, "");
+  assert.ok(status === 0 || status === 1, `status ${status}`);
+  return readFileSync(noted, "utf8").split("\n").flatMap((path) => path.split("/recorder/lib/").slice(1));
+}
+
+/** What only some commands need. */
+const SELDOM = /^program\/|^run\/program-state|^command\/replay|^shorter\/shorten\.|^keeping\/(page|pictures|document)/;
+
+test("a run of agents loads nothing that is for whole programs, replays or kept runs alone", (context) => {
+  const read = readBy(context, [agentsPath("naive-mutex"), "--seeds", "1"]);
+  const needed = ["command/main.mjs", "seeds/job-process.mjs", "run/referee.mjs", "agent/worker.mjs"];
+  assert.deepEqual(needed.filter((path) => !read.includes(path)), []);
+  assert.deepEqual(read.filter((path) => SELDOM.test(path)), []);
+});
+
+test("what is for whole programs is loaded for them, and what is for kept runs when one is kept", (context) => {
+  const program = fileURLToPath(new URL("../examples/count-together.mjs", import.meta.url));
+  const ofProgram = readBy(context, ["--program", program, "--seeds", "1"]).filter((path) => SELDOM.test(path));
+  for (const path of ["program/group.mjs", "run/program-state.mjs"]) assert.ok(ofProgram.includes(path), path);
+  const out = temporaryFolder(context);
+  const ofKept = readBy(context, [agentsPath("naive-mutex"), "--seeds", "1..60", "--fail-fast", "--out", out]);
+  for (const path of ["shorter/shorten.mjs", "keeping/page.mjs"]) assert.ok(ofKept.includes(path), path);
+  assert.deepEqual(ofKept.filter((path) => /^program\//.test(path)), []);
 });
 
 test("a module that imports or exports in another form is refused, with its line", (context) => {

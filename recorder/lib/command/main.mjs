@@ -10,7 +10,6 @@ import { endBy, Interrupted } from "./interruption.mjs";
 import { optionsOf } from "./options.mjs";
 import { print } from "./print.mjs";
 import { toldOf } from "./problems.mjs";
-import { Replay } from "./replay.mjs";
 import { Session } from "./session.mjs";
 import { STATUS } from "./status.mjs";
 
@@ -50,6 +49,7 @@ async function run(words, job) {
     }
     const module = existing(asked);
     if (asked.replay === undefined) return await new Session(asked, module, job).run();
+    const { Replay } = await import("./replay.mjs");
     return await new Replay(asked, module, asked.replay).run();
   } catch (problem) {
     return { failed: false, problems: [problem] };

@@ -1,9 +1,9 @@
 // What the command line does: many runs, a summary of them, and the first failing one kept.
 
+import { setImmediate as turn } from "node:timers/promises";
 import { Difference } from "../check/check.mjs";
 import { howMade } from "../keeping/how-made.mjs";
 import { Keeper, missingFiles } from "../keeping/keep.mjs";
-import { keepPictures, notesOn } from "../keeping/pictures.mjs";
 import { collectGarbage, onceMore, stopGrowth } from "../processes/garbage.mjs";
 import { preloads } from "../processes/preloads.mjs";
 import { isFirstOfAll } from "../run/order.mjs";
@@ -54,7 +54,8 @@ export class Session {
     /** @type {Promise<void> | undefined} settled when nothing is left of the jobs */
     this.closed = undefined;
     const { asked: { first: origin }, untilCovered: tellsMeetings } = options;
-    const how = { isBrief: true, goesOn: true, origin, tellsMeetings };
+    const shortens = options.shorten && this.keeper !== undefined;
+    const how = { isBrief: true, shortens, goesOn: true, origin, tellsMeetings };
     this.runs = new Runs({ ...this.options, ...how }, { signal: this.interruption.signal, job });
   }
 
@@ -93,7 +94,8 @@ export class Session {
       summary.remembers = await runs.firstAgain();
       const found = this.#toShorten();
       if (found === undefined) return;
-      summary.shortened = await runs.shorten(found, (tried) => this.progress.showShortening(found.seed, tried));
+      const shortening = runs.shorten(found, (tried) => this.progress.showShortening(found.seed, tried));
+      [summary.shortened] = await Promise.all([shortening, this.#prepare()]);
       const { shortest } = summary.shortened;
       if (shortest !== undefined) this.keeper?.keepShortest(found, shortest);
     } finally {
@@ -115,6 +117,13 @@ export class Session {
     return coverage?.add(outcome) === true || (failFast === true && isFirstOfAll(outcome));
   }
 
+  /** Prepares the pictures of the run that is kept, while its job works. */
+  async #prepare() {
+    // What the job is to do goes first.
+    await turn();
+    this.simulator.prepare();
+  }
+
   /** The first failing run. */
   #failing() {
     // All that is reported of it is known here, where it was made.
@@ -133,7 +142,7 @@ export class Session {
    * Keeps what is made from the runs when they are over.
    * @param {unknown} stopped why not all were made, if so
    */
-  #keepMore(stopped) {
+  async #keepMore(stopped) {
     const { keeper, summary: { shortened } } = this;
     const failing = this.#failing();
     if (keeper === undefined) {
@@ -147,6 +156,7 @@ export class Session {
     } else if (failing !== undefined && keeper.seed === failing.seed) {
       const outcome = shortened?.shortest ?? failing;
       const how = { simulator: this.simulator, ...howMade(this.options) };
+      const { keepPictures, notesOn } = await import("../keeping/pictures.mjs");
       this.leftOut.push(...keepPictures(keeper, outcome, how), ...missingFiles(outcome));
       this.notes.push(...notesOn(keeper, outcome));
     } else if (failing !== undefined) {

@@ -7,10 +7,20 @@ const { readFileSync } = require("node:fs");
 const { fileURLToPath } = require("node:url");
 const { compileFunction } = require("node:vm");
 
-const IMPORT = /^import (\{[^}]*\}|\w+) from "([^"]*)";$/gm;
-const EXPORT = /^export (?=(?:(?:async )?function\*?|class|const) (?:(\w+)|\{([^}]*)\}))/gm;
-const OTHER_FORM = /^(?:import|export)\b.*/m;
+/**
+ * What begins a line of a module that imports or exports: what is imported, and whence; or the name, or several names,
+ * of what is exported; or neither, where it has another form.
+ */
+const STATEMENT = new RegExp([
+  /^import (\{[^}]*\}|\w+) from "([^"]*)";$/,
+  /^export (?=(?:(?:async )?function\*?|class|const) (?:(\w+)|\{([^}]*)\}))/,
+  /^(?:import|export)\b.*/,
+].map(({ source }) => source).join("|"), "gm");
+const LATER_IMPORT = /\bawait import\("(\.[^"]*\.mjs)"\)/g;
 const URL_OF_MODULE = /\bimport\.meta\.url\b/g;
+
+/** What a module's function takes: what others export, by their URLs; `require`; and what loads a module by its URL. */
+const PARAMETERS = ["modules", "require", "loaded"];
 
 /** The path of a module that can be made a function. One of CommonJS is required as it is. */
 const OWN = /^\..*\.mjs$/;
@@ -18,8 +28,8 @@ const OWN = /^\..*\.mjs$/;
 /**
  * @typedef {object} OwnModule
  * @property {string} url
- * @property {string} code the body of a function of `modules`, what the others export by their URLs, and of `require`;
- * it has the lines of the file, and returns what the module exports
+ * @property {string} code the body of a function of PARAMETERS; it has the lines of the file, and returns what the
+ * module exports
  */
 
 /**
@@ -35,20 +45,28 @@ function ownerOf(url, from) {
 }
 
 /**
- * A module as the body of a function.
+ * A module as the body of a function, and the modules that it imports.
  * @param {string} url
  * @param {string} text
- * @returns {string}
+ * @returns {{ code: string, imported: URL[] }}
  * @throws {Error} where it imports or exports in another form, as `export let`
  */
 function bodyOf(url, text) {
-  const names = [...text.matchAll(EXPORT)].flatMap(([, name, several = ""]) => name ?? several.match(/\w+/g));
-  const body = text.replace(EXPORT, "").replace(IMPORT, (_, imported, from) => {
-    return `const ${imported.replaceAll(" as ", ": ")} = ${ownerOf(url, from)};`;
-  });
-  const other = OTHER_FORM.exec(body)?.[0];
-  if (other !== undefined) throw new Error(`${url} can't be a function's body: ${other}`);
-  return `"use strict"; ${body.replace(URL_OF_MODULE, JSON.stringify(url))}\nreturn { ${names.join(", ")} };`;
+  /** @type {string[]} */
+  const names = [];
+  /** @type {URL[]} */
+  const imported = [];
+  const body = text.replace(STATEMENT, (statement, taken, from, name, several) => {
+    if (from !== undefined) {
+      if (OWN.test(from)) imported.push(new URL(from, url));
+      return `const ${taken.replaceAll(" as ", ": ")} = ${ownerOf(url, from)};`;
+    }
+    if (name === undefined && several === undefined) throw new Error(`${url} can't be a function's body: ${statement}`);
+    names.push(...(name === undefined ? several.match(/\w+/g) : [name]));
+    return "";
+  }).replace(LATER_IMPORT, (_, from) => `await loaded(${JSON.stringify(new URL(from, url).href)})`)
+    .replace(URL_OF_MODULE, JSON.stringify(url));
+  return { code: `"use strict"; ${body}\nreturn { ${names.join(", ")} };`, imported };
 }
 
 /** @type {Map<string, { code: string, imported: URL[] }>} what was read, since the files stay as they are */
@@ -62,9 +80,7 @@ const read = new Map();
 function moduleAt(url) {
   const known = read.get(url.href);
   if (known !== undefined) return known;
-  const text = readFileSync(url, "utf8");
-  const imported = [...text.matchAll(IMPORT)].flatMap(([, , from]) => (OWN.test(from) ? [new URL(from, url)] : []));
-  const module = { code: bodyOf(url.href, text), imported };
+  const module = bodyOf(url.href, readFileSync(url, "utf8"));
   read.set(url.href, module);
   return module;
 }
@@ -89,16 +105,17 @@ function ownModules(url) {
 }
 
 /**
- * Evaluates modules in their order.
+ * Evaluates modules in their order. One that is behind an `await import(..)` is read when that is evaluated.
  * @param {OwnModule[]} list
  * @param {Record<string, Record<string, any>>} modules what some of them export, which are there already
- * @returns {Record<string, any>} what the last one exports
+ * @returns {Record<string, any>} what the last one exports; nothing, if there is none
  */
 function evaluated(list, modules = {}) {
+  const loaded = async (/** @type {string} */ url) => evaluated(ownModules(new URL(url)), modules);
   for (const { url, code } of list) {
-    modules[url] ??= compileFunction(code, ["modules", "require"], { filename: url })(modules, require);
+    modules[url] ??= compileFunction(code, PARAMETERS, { filename: url })(modules, require, loaded);
   }
-  return modules[list[list.length - 1].url];
+  return list.length === 0 ? {} : modules[list[list.length - 1].url];
 }
 
 module.exports = { evaluated, ownModules };

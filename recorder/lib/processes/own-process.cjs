@@ -1,5 +1,6 @@
-// What the process of a job begins with: workers, and meanwhile the module whose URL is its only word. This is a
-// CommonJS module, since such a one is loaded sooner.
+// What the process of a job begins with: workers, and meanwhile the module whose URL is its first word. The second word
+// is the URL of the referee's module; the third one, if there is one, that of the agents' workers. This is a CommonJS
+// module, since such a one is loaded sooner.
 "use strict";
 
 const { pathToFileURL } = require("node:url");
@@ -10,6 +11,9 @@ const own = pathToFileURL(__filename);
 const modules = {};
 
 evaluated(ownModules(new URL("./garbage.mjs", own)), modules).collectGarbage();
-const { FIRST_THREADS, beginThreads } = evaluated(ownModules(new URL("./thread.mjs", own)), modules);
-beginThreads(FIRST_THREADS);
-evaluated(ownModules(new URL(process.argv[2])), modules);
+const { FIRST_AGENTS, beginThreads, giveAhead } = evaluated(ownModules(new URL("./thread.mjs", own)), modules);
+const [job, referee, agents] = process.argv.slice(2).map((word) => new URL(word));
+if (agents !== undefined) beginThreads(agents, FIRST_AGENTS);
+beginThreads(referee, 1);
+giveAhead();
+evaluated(ownModules(job), modules);

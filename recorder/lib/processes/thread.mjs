@@ -2,6 +2,7 @@
 
 import { MessageChannel, Worker, receiveMessageOnPort } from "node:worker_threads";
 import { workerLimits } from "./garbage.mjs";
+import { ownModules } from "./own-modules.cjs";
 
 // How long an end is awaited. A call of native code, as one that waits for another program, can't be broken off: the
 // thread stays until that call returns.
@@ -38,6 +39,8 @@ export class Thread {
     this.worker = new Worker(file, { ...(ownPort ? own : { workerData }), ...words, resourceLimits: workerLimits() });
     /** Where messages come from and go to. */
     this.port = port1 ?? this.worker;
+    /** @type {Set<string>} the URLs of the recorder's modules that it was given */
+    this.given = new Set();
     /** @type {Item[]} */
     this.inbox = [];
     /** @type {((item: Item) => void) | undefined} */
@@ -66,6 +69,25 @@ export class Thread {
   /** @param {object} message */
   post(message) {
     this.port.postMessage(message);
+  }
+
+  /**
+   * Has a worker evaluate what a module of the recorder imports, before it is given the module itself.
+   * @param {URL} root
+   */
+  giveAhead(root) {
+    const ahead = ownModules(root).slice(0, -1);
+    for (const { url } of ahead) this.given.add(url);
+    this.post({ ahead });
+  }
+
+  /**
+   * Gives a worker that awaits its data a module of the recorder, and what else this needs. It calls its `main`.
+   * @param {URL} root
+   * @param {object} [data]
+   */
+  give(root, data) {
+    this.post({ modules: ownModules(root).filter(({ url }) => !this.given.has(url)), ...data });
   }
 
   /**
@@ -121,26 +143,34 @@ export class Thread {
 }
 
 /**
- * How many workers a group of agents begins at once: one for its referee, and two for each of two agents, since others
- * of theirs load after the pilots.
+ * How many workers a group of agents begins at once, besides its referee's: two for each of two agents, since others of
+ * theirs load after the pilots.
  */
-export const FIRST_THREADS = 5;
+export const FIRST_AGENTS = 4;
 
 const OWN_WORKER = new URL("./own-worker.cjs", import.meta.url);
 
-/** @type {Thread[]} those that a process has begun while it loads its modules */
+/** @returns {Thread} one that awaits its data, with the recorder's modules that it is to evaluate */
+const newThread = () => new Thread(OWN_WORKER, {}, { ownPort: true });
+
+/** @type {{ root: URL, thread: Thread }[]} those that a process has begun while it loads its modules */
 const begun = [];
 
-/** @param {number} count how many workers begin now, for those that will need one */
-export function beginThreads(count) {
-  for (let each = 0; each < count; each += 1) begun.push(new Thread(OWN_WORKER, {}, { ownPort: true }));
+/** @param {URL} root the module that a worker will be given @param {number} count how many begin now */
+export function beginThreads(root, count) {
+  for (let each = 0; each < count; each += 1) begun.push({ root, thread: newThread() });
+}
+
+/** Gives those that have begun what is known already. */
+export function giveAhead() {
+  for (const { root, thread } of begun) thread.giveAhead(root);
 }
 
 /** @param {string[]} execArgv words of node's command line @returns {Thread} the same, begun just now */
 export const begunWith = (execArgv) => new Thread(OWN_WORKER, {}, { ownPort: true, execArgv });
 
-/** @returns {Thread} one that awaits its data, with the recorder's modules that it is to evaluate */
-export function begunThread() {
-  if (begun.length === 0) beginThreads(1);
-  return /** @type {Thread} */ (begun.shift());
+/** @param {URL} root the module that it will be given @returns {Thread} one that has begun, or begins */
+export function begunThread(root) {
+  const at = begun.findIndex((each) => each.root.href === root.href);
+  return at < 0 ? newThread() : begun.splice(at, 1)[0].thread;
 }

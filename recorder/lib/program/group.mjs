@@ -7,7 +7,6 @@ import { Board } from "../board/board.mjs";
 import { waysOf } from "../board/strategy/ways.mjs";
 import { WORD } from "../memory/layout.mjs";
 import { Refused } from "../options/refused.mjs";
-import { ownModules } from "../processes/own-modules.cjs";
 import { begunWith } from "../processes/thread.mjs";
 import { Group } from "../run/group.mjs";
 import { GRAPH_FLAGS } from "./graph-flags.mjs";
@@ -55,9 +54,9 @@ export class ProgramGroup extends Group {
 
   /** @param {() => void} meanwhile */
   async start(meanwhile) {
-    const referee = this.thread();
+    const referee = this.thread(REFEREE_MODULE);
     this.referee = referee;
-    referee.post({ modules: ownModules(REFEREE_MODULE) });
+    referee.give(REFEREE_MODULE);
     const { strategy, timeouts, maxMoves } = this.options;
     const plan = programPlan(SCRIPT_LIMITS.agents);
     const ways = waysOf(strategy, true);
@@ -95,15 +94,17 @@ export class ProgramGroup extends Group {
     await this.#hand(agent, next);
   }
 
+  /** Some stand ready at any time. */
+  beginAhead() {}
+
   /** Keeps some threads ready. */
   #prepare() {
-    const modules = ownModules(PROGRAM_MODULE);
     const { module: program, args, ordinary } = this.options;
     const { memory, plan, rules } = this;
     while (this.#spare.length < this.#ahead) {
       const thread = begunWith(FLAGS);
       this.threads.add(thread);
-      thread.post({ modules, program, args, ordinary, memory, plan, rules });
+      thread.give(PROGRAM_MODULE, { program, args, ordinary, memory, plan, rules });
       this.#spare.push(thread.next().then(() => thread));
     }
   }

@@ -9,9 +9,8 @@ import { waysOf } from "../board/strategy/ways.mjs";
 import { needsRightNames, planOf } from "../options/plan.mjs";
 import { Refused } from "../options/refused.mjs";
 import { defaultsOf } from "../options/table.mjs";
-import { ownModules } from "../processes/own-modules.cjs";
 import { framesOf } from "../processes/place-of-thread.mjs";
-import { FIRST_THREADS, begunThread } from "../processes/thread.mjs";
+import { FIRST_AGENTS, begunThread } from "../processes/thread.mjs";
 import { loadProblem } from "./load-problem.mjs";
 import { within } from "./within.mjs";
 
@@ -67,16 +66,13 @@ const DEFAULT_LOAD_SECONDS = 30;
 const AGENT_MODULE = new URL("../agent/worker.mjs", import.meta.url);
 const REFEREE_MODULE = new URL("./referee.mjs", import.meta.url);
 
-/** How many agents' workers begin at once at most: all first ones but that of the referee. */
-const FIRST_WORKERS = FIRST_THREADS - 1;
-
 /**
  * How many agents' workers begin before it is known how many agents the module wants.
  * @param {{ agents?: number, everywhere: boolean }} options
  */
 function firstWorkers({ agents, everywhere }) {
-  if (agents === undefined) return FIRST_WORKERS;
-  return Math.min(FIRST_WORKERS, learns(agents, everywhere) ? 2 * agents : agents);
+  if (agents === undefined) return FIRST_AGENTS;
+  return Math.min(FIRST_AGENTS, learns(agents, everywhere) ? 2 * agents : agents);
 }
 
 /**
@@ -198,10 +194,10 @@ export class Group {
   /** @param {() => void} meanwhile */
   async start(meanwhile) {
     this.#beginUpTo(firstWorkers(this.options));
-    const referee = this.thread();
+    const referee = this.thread(REFEREE_MODULE);
     this.referee = referee;
-    // It evaluates them while the agents' module is loaded.
-    referee.post({ modules: ownModules(REFEREE_MODULE) });
+    // It evaluates it while the agents' module is loaded.
+    referee.give(REFEREE_MODULE);
     const told = await this.#load(0);
     needsRightNames(told.names);
     this.plan = planOf(this.options, told.setup);
@@ -237,9 +233,14 @@ export class Group {
     await learning;
   }
 
-  /** Begins a worker. */
-  thread() {
-    const thread = begunThread();
+  /** Begins a worker for each agent, so that it is there when the agents are to have others. */
+  beginAhead() {
+    this.#beginUpTo(this.agents.length);
+  }
+
+  /** @param {URL} root the module that a worker will be given, which begins */
+  thread(root) {
+    const thread = begunThread(root);
     this.threads.add(thread);
     return thread;
   }
@@ -247,13 +248,11 @@ export class Group {
   /** @param {number} count how many agents' workers are to have begun */
   #beginUpTo(count) {
     const { module, args, ordinary, clock, unrecorded } = this.options;
-    const begun = Array.from({ length: count - this.begun.length }, () => this.thread());
-    // They are read while the workers begin.
-    const modules = ownModules(AGENT_MODULE);
+    const begun = Array.from({ length: count - this.begun.length }, () => this.thread(AGENT_MODULE));
     /** @type {((thread: Thread) => void)[]} */
     const awaited = [];
     for (const thread of begun) {
-      thread.post({ modules, module, args, ordinary, clock, unrecorded });
+      thread.give(AGENT_MODULE, { module, args, ordinary, clock, unrecorded });
       this.begun.push(new Promise((done) => awaited.push(done)));
       void thread.next().then(() => awaited.shift()?.(thread));
     }

@@ -27,14 +27,17 @@ function goneText(gone) {
 }
 
 class Referee {
-  /** @param {import("./run-maker.mjs").Given} given */
-  constructor(given) {
+  /**
+   * @param {import("./run-maker.mjs").Given} given
+   * @param {typeof import("./program-state.mjs").ProgramState} [ProgramState] for the runs of a program
+   */
+  constructor(given, ProgramState) {
     const { port, plan, options } = given;
     const sourceNames = new SourceNames(options.module);
     this.port = port;
     this.plan = plan;
     this.options = options;
-    this.maker = new RunMaker(given, sourceNames);
+    this.maker = new RunMaker(given, sourceNames, ProgramState);
     this.reporter = new RunReporter(given, this.maker);
     this.meetings = options.tellsMeetings ? new Meetings(sourceNames) : undefined;
     this.tellsAlways = options.trace || this.meetings !== undefined;
@@ -179,7 +182,8 @@ const asideOf = ({ waiting, stray }) => ({ waiting, stray });
 /** Awaits what it goes by, and then its work. */
 export function main() {
   const { port } = workerData;
-  port.once("message", (/** @type {Omit<import("./run-maker.mjs").Given, "port">} */ given) => {
-    new Referee({ port, ...given }).awaitWork();
+  port.once("message", async (/** @type {Omit<import("./run-maker.mjs").Given, "port">} */ given) => {
+    const { ProgramState } = given.options.isProgram ? await import("./program-state.mjs") : {};
+    new Referee({ port, ...given }, ProgramState).awaitWork();
   });
 }

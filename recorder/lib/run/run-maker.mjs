@@ -10,7 +10,6 @@ import { Notes } from "../memory/notes.mjs";
 import { Stores } from "../memory/stores.mjs";
 import { initialStores } from "./initial.mjs";
 import { PILOT_SECONDS } from "./pilots.mjs";
-import { ProgramState } from "./program-state.mjs";
 import { isRacy } from "./races.mjs";
 import { unseenText } from "./unseen.mjs";
 
@@ -70,8 +69,12 @@ const NOT_SYNCHRONOUS = /^(?:agent \d+ )?(?:goes on later|returned a promise), /
 const NOTHING_TRIED = "no agent has made a call of Atomics, or another access that is seen, on the recorded buffers: nothing was tried";
 
 export class RunMaker {
-  /** @param {Given} given @param {import("./source-names.mjs").SourceNames} sourceNames */
-  constructor({ port, memory, plan, rules, options }, sourceNames) {
+  /**
+   * @param {Given} given
+   * @param {import("./source-names.mjs").SourceNames} sourceNames
+   * @param {typeof import("./program-state.mjs").ProgramState} [ProgramState] for the runs of a program
+   */
+  constructor({ port, memory, plan, rules, options }, sourceNames, ProgramState) {
     this.port = port;
     this.plan = plan;
     this.options = options;
@@ -82,7 +85,7 @@ export class RunMaker {
     this.stores = new Stores(memory.stores, this.board.words, this.memory);
     this.notes = memory.notes.map((each) => new Notes(each));
     this.agents = plan.canBlock.map((_, agent) => agent);
-    this.program = options.isProgram ? new ProgramState(/** @type {any} */ (memory), this.board, this.memory, plan) : undefined;
+    this.program = ProgramState && new ProgramState(/** @type {any} */ (memory), this.board, this.memory, plan);
   }
 
   /**

@@ -3,10 +3,8 @@
 // caller's functions, and no process has to be started. It is used as a `RemoteJob` is.
 
 import { checkedBy } from "../check/check.mjs";
-import { ProgramGroup } from "../program/group.mjs";
 import { Group } from "../run/group.mjs";
 import { FirstFailing } from "../run/order.mjs";
-import { shorten } from "../shorter/shorten.mjs";
 import { simulatorAt } from "../simulator/chosen.mjs";
 
 /** @typedef {import("../run/outcome.mjs").Outcome} Outcome */
@@ -18,6 +16,7 @@ import { simulatorAt } from "../simulator/chosen.mjs";
  * @property {number} checkEvery one in how many of the runs that don't fail is checked, and has a script
  * @property {boolean} checks whether runs that have a script are checked
  * @property {string} [sabsim] the path of the native program that checks them; undefined: the module does
+ * @property {boolean} [shortens] whether the first failing run will be shortened, by agents with other workers
  * @property {boolean} [isBrief] whether only the outcomes of runs that may be the first failing one have their long
  * texts
  */
@@ -37,6 +36,17 @@ function lightened({ script, report, trace, accesses, sources, bytes, answers, .
   return rest;
 }
 
+/**
+ * Opens a group. What whole programs need is loaded for them alone.
+ * @param {import("../run/group.mjs").GroupOptions} options
+ * @param {() => void} meanwhile
+ * @returns {Promise<Group>}
+ */
+async function openGroup(options, meanwhile) {
+  const Kind = options.isProgram ? (await import("../program/group.mjs")).ProgramGroup : Group;
+  return Kind.open(options, meanwhile);
+}
+
 export class Job {
   /** @type {Promise<Group> | undefined} */
   #group;
@@ -49,6 +59,7 @@ export class Job {
 
   #every = 1;
   #isBrief = false;
+  #shortens = false;
   #firstFailing = new FirstFailing();
 
   /**
@@ -56,12 +67,12 @@ export class Job {
    * @param {import("../run/group.mjs").GroupOptions & CheckOptions} options
    */
   async open(options) {
-    const { checks, checkEvery, sabsim, isBrief = false } = options;
+    const { checks, checkEvery, sabsim, isBrief = false, shortens = false } = options;
     this.#simulator = checks ? simulatorAt(sabsim) : undefined;
     this.#every = checkEvery;
     this.#isBrief = isBrief;
-    const Kind = options.isProgram ? ProgramGroup : Group;
-    this.#group = Kind.open(options, () => this.#simulator?.prepare());
+    this.#shortens = shortens;
+    this.#group = openGroup(options, () => this.#simulator?.prepare());
     await this.#group;
   }
 
@@ -72,12 +83,14 @@ export class Job {
    * @returns {Promise<void>} fails if a check has failed; the outcome of that run is the last one
    */
   async run(seeds, onOutcome) {
-    await (await this.#opened()).run(seeds, (outcome, judgement, aside) => {
+    const group = await this.#opened();
+    await group.run(seeds, (outcome, judgement, aside) => {
       if (this.#failure !== undefined) return;
-      const checked = this.#checked({ outcome, judgement, aside });
       // Only the first failing run is kept, and a job's seeds ascend.
-      const isWhole = this.#firstFailing.takes(outcome) || !this.#isBrief;
-      onOutcome(isWhole ? checked : lightened(checked));
+      const isFirst = this.#firstFailing.takes(outcome);
+      if (isFirst && this.#shortens) group.beginAhead();
+      const checked = this.#checked({ outcome, judgement, aside });
+      onOutcome(isFirst || !this.#isBrief ? checked : lightened(checked));
     });
     if (this.#failure !== undefined) throw this.#failure;
   }
@@ -89,6 +102,7 @@ export class Job {
    * @returns {Promise<ShortenedByJob>} fails if the check has failed
    */
   async shorten(told, onTry) {
+    const { shorten } = await import("../shorter/shorten.mjs");
     const { shortest, shortened } = await shorten(await this.#opened(), told, { onTry, isFresh: true });
     return { shortest: shortest && checkedBy(this.#simulator, shortest), shortened };
   }

@@ -5,7 +5,6 @@ import { Difference } from "../check/check.mjs";
 import { Refused } from "../options/refused.mjs";
 import { endGroup } from "../processes/group-end.mjs";
 import { NoSabsim } from "../simulator/native.mjs";
-import { startJob } from "./start-job.mjs";
 
 /** @typedef {import("./job.mjs").Checked} Checked */
 
@@ -62,7 +61,7 @@ function unpacked({ kind = "", message, outcome, replayed = "", judged }) {
 
 export class RemoteJob {
   /** @param {import("node:child_process").ChildProcess} child its process */
-  constructor(child = startJob()) {
+  constructor(child) {
     this.child = child;
     /** @type {(tried: import("../shorter/shorten.mjs").Tried) => void} */
     this.onTry = () => {};

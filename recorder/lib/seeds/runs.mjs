@@ -8,6 +8,7 @@ import { differenceBetween } from "./first-again.mjs";
 import { moreJobs } from "./more-jobs.mjs";
 import { LostJob, RemoteJob } from "./remote-job.mjs";
 import { SeedQueue } from "./seed-queue.mjs";
+import { startJob } from "./start-job.mjs";
 
 /** @typedef {import("./job.mjs").Checked} Outcome */
 /** @typedef {RemoteJob | import("./job.mjs").Job} AnyJob */
@@ -25,6 +26,7 @@ import { SeedQueue } from "./seed-queue.mjs";
  * @property {boolean} [failFast] whether the first failing run is the last, unless it fails only after an early end
  * @property {boolean} [trials] whether only their endings are wanted, which takes less time: outcomes have no script
  * @property {Omit<import("../run/outcome.mjs").Wanted, "seed" | "whole">} [wanted] what else is wanted of each run
+ * @property {boolean} [shortens] whether the first failing run will be shortened
  * @property {boolean} [isBrief] whether only the outcomes of runs that may be the first failing one have their long
  * texts
  * @property {number} [ahead] how far a seed that is begun may be from the next one to be taken; as far as it likes, if
@@ -169,7 +171,7 @@ export class Runs {
   #begin() {
     const { first, last, jobs = 1 } = this.options;
     const needed = Math.min(jobs, Math.ceil((last - first + 1) / this.queue.batch));
-    while (this.jobs.length < needed) this.jobs.push(new RemoteJob());
+    while (this.jobs.length < needed) this.jobs.push(this.#newJob());
     const opened = Promise.all(this.jobs.map((job) => this.#opened(job)));
     this.#working = this.jobs.map((job) => this.#work(job, opened));
     void this.#finish();
@@ -202,7 +204,7 @@ export class Runs {
   async #grow(opened) {
     const state = () => ({ jobs: this.jobs.length, made: this.#made, left: this.queue.left });
     for await (const _ of moreJobs(opened, state, this.#end.signal)) {
-      const job = new RemoteJob();
+      const job = this.#newJob();
       this.jobs.push(job);
       // One that can't be opened has taken no seed, and the others make all runs.
       await this.#opened(job);
@@ -210,11 +212,15 @@ export class Runs {
     }
   }
 
+  #newJob() {
+    return new RemoteJob(startJob(this.options.isProgram));
+  }
+
   /** @param {AnyJob} job */
   #opened(job) {
-    const { checkEvery, sabsim } = this.options;
+    const { checkEvery, sabsim, shortens = false } = this.options;
     const checking = { checks: checkEvery > 0 && sabsim !== false, sabsim: sabsim || undefined };
-    return job.open({ ...this.options, ...checking });
+    return job.open({ ...this.options, ...checking, shortens: shortens && job === this.jobs[0] });
   }
 
   /**

@@ -5,6 +5,8 @@ import { fileURLToPath } from "node:url";
 
 const PROGRAM = fileURLToPath(new URL("../processes/own-process.cjs", import.meta.url));
 const MODULE = new URL("./job-process.mjs", import.meta.url).href;
+const REFEREE = new URL("../run/referee.mjs", import.meta.url).href;
+const AGENTS = new URL("../agent/worker.mjs", import.meta.url).href;
 
 // A program that stands in the words of node's command line itself, and what it is.
 const EVALUATED = /^(-[ep]+|--eval|--print|--input-type)$/;
@@ -29,9 +31,13 @@ export function jobWords(words) {
   return kept;
 }
 
-/** @returns {import("node:child_process").ChildProcess} which leads a group of processes */
-export function startJob() {
+/**
+ * @param {boolean} [isProgram] whether it runs a program of several threads, whose workers begin otherwise
+ * @returns {import("node:child_process").ChildProcess} which leads a group of processes
+ */
+export function startJob(isProgram = false) {
   const stdio = ["ignore", "inherit", "inherit", "ipc"];
   const execArgv = jobWords(process.execArgv);
-  return fork(PROGRAM, [MODULE], { stdio, execArgv, serialization: "advanced", detached: true, windowsHide: true });
+  const words = [MODULE, REFEREE, ...(isProgram ? [] : [AGENTS])];
+  return fork(PROGRAM, words, { stdio, execArgv, serialization: "advanced", detached: true, windowsHide: true });
 }

@@ -179,6 +179,8 @@ class Search {
     }
     const found = this.known.get(name);
     if (found === undefined || !isShorter(found, this.current)) return false;
+    // The shortest run will be made by workers that are started anew.
+    this.group.beginAhead();
     this.current = found;
     return true;
   }

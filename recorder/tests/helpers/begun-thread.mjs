@@ -7,7 +7,7 @@ import { WATCHING } from "./watched-garbage.mjs";
 
 const GARBAGE = new URL("../../lib/processes/garbage.mjs", import.meta.url);
 
-const thread = begunThread();
+const thread = begunThread(GARBAGE);
 const code = `
   const { onceMore } = modules[${JSON.stringify(GARBAGE.href)}];
   const { port } = require("node:worker_threads").workerData;
