@@ -70,6 +70,15 @@ test("what is loaded before the program is loaded for agents too, whatever the n
   assert.deepEqual(two, one);
 });
 
+test("a command ends when all is written, whatever else would keep its process", (context) => {
+  const folder = temporaryFolder(context);
+  writeFileSync(join(folder, "pre.cjs"), "if (process.send === undefined) setInterval(() => {}, 1_000);\n");
+  const words = small(folder, "Atomics.add(new Int32Array(buffers[0]), 0, 1);");
+  const { status, stdout } = run([...words, "--seeds", "1"], ["-r", join(folder, "pre.cjs")], { timeout: 120_000 });
+  assert.equal(status, 0);
+  assert.match(stdout, /^ {2}1 run finished, seed 1 the first: 0200000000000000$/m);
+});
+
 test("one job and several tell the same", () => {
   const words = [agentsPath("naive-mutex"), "--seeds", "1..150", ...CHECKING];
   const [one, four] = ["1", "4"].map((jobs) => run([...words, "--jobs", jobs]));

@@ -142,8 +142,9 @@ test("a run of agents loads nothing that is for whole programs, replays or kept 
 
 test("what is for whole programs is loaded for them, and what is for kept runs when one is kept", (context) => {
   const program = fileURLToPath(new URL("../examples/count-together.mjs", import.meta.url));
-  const ofProgram = readBy(context, ["--program", program, "--seeds", "1"]).filter((path) => SELDOM.test(path));
+  const ofProgram = readBy(context, ["--program", program, "--seeds", "1"]);
   for (const path of ["program/group.mjs", "run/program-state.mjs"]) assert.ok(ofProgram.includes(path), path);
+  assert.ok(!ofProgram.includes("agent/worker.mjs"), "no workers begin that only a module of agents needs");
   const out = temporaryFolder(context);
   const ofKept = readBy(context, [agentsPath("naive-mutex"), "--seeds", "1..60", "--fail-fast", "--out", out]);
   for (const path of ["shorter/shorten.mjs", "keeping/page.mjs"]) assert.ok(ofKept.includes(path), path);

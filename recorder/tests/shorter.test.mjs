@@ -130,7 +130,16 @@ test("it ends after so many runs, or so much time, and says so", async (context)
   const late = await shorten(group, first, { milliseconds: 0 });
   assert.equal(late.shortened.stopped, "stopped after 0 s, so a faster machine may find a shorter one");
   const tries = [];
-  const { shortened } = await shorten(group, first, { onTry: (tried) => tries.push(tried) });
+  // By the time the shortest run is made, workers for it have begun.
+  const begun = [];
+  const { one } = group;
+  group.one = (wanted) => {
+    if (wanted.isFresh) begun.push(group.begun.length);
+    return one.call(group, wanted);
+  };
+  const limits = { milliseconds: 60_000, isFresh: true, onTry: (tried) => tries.push(tried) };
+  const { shortened } = await shorten(group, first, limits);
+  assert.deepEqual(begun.slice(-1), [group.agents.length]);
   assert.deepEqual(tries.map(({ runs }) => runs), Array.from({ length: tries.length }, (_, at) => at + 3));
   assert.equal(tries.at(-1).changes, shortened.changes.after);
 });

@@ -6,7 +6,7 @@ import { join } from "node:path";
 import { test } from "node:test";
 import { setTimeout as sleep } from "node:timers/promises";
 import { pathToFileURL } from "node:url";
-import { Thread } from "../lib/processes/thread.mjs";
+import { Thread, beginThreads, begunThread } from "../lib/processes/thread.mjs";
 import { temporaryFolder } from "./helpers/common.mjs";
 
 /**
@@ -95,4 +95,27 @@ test("a thread that loops is ended, and nothing is told of it", async (context) 
   };
   assert.equal(await thread.stop(20_000), true);
   assert.equal(told, false);
+});
+
+test("a worker evaluates what is behind its module ahead of its data, and nothing twice", async (context) => {
+  const folder = temporaryFolder(context);
+  const files = {
+    "one.mjs": 'import threads from "node:worker_threads";\nexport const { port } = threads.workerData;\n' +
+      'port.postMessage("ahead");\n',
+    "root.mjs": 'import threads from "node:worker_threads";\nimport { port } from "./one.mjs";\n' +
+      "export function main() { port.postMessage(threads.workerData.number); }\n",
+  };
+  for (const [name, code] of Object.entries(files)) writeFileSync(join(folder, name), code);
+  const [root, other] = ["root.mjs", "one.mjs"].map((name) => pathToFileURL(join(folder, name)));
+  beginThreads(root, 1);
+  const threads = [begunThread(other), begunThread(root)];
+  context.after(() => Promise.all(threads.map((thread) => thread.stop())));
+  const [, thread] = threads;
+  thread.giveAhead(root);
+  assert.deepEqual(await thread.next(), { message: "ahead" });
+  thread.give(root, { number: 7 });
+  assert.deepEqual(await thread.next(), { message: 7 });
+  // Nobody has given this one anything ahead.
+  threads[0].give(root, { number: 8 });
+  assert.deepEqual([await threads[0].next(), await threads[0].next()], [{ message: "ahead" }, { message: 8 }]);
 });
