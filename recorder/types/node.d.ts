@@ -53,7 +53,7 @@ declare namespace NodeJS {
     readonly stdin: Input;
     readonly stdout: Output;
     exitCode?: number;
-    exit(): never;
+    exit(status?: number): never;
     hrtime: HighResolutionTime;
     uptime(): number;
     cwd(): string;

@@ -183,7 +183,7 @@ const asideOf = ({ waiting, stray }) => ({ waiting, stray });
 export function main() {
   const { port } = workerData;
   port.once("message", async (/** @type {Omit<import("./run-maker.mjs").Given, "port">} */ given) => {
-    const { ProgramState } = given.options.isProgram ? await import("./program-state.mjs") : {};
-    new Referee({ port, ...given }, ProgramState).awaitWork();
+    const State = given.options.isProgram ? (await import("./program-state.mjs")).ProgramState : undefined;
+    new Referee({ port, ...given }, State).awaitWork();
   });
 }
