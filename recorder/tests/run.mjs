@@ -41,7 +41,8 @@ function namesOfFiles() {
  */
 function resultOf(name, env) {
   const begun = performance.now();
-  const words = ["--test", "--test-reporter=tap", join(FOLDER, name)];
+  // Without --test the file's own process writes the report, and no further process starts it.
+  const words = ["--test-reporter=tap", join(FOLDER, name)];
   return new Promise((done) => {
     execFile(process.execPath, words, { env, maxBuffer: 2 ** 30 }, (error, stdout, stderr) => {
       const seconds = (performance.now() - begun) / 1_000;
