@@ -8,6 +8,7 @@ import { readdirSync } from "node:fs";
 import { parseArgs } from "node:util";
 import { fileURLToPath } from "node:url";
 import { checkedOptions } from "../lib/library/library-options.mjs";
+import { Job } from "../lib/seeds/job.mjs";
 import { Runs, outcomesOf } from "../lib/seeds/runs.mjs";
 
 const FOLDER = new URL("./programs/", import.meta.url);
@@ -47,7 +48,8 @@ export async function measured(name, options, { seeds, jobs }) {
   const begun = performance.now();
   let failed = 0;
   let first = Infinity;
-  const runs = new Runs({ ...checkedOptions(given, () => undefined), ...many });
+  const all = { ...checkedOptions(given, () => undefined), ...many };
+  const runs = new Runs(all, jobs === 1 ? { job: new Job() } : {});
   for await (const { fails, seed } of outcomesOf(runs)) {
     if (!fails) continue;
     failed += 1;

@@ -1,71 +1,28 @@
-// How the recorder asks the simulator: the module and the native program come to the same, and a module that is wrong
-// fails the check and is no answer.
+// How the recorder asks the simulator: a module that is wrong fails the check and is no answer. That the module and the
+// native program come to the same is in `known-judged.test.mjs`.
 
 import assert from "node:assert/strict";
 import { spawnSync } from "node:child_process";
 import { cpSync, readFileSync, readdirSync, writeFileSync } from "node:fs";
 import { join } from "node:path";
-import { describe, it, test } from "node:test";
+import { test } from "node:test";
 import { fileURLToPath, pathToFileURL } from "node:url";
 import { Difference, checkedBy } from "../lib/check/check.mjs";
-import { Log } from "../lib/memory/log.mjs";
-import { traceText } from "../lib/run/trace.mjs";
 import { simulatorAt } from "../lib/simulator/chosen.mjs";
 import { ModuleSimulator } from "../lib/simulator/module.mjs";
 import { agentsPath, temporaryFolder } from "./helpers/common.mjs";
 import { groupOf } from "./helpers/groups.mjs";
 import { limited } from "./helpers/limited-module.mjs";
-import { SABSIM, withSabsim } from "./helpers/needs.mjs";
 import { TRAPPING, misspelling } from "./helpers/wrong-modules.mjs";
 
 const RECORDER = fileURLToPath(new URL("../", import.meta.url));
-const KNOWN = new URL("./known/", import.meta.url);
-const NAMES = readdirSync(KNOWN).filter((name) => name.endsWith(".mjs"));
-const FORMATS = ["plain", "explained", "json", "svg", "script"];
-const SEEDS = [1, 2];
-
 const module = simulatorAt();
 
-/** Runs of a module of agents, each with what the recorder has judged. */
-async function runsOf(context, path, options = {}) {
-  const group = await groupOf(context, path, { everywhere: true, ...options });
-  const runs = [];
-  const wanted = SEEDS.map((seed) => ({ seed, whole: true }));
-  await group.run(wanted, (outcome, judgement) => runs.push({ outcome, judgement }));
-  return runs;
+/** The run of seed 1 of a module of agents, with what the recorder has judged. */
+async function runOf(context, path) {
+  const group = await groupOf(context, path, { everywhere: true });
+  return group.one({ seed: 1, whole: true });
 }
-
-/** The trace of a run. */
-const traceOf = ({ judgement }) => traceText(Log.from(judgement.events));
-
-describe("known programs", { concurrency: 2 }, () => {
-  for (const name of NAMES) {
-    it(name, async (context) => {
-      const runs = await runsOf(context, fileURLToPath(new URL(name, KNOWN)));
-      for (const run of runs) {
-        const { outcome: { script, report }, judgement: { racy, isInScript } } = run;
-        assert.equal(module.run({ job: "replay" }, script).output, report);
-        const { status } = module.run({ job: "judge-trace" }, traceOf(run));
-        assert.equal(status, racy ? 5 : 0);
-        // A script that hasn't all accesses is refused.
-        assert.equal(module.run({ job: "judge" }, script).status, isInScript ? status : 1);
-      }
-      await context.test("the native program does the same", withSabsim, () => {
-        const native = simulatorAt(SABSIM);
-        for (const run of runs) {
-          const { script } = run.outcome;
-          const jobs = [
-            ...FORMATS.map((format) => [{ job: "replay", format }, script]),
-            [{ job: "replay", format: "explained", acts: true }, script],
-            [{ job: "judge" }, script],
-            [{ job: "judge-trace" }, traceOf(run)],
-          ];
-          for (const [job, input] of jobs) assert.deepEqual(module.run(job, input), native.run(job, input));
-        }
-      });
-    });
-  }
-});
 
 /** A simulator whose module has other bytes. @param {import("node:test").TestContext} context @param {Uint8Array} bytes */
 function simulatorOf(context, bytes) {
@@ -90,11 +47,11 @@ const WRONG = {
 
 for (const [what, [bytes, why]] of Object.entries(WRONG)) {
   test(`a module that ${what} fails the check, each time`, async (context) => {
-    const runs = await runsOf(context, agentsPath("three-state-mutex"));
-    assert.ok(checkedBy(module, runs[0]).checked);
+    const run = await runOf(context, agentsPath("three-state-mutex"));
+    assert.ok(checkedBy(module, run).checked);
     const wrong = simulatorOf(context, bytes);
     for (const time of [1, 2]) {
-      assert.throws(() => checkedBy(wrong, runs[0]), (error) => {
+      assert.throws(() => checkedBy(wrong, run), (error) => {
         assert.ok(error instanceof Difference);
         assert.match(error.message, why, `time ${time}`);
         return true;

@@ -12,7 +12,9 @@ import { CHECKER, CHECKING } from "./helpers/needs.mjs";
 import { different, recorded, seedsTo } from "./helpers/recorded.mjs";
 import { simulated } from "./helpers/simulate.mjs";
 
-const program = (name, options = {}) => ({ module: agentsPath("checked"), args: [name], ...options });
+/** A program of `agents/checked.mjs`, without pilots, which would take twice as many workers. */
+const program = (name, options = {}) =>
+  ({ module: agentsPath("checked"), args: [name], agents: 2, everywhere: true, ...options });
 
 describe("init and check", { concurrency: 2 }, () => {
   it("a lost update is one line to find: a run fails by its check just where the count is wrong", async () => {
@@ -45,7 +47,7 @@ describe("init and check", { concurrency: 2 }, () => {
   });
 
   it("the stores of init stand first, by an agent of its own, in each run anew", async () => {
-    const outcomes = await recorded(program("filled"), seedsTo(3));
+    const outcomes = await recorded(program("filled", { everywhere: false }), seedsTo(3));
     for (const { ending, detail, script, bytes, answers, progress, calls } of outcomes) {
       assert.deepEqual([ending, detail], ["finished", ""]);
       const { agents, schedule } = JSON.parse(script);

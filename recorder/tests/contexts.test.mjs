@@ -5,9 +5,8 @@ import assert from "node:assert/strict";
 import { writeFileSync } from "node:fs";
 import { join } from "node:path";
 import { describe, test } from "node:test";
-import { record } from "../recorder.mjs";
 import { temporaryFolder } from "./helpers/common.mjs";
-import { CHECKER } from "./helpers/needs.mjs";
+import { recorded, seedsTo } from "./helpers/recorded.mjs";
 
 const WAKES = "const words = new Int32Array(buffer); Atomics.store(words, 0, 1); Atomics.notify(words, 0)";
 
@@ -18,8 +17,14 @@ const WAYS = {
   script: "new vm.Script(CODE).runInNewContext({ buffer })",
 };
 
-/** The outcome of two agents: the first one waits, and the second one does something. */
-function outcomeOf(context, does, options = {}) {
+/**
+ * The outcomes of two agents, which the simulator checks: the first one waits, and the second one does something.
+ * @param {import("node:test").TestContext} context
+ * @param {string} does
+ * @param {object} [options]
+ * @param {number[]} [seeds]
+ */
+function outcomesOf(context, does, options = {}, seeds = [1]) {
   const module = join(temporaryFolder(context), "agents.mjs");
   writeFileSync(module, `import vm from "node:vm";
     import assert from "node:assert/strict";
@@ -30,30 +35,32 @@ function outcomeOf(context, does, options = {}) {
       if (agent === 0) Atomics.wait(words, 0, 0);
       else ${does};
     };`);
-  return record({ module, sabsim: CHECKER, ordinary: "store", timeouts: "never", ...options });
+  return recorded({ module, agents: 2, ordinary: "store", timeouts: "never", ...options }, seeds);
 }
 
 describe("a context where ordinary accesses aren't watched", { concurrency: 4 }, () => {
   for (const [way, does] of Object.entries(WAYS)) {
     for (const ordinary of ["store", "refuse"]) {
       test(`wakes an agent by its Atomics: ${way}, --ordinary ${ordinary}`, async (context) => {
-        for (let seed = 1; seed <= 5; seed += 1) {
-          const { ending, detail, checked, calls } = await outcomeOf(context, does, { ordinary, seed });
-          assert.deepEqual([ending, checked, calls], ["finished", true, 3], detail);
+        const outcomes = await outcomesOf(context, does, { ordinary }, seedsTo(5));
+        assert.equal(outcomes.length, 5);
+        for (const { ending, detail, script, calls } of outcomes) {
+          // Each that has a script was checked.
+          assert.deepEqual([ending, typeof script, calls], ["finished", "string", 3], detail);
         }
       });
     }
 
     test(`doesn't make shared memory unseen: ${way}`, async (context) => {
       const makes = does.replace("CODE", '"Atomics.add(new Int32Array(new SharedArrayBuffer(8)), 0, 1)"');
-      const { ending, detail } = await outcomeOf(context, makes);
+      const [{ ending, detail }] = await outcomesOf(context, makes);
       assert.equal(ending, "failed");
       assert.match(detail, /^agent 1 uses a SharedArrayBuffer of its own, made at evalmachine.*\(1 call of Atomics, /);
     });
   }
 
   test("has its options, and leaves the object that was given as it was", async (context) => {
-    const { ending, detail } = await outcomeOf(context, `{
+    const [{ ending, detail }] = await outcomesOf(context, `{
       const given = { one: 1, Atomics: "theirs" };
       const former = Object.getOwnPropertyDescriptors(given);
       const made = vm.createContext(given, { codeGeneration: { strings: false, wasm: true } });

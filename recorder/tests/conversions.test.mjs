@@ -5,7 +5,7 @@ import assert from "node:assert/strict";
 import { readFileSync } from "node:fs";
 import { join } from "node:path";
 import { describe, test } from "node:test";
-import { record } from "../recorder.mjs";
+import { explore, record } from "../recorder.mjs";
 import { KIND_NAMES, found } from "./agents/conversions.mjs";
 import { agentsOf, agentsPath, temporaryFolder } from "./helpers/common.mjs";
 import { CHECKER } from "./helpers/needs.mjs";
@@ -251,8 +251,7 @@ describe("what an agent's code does in a conversion comes before the call", () =
       Atomics.store(words, 0, 1);
       Atomics.notify(words, 0);`);
     const ended = new Set();
-    for (let seed = 1; seed <= 8; seed += 1) {
-      const outcome = await record({ ...HOW, module, agents: 2, seed });
+    for await (const outcome of explore({ ...HOW, module, agents: 2, seeds: 8, checkEvery: 1 })) {
       assert.equal(outcome.ending, "finished", outcome.detail);
       assert.deepEqual(callsOf(outcome)[0].at(-1), ["store", "Int32", 1, 42]);
       ended.add(outcome.answers[0][0]);

@@ -8,6 +8,7 @@ import { tmpdir } from "node:os";
 import { join } from "node:path";
 import { after, describe, test } from "node:test";
 import { pathToFileURL } from "node:url";
+import { Job } from "../lib/seeds/job.mjs";
 import { Runs, outcomesOf as taken } from "../lib/seeds/runs.mjs";
 import { CHECKER } from "./helpers/needs.mjs";
 import { Opinions } from "./helpers/opinions.mjs";
@@ -23,9 +24,9 @@ after(() => opinions.end());
 /** The outcomes of a module of agents under the seeds from 1 on, in the order of the seeds. */
 async function outcomesOf(module, last, checkEvery) {
   const outcomes = [];
-  const fixed = { args: [], jobs: 2, maxMoves: 100_000, seconds: 10, fresh: false, sabsim: CHECKER };
+  const fixed = { args: [], jobs: 1, maxMoves: 100_000, seconds: 10, fresh: false, sabsim: CHECKER };
   const options = { ...fixed, module: pathToFileURL(module).href, first: 1, last, checkEvery };
-  for await (const outcome of taken(new Runs(options))) outcomes.push(outcome);
+  for await (const outcome of taken(new Runs(options, { job: new Job() }))) outcomes.push(outcome);
   assert.equal(outcomes.filter(({ checked }) => checked).length, checkEvery * last);
   return outcomes;
 }

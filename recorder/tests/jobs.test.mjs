@@ -87,7 +87,7 @@ test("one job and several tell the same", () => {
 });
 
 test("without --jobs a command that goes on takes further jobs, and tells the same as one", onLinux, async () => {
-  const words = [RECORD, agentsPath("naive-mutex"), "--seeds", "1..1500", ...CHECKING];
+  const words = [RECORD, agentsPath("naive-mutex"), "--seeds", "1..1500", "--check", "10", ...CHECKING];
   const mark = randomUUID();
   const child = spawn(process.execPath, words, { env: { ...process.env, RECORDER_TEST: mark } });
   let [stdout, most] = ["", 0];
@@ -110,7 +110,7 @@ test("without --jobs a command that goes on takes further jobs, and tells the sa
 test("further jobs are taken while processors are idle, and the outcomes are those of one job", async (context) => {
   // Runs of some milliseconds each, on a machine of three processors that nobody else uses.
   const module = pathToFileURL(agentsOf(temporaryFolder(context), `
-    for (let step = 0; step < 3_000_000; step += 1);
+    for (let step = 0; step < 1_000_000; step += 1);
     Atomics.add(new Int32Array(buffers[0]), 0, agent + Math.floor(Math.random() * 100));
   `)).href;
   const { availableParallelism: parallelism, cpus } = os;

@@ -1,12 +1,11 @@
 // Who judges a run's accesses: sabsim, the recorder's own detector, and a slow judge that is written from the
-// definitions alone. On rows by hand, on random traces and on the runs of known programs all say the same.
+// definitions alone. On rows by hand and on random traces all say the same. `known-judged.test.mjs` has the runs of
+// known programs judged.
 
 import assert from "node:assert/strict";
 import { fork } from "node:child_process";
 import { readFileSync, readdirSync } from "node:fs";
 import { describe, it, test } from "node:test";
-import { checkedOptions } from "../lib/library/library-options.mjs";
-import { Group } from "../lib/run/group.mjs";
 import { detected, detectedPairs } from "./helpers/detected.mjs";
 import { pathOf } from "./helpers/programs.mjs";
 import { seedsTo } from "./helpers/recorded.mjs";
@@ -15,12 +14,8 @@ import { jsonText, plainText, statusOf } from "./helpers/verdict-texts.mjs";
 import { simulated } from "./helpers/simulate.mjs";
 
 const ROWS = new URL("./judge-rows/", import.meta.url);
-const KNOWN = new URL("./known/", import.meta.url);
 const LEAST_ROWS = 20;
 const RANDOM = 5_000;
-const KNOWN_SEEDS = 5;
-// A spin's trace is as long as the run may be, and the slow judge is slow.
-const KNOWN_MOVES = 1_500;
 
 // To start a program takes longer than to judge a short trace, so several processes do it.
 const PROCESSES = 4;
@@ -76,11 +71,9 @@ test("what is no event's line is refused, and it is said which line", () => {
 const foundFrom = (first) => new Promise((done) => {
   const words = [first, RANDOM, PROCESSES].map(String);
   const child = fork(pathOf("recorder/tests/helpers/judge-process.mjs"), words);
-  const found = { seeds: 0, racy: 0, differing: [] };
-  child.on("message", ({ isRacy, differing }) => {
-    found.seeds += 1;
-    if (isRacy) found.racy += 1;
-    if (differing !== undefined) found.differing.push(differing);
+  let found = { seeds: 0, racy: 0, differing: [] };
+  child.on("message", (told) => {
+    found = told;
   });
   child.on("exit", () => done(found));
 });
@@ -92,49 +85,4 @@ test(`sabsim, the recorder's detector and the slow judge agree on ${RANDOM} rand
   const sum = (name) => found.reduce((all, { [name]: part }) => all + part, 0);
   assert.equal(sum("seeds"), RANDOM);
   assert.ok(sum("racy") > RANDOM / 4 && sum("racy") < RANDOM * 3 / 4, `${sum("racy")} of them are racy`);
-});
-
-/** Runs of a known program, with their traces. With `everywhere` no pilot is made first. @param {string} name */
-async function runsOf(name) {
-  const module = new URL(`${name}.mjs`, KNOWN);
-  const given = { module, trace: true, everywhere: true, seconds: 5, maxMoves: KNOWN_MOVES };
-  const options = checkedOptions(given, () => undefined);
-  const group = await Group.open({ ...options, fresh: false });
-  const outcomes = [];
-  try {
-    const seeds = seedsTo(KNOWN_SEEDS).map((seed) => ({ seed, whole: true }));
-    await group.run(seeds, (outcome) => outcomes.push(outcome));
-  } finally {
-    await group.close();
-  }
-  return outcomes;
-}
-
-/** A side as the recorder tells it, of an event of the trace. */
-function toldSide({ agent, read, write, atomic, block, byte, size, call, source }) {
-  const access = [...(read ? ["read"] : []), ...(write ? ["write"] : [])].join(" and ");
-  return { agent, access, atomic, block, byte, size, call, source };
-}
-
-/**
- * A run has races where the slow judge finds some in its trace, and the first later access is the same.
- * @param {import("../lib/run/outcome.mjs").Outcome} outcome
- */
-function demandOfRun({ seed, races, trace }) {
-  const events = eventsOfTrace(trace);
-  const { races: [slow] } = slowJudge(events);
-  assert.equal(races.length > 0, slow !== undefined, `seed ${seed}`);
-  if (slow === undefined) return;
-  const { element: _, ...later } = races[0].sides[1];
-  assert.deepEqual(later, toldSide(events[slow.second.event]), `seed ${seed}`);
-}
-
-describe("runs of known programs race where the slow judge says so", { concurrency: 3 }, () => {
-  for (const name of namesIn(KNOWN, ".mjs")) {
-    it(name, async () => {
-      const outcomes = await runsOf(name);
-      assert.equal(outcomes.length, KNOWN_SEEDS);
-      outcomes.forEach(demandOfRun);
-    });
-  }
 });

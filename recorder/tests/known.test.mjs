@@ -4,11 +4,12 @@
 
 import assert from "node:assert/strict";
 import { readFileSync, readdirSync } from "node:fs";
-import { describe, it } from "node:test";
-import { RemoteJob } from "../lib/seeds/remote-job.mjs";
-import { startJob } from "../lib/seeds/start-job.mjs";
+import { after, describe, it } from "node:test";
 import { keptScript } from "../lib/shorter/kept-script.mjs";
-import { CHECKER } from "./helpers/needs.mjs";
+import { AskedProcesses } from "./helpers/asked-processes.mjs";
+
+/** @typedef {import("./helpers/known-process.mjs").Made} Made */
+/** @typedef {import("../lib/seeds/job.mjs").Checked} Checked */
 
 const FOLDER = new URL("./known/", import.meta.url);
 const NAMES = readdirSync(FOLDER).filter((name) => name.endsWith(".mjs"));
@@ -19,34 +20,19 @@ const AGAIN = [1, 2];
 const CHECKED = 25;
 const LEAST_PROGRAMS = 36;
 
-// Several programs side by side with a job each need less than one by one with several jobs each.
+// Several programs side by side need less than one by one with several jobs each.
 const SIDE_BY_SIDE = 4;
+
+const processes = new AskedProcesses("recorder/tests/helpers/known-process.mjs", SIDE_BY_SIDE);
+after(() => processes.end());
 
 /**
  * What the runs of a program come to, and a few of them where they are made once more by their rows.
  * @param {string} name of its file
+ * @returns {Promise<{ made: Made[], free: Checked[], forced: Checked[] }>}
  */
-async function runsOf(name) {
-  const job = new RemoteJob(startJob());
-  const module = new URL(name, FOLDER).href;
-  /** @param {object[]} wanted */
-  const made = async (wanted) => {
-    const outcomes = [];
-    await job.run(wanted, (outcome) => outcomes.push(outcome));
-    return outcomes;
-  };
-  try {
-    const checking = { checks: true, checkEvery: CHECKED, sabsim: CHECKER };
-    await job.open({ module, args: [], ...checking, maxMoves: 100_000, seconds: 5, fresh: false });
-    const seeds = Array.from({ length: SEEDS }, (_, at) => ({ seed: at + 1, whole: at % CHECKED === 0 }));
-    const outcomes = await made(seeds);
-    const free = await made(AGAIN.map((seed) => ({ seed, whole: true, tellsRow: true })));
-    const forced = await made(free.map(({ seed, row }) => ({ seed, whole: true, tellsRow: true, row, isExact: true })));
-    return { outcomes, free, forced };
-  } finally {
-    await job.close();
-  }
-}
+const runsOf = (name) =>
+  processes.ask({ module: new URL(name, FOLDER).href, seeds: SEEDS, checkEvery: CHECKED, again: AGAIN });
 
 /** How often each value occurs, and what it occurred with first. */
 function counted(entries) {
@@ -78,17 +64,17 @@ function areOf([one, other], lines) {
 }
 
 /** The endings that occur are the known ones. */
-function demandEndings({ endings, may = [] }, outcomes) {
-  const found = counted(outcomes.map(({ ending, seed }) => [ending, seed]));
+function demandEndings({ endings, may = [] }, made) {
+  const found = counted(made.map(({ ending, seed }) => [ending, seed]));
   const needed = [...found.keys()].filter((ending) => !may.includes(ending));
   assert.deepEqual(needed.sort(), [...endings].sort(), shown(found).join("; "));
 }
 
 /** The pairs of lines that race are the known ones, and each of these is told of by one pair of lines. */
-function demandRaces({ races = [] }, outcomes) {
+function demandRaces({ races = [] }, made) {
   const withoutColumn = (line) => line.replace(/:\d+$/, "");
-  const pairs = outcomes.flatMap((outcome) =>
-    outcome.races.map(({ lines }) => [lines.map(withoutColumn).sort().join(" and "), outcome.seed]));
+  const pairs = made.flatMap((run) =>
+    run.races.map((lines) => [lines.map(withoutColumn).sort().join(" and "), run.seed]));
   const found = counted(pairs);
   for (const known of races) {
     const matching = [...found.keys()].filter((pair) => areOf(known, pair.split(" and ")));
@@ -99,11 +85,11 @@ function demandRaces({ races = [] }, outcomes) {
 }
 
 /** Every run that was told whole has a script with all of its ordinary writes, and the simulator has checked it. */
-function demandChecks(outcomes) {
-  const whole = outcomes.filter(({ bytes }) => bytes !== undefined);
+function demandChecks(made) {
+  const whole = made.filter(({ isWhole }) => isWhole);
   assert.deepEqual(whole.filter(({ scriptHolds }) => scriptHolds !== "all").map(({ noScript }) => noScript), []);
   assert.ok(whole.length >= SEEDS / CHECKED);
-  assert.deepEqual(outcomes.filter(({ checked }) => checked), whole);
+  assert.deepEqual(made.filter(({ checked }) => checked), whole);
 }
 
 /** A run that is made by its row is the same run, and the row of its script is that row. */
@@ -120,11 +106,11 @@ describe("programs with known answers", { concurrency: SIDE_BY_SIDE }, () => {
   for (const name of NAMES) {
     it(name.replace(".mjs", ""), async () => {
       const { known } = await import(new URL(name, FOLDER).href);
-      const { outcomes, free, forced } = await runsOf(name);
-      assert.equal(outcomes.length, SEEDS);
-      demandEndings(known, outcomes);
-      demandRaces(known, outcomes);
-      demandChecks(outcomes);
+      const { made, free, forced } = await runsOf(name);
+      assert.equal(made.length, SEEDS);
+      demandEndings(known, made);
+      demandRaces(known, made);
+      demandChecks(made);
       demandRows(free, forced);
     });
   }

@@ -5,7 +5,7 @@ import { readFileSync, writeFileSync } from "node:fs";
 import { join } from "node:path";
 import { test } from "node:test";
 import { pathToFileURL } from "node:url";
-import { Difference, NoSabsim, Refused, record } from "../recorder.mjs";
+import { Difference, NoSabsim, Refused, explore, record } from "../recorder.mjs";
 import { agentsOf, agentsPath, recordCase, temporaryFolder } from "./helpers/common.mjs";
 import { CHECKER, NOWHERE, hasSabsim } from "./helpers/needs.mjs";
 import { simulated } from "./helpers/simulate.mjs";
@@ -81,7 +81,7 @@ test("the module must be named, and options that there aren't are refused by the
 });
 
 test("the strategy is mixed if none is given, and `switch` alone is none", async () => {
-  const given = (options) => recordCase("racy", { agents: 3, seed: 11, trace: false, ...options });
+  const given = (options) => recordCase("racy", { agents: 3, seed: 11, trace: false, everywhere: false, ...options });
   assert.deepEqual(await given({ strategy: "mixed" }), await given({}));
   await assert.rejects(given({ switch: 0.5 }), (error) => {
     return error instanceof Refused && error.message === 'there is no option `switch`: use `strategy: "switch:P"`';
@@ -172,7 +172,7 @@ test("`init` fills the buffers before the run, and the script has what it wrote"
     seen.push([buffers.map((buffer) => buffer.byteLength), run]);
     new Int32Array(buffers[0]).set([40, 50, 60]);
   };
-  const { bytes, script } = await recordCase("addition", { sabsim: CHECKER, init, everywhere: true });
+  const { bytes, script } = await recordCase("addition", { sabsim: CHECKER, init });
   assert.deepEqual(seen, [[[12], { agents: 2, args: ["addition"] }]]);
   // Three is added to the first two words.
   assert.deepEqual(bytes, [Buffer.from(Int32Array.of(43, 53, 60).buffer).toString("hex")]);
@@ -186,7 +186,7 @@ test("`init` fills the buffers before each pilot too, of which nothing else is t
     new Int32Array(buffers[0])[2] = 60;
   };
   const check = ([buffer]) => assert.equal(new Int32Array(buffer)[2], 60);
-  const { ending, calls: made } = await recordCase("addition", { init, check });
+  const { ending, calls: made } = await recordCase("addition", { init, check, everywhere: false });
   assert.deepEqual([ending, made], ["finished", 6]);
   assert.ok(calls > 1 && calls < 20, `${calls} calls of init`);
 });
@@ -282,12 +282,10 @@ test("with `timeouts` 0 a wait that can be woken isn't ended by its time, and wi
       Atomics.notify(words, 0);
     }
   `);
-  const timedOut = async (timeouts, seed) => {
-    const { bytes } = await record({ module: path, agents: 2, buffers: [8], sabsim: false, timeouts, seed });
-    return bytes[0].endsWith("01000000");
-  };
+  /** The first seed whose run says that the time was up. */
   const firstOf = async (timeouts, last) => {
-    for (let seed = 1; seed <= last; seed += 1) if (await timedOut(timeouts, seed)) return seed;
+    const options = { module: path, agents: 2, buffers: [8], sabsim: false, timeouts, seeds: last, everywhere: true };
+    for await (const { state, seed } of explore(options)) if (state.shown[0].endsWith("01000000")) return seed;
     return undefined;
   };
   assert.equal(await firstOf(0, 4), undefined);

@@ -53,18 +53,19 @@ test("an agent that waits for what pilots couldn't see doesn't spin for ever", (
 
 test("pilots that meet a bound, that fail or that don't end let the runs be made all the same", async () => {
   const begun = performance.now();
-  const spins = await recordCase("spins", {});
+  const withPilots = { everywhere: false };
+  const spins = await recordCase("spins", withPilots);
   assert.deepEqual([spins.ending, /has made 1000 calls/.test(spins.detail)], ["bound", true]);
-  const endless = await recordCase("loops", { seconds: 3 });
-  const silent = "agent 1 has made no call for 3 s: it is at cases.mjs:40:5";
+  const endless = await recordCase("loops", { ...withPilots, seconds: 1 });
+  const silent = "agent 1 has made no call for 1 s: it is at cases.mjs:40:5";
   assert.deepEqual([endless.ending, endless.detail], ["bound", silent]);
-  // Two seconds are spent on a pilot, and three on the run.
+  // One second is spent on a pilot, and one on the run.
   assert.ok(performance.now() - begun < 30_000);
   const init = () => {
     throw new Error("no");
   };
-  assert.match((await recordCase("addition", { init })).detail, /^init threw Error: no/);
-  assert.equal((await recordCase("exits", {})).ending, "failed");
+  assert.match((await recordCase("addition", { ...withPilots, init })).detail, /^init threw Error: no/);
+  assert.equal((await recordCase("exits", withPilots)).ending, "failed");
 });
 
 test("a run is the same whether its group has made others before, with other options for its workers", async () => {

@@ -5,7 +5,7 @@
 import assert from "node:assert/strict";
 import { writeFileSync } from "node:fs";
 import { join } from "node:path";
-import { describe, test } from "node:test";
+import { before, describe, test } from "node:test";
 import { pathToFileURL } from "node:url";
 import { Group } from "../lib/run/group.mjs";
 import { Refused, record } from "../recorder.mjs";
@@ -175,42 +175,54 @@ describe("a patched language", () => {
     "SharedArrayBuffer", "ArrayBuffer", "DataView", "Buffer", "TextEncoder", "performance", "process",
   ];
 
-  /** What is told of a run under a patch. Sabsim checks the run where it is given. */
-  async function patched([what, when, how], end, ordinary) {
+  /**
+   * What is told of a run under a patch. Sabsim checks the run where it is given.
+   * @param {[what: string, when: string, how: string]} patch
+   * @param {string} end of the run
+   * @param {object} [others] options; with pilots twice as many workers are needed
+   */
+  async function patched([what, when, how], end, others = {}) {
     const agents = new URL("./agents/patched.mjs", import.meta.url);
     agents.search = new URLSearchParams({ what, when, how });
-    const options = { module: agents, args: [end], seed: 7, seconds: 5, ordinary, sabsim: CHECKER };
+    const fixed = { module: agents, agents: 3, args: [end], seed: 7, seconds: 5, everywhere: true, sabsim: CHECKER };
+    const options = { ...fixed, ...others };
     const { trace, races, failure, ...outcome } = await record(options);
     // The stack of an error has the module's name, and the code may have patched what makes it.
     return { ...outcome, failure: failure?.message, detail: outcome.detail.split("\n")[0] };
   }
 
+  const NOTHING = ["nothing", "top", "throws"];
+  const WITH_PILOTS = { everywhere: false };
   const FUNCTIONS = ["top", "agent"].flatMap((when) => ["throws", "lies"].map((how) => ["functions", when, how]));
   const ENDS = {
     finished: "", deadlock: "waits at byte 20", failed: "threw Error: as it must be", refused: "the value 9007199254740992",
     later: "goes on later, by setImmediate",
   };
 
+  /** A run comes to the same under each of some patches as under none. */
+  async function demandSame(patches, end, others) {
+    const expected = await patched(NOTHING, end, others);
+    const outcomes = await madeOfEach(patches, (patch) => patched(patch, end, others));
+    outcomes.forEach((outcome, at) => assert.deepEqual(outcome, expected, patches[at].join(" ")));
+    return expected;
+  }
+
   for (const [end, told] of Object.entries(ENDS)) {
     test(`no function that is patched changes a run, with the end ${end}`, async () => {
-      const expected = await patched(["nothing", "top", "throws"], end, "watch");
+      const expected = await demandSame(FUNCTIONS, end, end === "finished" ? WITH_PILOTS : {});
       assert.ok(expected.detail.includes(told), expected.detail);
-      const outcomes = await madeOfEach(FUNCTIONS, (patch) => patched(patch, end, "watch"));
-      outcomes.forEach((outcome, at) => assert.deepEqual(outcome, expected, FUNCTIONS[at].join(" ")));
     });
   }
 
   test("nor where ordinary reads and writes aren't seen", async () => {
-    const expected = await patched(["nothing", "top", "throws"], "finished", "store");
+    const expected = await demandSame(FUNCTIONS, "finished", { ordinary: "store" });
     assert.equal(expected.ending, "finished");
-    const outcomes = await madeOfEach(FUNCTIONS, (patch) => patched(patch, "finished", "store"));
-    outcomes.forEach((outcome, at) => assert.deepEqual(outcome, expected, FUNCTIONS[at].join(" ")));
   });
 
   test("no global that is replaced changes a run", async () => {
-    const expected = await patched(["nothing", "top", "throws"], "finished", "watch");
-    const outcomes = await madeOfEach(GLOBALS, (name) => patched([name, "top", "throws"], "finished", "watch"));
-    outcomes.forEach((outcome, at) => assert.deepEqual(outcome, expected, GLOBALS[at]));
+    await demandSame(GLOBALS.map((name) => [name, "top", "throws"]), "finished");
+    // All at once, where pilots are made too.
+    await demandSame([[GLOBALS.join(), "top", "throws"]], "finished", WITH_PILOTS);
   });
 });
 
@@ -398,9 +410,14 @@ describe("a stack that comes to its end in what an agent asks", () => {
     return found;
   }
 
+  /** The outcomes of the same seeds where agent 0 asks for nothing at its stack's end, whatever it would ask for. */
+  let calm;
+  before(async () => {
+    calm = await outcomes("add", () => 0);
+  });
+
   for (const asks of ["add", "wait", "notify", "exchange", "refuse"]) {
     test(`leaves nothing to the seeds that come after it: ${asks}`, { timeout: 120_000 }, async () => {
-      const calm = await outcomes(asks, () => 0);
       const deep = await outcomes(asks, (seed) => (seed % 2 === 1 ? seed * STEP : 0));
       const hasAsked = [];
       deep.forEach((outcome, at) => {

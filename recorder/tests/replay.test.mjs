@@ -12,7 +12,7 @@ import { Replay } from "../lib/command/replay.mjs";
 import { Refused } from "../lib/options/refused.mjs";
 import { NoLongerTheSame } from "../lib/shorter/differing.mjs";
 import { keptScript } from "../lib/shorter/kept-script.mjs";
-import { record } from "../recorder.mjs";
+import { explore, record } from "../recorder.mjs";
 import { RECORD, temporaryFolder } from "./helpers/common.mjs";
 import { CHECKING } from "./helpers/needs.mjs";
 
@@ -40,16 +40,22 @@ export default function agent({ buffers: [buffer], agent }) {
 export const check = ([buffer]) => new Int32Array(buffer)[1] < 0;
 `;
 
-/** A folder with the module and with the kept script of its run by a seed, which its \`check\` finds wrong. */
-async function keptRun(context, seed = 4) {
+/** The seed of the run that is kept, which its `check` finds wrong. */
+const KEPT_SEED = 4;
+
+/** @type {import("../lib/library/recorder.mjs").Outcome | undefined} of the run that is kept, once it was made */
+let kept;
+
+/** A folder with the module and with the kept script of its run. @param {import("node:test").TestContext} context */
+async function keptRun(context) {
   const folder = temporaryFolder(context);
   const module = join(folder, "relay.mjs");
   writeFileSync(module, CODE);
-  const outcome = await record({ module, seed, sabsim: false });
-  assert.equal(outcome.ending, "check");
-  const file = join(folder, `seed-${seed}.json`);
-  writeFileSync(file, outcome.script);
-  return { folder, module, file, outcome };
+  kept ??= await record({ module, seed: KEPT_SEED, sabsim: false });
+  assert.equal(kept.ending, "check");
+  const file = join(folder, `seed-${KEPT_SEED}.json`);
+  writeFileSync(file, kept.script);
+  return { folder, module, file, outcome: kept };
 }
 
 /** Replays in this process. @param {string} module @param {string} file @param {string[]} words */
@@ -157,11 +163,10 @@ async function changedBefore(context, [before, after], joins) {
       }
     }`;
   writeFileSync(module, code(before));
-  for (let seed = 1; seed < 50; seed += 1) {
-    const outcome = await record({ module, seed, sabsim: false });
-    if (outcome.ending !== "failed" || outcome.answers[0][0] !== (joins ? "ok" : "not-equal")) continue;
+  for await (const { seed, ending, answers, script } of explore({ module, seeds: 50, checkEvery: 1 })) {
+    if (ending !== "failed" || answers[0][0] !== (joins ? "ok" : "not-equal")) continue;
     const file = join(folder, `seed-${seed}.json`);
-    writeFileSync(file, outcome.script);
+    writeFileSync(file, script);
     writeFileSync(module, code(after));
     return { module, file };
   }

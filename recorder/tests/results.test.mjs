@@ -13,9 +13,9 @@ function resultOf(context, code) {
   const file = join(temporaryFolder(context), "some.test.mjs");
   writeFileSync(file, `import { describe, it, test } from "node:test";\n${code}`);
   const { NODE_TEST_CONTEXT: _, ...env } = process.env;
-  const words = ["--test", "--test-reporter=tap", file];
-  const { status, stdout } = spawnSync(process.execPath, words, { encoding: "utf8", env });
-  const { problems, ...counts } = readReport(stdout, status === 0);
+  const words = ["--test-reporter=tap", file];
+  const { status, stdout, stderr } = spawnSync(process.execPath, words, { encoding: "utf8", env });
+  const { problems, ...counts } = readReport(stdout + stderr, status === 0);
   return { ...counts, problems };
 }
 
@@ -36,13 +36,14 @@ test("tests that pass, fail and are skipped are counted one by one, in suites to
 });
 
 test("a file without a test, or that ends early, has failed", (context) => {
-  const failing = ["throw new Error('at once');", "syntax error", 'test("one", () => process.exit(3));',
+  const failing = ["", 'test("one", () => process.exit(0));', "throw new Error('at once');", "syntax error", 'test("one", () => process.exit(3));',
     'test("one", () => {}); setTimeout(() => process.exit(1), 300); test("two", () => new Promise(() => {}));'];
   for (const code of failing) {
     const { failed, problems } = resultOf(context, code);
     assert.ok(failed > 0 && problems.length > 0, code);
   }
-  assert.deepEqual(readReport("", true), { passed: 0, failed: 1, skipped: [], problems: "" });
+  const problems = "the report has no counts: the process has ended before\n";
+  assert.deepEqual(readReport("", true), { passed: 0, failed: 1, skipped: [], problems });
   assert.equal(readReport("# pass 5\n", false).failed, 1);
   assert.equal(readReport("# pass 5\n# fail 1\n", true).failed, 2);
 });

@@ -20,8 +20,9 @@ const BUILT = fileURLToPath(new URL("../../crates/sabsim/out/sabsim", import.met
 
 // The files that take the most processor time begin first, so that none of them is left alone at the end.
 const SLOWEST = [
-  "page-schedule", "known", "realm", "race-programs", "runs", "judge", "examples", "seeds", "program", "explore",
-  "pilots", "shards", "jobs", "library", "programs-in-node", "wrong", "bench", "rows", "checks", "shorter", "replay",
+  "page-schedule", "known", "realm", "race-programs", "program", "jobs", "examples", "seeds", "known-judged",
+  "program-ends", "runs", "pilots", "explore", "shards", "library", "programs-in-node", "wrong", "program-runs",
+  "bench", "first-again", "judged", "rows", "checks", "shorter", "replay", "judge", "conversions", "catches-all",
   "unseen", "testing",
 ].map((name) => `${name}.test.mjs`);
 
@@ -41,7 +42,8 @@ function namesOfFiles() {
  */
 function resultOf(name, env) {
   const begun = performance.now();
-  const words = ["--test", "--test-reporter=tap", join(FOLDER, name)];
+  // Without --test the file's own process writes the report, and no further process starts it.
+  const words = ["--test-reporter=tap", join(FOLDER, name)];
   return new Promise((done) => {
     execFile(process.execPath, words, { env, maxBuffer: 2 ** 30 }, (error, stdout, stderr) => {
       const seconds = (performance.now() - begun) / 1_000;

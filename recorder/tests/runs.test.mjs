@@ -8,11 +8,11 @@ import { Difference, NoSabsim, Refused, record } from "../recorder.mjs";
 import { NAMES } from "./agents/refused.mjs";
 import { agentsOf, agentsPath, recordCase, temporaryFolder } from "./helpers/common.mjs";
 import { CHECKER } from "./helpers/needs.mjs";
-import { placesOf } from "./helpers/recorded.mjs";
+import { placesOf, recorded } from "./helpers/recorded.mjs";
 
 /** Records a module of the tests. Sabsim checks the run where it is given. */
 function recordChecked(name, options) {
-  return record({ module: agentsPath(name), sabsim: CHECKER, ...options });
+  return record({ module: agentsPath(name), sabsim: CHECKER, everywhere: true, ...options });
 }
 
 for (const part of ["accesses", "errors"]) {
@@ -23,8 +23,10 @@ for (const part of ["accesses", "errors"]) {
 }
 
 test("waits are answered by the standard's rules, and sabsim agrees", async () => {
-  for (const seed of [1, 2, 3]) {
-    const outcome = await recordChecked("answers", { args: ["waits"], agents: 2, buffers: [16], seed });
+  const options = { module: agentsPath("answers"), args: ["waits"], agents: 2, buffers: [16] };
+  const outcomes = await recorded(options, [1, 2, 3]);
+  assert.equal(outcomes.length, 3);
+  for (const outcome of outcomes) {
     assert.deepEqual([outcome.ending, outcome.detail], ["finished", ""]);
     assert.deepEqual(outcome.answers[0], ["not-equal", "timed-out", "timed-out", "not-equal", "0", "ok"]);
   }
@@ -170,8 +172,9 @@ test("what an agent does when its run is over changes nothing that is told", asy
 });
 
 test("an ordinary write that the end of the stack has kept off is seen when it is made again", async () => {
-  for (const seed of [1, 2, 3]) {
-    const { ending, detail, bytes, ordinary } = await record({ module: agentsPath("retried"), seed, sabsim: CHECKER });
+  const outcomes = await recorded({ module: agentsPath("retried"), agents: 1 }, [1, 2, 3]);
+  assert.equal(outcomes.length, 3);
+  for (const { ending, detail, bytes, ordinary } of outcomes) {
     assert.deepEqual([ending, detail, bytes], ["finished", "", ["01000000", "01".repeat(60)]]);
     assert.ok(ordinary >= 60);
   }
@@ -188,7 +191,8 @@ const REFUSED_LINES = readFileSync(agentsPath("refused"), "utf8").split("\n");
 
 test("each call that no script can have is refused by name and line, even where the agent catches it", async () => {
   const outcomes = await Promise.all(NAMES.map((name) => {
-    return record({ module: agentsPath("refused"), args: [name], agents: 2, buffers: [16], sabsim: false });
+    const options = { args: [name], agents: 2, buffers: [16], sabsim: false, everywhere: true };
+    return record({ module: agentsPath("refused"), ...options });
   }));
   outcomes.forEach(({ ending, detail }, at) => {
     assert.equal(ending, "failed", NAMES[at]);

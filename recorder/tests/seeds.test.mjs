@@ -4,12 +4,13 @@ import assert from "node:assert/strict";
 import { test } from "node:test";
 import { optionsOf } from "../lib/command/options.mjs";
 import { moduleUrl } from "../lib/library/module-url.mjs";
+import { Job } from "../lib/seeds/job.mjs";
 import { Runs, outcomesOf as taken } from "../lib/seeds/runs.mjs";
 import { agentsPath, recordCase } from "./helpers/common.mjs";
 import { CHECKER } from "./helpers/needs.mjs";
 
 /**
- * The outcomes of some seeds, in the order of the seeds.
+ * The outcomes of some seeds, in the order of the seeds. One job is one in this process, and several are processes.
  * @param {string} name of a module of agents
  * @param {object} options
  */
@@ -17,9 +18,10 @@ async function outcomesOf(name, options) {
   const outcomes = [];
   const all = {
     ...optionsOf([agentsPath(name)]), module: moduleUrl(agentsPath(name)), last: 40, checkEvery: 0, sabsim: CHECKER,
-    seconds: 5, ...options,
+    seconds: 5, jobs: 1, ...options,
   };
-  for await (const outcome of taken(new Runs(all))) outcomes.push(outcome);
+  const own = all.jobs === 1 ? { job: new Job() } : {};
+  for await (const outcome of taken(new Runs(all, own))) outcomes.push(outcome);
   assert.deepEqual(outcomes.map((outcome) => outcome.seed), outcomes.map((_, at) => all.first + at));
   return { outcomes, checked: outcomes.filter((outcome) => outcome.checked).length };
 }
@@ -41,7 +43,7 @@ test("the lost wake-up of a naive mutex is found within 200 seeds, and sabsim ag
 });
 
 test("the mutex of three states comes to its end under 200 seeds, each checked", async () => {
-  const { outcomes, checked } = await outcomesOf("three-state-mutex", { last: 200, checkEvery: 1, jobs: 2 });
+  const { outcomes, checked } = await outcomesOf("three-state-mutex", { last: 200, checkEvery: 1 });
   assert.deepEqual([...endingsOf(outcomes)], ["finished"]);
   assert.deepEqual([...new Set(bytesOf(outcomes))], ["0000000009000000"]);
   assert.equal(checked, 200);
@@ -60,8 +62,8 @@ test("random calls of all kinds, right and wrong, are answered as sabsim answers
 });
 
 test("the same seeds give the same scripts byte for byte, whatever the jobs", async () => {
-  const one = await outcomesOf("naive-mutex", { checkEvery: 1, jobs: 1 });
-  const again = await outcomesOf("naive-mutex", { checkEvery: 1, jobs: 1 });
+  const one = await outcomesOf("naive-mutex", { checkEvery: 1 });
+  const again = await outcomesOf("naive-mutex", { checkEvery: 1 });
   const four = await outcomesOf("naive-mutex", { checkEvery: 1, jobs: 4 });
   assert.deepEqual(again.outcomes, one.outcomes);
   // Each job tells the trace of its own first failing run, and the code that it names.
@@ -75,7 +77,7 @@ test("a run among others is the run that is recorded by itself, in fresh workers
   const { outcomes } = await outcomesOf("cases", { args: ["racy"], agents: 3, buffers: [12], checkEvery: 1, last: 6 });
   const options = { args: ["racy"], agents: 3, buffers: [12], checkEvery: 1, last: 6, fresh: true };
   assert.deepEqual((await outcomesOf("cases", options)).outcomes, outcomes);
-  assert.deepEqual(await recordCase("racy", { agents: 3, seed: 5, sabsim: CHECKER }), outcomes[4]);
+  assert.deepEqual(await recordCase("racy", { agents: 3, seed: 5, sabsim: CHECKER, everywhere: false }), outcomes[4]);
   assert.ok(outcomes[4].checked);
 });
 
@@ -105,7 +107,7 @@ test("state of a module stays from seed to seed, and with fresh workers it doesn
 test("after an agent that has gone astray the next seeds are recorded all the same", async () => {
   const astray = { exits: "failed", catchesAll: "failed", loops: "bound", manyViews: "bound" };
   for (const [name, ending] of Object.entries(astray)) {
-    const options = { args: [name], agents: 2, buffers: [72], last: 2, seconds: 1, checkEvery: 1 };
+    const options = { args: [name], agents: 2, buffers: [72], last: 2, seconds: 1, checkEvery: 1, everywhere: true };
     const { outcomes } = await outcomesOf("cases", options);
     assert.deepEqual(outcomes.map((outcome) => outcome.ending), [ending, ending], name);
   }

@@ -22,9 +22,19 @@ const MOST = SCRIPT_LIMITS.views;
 const EMPTY = { name: "ordinary_unseen", kind: "Uint8", block: 0, offset: 0, length: 0 };
 const WHY_NOT = `it would have more than ${MOST} views, with ordinary_unseen`;
 
-/** The outcome of a program of `agents/unseen.mjs`, which sabsim checks where it is given. */
+/** @type {Map<string, ReturnType<typeof recorded>>} the runs that were made, by program and options */
+const made = new Map();
+
+/**
+ * The outcome of a program of `agents/unseen.mjs`, which the simulator checks. Each is made once, and without pilots.
+ * @param {string} program
+ * @param {object} [options]
+ */
 async function outcomeOf(program, options = {}) {
-  const [outcome] = await recorded({ module: agentsPath("unseen"), args: program.split(" "), ...options });
+  const key = JSON.stringify([program, Object.entries(options).map(([name, value]) => `${name} ${value}`)]);
+  const all = { module: agentsPath("unseen"), args: program.split(" "), agents: 2, everywhere: true, ...options };
+  if (!made.has(key)) made.set(key, recorded(all));
+  const [outcome] = await made.get(key);
   return outcome;
 }
 

@@ -14,8 +14,15 @@ const README = readFileSync(new URL("../bench/README.md", import.meta.url), "utf
 const AMOUNT = { seeds: 20, jobs: 1 };
 const SIDE_BY_SIDE = 4;
 
-/** Makes no pilots, so that a program with few runs needs two thirds of the time. */
-const WITHOUT_PILOTS = { everywhere: true };
+/**
+ * What a program with few runs is run with: no pilots are made, and no worker begins that isn't needed. That takes half
+ * of the time.
+ * @param {string} file
+ */
+async function withFewWorkers(file) {
+  const { setup: { agents } } = await import(pathToFileURL(file).href);
+  return { agents, everywhere: true };
+}
 
 /** Wrong programs that fail in many runs, by many kinds of mistakes. */
 const OFTEN = [
@@ -43,7 +50,7 @@ async function countedOf(programs) {
   const told = [];
   const work = async () => {
     for (let next = left.shift(); next !== undefined; next = left.shift()) {
-      told.push([next[0], await counted(next[1], AMOUNT, WITHOUT_PILOTS)]);
+      told.push([next[0], await counted(next[1], AMOUNT, await withFewWorkers(next[1]))]);
     }
   };
   await Promise.all(Array.from({ length: SIDE_BY_SIDE }, work));
@@ -96,14 +103,16 @@ test("of the lost wake-ups that a time hides each is reported in most of 20 seed
 });
 
 test("where a time ends nothing these are deadlocks, and the pieces that wait with a time are clean", async () => {
-  const never = { ...WITHOUT_PILOTS, timeouts: "never" };
+  const never = async (/** @type {string} */ file) => ({ ...await withFewWorkers(file), timeouts: "never" });
   for (const edit of EDITS.filter(({ kind }) => kind === HIDDEN)) {
-    const { endings } = await counted(written(edit), AMOUNT, never);
+    const file = written(edit);
+    const { endings } = await counted(file, AMOUNT, await never(file));
     assert.deepEqual([...endings.keys()], ["deadlock"], edit.name);
     assert.ok(endings.get("deadlock") > 10, edit.name);
   }
   for (const piece of PIECES.filter((name) => name.startsWith("mailbox-"))) {
-    assert.equal((await counted(fileURLToPath(fileOf(piece)), AMOUNT, never)).failed, 0, piece);
+    const file = fileURLToPath(fileOf(piece));
+    assert.equal((await counted(file, AMOUNT, await never(file))).failed, 0, piece);
   }
 });
 

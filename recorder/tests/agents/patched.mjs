@@ -1,5 +1,5 @@
 // A program under which the language is patched. The query of the module's URL says what is patched: `what` ("nothing",
-// "functions", or the name of a global), `when` ("top" of the module, or by each "agent") and `how` (what is patched
+// "functions", or the names of globals), `when` ("top" of the module, or by each "agent") and `how` (what is patched
 // "throws", or "lies" by answering nothing).
 
 const { searchParams } = new URL(import.meta.url);
@@ -34,12 +34,16 @@ function patchFunctions(owner) {
   }
 }
 
+function patchGlobal(name) {
+  globalThis[name] = function Patched() {
+    throw new EngineError(`the patched ${name} was called`);
+  };
+}
+
 function patch() {
   if (what === "nothing") return;
   if (what !== "functions") {
-    globalThis[what] = function Patched() {
-      throw new EngineError(`the patched ${what} was called`);
-    };
+    for (const name of what.split(",")) patchGlobal(name);
     return;
   }
   for (let at = 0; at < OWNERS.length; at += 1) patchFunctions(OWNERS[at]);

@@ -17,14 +17,16 @@ export const agentsPath = (name) => fileURLToPath(new URL(`../agents/${name}.mjs
 export const RECORD = fileURLToPath(new URL("../../record.mjs", import.meta.url));
 
 /**
- * Records one of the cases of `agents/cases.mjs`; without a check unless it is asked for.
+ * Records one of the cases of `agents/cases.mjs`; without a check unless it is asked for. With `everywhere` no pilots
+ * are made first, which would take twice as many workers.
  * @param {string} name
  * @param {object} [options]
  */
 export function recordCase(name, options = {}) {
   const { agents = 2, buffers = [12], args = [], ...rest } = options;
   return record({
-    module: agentsPath("cases"), args: [name, ...args], agents, buffers, sabsim: false, seconds: 5, ...rest,
+    module: agentsPath("cases"), args: [name, ...args], agents, buffers, sabsim: false, seconds: 5, everywhere: true,
+    ...rest,
   });
 }
 

@@ -25,8 +25,11 @@ function judgedBy(seed) {
 
 const areEqual = ({ said, expected }) => JSON.stringify(said) === JSON.stringify(expected);
 
+const found = { seeds: 0, racy: 0, differing: [] };
 for (let seed = Number(first); seed <= Number(last); seed += Number(step)) {
   const judged = judgedBy(seed);
-  process.send(areEqual(judged) ? { isRacy: judged.isRacy } : { differing: judged });
+  found.seeds += 1;
+  if (judged.isRacy) found.racy += 1;
+  if (!areEqual(judged)) found.differing.push(judged);
 }
-process.disconnect();
+process.send(found, () => process.disconnect());

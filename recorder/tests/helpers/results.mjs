@@ -9,6 +9,13 @@
  */
 
 /**
+ * A report that names no test that failed. If it has no counts, it says so.
+ * @param {string} report
+ */
+const withoutCounts = (report) =>
+  (/^# pass \d+$/m.test(report) ? report : `${report}the report has no counts: the process has ended before\n`);
+
+/**
  * Reads the report on a file of tests. It counts a failure too if the report doesn't fit node's status, or has no test.
  * @param {string} report
  * @param {boolean} isWell whether node ended with status 0
@@ -21,7 +28,7 @@ export function readReport(report, isWell) {
   const blocks = [...report.matchAll(/^( *)not ok [^]*?^\1 {2}\.\.\.$/gm)].map(([block]) => block);
   const told = blocks.filter((block) => !block.includes("failureType: 'subtestsFailed'"));
   const isSound = isWell ? failed === 0 && passed + skipped.length > 0 : failed > 0;
-  const problems = told.length > 0 ? told.join("\n") : report;
+  const problems = told.length > 0 ? told.join("\n") : withoutCounts(report);
   return { passed, failed: isSound ? failed : failed + 1, skipped, problems };
 }
 

@@ -1,0 +1,64 @@
+// Several processes of one program, each of which is asked for one thing at a time.
+
+import { fork } from "node:child_process";
+import { pathOf } from "./programs.mjs";
+
+/** One of them. */
+class Asked {
+  #child;
+  #tell = (_told) => {};
+
+  /** @param {string} program */
+  constructor(program) {
+    this.#child = fork(pathOf(program), { serialization: "advanced" });
+    this.#child.on("message", (told) => this.#tell(told));
+    this.#child.on("exit", (status, signal) => this.#tell({ fault: `its process ended: ${signal ?? status}` }));
+  }
+
+  /** @param {unknown} question @returns {Promise<{ fault?: string }>} */
+  ask(question) {
+    return new Promise((resolve) => {
+      this.#tell = resolve;
+      this.#child.send(question);
+    });
+  }
+
+  end() {
+    this.#child.kill();
+  }
+}
+
+export class AskedProcesses {
+  #all;
+  #free;
+  /** @type {((process: Asked) => void)[]} who waits for a process */
+  #waiting = [];
+
+  /**
+   * @param {string} program its path in this repository; it answers each message by one, with a `fault` if it can't
+   * @param {number} count how many processes
+   */
+  constructor(program, count) {
+    this.#all = Array.from({ length: count }, () => new Asked(program));
+    this.#free = [...this.#all];
+  }
+
+  /**
+   * Asks a process, as soon as one is free.
+   * @param {unknown} question
+   * @returns {Promise<any>} the answer; fails with the fault if the process names one
+   */
+  async ask(question) {
+    const process = this.#free.pop() ?? (await new Promise((resolve) => this.#waiting.push(resolve)));
+    const { fault, ...answer } = await process.ask(question);
+    const next = this.#waiting.shift() ?? ((free) => this.#free.push(free));
+    next(process);
+    if (fault) throw new Error(fault);
+    return answer;
+  }
+
+  /** Ends the processes. */
+  end() {
+    for (const process of this.#all) process.end();
+  }
+}
