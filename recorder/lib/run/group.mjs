@@ -13,6 +13,7 @@ import { ownModules } from "../processes/own-modules.cjs";
 import { framesOf } from "../processes/place-of-thread.mjs";
 import { FIRST_THREADS, begunThread } from "../processes/thread.mjs";
 import { loadProblem } from "./load-problem.mjs";
+import { TextMaker } from "./taken.mjs";
 import { within } from "./within.mjs";
 
 /** @typedef {import("../processes/thread.mjs").Thread} Thread */
@@ -137,6 +138,8 @@ export class Group {
     this.memory = undefined;
     /** @type {Board | undefined} */
     this.board = undefined;
+    /** @type {TextMaker | undefined} */
+    this.texts = undefined;
   }
 
   /**
@@ -165,7 +168,7 @@ export class Group {
       const { message, ended } = await referee.next();
       if (ended !== undefined) throw new Error(`the referee's worker failed: ${ended}`);
       if (message.finished) return;
-      if (message.outcome) onOutcome(message.outcome, message.judgement, message.aside);
+      if (message.outcome) this.#handOn(message, onOutcome);
       if (message.outcome?.fails) referee.post({ taken: true });
       if (message.replace) {
         await Promise.all(message.replace.map((/** @type {number} */ agent) => this.replace(agent)));
@@ -174,6 +177,21 @@ export class Group {
       if (message.ask) referee.post({ problem: this.#askedHere(message.ask) });
       if (message.locate !== undefined) referee.post({ place: await this.#placeOf(message.locate) });
     }
+  }
+
+  /**
+   * @param {import("./outcome.mjs").Sent} sent
+   * @param {(outcome: Outcome, judgement: Judgement | undefined, aside: Aside) => void} onOutcome
+   */
+  #handOn({ outcome, judgement, taken, aside }, onOutcome) {
+    if (taken === undefined) {
+      onOutcome(outcome, judgement, aside);
+      return;
+    }
+    this.texts ??= new TextMaker(started(this.plan), this.options.isBrief === true);
+    this.texts.complete(outcome, taken);
+    // Without a script the run isn't checked.
+    onOutcome(outcome, outcome.script === undefined ? undefined : judgement, aside);
   }
 
   /** @param {number} agent whose code goes on @returns {Promise<string | undefined>} file, line and column, if known */
