@@ -37,14 +37,13 @@ function endText(bytes, progress) {
 export const answerText = (answer) => (typeof answer === "bigint" ? `${answer}n` : `${answer}`);
 
 /**
- * What a step of a call is written as. A call that joins the line has four steps, and another one three.
+ * What the steps of a call are written as. A call that joins the line has four steps, and another one three.
  * @param {import("./text.mjs").Done} call
- * @param {number} step from 0
+ * @returns {string[]} each with the end of its line
  */
-function wordOf({ joined, answer }, step) {
-  if (step === 0) return "begin";
-  if (step === 1) return joined ? "wait" : `act ${answer}`;
-  return joined && step === 2 ? `leave ${answer}` : `return ${answer}`;
+function stepsOf({ joined, answer }) {
+  const acts = joined ? ["wait\n", `leave ${answer}\n`] : [`act ${answer}\n`];
+  return ["begin\n", ...acts, `return ${answer}\n`];
 }
 
 /**
@@ -59,9 +58,10 @@ function movesText({ calls, moves }) {
     const cursor = cursors[agent];
     // Each move of an agent is one of its calls'.
     const done = calls[agent][cursor.call];
-    text += `${position}${cursor.head}${wordOf(done, cursor.step)}\n`;
+    const steps = (done.steps ??= stepsOf(done));
+    text += position + cursor.head + steps[cursor.step];
     cursor.step += 1;
-    if (cursor.step < (done.joined ? 4 : 3)) continue;
+    if (cursor.step < steps.length) continue;
     cursor.call += 1;
     cursor.step = 0;
     cursor.head = headOf(agent, cursor.call);

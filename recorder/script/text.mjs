@@ -16,6 +16,7 @@
  * @property {string | null} answer as a report spells it, or null while it waits
  * @property {boolean} isOwn whether the agent called it; else it stands for an ordinary write
  * @property {string} [name] of its element, where that has one
+ * @property {string[]} [steps] what a report has of each of its steps, once that was made
  */
 
 /** @typedef {{ agent: number, timeUp: boolean }} Move */

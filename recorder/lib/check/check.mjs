@@ -13,7 +13,7 @@ import { NoSabsim } from "../simulator/native.mjs";
 /**
  * @typedef {object} Check
  * @property {boolean} checked whether the simulator has replayed the run, and judged whether it has unordered accesses,
- * and came to the same
+ * and came to the same; or has done so before with a run that is the same byte for byte
  * @property {string} [unchecked] why it hasn't
  */
 
@@ -115,10 +115,12 @@ function whyNot({ script, noScript }, every) {
  * @param {Simulator | undefined} simulator undefined: the options say that runs aren't checked
  * @param {One} run
  * @param {number} [every] one in how many of the runs that don't fail is checked
+ * @param {import("./repeats.mjs").Repeats} [repeats] runs that have passed; without, each run is replayed
  * @returns {Outcome & Check}
  * @throws {Difference | NoSabsim}
  */
-export function checkedBy(simulator, { outcome, judgement }, every = 1) {
+export function checkedBy(simulator, run, every = 1, repeats = undefined) {
+  const { outcome, judgement } = run;
   if (simulator === undefined) {
     return { ...outcome, checked: false, unchecked: "the options say that sabsim isn't asked" };
   }
@@ -127,7 +129,11 @@ export function checkedBy(simulator, { outcome, judgement }, every = 1) {
     if (outcome.noScript !== undefined && judgement !== undefined) checkRaces(simulator, outcome, judgement);
     return { ...outcome, checked: false, unchecked };
   }
-  checkReplay(simulator, outcome);
-  if (judgement !== undefined) checkRaces(simulator, outcome, judgement);
+  const check = () => {
+    checkReplay(simulator, outcome);
+    if (judgement !== undefined) checkRaces(simulator, outcome, judgement);
+  };
+  if (repeats === undefined) check();
+  else repeats.pass(run, check);
   return { ...outcome, checked: true };
 }

@@ -35,6 +35,8 @@ const LENGTH = 7;
 const VALUE_BYTES = 8;
 const ROOM_BYTES = EACH * 4 + VALUE_BYTES;
 
+const NO_MEMORY = new ArrayBuffer(0);
+
 // The head: what was done, by whom, on a view of which kind, by which call, and the flags.
 const AGENT_BITS = 4;
 const KIND_BITS = 8;
@@ -245,11 +247,10 @@ export class Log {
     return this.events.slice(0, this.length * EACH);
   }
 
-  /** @param {Int32Array} events @returns {Log} a log of events that were taken from one */
+  /** @param {Int32Array} events @returns {Log} a log of events that were taken from one, without what they read */
   static from(events) {
-    const count = events.length / EACH;
-    const log = new Log(new ArrayBuffer(count * ROOM_BYTES), Int32Array.of(count), 0);
-    log.events.set(events);
+    const log = new Log(NO_MEMORY, Int32Array.of(events.length / EACH), 0);
+    log.events = events;
     return log;
   }
 }

@@ -7,7 +7,7 @@ import { answerText } from "../../script/report.mjs";
 import { positionIn } from "../primordials.mjs";
 
 // Agents may change what they find, so the engine's own functions are kept here, before.
-const { BigInt64Array, Float64Array, Int32Array, SharedArrayBuffer } = globalThis;
+const { ArrayBuffer, BigInt64Array, Float64Array, Int32Array, SharedArrayBuffer } = globalThis;
 const { asIntN, asUintN } = BigInt;
 
 /**
@@ -48,6 +48,7 @@ const TAGS = 5; // and 6
 const ANSWER = 7;
 const HAS_LIMIT = 8;
 const JOINED = 9;
+const MOST_OPERANDS = 2;
 
 /** Where the last so many calls each come again within so few, they are a spin. */
 export const SPIN_CALLS = 300;
@@ -57,15 +58,21 @@ const ANSWER_VALUE = 2;
 const INDEX = 3;
 const LIMIT = 4;
 
+/** How many whole numbers of 32 bits say which call it is, and what it came to. */
+export const FINGERPRINT = 11;
+
+/** @param {number} value @returns {boolean} whether it is a whole number of 32 bits */
+const isShort = (value) => (value | 0) === value;
+
 export class Records {
   /** @returns {SharedArrayBuffer} room for all calls that an agent can make */
   static memory() {
     return new SharedArrayBuffer(SCRIPT_LIMITS.calls * BYTES_EACH);
   }
 
-  /** @param {SharedArrayBuffer} memory */
+  /** @param {ArrayBufferLike} memory in which each record has as many bytes */
   constructor(memory) {
-    const room = SCRIPT_LIMITS.calls;
+    const room = memory.byteLength / BYTES_EACH;
     this.bigs = new BigInt64Array(memory, 0, room * BIGS_EACH);
     this.numbers = new Float64Array(memory, this.bigs.byteLength, room * NUMBERS_EACH);
     this.words = new Int32Array(memory, this.bigs.byteLength + this.numbers.byteLength, room * WORDS_EACH);
@@ -159,6 +166,49 @@ export class Records {
   doneAt(position) {
     const tag = this.words[position * WORDS_EACH + ANSWER];
     return { joined: this.words[position * WORDS_EACH + JOINED] === 1, answer: this.#spelled(position, tag) };
+  }
+
+  /**
+   * Writes down which call it is, and what it came to. Calls with equal fingerprints have the same texts.
+   * @param {number} position
+   * @param {Int32Array} into
+   * @returns {boolean} false for a BigInt and for a number that isn't whole or has more than 32 bits: then it hasn't
+   */
+  takeFingerprint(position, into) {
+    const { words, numbers } = this;
+    const word = position * WORDS_EACH;
+    const number = position * NUMBERS_EACH;
+    for (let at = CALL; at <= LENGTH; at += 1) into[at] = words[word + at];
+    const { operands } = CALLS[words[word + CALL]];
+    for (let at = 0; at < MOST_OPERANDS; at += 1) {
+      const value = at < operands ? numbers[number + at] : 0;
+      if (at < operands && (words[word + TAGS + at] !== NUMBER || !isShort(value))) return false;
+      into[TAGS + at] = value;
+    }
+    const tag = words[word + ANSWER];
+    const limit = words[word + HAS_LIMIT] === 0 ? 0 : numbers[number + LIMIT];
+    const answer = tag === NUMBER ? numbers[number + ANSWER_VALUE] : 0;
+    const index = numbers[number + INDEX];
+    if (tag === BIG || !isShort(limit) || !isShort(answer) || !isShort(index)) return false;
+    into[7] = index;
+    into[8] = (tag << 2) | (words[word + HAS_LIMIT] << 1) | words[word + JOINED];
+    into[9] = limit;
+    into[10] = answer;
+    return true;
+  }
+
+  /**
+   * The first records, in memory of their own, which the next run leaves as it is.
+   * @param {number} count how many
+   * @returns {ArrayBuffer}
+   */
+  taken(count) {
+    const memory = new ArrayBuffer(count * BYTES_EACH);
+    const { bigs, numbers, words } = new Records(memory);
+    bigs.set(this.bigs.subarray(0, bigs.length));
+    numbers.set(this.numbers.subarray(0, numbers.length));
+    words.set(this.words.subarray(0, words.length));
+    return memory;
   }
 
   /**

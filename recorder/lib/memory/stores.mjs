@@ -161,20 +161,12 @@ export class Stores {
 
   /** @returns {Store[]} in the order in which they are done; they hold until the next run begins */
   list() {
-    const { entries, bytes, words } = this;
-    const stores = [];
-    let isOrdered = true;
-    let last = 0;
-    for (let at = 0; at < words[WORD.STORES] * EACH; at += EACH) {
-      const position = entries[at + POSITION];
-      const kind = entries[at + KIND];
-      const value = (at + VALUE) * 4;
-      stores.push({ position, agent: entries[at + AGENT], block: entries[at + BLOCK], byte: entries[at + BYTE], kind,
-        bytes: bytes.subarray(value, value + SIZES[kind]) });
-      isOrdered &&= last <= position;
-      last = position;
-    }
-    return isOrdered ? stores : stores.sort((one, other) => one.position - other.position);
+    return listed(this.entries, this.words[WORD.STORES]);
+  }
+
+  /** @returns {Int32Array} all of them, in memory of their own, which the next run leaves as it is */
+  taken() {
+    return this.entries.slice(0, this.words[WORD.STORES] * EACH);
   }
 
   /**
@@ -254,6 +246,51 @@ export class Stores {
     }
     return false;
   }
+}
+
+/** Stores that were taken from a run's, all of them. */
+export class TakenStores {
+  /** @param {Int32Array} entries */
+  constructor(entries) {
+    this.entries = entries;
+  }
+
+  /** @returns {Store[]} in the order in which they are done */
+  list() {
+    return listed(this.entries, this.entries.length / EACH);
+  }
+
+  /** @returns {boolean} */
+  isWhole() {
+    return true;
+  }
+
+  /** @returns {boolean} */
+  isLost() {
+    return false;
+  }
+}
+
+/**
+ * @param {Int32Array} entries
+ * @param {number} count how many stores they are
+ * @returns {Store[]} in the order in which they are done
+ */
+function listed(entries, count) {
+  const bytes = new Uint8Array(entries.buffer);
+  const stores = [];
+  let isOrdered = true;
+  let last = 0;
+  for (let at = 0; at < count * EACH; at += EACH) {
+    const position = entries[at + POSITION];
+    const kind = entries[at + KIND];
+    const value = (at + VALUE) * 4;
+    stores.push({ position, agent: entries[at + AGENT], block: entries[at + BLOCK], byte: entries[at + BYTE], kind,
+      bytes: bytes.subarray(value, value + SIZES[kind]) });
+    isOrdered &&= last <= position;
+    last = position;
+  }
+  return isOrdered ? stores : stores.sort((one, other) => one.position - other.position);
 }
 
 /**

@@ -166,7 +166,7 @@ function withScript(run, own, initial) {
   const transcript = transcriptOf(run, own, initial);
   const found = { transcript, ...spelled(transcript) };
   if (found.script !== undefined || (run.names ?? NO_NAMES).list.length === 0) return found;
-  const unnamed = transcriptOf({ ...run, names: NO_NAMES }, own, initial);
+  const unnamed = transcriptOf({ ...run, names: NO_NAMES, known: undefined }, own, initial);
   return { transcript: unnamed, ...spelled(unnamed) };
 }
 
@@ -206,7 +206,7 @@ function bytesLeft(final, touched, stores) {
 /**
  * The script of a run, with as much of the ordinary writes as fits.
  * @param {import("./transcript.mjs").Run} run
- * @param {import("../memory/stores.mjs").Stores} stores
+ * @param {Pick<import("../memory/stores.mjs").Stores, "list" | "isWhole" | "isLost">} stores
  * @param {Store[]} initial what fills the buffers before the run, by an agent of its own
  * @param {string[]} final the bytes of each block at the end, in hexadecimal digits
  * @returns {Fitted}

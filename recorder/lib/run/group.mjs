@@ -12,6 +12,7 @@ import { defaultsOf } from "../options/table.mjs";
 import { framesOf } from "../processes/place-of-thread.mjs";
 import { FIRST_AGENTS, begunThread } from "../processes/thread.mjs";
 import { loadProblem } from "./load-problem.mjs";
+import { TextMaker } from "./taken.mjs";
 import { within } from "./within.mjs";
 
 /** @typedef {import("../processes/thread.mjs").Thread} Thread */
@@ -133,6 +134,8 @@ export class Group {
     this.memory = undefined;
     /** @type {Board | undefined} */
     this.board = undefined;
+    /** @type {TextMaker | undefined} */
+    this.texts = undefined;
   }
 
   /**
@@ -161,7 +164,7 @@ export class Group {
       const { message, ended } = await referee.next();
       if (ended !== undefined) throw new Error(`the referee's worker failed: ${ended}`);
       if (message.finished) return;
-      if (message.outcome) onOutcome(message.outcome, message.judgement, message.aside);
+      if (message.outcome) this.#handOn(message, onOutcome);
       if (message.outcome?.fails) referee.post({ taken: true });
       if (message.replace) {
         await Promise.all(message.replace.map((/** @type {number} */ agent) => this.replace(agent)));
@@ -170,6 +173,21 @@ export class Group {
       if (message.ask) referee.post({ problem: this.#askedHere(message.ask) });
       if (message.locate !== undefined) referee.post({ place: await this.#placeOf(message.locate) });
     }
+  }
+
+  /**
+   * @param {import("./outcome.mjs").Sent} sent
+   * @param {(outcome: Outcome, judgement: Judgement | undefined, aside: Aside) => void} onOutcome
+   */
+  #handOn({ outcome, judgement, taken, aside }, onOutcome) {
+    if (taken === undefined) {
+      onOutcome(outcome, judgement, aside);
+      return;
+    }
+    this.texts ??= new TextMaker(started(this.plan), this.options.isBrief === true);
+    this.texts.complete(outcome, taken);
+    // Without a script the run isn't checked.
+    onOutcome(outcome, outcome.script === undefined ? undefined : judgement, aside);
   }
 
   /** @param {number} agent whose code goes on @returns {Promise<string | undefined>} file, line and column, if known */

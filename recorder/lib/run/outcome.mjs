@@ -74,3 +74,6 @@
  */
 
 /** @typedef {{ outcome: Outcome, judgement?: Judgement, aside: Aside }} One all that is reported of one run */
+
+/** @typedef {One & { taken?: import("./taken.mjs").Taken }} Sent the same as the referee sends it: without its script
+ * and report if these are made of copies */

@@ -14,6 +14,7 @@ import { SourceNames } from "./source-names.mjs";
 
 /** @typedef {import("./outcome.mjs").One} One */
 /** @typedef {import("./outcome.mjs").Outcome} Outcome */
+/** @typedef {import("./outcome.mjs").Sent} Sent */
 /** @typedef {import("./outcome.mjs").Wanted} Wanted */
 /** @typedef {import("./run-maker.mjs").Made} Made */
 
@@ -62,7 +63,7 @@ class Referee {
 
   /**
    * Sends what came of a run. If it failed, it is handed on before the next run, whose agents may end the process.
-   * @param {One} run
+   * @param {Sent} run
    */
   async #send(run) {
     const { port } = this;
@@ -91,7 +92,7 @@ class Referee {
     await maker.replace(maker.agents);
   }
 
-  /** @param {Wanted} wanted @returns {Promise<One>} the outcome of a seed */
+  /** @param {Wanted} wanted @returns {Promise<Sent>} the outcome of a seed */
   async #one(wanted) {
     const { maker, maker: { log }, reporter, meetings } = this;
     let hasSources = this.tellsNext;
@@ -108,16 +109,17 @@ class Referee {
     }
     found = await maker.judged(found);
     const outcome = reporter.brief(wanted, found);
-    if (wanted.whole || outcome.fails) reporter.addScript(outcome, found);
+    const taken = wanted.whole ? reporter.taken(outcome, found) : undefined;
+    if (taken === undefined && (wanted.whole || outcome.fails)) reporter.addScript(outcome, found);
     if (wanted.tellsActs) Object.assign(outcome, { acts: reporter.acts(outcome, found) });
     // Here the log has all events. The log of a run that is made once more, with lines of code, may lack some reads.
-    const judgement = reporter.judgement(outcome, found);
+    const judgement = reporter.judgement(outcome, found, taken);
     await this.#replace(found);
     await this.#addSources(wanted, outcome, found, hasSources);
     Object.assign(outcome, covering);
     if (outcome.ending === "race") outcome.detail = outcome.races.map(({ text }) => text).join("\n");
     this.tellsNext = this.tellsAlways || (found.racy && !isCut);
-    return { outcome, judgement, aside: asideOf(found) };
+    return { outcome, judgement, taken, aside: asideOf(found) };
   }
 
   /** @param {Wanted} wanted @returns {Promise<One>} a run that is made only to see how it ends */

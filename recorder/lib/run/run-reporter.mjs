@@ -2,7 +2,6 @@
 // unordered accesses and the trace.
 
 import { createHash } from "node:crypto";
-import { reportText } from "../../script/report.mjs";
 import { Records } from "../memory/records.mjs";
 import { Sources } from "../memory/sources.mjs";
 import { Names } from "../options/names.mjs";
@@ -12,6 +11,7 @@ import { standstillOf, thrownIn } from "./failure.mjs";
 import { racesTold } from "./findings.mjs";
 import { FinalStates } from "./final-state.mjs";
 import { fitted } from "./fitting.mjs";
+import { addAnswers, addTexts } from "./script-texts.mjs";
 import { askingLines, standingsOf, waitText, waitsOf } from "./standing.mjs";
 import { earlyText, onlyByTimeOf, servedOf } from "./timed-ends.mjs";
 import { UNSEEN_LINE, placesIn, traceText } from "./trace.mjs";
@@ -95,20 +95,30 @@ export class RunReporter {
       return;
     }
     const whole = { ...run, isOrdinary: this.#isOrdinary() };
-    const { transcript, script, holds, bytes = [], noScript } = fitted(whole, stores, found.initial, found.bytes);
-    this.#addFailure(outcome, found, transcript);
-    if (outcome.fails || !options.isBrief) {
-      outcome.bytes = found.bytes;
-      const own = agents.map((agent) => transcript.calls[agent].filter(({ isOwn }) => isOwn));
-      outcome.answers = own.map((calls) => calls.map(({ answer }) => answer));
-    }
-    if (script === undefined) {
-      outcome.noScript = noScript;
-      return;
-    }
-    outcome.script = script;
-    outcome.scriptHolds = holds;
-    outcome.report = reportText(transcript, bytes);
+    const fit = fitted(whole, stores, found.initial, found.bytes);
+    this.#addFailure(outcome, found, fit.transcript);
+    if (outcome.fails || !options.isBrief) addAnswers(outcome, fit, found.bytes, agents.length);
+    addTexts(outcome, fit);
+  }
+
+  /**
+   * Copies of what was written down of a run, if another thread can make its script and report of them. It can if the
+   * run has passed by itself: then nothing else of its outcome is read off its calls.
+   * @param {Outcome} outcome
+   * @param {Made} found
+   * @returns {import("./taken.mjs").Taken | undefined}
+   */
+  taken({ ending, fails }, { initial, bytes }) {
+    const { maker, maker: { stores }, run: { log, records } } = this;
+    const isPlain = maker.program === undefined && initial.length === 0 && stores.isWhole();
+    if (!isPlain || fails || ending !== "finished") return undefined;
+    return {
+      events: log.taken(),
+      records: records.map((each, agent) => each.taken(maker.board.journal.progress(agent).calls)),
+      stores: stores.taken(),
+      bytes,
+      isOrdinary: this.#isOrdinary(),
+    };
   }
 
   /**
@@ -156,14 +166,17 @@ export class RunReporter {
    * Whether unordered accesses were found, if the outcome has the script, so that both can be checked.
    * @param {Outcome} outcome
    * @param {Made} found
+   * @param {import("./taken.mjs").Taken} [taken] of which the outcome gets its script
    * @returns {import("./outcome.mjs").Judgement | undefined}
    */
-  judgement({ script }, found) {
-    const isTold = script !== undefined || this.maker.program !== undefined;
+  judgement({ script }, found, taken) {
+    const isTold = script !== undefined || taken !== undefined || this.maker.program !== undefined;
     if (!isTold || found.isUnseen || this.options.ordinary !== "watch") return undefined;
     const { racy, initial } = found;
     // The stores of `init` are none of the run's accesses, and ordinary reads are in no script.
-    return { racy, events: this.run.log.taken(), isInScript: script !== undefined && !this.#isOrdinary() && initial.length === 0 };
+    const hasScript = script !== undefined || taken !== undefined;
+    const isInScript = hasScript && !this.#isOrdinary() && initial.length === 0;
+    return { racy, events: taken?.events ?? this.run.log.taken(), isInScript };
   }
 
   /**

@@ -6,9 +6,10 @@ import { CONSTRUCTORS, KINDS, SIZES } from "../../script/kinds.mjs";
 import { answerText } from "../../script/report.mjs";
 import { LEAVE, MAKE, MOVES, TIME_UP } from "../board/journal.mjs";
 import { READ } from "../memory/log.mjs";
-import { callText, viewKey, viewName } from "../memory/spelling.mjs";
+import { callText, viewName } from "../memory/spelling.mjs";
 import { STORED } from "../memory/stores.mjs";
 import { NO_NAMES, nameText } from "../options/names.mjs";
+import { KnownCalls } from "./known-calls.mjs";
 
 /** @typedef {import("../memory/stores.mjs").Store} Store */
 /** @typedef {import("../../script/text.mjs").Done} Done */
@@ -24,17 +25,16 @@ import { NO_NAMES, nameText } from "../options/names.mjs";
  * @property {boolean[]} canBlock of each agent
  * @property {import("../options/names.mjs").Names} [names] of words and of whole arrays
  * @property {boolean} [isOrdinary] whether ordinary accesses were made, or may have been made unseen
+ * @property {KnownCalls} [known] calls of other runs with the same names and lengths
  */
+
+/** @typedef {{ kind: number, block: number, offset: number, length: number }} Range of a view */
 
 /** The view that says so in a script. */
 export const UNSEEN = "ordinary_unseen";
 const NO_ELEMENT = Object.freeze({ kind: KINDS.indexOf("Uint8"), block: 0, offset: 0, length: 0 });
 
-/**
- * @param {string} name
- * @param {{ kind: number, block: number, offset: number, length: number }} range
- * @returns {View}
- */
+/** @param {string} name @param {Range} range @returns {View} */
 function viewOf(name, { kind, block, offset, length }) {
   return { name, kind: KINDS[kind], block, offset, length };
 }
@@ -44,11 +44,12 @@ const BYTES = new Uint8Array(Math.max(...SIZES));
 const ELEMENTS = CONSTRUCTORS.map((Kind) => new Kind(BYTES.buffer, 0, 1));
 
 class Writer {
-  /** @param {number[]} lengths @param {boolean[]} canBlock @param {import("../options/names.mjs").Names} names */
-  constructor(lengths, canBlock, names) {
+  /** @param {Run} run @param {boolean[]} canBlock of each agent, also of the one of `init` */
+  constructor({ lengths, names = NO_NAMES, known = new KnownCalls() }, canBlock) {
     this.lengths = lengths;
     this.canBlock = canBlock;
     this.names = names;
+    this.known = known;
     /** @type {Map<string, View>} */
     this.views = new Map();
     /** @type {Done[][]} */
@@ -59,15 +60,13 @@ class Writer {
     this.moves = [];
     /** Each agent's move that isn't the end of a time. */
     this.plainMoves = canBlock.map((_, agent) => ({ agent, timeUp: false }));
-    /** @type {Map<number, string>} the names of the views of calls, by their keys */
-    this.viewNames = new Map();
     /** @type {Map<string, string[]>} the names of the views of stores, by whose they are: of each block's kinds */
     this.storeNames = new Map();
     // All names are there, so that who reads the script knows them.
     for (const view of names.list) this.addView(view.name, view);
   }
 
-  /** @param {string} name @param {Parameters<typeof viewOf>[1]} range */
+  /** @param {string} name @param {Range} range */
   addView(name, range) {
     if (!this.views.has(name)) this.views.set(name, viewOf(name, range));
   }
@@ -116,28 +115,27 @@ class Writer {
   }
 
   /**
-   * The name of a call's view, which the script gets with its first call.
-   * @param {import("../memory/records.mjs").Call} call
+   * A call as the texts have it.
+   * @param {import("../memory/records.mjs").Records} records
+   * @param {number} position
+   * @returns {import("./known-calls.mjs").KnownCall}
    */
-  #viewName(call) {
-    const key = viewKey(call);
-    const known = this.viewNames.get(key);
-    if (known !== undefined) return known;
-    const name = viewName(this.lengths, call);
-    this.viewNames.set(key, name);
-    this.addView(name, call);
-    return name;
+  #call(records, position) {
+    const call = records.callAt(position);
+    const named = this.names.ofCall(call);
+    const name = named?.view.name ?? viewName(this.lengths, call);
+    const text = callText(name, call, named?.index);
+    const done = { text, ...records.doneAt(position), isOwn: true, name: named && nameText(named) };
+    return named === undefined ? { done, view: { name, range: call } } : { done };
   }
 
   /** @param {import("../memory/records.mjs").Records} records @param {number} agent @param {number} event */
   addEvent(records, agent, event) {
     if (event !== LEAVE && event !== TIME_UP) {
-      const call = records.callAt(this.own[agent]);
-      const named = this.names.ofCall(call);
-      const text = named === undefined
-        ? callText(this.#viewName(call), call) : callText(named.view.name, call, named.index);
-      const { joined, answer } = records.doneAt(this.own[agent]);
-      this.calls[agent].push({ text, joined, answer, isOwn: true, name: named && nameText(named) });
+      const position = this.own[agent];
+      const { done, view } = this.known.at(records, position, () => this.#call(records, position));
+      if (view !== undefined) this.addView(view.name, view.range);
+      this.calls[agent].push(done);
       this.own[agent] += 1;
     }
     this.addMoves(agent, MOVES[event], event === TIME_UP);
@@ -152,8 +150,8 @@ class Writer {
  * @returns {Transcript}
  */
 export function transcriptOf(run, stores, initial = []) {
-  const { log, records, lengths, canBlock, names = NO_NAMES, isOrdinary = false } = run;
-  const writer = new Writer(lengths, initial.length === 0 ? canBlock : [...canBlock, true], names);
+  const { log, records, lengths, canBlock, isOrdinary = false } = run;
+  const writer = new Writer(run, initial.length === 0 ? canBlock : [...canBlock, true]);
   for (const store of initial) writer.addStore(store, "init");
   let next = 0;
   /** @param {number} position */

@@ -3,9 +3,11 @@
 // caller's functions, and no process has to be started. It is used as a `RemoteJob` is.
 
 import { checkedBy } from "../check/check.mjs";
+import { Repeats } from "../check/repeats.mjs";
 import { Group } from "../run/group.mjs";
 import { FirstFailing } from "../run/order.mjs";
 import { simulatorAt } from "../simulator/chosen.mjs";
+import { ModuleSimulator } from "../simulator/module.mjs";
 
 /** @typedef {import("../run/outcome.mjs").Outcome} Outcome */
 /** @typedef {{ stray?: import("../board/row.mjs").Stray, acts?: string }} Besides `acts` is a digest of what was done */
@@ -54,6 +56,9 @@ export class Job {
   /** @type {import("../simulator/chosen.mjs").Simulator | undefined} */
   #simulator;
 
+  /** @type {Repeats | undefined} undefined: each run is replayed, since the module isn't asked */
+  #repeats;
+
   /** @type {unknown} why a check has failed */
   #failure;
 
@@ -69,6 +74,7 @@ export class Job {
   async open(options) {
     const { checks, checkEvery, sabsim, isBrief = false, shortens = false } = options;
     this.#simulator = checks ? simulatorAt(sabsim) : undefined;
+    this.#repeats = this.#simulator instanceof ModuleSimulator ? new Repeats() : undefined;
     this.#every = checkEvery;
     this.#isBrief = isBrief;
     this.#shortens = shortens;
@@ -123,7 +129,8 @@ export class Job {
   #checked(run) {
     try {
       const { stray } = run.aside;
-      return { ...checkedBy(this.#simulator, run, this.#every), ...(stray === undefined ? {} : { stray }) };
+      const checked = checkedBy(this.#simulator, run, this.#every, this.#repeats);
+      return { ...checked, ...(stray === undefined ? {} : { stray }) };
     } catch (failure) {
       this.#failure = failure;
       return { ...run.outcome, checked: false };

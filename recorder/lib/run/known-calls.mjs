@@ -1,0 +1,71 @@
+// Calls as scripts and reports have them, remembered from run to run: the same call that came to the same has the same
+// texts. Most programs make few different ones.
+
+import { FINGERPRINT } from "../memory/records.mjs";
+
+/** @typedef {import("../memory/records.mjs").Records} Records */
+/** @typedef {import("./transcript.mjs").Range} Range */
+/** @typedef {import("../../script/text.mjs").Done} Done */
+
+/**
+ * @typedef {object} KnownCall
+ * @property {Done} done
+ * @property {{ name: string, range: Range }} [view] that a script with the call needs; undefined: it has a name, and so
+ * stands in each script
+ */
+
+// When there are more, all are forgotten.
+const MOST = 8_192;
+
+/** Of all calls whose names and lengths of blocks are the same. */
+export class KnownCalls {
+  /** @type {Map<number, { fingerprint: Int32Array, call: KnownCall }[]>} by a number that equal calls share */
+  #known = new Map();
+  #count = 0;
+  #asked = new Int32Array(FINGERPRINT);
+
+  /**
+   * @param {Records} records
+   * @param {number} position
+   * @param {() => KnownCall} make is called if the call isn't known
+   * @returns {KnownCall}
+   */
+  at(records, position, make) {
+    const asked = this.#asked;
+    if (!records.takeFingerprint(position, asked)) return make();
+    const key = keyOf(asked);
+    const alike = this.#known.get(key);
+    const found = alike?.find(({ fingerprint }) => areEqual(fingerprint, asked));
+    if (found !== undefined) return found.call;
+    const call = make();
+    this.#add(key, { fingerprint: asked.slice(), call });
+    return call;
+  }
+
+  /** @param {number} key @param {{ fingerprint: Int32Array, call: KnownCall }} entry */
+  #add(key, entry) {
+    if (this.#count === MOST) {
+      this.#known.clear();
+      this.#count = 0;
+    }
+    this.#count += 1;
+    const alike = this.#known.get(key);
+    if (alike === undefined) this.#known.set(key, [entry]);
+    else alike.push(entry);
+  }
+}
+
+/** @param {Int32Array} fingerprint @returns {number} of 30 bits */
+function keyOf(fingerprint) {
+  let key = 0;
+  for (let at = 0; at < FINGERPRINT; at += 1) key = (Math.imul(key, 31) + fingerprint[at]) | 0;
+  return key & 0x3fffffff;
+}
+
+/** @param {Int32Array} one @param {Int32Array} other */
+function areEqual(one, other) {
+  for (let at = 0; at < FINGERPRINT; at += 1) {
+    if (one[at] !== other[at]) return false;
+  }
+  return true;
+}

@@ -1,0 +1,34 @@
+// What an outcome has of a run's script: the script and its report, or why there is none, and what its calls returned.
+
+import { reportText } from "../../script/report.mjs";
+
+/** @typedef {import("./outcome.mjs").Outcome} Outcome */
+/** @typedef {import("./fitting.mjs").Fitted} Fitted */
+
+/**
+ * Adds the bytes at the end and the answers to an outcome.
+ * @param {Outcome} outcome
+ * @param {Fitted} fitted
+ * @param {string[]} bytes of each block at the end, in hexadecimal digits
+ * @param {number} agents how many make calls of their own
+ */
+export function addAnswers(outcome, { transcript }, bytes, agents) {
+  outcome.bytes = bytes;
+  const own = transcript.calls.slice(0, agents).map((calls) => calls.filter(({ isOwn }) => isOwn));
+  outcome.answers = own.map((calls) => calls.map(({ answer }) => answer));
+}
+
+/**
+ * Adds the script and its report to an outcome, or why there is none.
+ * @param {Outcome} outcome
+ * @param {Fitted} fitted
+ */
+export function addTexts(outcome, { transcript, script, holds, bytes = [], noScript }) {
+  if (script === undefined) {
+    outcome.noScript = noScript;
+    return;
+  }
+  outcome.script = script;
+  outcome.scriptHolds = holds;
+  outcome.report = reportText(transcript, bytes);
+}

@@ -1,0 +1,143 @@
+// Texts that are made of copies of what was written down, by calls that are remembered from run to run: they are the
+// same as without.
+
+import assert from "node:assert/strict";
+import { test } from "node:test";
+import { WORD, wordsFor } from "../lib/memory/layout.mjs";
+import { Log } from "../lib/memory/log.mjs";
+import { Memory } from "../lib/memory/memory.mjs";
+import { Records } from "../lib/memory/records.mjs";
+import { viewName } from "../lib/memory/spelling.mjs";
+import { Stores, TakenStores } from "../lib/memory/stores.mjs";
+import { Names } from "../lib/options/names.mjs";
+import { KnownCalls } from "../lib/run/known-calls.mjs";
+import { transcriptOf } from "../lib/run/transcript.mjs";
+import { reportText } from "../script/report.mjs";
+import { scriptText } from "../script/text.mjs";
+
+const LENGTHS = [32, 32];
+const INT32 = 5;
+const BIG_INT_64 = 9;
+const [LOAD, COMPARE_EXCHANGE, WAIT] = [0, 8, 9];
+const VIEW = { kind: INT32, block: 0, offset: 0, length: 8 };
+const CALL = { call: COMPARE_EXCHANGE, ...VIEW, index: 1, operands: [1, 2], limit: undefined };
+const WAITING = { ...CALL, call: WAIT, operands: [1], limit: 7 };
+
+/** Calls with what they returned, each of which differs from one of the first two in one thing. */
+const MADE = [
+  { call: CALL, answer: 1 },
+  { call: WAITING, answer: "ok" },
+  { call: { ...CALL, kind: INT32 + 1 }, answer: 1 },
+  { call: { ...CALL, block: 1 }, answer: 1 },
+  { call: { ...CALL, offset: 4 }, answer: 1 },
+  { call: { ...CALL, length: 7 }, answer: 1 },
+  { call: { ...CALL, index: 2 }, answer: 1 },
+  { call: { ...CALL, index: 2 ** 32 + 1 }, answer: 1 },
+  { call: { ...CALL, operands: [3, 2] }, answer: 1 },
+  { call: { ...CALL, operands: [1, 3] }, answer: 1 },
+  { call: { ...CALL, operands: [1, 2 ** 32 + 2] }, answer: 1 },
+  { call: { ...CALL, operands: [1n, 2n] }, answer: 1 },
+  { call: { ...CALL, operands: [5n, 2n] }, answer: 1 },
+  { call: { ...CALL, operands: [1n, 5n] }, answer: 1 },
+  { call: CALL, answer: 2 },
+  { call: CALL, answer: 2 ** 32 + 1 },
+  { call: CALL, answer: 1n },
+  { call: CALL, answer: 2n },
+  // It is looked for in the same place as the call on the next element that returned 1.
+  { call: CALL, answer: 31 ** 3 + 1 },
+  { call: CALL, answer: "RangeError" },
+  { call: CALL, answer: "TypeError" },
+  { call: CALL },
+  { call: { ...CALL, call: LOAD, operands: [] }, answer: 1 },
+  { call: { ...WAITING, limit: 8 }, answer: "ok" },
+  { call: { ...WAITING, limit: 2 ** 32 + 7 }, answer: "ok" },
+  { call: { ...WAITING, limit: 0 }, answer: "ok" },
+  { call: { ...WAITING, limit: undefined }, answer: "ok" },
+  { call: WAITING, answer: "not-equal" },
+  { call: WAITING, answer: "ok", joins: true },
+  { call: { ...CALL, kind: BIG_INT_64, length: 4, operands: [1n, 2n] }, answer: 3n },
+];
+
+/**
+ * A run of one agent that makes some calls.
+ * @param {typeof MADE} made
+ * @param {import("../lib/options/names.mjs").Name[]} names
+ */
+function runOf(made, names = []) {
+  const records = new Records(Records.memory());
+  const log = new Log(Log.memory(made.length), new Int32Array(1), 0);
+  made.forEach(({ call, answer, joins }, position) => {
+    records.begin(position, call);
+    if (joins) records.join(position);
+    if (answer !== undefined) records.answer(position, answer);
+    log.append(joins ? 1 : 0, 0, call.call, 0, position, call.block, 0, 4, call, 0);
+  });
+  return { log, records: [records], lengths: LENGTHS, canBlock: [true], names: new Names(names) };
+}
+
+/** @param {import("../lib/run/transcript.mjs").Run} run */
+function textsOf(run) {
+  const transcript = transcriptOf(run, []);
+  return [scriptText(transcript), reportText(transcript, ["00", "00"])];
+}
+
+const NAMES = [{ name: "LOCK", kind: INT32, block: 0, offset: 4, length: 1 }];
+
+for (const [what, names] of [["without names", []], ["with a name", NAMES]]) {
+  test(`calls that differ in anything have texts of their own, ${what}`, () => {
+    const known = new KnownCalls();
+    for (let time = 0; time < 2; time += 1) {
+      for (const made of MADE) {
+        const run = runOf([made], names);
+        assert.deepEqual(textsOf({ ...run, known }), textsOf(run));
+      }
+    }
+  });
+}
+
+test("views come in the order of a run's own first calls, whatever other runs have used", () => {
+  const known = new KnownCalls();
+  const [first, ...others] = MADE.filter(({ answer }) => answer === 1);
+  for (const made of [[first, ...others], [...others].reverse(), [first], [first, first], others]) {
+    const [script] = textsOf({ ...runOf(made), known });
+    const names = made.map(({ call }) => viewName(LENGTHS, call));
+    assert.deepEqual(JSON.parse(script).views.map(({ name }) => name), [...new Set(names)]);
+  }
+});
+
+test("more calls than are remembered have their texts too", () => {
+  const known = new KnownCalls();
+  for (let from = 0; from < 10_000; from += 1_000) {
+    const run = runOf(Array.from({ length: 1_000 }, (_, at) => ({ call: CALL, answer: from + at })));
+    assert.deepEqual(textsOf({ ...run, known }), textsOf(run));
+  }
+});
+
+test("records and stores that were taken stay as they were when the next run writes others", () => {
+  const { records: [records], ...run } = runOf(MADE);
+  const before = textsOf({ ...run, records: [records] });
+  const copy = new Records(records.taken(MADE.length));
+  for (let position = 0; position < MADE.length; position += 1) records.begin(position, { ...CALL, index: 7 });
+  assert.deepEqual(textsOf({ ...run, records: [copy] }), before);
+  assert.notDeepEqual(textsOf({ ...run, records: [records] }), before);
+  assert.equal(records.taken(0).byteLength, 0);
+});
+
+test("stores that were taken are listed as they were", () => {
+  const bytes = new Uint8Array(new SharedArrayBuffer(16));
+  const memory = new Memory([bytes.buffer], [new SharedArrayBuffer(16)]);
+  const words = new Int32Array(wordsFor(2));
+  const stores = new Stores(Stores.memory([16]), words, memory);
+  stores.begin();
+  bytes.set([1, 2, 3, 4, 5], 3);
+  stores.takeWritten(1, 4, 0, 3, 8, 1);
+  const listed = () => stores.list().map((store) => ({ ...store, bytes: [...store.bytes] }));
+  const [before, taken] = [listed(), new TakenStores(stores.taken())];
+  assert.equal(before.length, 5);
+  stores.begin();
+  bytes.fill(9);
+  stores.takeChanged(0, 7, 0);
+  assert.notDeepEqual(listed(), before);
+  assert.deepEqual(taken.list().map((store) => ({ ...store, bytes: [...store.bytes] })), before);
+  assert.equal(words[WORD.STORES] > 0, true);
+});
