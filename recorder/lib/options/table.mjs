@@ -45,7 +45,7 @@ const word = (words, help) => replayed(choice(words), words[0], help);
 /** @type {Readonly<Record<string, Option>>} by their names */
 export const OPTIONS = Object.freeze({
   module: { kind: PATH_OR_URL, of: LIBRARY },
-  program: { kind: named("the name of a program's main module"), of: COMMAND, isShared: true,
+  program: { kind: { ...PATH_OR_URL, text: named("the name of a program's main module").text }, of: ALL, isShared: true,
     help: ["FILE", "runs a program of several threads, in place of a module of agents: FILE is its main module, and it "
     + "makes its threads and its shared memory itself"] },
   agents: rule(AGENTS, undefined, ["N", "how many agents; else the module's `setup` says it"]),
@@ -81,7 +81,7 @@ export const OPTIONS = Object.freeze({
   unrecorded: word(["fail", "allow"],
     ["HOW", "shared memory that isn't recorded, as a SharedArrayBuffer that the code makes itself. fail: a run in which "
     + "agents use some fails; allow: it is only reported (fail)"]),
-  stuck: { kind: choice(["fail", "allow"]), of: COMMAND, isShared: true,
+  stuck: { kind: choice(["fail", "allow"]), of: ALL, isShared: true, isReplayed: true,
     help: ["HOW", "fail: a run of a program that is stuck fails; allow: it is only reported, as for a program that people "
     + "end by Ctrl-C (fail)"] },
   clock: word(["run", "real"],

@@ -1,4 +1,4 @@
-// A trial of a module of agents in somebody's test suite: it fails as an assertion does where a run fails.
+// A trial of a module of agents, or of a program, in somebody's test suite: it fails as an assertion does where a run fails.
 
 import { AssertionError } from "node:assert";
 import { resolve } from "node:path";
@@ -19,6 +19,7 @@ import { keptFolder } from "./kept-folder.mjs";
 /** @typedef {import("../library/recorder.mjs").Outcome} Outcome */
 /** @typedef {import("../seeds/runs.mjs").Runs} Runs */
 /** @typedef {import("../library/library-options.mjs").TrialOptions} TrialOptions */
+/** @typedef {import("../library/library-options.mjs").ProgramTrialOptions} ProgramTrialOptions */
 
 /**
  * @typedef {object} Caller whose code asks for the trial
@@ -81,7 +82,7 @@ function atCaller(problem, place) {
 /**
  * Makes runs until one fails. If it fails only after the early end of a timed wait, runs are made until one fails
  * without that.
- * @param {TrialOptions} given
+ * @param {TrialOptions | ProgramTrialOptions} given
  * @param {Caller} caller
  * @returns {Promise<string>} what is to be said where none failed; fails with an AssertionError where one did
  */
@@ -93,7 +94,7 @@ export async function tried(given, caller) {
   }
 }
 
-/** @param {TrialOptions} given @param {Caller} caller @returns {Promise<string>} as above */
+/** @param {TrialOptions | ProgramTrialOptions} given @param {Caller} caller @returns {Promise<string>} as above */
 async function passedOf(given, caller) {
   const { out, shorten = true, ...options } = checkedOwn(given);
   const passed = new Passed();
