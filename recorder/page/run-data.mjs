@@ -52,7 +52,8 @@
  * @typedef {object} Command words of a shell
  * @property {string} options the program, the module and the options that the run depends on
  * @property {string} args what stands behind the options, for the agents
- * @property {string} script the path of the run's script
+ * @property {string} script the path of the run's script, or of the file that has its row
+ * @property {boolean} [isOfRow] whether it makes this run alone, by its row, and no other schedule
  */
 
 export {};

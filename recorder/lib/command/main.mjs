@@ -10,6 +10,7 @@ import { endBy, Interrupted } from "./interruption.mjs";
 import { optionsOf } from "./options.mjs";
 import { print } from "./print.mjs";
 import { toldOf } from "./problems.mjs";
+import { ProgramReplay } from "./replay-program.mjs";
 import { Replay } from "./replay.mjs";
 import { Session } from "./session.mjs";
 import { STATUS } from "./status.mjs";
@@ -23,7 +24,7 @@ function isFile(url) {
   }
 }
 
-/** @param {import("./options.mjs").Options} options @returns {string} the URL of what is run */
+/** @param {{ module: string, isProgram: boolean }} options @returns {string} the URL of what is run */
 function existing({ module, isProgram }) {
   const url = moduleUrl(module);
   if (!isFile(url)) throw new Refused(`there is no file ${module}`);
@@ -48,9 +49,11 @@ async function run(words, job) {
       await print(asked.text);
       return { failed: false, problems: [] };
     }
-    const module = existing(asked);
-    if (asked.replay === undefined) return await new Session(asked, module, job).run();
-    return await new Replay(asked, module, asked.replay).run();
+    const { replay, isProgram } = asked;
+    if (replay !== undefined && isProgram) return await new ProgramReplay(asked, replay).run();
+    const module = existing(/** @type {any} */ (asked));
+    if (replay === undefined) return await new Session(asked, module, job).run();
+    return await new Replay(asked, module, replay).run();
   } catch (problem) {
     return { failed: false, problems: [problem] };
   } finally {

@@ -3,6 +3,7 @@
 import { Difference } from "../check/check.mjs";
 import { howMade } from "../keeping/how-made.mjs";
 import { Keeper, missingFiles } from "../keeping/keep.mjs";
+import { keepProgram } from "../keeping/kept-program.mjs";
 import { keepPictures, notesOn } from "../keeping/pictures.mjs";
 import { collectGarbage, onceMore, stopGrowth } from "../processes/garbage.mjs";
 import { preloads } from "../processes/preloads.mjs";
@@ -146,8 +147,9 @@ export class Session {
       keeper.keepAll(seed, { json: script, report, "trace.jsonl": trace, ...theirs });
     } else if (failing !== undefined && keeper.seed === failing.seed) {
       const outcome = shortened?.shortest ?? failing;
+      const notKept = keepProgram(keeper, outcome, this.options);
       const how = { simulator: this.simulator, ...howMade(this.options) };
-      this.leftOut.push(...keepPictures(keeper, outcome, how), ...missingFiles(outcome));
+      this.leftOut.push(...notKept, ...keepPictures(keeper, outcome, how), ...missingFiles(outcome));
       this.notes.push(...notesOn(keeper, outcome));
     } else if (failing !== undefined) {
       this.leftOut.push(...missingFiles(failing));

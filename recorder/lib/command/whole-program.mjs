@@ -1,5 +1,6 @@
 // What the command line runs: a module of agents, or a whole program.
 
+import { PROGRAM_ENDING } from "../keeping/kept-program.mjs";
 import { needFitting } from "../options/of-programs.mjs";
 import { Refused } from "../options/refused.mjs";
 import { wordOf } from "../options/table.mjs";
@@ -8,7 +9,7 @@ import { wordOf } from "../options/table.mjs";
  * The file that is run, and whether it is a program.
  * @param {Record<string, any>} given what the options say
  * @param {string[]} positionals the words that are no options
- * @returns {{ module: string, isProgram: boolean }}
+ * @returns {{ module: string | undefined, isProgram: boolean }} no file where a kept run says which program it is of
  * @throws {Refused}
  */
 export function runFrom(given, positionals) {
@@ -17,8 +18,9 @@ export function runFrom(given, positionals) {
     throw new Refused(`--program ${program} runs a program, so there can't be a module of agents, ${positionals[0]}, too: `
       + "what the program gets stands behind --");
   }
-  needFitting(given, (name) => `--${wordOf(name)}`);
-  if (program !== undefined) return { module: program, isProgram: true };
+  const isKept = positionals.length === 0 && given.replay?.endsWith(`.${PROGRAM_ENDING}`) === true;
+  needFitting(isKept ? { program: given.replay, ...given } : given, (name) => `--${wordOf(name)}`);
+  if (program !== undefined || isKept) return { module: program, isProgram: true };
   if (positionals.length === 1) return { module: positionals[0], isProgram: false };
   const why = positionals.length === 0 ? "the agents' module is missing" : "there may be one module of agents only";
   throw new Refused(`${why}; --help shows more`);

@@ -4,6 +4,7 @@
 import { join } from "node:path";
 import { hasFloats } from "../../script/written.mjs";
 import { aboutOf } from "./about.mjs";
+import { PROGRAM_ENDING } from "./kept-program.mjs";
 import { pageText } from "./page.mjs";
 
 /** @typedef {import("../run/outcome.mjs").Outcome} Outcome */
@@ -21,7 +22,7 @@ import { pageText } from "./page.mjs";
  * @property {string} module the URL of the agents' module
  * @property {string} options of the command line that aren't as they are by themselves; empty: none
  * @property {Omit<import("../../page/run-data.mjs").Command, "script">} [command] that makes the run again, by its
- * script; undefined: none does
+ * script or by its row; undefined: none does
  */
 
 /** @typedef {ReturnType<typeof aboutOf>} Told how a run was made, as its page says it */
@@ -81,7 +82,8 @@ function replayed(simulator, format, script) {
 export function keepPictures(keeper, outcome, { simulator, ...how }) {
   const { seed, script } = outcome;
   if (script === undefined) return [];
-  const told = aboutOf(how, join(keeper.folder, keeper.nameOf(seed, "json")), simulator.version);
+  const again = how.command?.isOfRow ? PROGRAM_ENDING : "json";
+  const told = aboutOf(how, join(keeper.folder, keeper.nameOf(seed, again)), simulator.version);
   return PICTURES.flatMap((picture) => {
     const { ending } = picture;
     try {

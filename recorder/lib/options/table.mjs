@@ -113,8 +113,8 @@ export const OPTIONS = Object.freeze({
   shorten: { kind: FLAG, of: ["record"] },
   replay: { kind: named("the name of a script that was kept"), of: COMMAND,
     help: ["FILE", "runs the agents once more, by the row of a script that was kept or written, in this process, so "
-    + "that a debugger can stop in them (node --inspect-brk recorder/record.mjs ..); status 3 where the code no longer does "
-    + "what stands in the script"] },
+    + "that a debugger can stop in them (node --inspect-brk recorder/record.mjs ..); or a program, by its kept "
+    + "seed-N.program.json; status 3 where the code no longer does the same"] },
   signal: { kind: SIGNAL, of: ["explore"] },
   trace: { kind: FLAG, of: LIBRARY, ifNone: false },
   help: { kind: FLAG, of: COMMAND, letter: "h", help: ["", "this text"] },

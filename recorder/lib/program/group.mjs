@@ -82,7 +82,9 @@ export class ProgramGroup extends Group {
     const all = seeds.map((wanted) => {
       this.#made += 1;
       const isFresh = wanted.isFresh || this.options.fresh || this.#made % MOST_RUNS === 0;
-      return { ...wanted, isFresh, isSilent: wanted.isSilent || wanted.seed !== this.#loud };
+      const isSilent = wanted.isSilent || wanted.seed !== this.#loud;
+      // A script alone doesn't make a program's run again: that needs its row.
+      return { ...wanted, isFresh, isSilent, tellsRow: true };
     });
     return super.run(all, onOutcome);
   }

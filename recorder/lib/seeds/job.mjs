@@ -33,7 +33,7 @@ import { simulatorAt } from "../simulator/chosen.mjs";
  * @param {Checked} outcome
  * @returns {Checked}
  */
-function lightened({ script, report, trace, accesses, sources, bytes, answers, ...rest }) {
+function lightened({ script, report, trace, accesses, sources, bytes, answers, row, ...rest }) {
   return rest;
 }
 

@@ -6,6 +6,7 @@ import { OnlyByTime, onlyByTimeLines } from "../command/only-by-time.mjs";
 import { isExpected, toldOf } from "../command/problems.mjs";
 import { howMade } from "../keeping/how-made.mjs";
 import { Keeper, missingFiles } from "../keeping/keep.mjs";
+import { keepProgram } from "../keeping/kept-program.mjs";
 import { keepPictures, notesOn } from "../keeping/pictures.mjs";
 import { runsOf } from "../library/explore.mjs";
 import { checkedOwn } from "../library/library-options.mjs";
@@ -162,7 +163,8 @@ function keptLines({ failing, outcome }, options, folder, simulator) {
     const keeper = new Keeper(resolve(folder()), "`out`");
     keeper.keepFirst(failing);
     if (outcome !== failing) keeper.keepShortest(failing, outcome);
-    const notKept = [...keepPictures(keeper, outcome, { simulator, ...howMade(options) }), ...missingFiles(outcome)];
+    const noRow = keepProgram(keeper, outcome, options);
+    const notKept = [...noRow, ...keepPictures(keeper, outcome, { simulator, ...howMade(options) }), ...missingFiles(outcome)];
     const kept = keeper.names.length === 0 ? [] : [`kept in ${keeper.folder}: ${keeper.names.join(", ")}`];
     return [...kept, ...notesOn(keeper, outcome), ...notKept];
   } catch (problem) {
