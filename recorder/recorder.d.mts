@@ -112,6 +112,8 @@ export interface OfProgram {
   module?: undefined;
   /** Whether a run that is stuck fails; else "fail". It is stuck if nothing can move and something keeps it alive. */
   stuck?: "fail" | "allow";
+  /** Of which runs it is shown, on standard error, what the program prints; else of the first one. */
+  programOutput?: "all" | "none";
 }
 
 /** What one run may have besides. */
@@ -203,7 +205,7 @@ export interface Outcome {
   noTrace?: string;
   /** The code of each file that the trace names; null where it can't be read, or is longer than 2^20 characters. */
   sources?: { file: string; text: string | null }[];
-  /** Which agent moved with each draw, in order; told of the shortest run. */
+  /** Which agent moved with each draw, in order; told of the shortest run, and of a program. */
   row?: number[];
   /** Of a failing run in which a timed wait has ended early: what time must pass for that, and before what. */
   onlyIf?: string;

@@ -34,7 +34,7 @@ export class ProgramReplay extends Replaying {
   /** @returns {Promise<Checked>} */
   made() {
     const { module, row, seed } = this;
-    return this.one(seed, { module, wanted: { row, isExact: true, tellsRow: true } });
+    return this.one(seed, { module, wanted: { row, isExact: true, tellsRow: true, isShown: true } });
   }
 
   /** @param {Checked} outcome @returns {string | undefined} */

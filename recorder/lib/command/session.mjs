@@ -84,7 +84,7 @@ export class Session {
     return { failed: this.summary.failed > 0, problems };
   }
 
-  /** Makes the runs, and looks for the shortest one that fails as the one that is kept, which it then replaces. */
+  /** Makes the runs, looks for the shortest one that fails as the one that is kept, and shows what a program prints. */
   async #record() {
     collectGarbage();
     stopGrowth();
@@ -92,14 +92,24 @@ export class Session {
     try {
       for await (const outcome of runs.outcomes()) if (this.#isLast(outcome)) break;
       summary.remembers = await runs.firstAgain();
-      const found = this.#toShorten();
-      if (found === undefined) return;
-      summary.shortened = await runs.shorten(found, (tried) => this.progress.showShortening(found.seed, tried));
-      const { shortest } = summary.shortened;
-      if (shortest !== undefined) this.keeper?.keepShortest(found, shortest);
+      await this.#shorten();
+      const failing = this.#failing();
+      if (failing !== undefined && failing.seed === this.keeper?.seed) {
+        await runs.showOutput(failing, summary.shortened?.shortest);
+      }
     } finally {
       this.closed = runs.close();
     }
+  }
+
+  /** Looks for the shortest run that fails as the one that is kept, which it then replaces. */
+  async #shorten() {
+    const { runs, summary } = this;
+    const found = this.#toShorten();
+    if (found === undefined) return;
+    summary.shortened = await runs.shorten(found, (tried) => this.progress.showShortening(found.seed, tried));
+    const { shortest } = summary.shortened;
+    if (shortest !== undefined) this.keeper?.keepShortest(found, shortest);
   }
 
   /**

@@ -11,6 +11,11 @@ const WITHOUT = Object.freeze({
   init: AGENTS_ONLY, check: AGENTS_ONLY, ordinary: NOT_YET, clock: NOT_YET, untilCovered: NOT_YET,
 });
 
+/** Options that say something of programs alone; and why. */
+const OF_PROGRAMS = Object.freeze({
+  stuck: "only programs can be stuck", programOutput: "what agents print is always shown",
+});
+
 /**
  * Refuses options that don't go with what is run.
  * @param {Record<string, any>} given what was given, by the options' names
@@ -20,8 +25,10 @@ const WITHOUT = Object.freeze({
 export function needFitting(given, spelled) {
   const { program, timeouts } = given;
   if (program === undefined) {
-    if (given.stuck === undefined) return;
-    throw new Refused(`${spelled("stuck")} stands beside ${spelled("program")}: only programs can be stuck`);
+    for (const [name, why] of Object.entries(OF_PROGRAMS)) {
+      if (given[name] !== undefined) throw new Refused(`${spelled(name)} stands beside ${spelled("program")}: ${why}`);
+    }
+    return;
   }
   const without = `can't stand beside ${spelled("program")}`;
   for (const [name, why] of Object.entries(WITHOUT)) {

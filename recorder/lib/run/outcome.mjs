@@ -53,6 +53,7 @@
  * @property {boolean} [tellsTrace] whether it has its trace in any case
  * @property {boolean} [tellsActs] whether the outcome has a digest of all that was done
  * @property {boolean} [isSilent] whether nothing is printed of what the agents print
+ * @property {boolean} [isShown] whether what a program prints is shown, though the run isn't the first one
  * @property {boolean} [isFresh] whether the agents' workers are started anew before
  */
 

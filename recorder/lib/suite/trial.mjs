@@ -139,7 +139,9 @@ async function failureOf(runs, failing, passed, { out, shorten, caller }) {
   const { module, sabsim } = options;
   const simulator = simulatorAt(sabsim || undefined);
   const besides = await rememberingLines(runs);
-  const outcome = shorten ? (await runs.shorten(failing)).shortest ?? failing : failing;
+  const { shortest } = shorten ? await runs.shorten(failing) : { shortest: undefined };
+  const outcome = shortest ?? failing;
+  await runs.showOutput(failing, shortest);
   const folder = () => out ?? keptFolder(module, testOf(caller));
   const kept = [...besides, ...keptLines({ failing, outcome }, options, folder, simulator)];
   return failureText({ outcome, passed, simulator, module, kept });
