@@ -205,6 +205,8 @@ export interface Outcome {
   noTrace?: string;
   /** The code of each file that the trace names; null where it can't be read, or is longer than 2^20 characters. */
   sources?: { file: string; text: string | null }[];
+  /** Of a program's run: each thread's file and where it was started; of the first one nothing. */
+  threads?: string[];
   /** Which agent moved with each draw, in order; told of the shortest run, and of a program. */
   row?: number[];
   /** Of a failing run in which a timed wait has ended early: what time must pass for that, and before what. */

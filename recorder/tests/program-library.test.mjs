@@ -134,7 +134,7 @@ test("`testProgram` fails with the finding, shortened and kept, and passes other
   `);
   assert.equal(status, 1);
   assert.match(output, /^not ok 1 - hands over$/m);
-  assert.match(output, /^ +seed \d+: race(; the (?:run|\d+ runs) before it passed)?\n +agent 1 writes Uint8_b0_at4\[4\] at too-soon-worker\.mjs:7:12/m);
+  assert.match(output, /^ +seed \d+: race(; the (?:run|\d+ runs) before it passed)?\n +agent 1 \(too-soon-worker\.mjs, started at too-soon\.mjs:7:1\) writes Uint8_b0_at4\[4\] \(too-soon\.mjs:4\) at too-soon-worker\.mjs:7:12/m);
   assert.match(output, /^ +> .* write +writes .*, at too-soon-worker\.mjs:7:12$/m);
   const names = readdirSync(join(folder, "found"));
   for (const ending of ["json", "trace.jsonl", "explained", "html"]) {

@@ -101,7 +101,11 @@ test("where the code does other things the first of them is named", (context) =>
       /: in the script comes agent 0's call \d+, \["load", "Int32_b0", 0\], and now agent 0's call \d+, \["load", "Int32_b0", 1\]$/],
     ["main", MAIN.replace("if (", "Atomics.add(words, 1, 2);\n if ("),
       /: in the script comes agent 0's call \d+, \["load", .*\], and now agent 0's call \d+, \["add", "Int32_b0", 1, 2\]$/],
-    ["worker", WORKER.replace('parentPort.postMessage("ready");', ""), /: agent \d moved with draw \d+ of the kept run, and now it has /],
+    ["worker", WORKER.replace('parentPort.postMessage("ready");', ""),
+      /: in the script comes agent 1's call \d+, \["notify", .*\], and now agent 1's call \d+, \["store", "Int32_b0", 0, 7\]$/],
+    // It makes no other call, and comes less far.
+    ["worker", WORKER.replace("setTimeout(done, 5)", 'parentPort.once("message", done)'),
+      /: agent \d moved with draw \d+ of the kept run, and now it has nothing to do, or waits$/],
   ];
   for (const [name, text, why] of changed) {
     const before = readFileSync(files[name], "utf8");

@@ -181,7 +181,7 @@ function partsOf(player, blocks, mesh) {
   const { agent, table: { board } } = player;
   const moves = new Moves(player, shared.buffers[MESSAGES]);
   const seen = watching.seen;
-  const buffers = new Buffers(blocks, mesh, { seen, refuse });
+  const buffers = new Buffers(blocks, mesh, { seen, refuse, named: nameBlock });
   const table = new PortTable(shared.ports);
   const all = new Threads(agent, board, table, moves);
   /** @type {{ loop?: Loop }} */
@@ -245,6 +245,9 @@ function taken({ mesh, ports, moves }) {
 /** @param {string} url @returns {string} the last part of its path */
 const fileName = (url) => (url.startsWith("data:") ? "a data: URL" : url.slice(url.lastIndexOf("/") + 1));
 
+/** @param {number} block @param {string} place where its memory was made */
+const nameBlock = (block, place) => new Keepers(shared.madeAt[block]).setName(place);
+
 /** @param {import("./workers.mjs").Start} start @returns {string} what the thread is, for people */
 const threadName = ({ url, isCode }) => (isCode ? "evaluated code" : fileName(url));
 
@@ -282,7 +285,7 @@ function begin(parts, graph) {
   });
   graph.begin();
   self.start = start;
-  parts.keepers.setName(`${threadName(start)}, started at ${start.where}`);
+  parts.keepers.setName(start.where === "" ? "" : `${threadName(start)}, started at ${start.where}`);
   if (agent !== 0) {
     ends.parentPort = parentPort;
     ports.send(parentPort, undefined, [], undefined, KIND.ONLINE);

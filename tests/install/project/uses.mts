@@ -80,7 +80,7 @@ function summary(outcome: Outcome): string {
   const answered = [...timed, ...answers.flat().map((answer) => answer ?? "waits")];
   const stands = standing.map(standingText);
   return [...numbers, ...texts, ...bytes, ...answered, ...stands, script?.length, scriptHolds, noScript, report, trace,
-    ...unrecorded, remembers?.seed, remembers?.differs, remembers?.was, remembers?.is, remembers?.threw].join(" ");
+    ...unrecorded, ...(outcome.threads ?? []), remembers?.seed, remembers?.differs, remembers?.was, remembers?.is, remembers?.threw].join(" ");
 }
 
 export async function told(): Promise<string> {
