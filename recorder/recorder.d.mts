@@ -15,8 +15,8 @@ export function record(options: RecordOptions): Promise<Outcome>;
 
 /**
  * Runs the agents of a module, or a program, under the schedules of many seeds, by workers that are kept from seed to
- * seed. The outcomes come in the order of the seeds. Runs that fail, and one in `checkEvery` of the others, are told whole, and
- * checked by the simulator. Runs are made only so far ahead of who takes their outcomes; and when no more is
+ * seed. The outcomes come in the order of the seeds. Runs that fail, and one in `checkEvery` of the others, are told
+ * whole, and checked by the simulator. Runs are made only so far ahead of who takes their outcomes; and when no more is
  * asked for, as after a `break`, all workers and processes are ended. Throws `Refused` for options that can't be, and
  * `NoSabsim`; fails with `Refused` for a module that can't be, with a `Difference`, with `LostJob`, and with its
  * signal's reason.

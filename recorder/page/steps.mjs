@@ -196,7 +196,7 @@ export class Stepper {
     });
   }
 
-  /** @param {Entry} entry @returns {string | undefined} that a program's message is sent or received; undefined: none is */
+  /** @param {Entry} entry @returns {string | undefined} that a program's message is sent or received, if one is */
   #messageText({ agent, does: [name], place }) {
     const { senders, blocks } = this.data;
     if (senders === undefined || name !== "notify" || place?.block !== blocks.length - 1) return undefined;

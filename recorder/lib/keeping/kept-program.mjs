@@ -86,7 +86,9 @@ function isStretch(pair) {
  * @returns {number[]}
  */
 function rowFrom(given, refuse) {
-  if (!Array.isArray(given) || !given.every(isStretch)) refuse("its row must have pairs of a thread and a number of draws");
+  if (!Array.isArray(given) || !given.every(isStretch)) {
+    refuse("its row must have pairs of a thread and a number of draws");
+  }
   const stretches = /** @type {[number, number][]} */ (given).map(([agent, draws]) => ({ agent, draws }));
   const length = stretches.reduce((sum, { draws }) => sum + draws, 0);
   if (length > MOST_DRAWS) refuse(`its row has ${length} draws, and there can be ${MOST_DRAWS}`);

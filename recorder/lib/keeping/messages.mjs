@@ -1,5 +1,5 @@
-// The messages of a program's run, in its report: each is sent by a notify at a place of its own, and received by another
-// one there.
+// The messages of a program's run, in its report: each is sent by a notify at a place of its own, and received by
+// another one there.
 
 import { MESSAGES } from "../memory/blocks.mjs";
 

@@ -70,9 +70,11 @@ const SURFACE_MODULE = new URL("./surface.mjs", import.meta.url);
 const chance = new Chance();
 const placeNames = new SourceNames(program);
 
+/** @typedef {import("./workers.mjs").Start} Start */
+
 /**
  * What the thread is; nothing before it knows which one.
- * @type {{ player: Player | undefined, buffers: Buffers | undefined, start: import("./workers.mjs").Start | undefined }}
+ * @type {{ player: Player | undefined, buffers: Buffers | undefined, start: Start | undefined }}
  */
 const self = { player: undefined, buffers: undefined, start: undefined };
 

@@ -1,5 +1,5 @@
-// The threads and blocks of a program, as texts about its runs name them: a thread by its file and where it was started,
-// a block by where its memory was made.
+// The threads and blocks of a program, as texts about its runs name them: a thread by its file and where it was
+// started, a block by where its memory was made.
 
 /**
  * @typedef {object} ProgramNames
@@ -21,6 +21,9 @@ export function blockNames(places) {
   });
 }
 
+/** A mention of a thread; of a block; and of an element by its view's name, which has the block's number. */
+const MENTION = /\bagent (\d+)(?= )|\bblock (\d+)\b|\b[A-Z]\w*_b(\d)(?:_\w+)?\[\d+\]/g;
+
 /**
  * A text in which the first mention of each thread and block has its name.
  * @param {string} text
@@ -35,7 +38,7 @@ export function namedText(text, { threads, blocks }) {
     known.add(key);
     return `${found} (${name})`;
   };
-  return text.replace(/\bagent (\d+)(?= )|\bblock (\d+)\b|\b[A-Z]\w*_b(\d)(?:_\w+)?\[\d+\]/g, (found, agent, block, viewed) => {
+  return text.replace(MENTION, (found, agent, block, viewed) => {
     if (agent !== undefined) return named(found, `agent ${agent}`, threads[agent]);
     const number = block ?? viewed;
     return named(found, `block ${number}`, blocks[number]);

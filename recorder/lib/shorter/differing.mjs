@@ -81,11 +81,13 @@ export function firstOtherText(kept, now) {
   const at = now.steps.findIndex((step, number) => nameOf(step) !== nameOf(kept.steps[number]));
   if (at < 0) return undefined;
   const [was, is] = [kept.steps[at], now.steps[at]];
-  const text = `agent ${is.agent}'s ${is.isOwn ? "call" : "ordinary write before its call"} ${is.call}, ${is.text}`;
-  if (was === undefined) return `the script ends before ${text}`;
-  const before = `agent ${was.agent}'s ${was.isOwn ? "call" : "ordinary write before its call"} ${was.call}, ${was.text}`;
-  return `in the script comes ${before}, and now ${text}`;
+  if (was === undefined) return `the script ends before ${stepText(is)}`;
+  return `in the script comes ${stepText(was)}, and now ${stepText(is)}`;
 }
+
+/** @param {Step} step in words */
+const stepText = ({ agent, isOwn, call, text }) =>
+  `agent ${agent}'s ${isOwn ? "call" : "ordinary write before its call"} ${call}, ${text}`;
 
 /**
  * How a run of a program has strayed from the row of a kept one.

@@ -1,4 +1,5 @@
-// A trial of a module of agents, or of a program, in somebody's test suite: it fails as an assertion does where a run fails.
+// A trial of a module of agents, or of a program, in somebody's test suite: it fails as an assertion does where a run
+// fails.
 
 import { AssertionError } from "node:assert";
 import { resolve } from "node:path";
@@ -166,7 +167,8 @@ function keptLines({ failing, outcome }, options, folder, simulator) {
     keeper.keepFirst(failing);
     if (outcome !== failing) keeper.keepShortest(failing, outcome);
     const noRow = keepProgram(keeper, outcome, options);
-    const notKept = [...noRow, ...keepPictures(keeper, outcome, { simulator, ...howMade(options) }), ...missingFiles(outcome)];
+    const pictures = keepPictures(keeper, outcome, { simulator, ...howMade(options) });
+    const notKept = [...noRow, ...pictures, ...missingFiles(outcome)];
     const kept = keeper.names.length === 0 ? [] : [`kept in ${keeper.folder}: ${keeper.names.join(", ")}`];
     return [...kept, ...notesOn(keeper, outcome), ...notKept];
   } catch (problem) {
