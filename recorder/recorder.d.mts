@@ -7,16 +7,16 @@ type ModuleUrl = typeof globalThis extends { URL: new (...given: never[]) => inf
 type StopSignal = typeof globalThis extends { AbortSignal: { prototype: infer Signal } } ? Signal : never;
 
 /**
- * Runs the agents of a module once, under the schedule of one seed. The simulator checks the run, unless
+ * Runs the agents of a module, or a program, once, under the schedule of one seed. The simulator checks the run, unless
  * `sabsim` is false. Fails with `Refused` for options or a module that can't be, with a `Difference` if the simulator
  * says something else, and with `NoSabsim` if the native program is chosen and isn't there.
  */
 export function record(options: RecordOptions): Promise<Outcome>;
 
 /**
- * Runs the agents of a module under the schedules of many seeds, by workers that are kept from seed to seed. The
- * outcomes come in the order of the seeds. Runs that fail, and one in `checkEvery` of the others, are told whole, and
- * checked by the simulator. Runs are made only so far ahead of who takes their outcomes; and when no more is
+ * Runs the agents of a module, or a program, under the schedules of many seeds, by workers that are kept from seed to
+ * seed. The outcomes come in the order of the seeds. Runs that fail, and one in `checkEvery` of the others, are told
+ * whole, and checked by the simulator. Runs are made only so far ahead of who takes their outcomes; and when no more is
  * asked for, as after a `break`, all workers and processes are ended. Throws `Refused` for options that can't be, and
  * `NoSabsim`; fails with `Refused` for a module that can't be, with a `Difference`, with `LostJob`, and with its
  * signal's reason.
@@ -46,23 +46,12 @@ export class Difference extends Error {
   judged?: string;
 }
 
-export interface RecordOptions {
-  /** The agents' module: a URL, or a path, from the folder of the file that calls `record`. */
-  module: string | ModuleUrl;
-  /** How many agents, 1 to 16; else what the module's `setup` says. */
-  agents?: number;
-  /** The bytes of each buffer: one to four, each 0 to 65,536; else what the module's `setup` says. */
-  buffers?: number[];
-  /** The agents that can't block; else what the module's `setup` says, and else none. */
-  noBlock?: number[];
-  /** A whole number from 0 to 2^53 - 1; else 1. */
-  seed?: number;
-  /** For the agents; else none. */
+/** What each run may have. */
+export interface RunOptions {
+  /** For the agents, or for the program; else none. */
   args?: string[];
   /** Who moves next; else "mixed". */
   strategy?: "mixed" | "uniform" | "partial-order" | `switch:${number}`;
-  /** Whether agents are switched before each call, also where pilots have shown that none can meet another. */
-  everywhere?: boolean;
   /**
    * From 0 to 1: in how many of the draws the early end of a timed wait is offered while something else can move. 0:
    * time passes only if nothing else can move. "never": no timed wait ends by itself. Else 0.05.
@@ -72,8 +61,6 @@ export interface RecordOptions {
   maxMoves?: number;
   /** For how many seconds an agent may make no call, above 0 and 3,600 at most; else 10. */
   seconds?: number;
-  /** What is done with ordinary reads and writes; else "watch". */
-  ordinary?: "watch" | "store" | "refuse";
   /**
    * Whether a run with unordered accesses fails; else "fail". Two accesses of different agents are unordered if they
    * touch the same byte, one of them writes, they aren't both by Atomics on the same bytes, and nothing orders them.
@@ -81,6 +68,27 @@ export interface RecordOptions {
   races?: "fail" | "allow";
   /** Whether a run that meets a bound fails; else "fail". */
   bounds?: "fail" | "allow";
+  /** The path of the native program, which checks runs in place of the module. False: runs aren't checked. */
+  sabsim?: string | boolean;
+  /** Whether the outcome has its trace. */
+  trace?: boolean;
+}
+
+/** What the runs of a module of agents have. */
+export interface OfModule {
+  /** The agents' module: a URL, or a path, from the folder of the file that calls `record`. */
+  module: string | ModuleUrl;
+  program?: undefined;
+  /** How many agents, 1 to 16; else what the module's `setup` says. */
+  agents?: number;
+  /** The bytes of each buffer: one to four, each 0 to 65,536; else what the module's `setup` says. */
+  buffers?: number[];
+  /** The agents that can't block; else what the module's `setup` says, and else none. */
+  noBlock?: number[];
+  /** Whether agents are switched before each call, also where pilots have shown that none can meet another. */
+  everywhere?: boolean;
+  /** What is done with ordinary reads and writes; else "watch". */
+  ordinary?: "watch" | "store" | "refuse";
   /**
    * Whether a run fails in which agents use shared memory that isn't recorded, as a SharedArrayBuffer that their code
    * makes itself; else "fail".
@@ -95,16 +103,29 @@ export interface RecordOptions {
    * `false` or an error that it answers.
    */
   check?: WithBuffers;
-  /** The path of the native program, which checks runs in place of the module. False: runs aren't checked. */
-  sabsim?: string | boolean;
-  /** Whether the outcome has its trace. */
-  trace?: boolean;
+}
+
+/** What the runs of a whole program have, which makes its threads and its shared memory itself. */
+export interface OfProgram {
+  /** The program's main module: a URL, or a path, from the folder of the file that calls `record`. */
+  program: string | ModuleUrl;
+  module?: undefined;
+  /** Whether a run that is stuck fails; else "fail". It is stuck if nothing can move and something keeps it alive. */
+  stuck?: "fail" | "allow";
+  /** Of which runs it is shown, on standard error, what the program prints; else of the first one. */
+  programOutput?: "all" | "none";
+}
+
+/** What one run may have besides. */
+export interface OneRun {
+  /** A whole number from 0 to 2^53 - 1; else 1. */
+  seed?: number;
   /** Whether the outcome of a run that fails is that of the shortest one that fails in the same way; else false. */
   shorten?: boolean;
 }
 
-/** The options of many runs: those of one, except its seed, and these. */
-export interface ExploreOptions extends Omit<RecordOptions, "seed" | "shorten"> {
+/** What many runs may have besides. */
+export interface ManyRuns {
   /** As "1..1000", which begins at 1 and ends at 1000; a number: so many of them, from 1 on; else "1..100". */
   seeds?: string | number | { first: number; last: number };
   /**
@@ -121,6 +142,12 @@ export interface ExploreOptions extends Omit<RecordOptions, "seed" | "shorten"> 
   /** Ends all runs when it is aborted. */
   signal?: StopSignal;
 }
+
+/** The options of one run: of a module of agents, or of a program. */
+export type RecordOptions = RunOptions & OneRun & (OfModule | OfProgram);
+
+/** The options of many runs: of a module of agents, or of a program. */
+export type ExploreOptions = RunOptions & ManyRuns & (OfModule | OfProgram);
 
 /** How a run ended; `race`: it finished, `check` found nothing, and it has unordered accesses. */
 export type Ending = "finished" | "deadlock" | "stuck" | "failed" | "check" | "race" | "bound";
@@ -178,7 +205,9 @@ export interface Outcome {
   noTrace?: string;
   /** The code of each file that the trace names; null where it can't be read, or is longer than 2^20 characters. */
   sources?: { file: string; text: string | null }[];
-  /** Which agent moved with each draw, in order; told of the shortest run. */
+  /** Of a program's run: each thread's file and where it was started; of the first one nothing. */
+  threads?: string[];
+  /** Which agent moved with each draw, in order; told of the shortest run, and of a program. */
   row?: number[];
   /** Of a failing run in which a timed wait has ended early: what time must pass for that, and before what. */
   onlyIf?: string;

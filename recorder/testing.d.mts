@@ -1,14 +1,23 @@
 // The types of `sabsim/test`. `tests/types` holds them against the code's own.
 
-import type { ExploreOptions } from "./recorder.mjs";
+import type { ManyRuns, OfModule, OfProgram, RunOptions } from "./recorder.mjs";
 
-/** What a trial is made by: the options of `explore` except `failFast`, and what is done with a failing run. */
-export interface TrialOptions extends Omit<ExploreOptions, "failFast"> {
+/** What is done with a failing run. */
+export interface OfTrial {
   /** The folder in which a failing run is kept, from the working directory; else a new one for temporary files. */
   out?: string;
   /** False: a failing run is shown and kept as it was found, and not the shortest that fails in the same way. */
   shorten?: boolean;
 }
+
+/** The runs of a trial: they have the options of `explore` except `failFast`, since the first failing one is the last. */
+export type TrialRuns = RunOptions & Omit<ManyRuns, "failFast"> & OfTrial;
+
+/** What a trial of a module of agents is made by. */
+export type TrialOptions = TrialRuns & OfModule;
+
+/** What a trial of a program is made by. */
+export type ProgramTrialOptions = TrialRuns & OfProgram;
 
 /**
  * A test of node:test that runs the agents of a module under the schedules of many seeds, up to the first run that
@@ -19,3 +28,9 @@ export function testAgents(name: string, options: TrialOptions): Promise<void>;
 
 /** The same as a part of any test: it fails with an AssertionError where a run fails. */
 export function assertAgents(options: TrialOptions): Promise<void>;
+
+/** A test of node:test that runs a whole program under the schedules of many seeds, as `testAgents` runs agents. */
+export function testProgram(name: string, options: ProgramTrialOptions): Promise<void>;
+
+/** The same as a part of any test: it fails with an AssertionError where a run fails. */
+export function assertProgram(options: ProgramTrialOptions): Promise<void>;

@@ -1,3 +1,3 @@
-// For test suites: `import { assertAgents, testAgents } from "sabsim/test"`.
+// For test suites: `import { assertAgents, assertProgram, testAgents, testProgram } from "sabsim/test"`.
 
-export { assertAgents, testAgents } from "./lib/suite/tests.mjs";
+export { assertAgents, assertProgram, testAgents, testProgram } from "./lib/suite/tests.mjs";

@@ -35,15 +35,16 @@ function copyButton(code) {
 const line = (name, ...parts) => made("p", "", made("span", "name", `${name}: `), ...parts);
 
 /** @param {RunData} data */
-export function showAbout({ about, command }) {
+export function showAbout({ about, command, threads = [] }) {
   const pane = by("about");
   pane.hidden = about === undefined;
   if (about === undefined) return;
   const { module, options, made: versions } = about;
   const code = made("code", "command", command === undefined ? "" : commandText(command));
   const again = command === undefined ? ["no command makes it again"] : [code, " ", copyButton(code)];
+  const started = threads.flatMap((name, agent) => (name === "" ? [] : [line(`Agent ${agent}`, name)]));
   pane.replaceChildren(
-    line("Run it again", ...again), line("Module", made("code", "", module)),
+    line("Run it again", ...again), line("Module", made("code", "", module)), ...started,
     line("Options", options === "" ? "none" : made("code", "", options)), line("Made by", versions),
   );
 }

@@ -36,6 +36,12 @@ function showChangedHead({ seed, module }) {
   by("detail").replaceChildren();
 }
 
+/** @param {RunData["command"]} command @returns {string | undefined} why it makes no changed schedule */
+function whyNone(command) {
+  if (command === undefined) return "no command makes the recorded run";
+  return command.isOfRow ? "the script doesn't have the turns of the program's event loops" : undefined;
+}
+
 /**
  * What is said about a changed schedule.
  * @param {RunData} data
@@ -45,7 +51,7 @@ function showChangedHead({ seed, module }) {
  */
 function notesOn({ command }, editing, name) {
   const note = "These are the recorded calls in another order, not the program: the code might take another path.";
-  const why = command === undefined ? "no command makes the recorded run" : editing && whyNotOnCode(editing);
+  const why = whyNone(command) ?? (editing && whyNotOnCode(editing));
   if (command === undefined || why !== undefined) return [note, `No command makes this schedule on the code: ${why}.`];
   const how = "Save the script. This command makes the schedule on the code, or says where the code does other things:";
   return [note, how, `$ ${command.options} --replay ${name}${command.args}`];

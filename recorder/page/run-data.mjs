@@ -36,6 +36,8 @@
  * @property {{ file: string, text: string | null }[]} files
  * @property {[number, number][]} races the two events of each, the most telling first
  * @property {"all" | "touched"} holds which ordinary writes the script has
+ * @property {string[]} [threads] of a program: each thread's file and where it was started; of the first one nothing
+ * @property {number[]} [senders] of a program: which thread has sent each message
  * @property {string} [script] its text, in a page that can change the schedule
  * @property {About} [about] how the run was made
  * @property {Command} [command] that makes the run again; undefined: none does
@@ -52,7 +54,8 @@
  * @typedef {object} Command words of a shell
  * @property {string} options the program, the module and the options that the run depends on
  * @property {string} args what stands behind the options, for the agents
- * @property {string} script the path of the run's script
+ * @property {string} script the path of the run's script, or of the file that has its row
+ * @property {boolean} [isOfRow] whether it makes this run alone, by its row, and no other schedule
  */
 
 export {};

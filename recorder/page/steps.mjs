@@ -41,6 +41,9 @@ import { callText, changesText, entryText, standingText, valueText } from "./wor
  * @property {Entry} [fact]
  */
 
+/** A message has a word of its own. */
+const WORD_BYTES = 4;
+
 export class Stepper {
   /** @param {RunData} data @param {Views} views */
   constructor(data, views) {
@@ -55,6 +58,8 @@ export class Stepper {
     this.known = { views: views.byName, waits: this.waits };
     this.entries = data.entries.filter(({ agent }) => agent < data.agents);
     this.next = 0;
+    /** @type {Set<number>} the messages of a program that were sent */
+    this.sent = new Set();
   }
 
   /** @returns {Step[]} */
@@ -180,13 +185,26 @@ export class Stepper {
     this.pending[agent] = [];
     if (what === "wait") this.waits[agent] = number;
     const [name] = does;
+    const message = this.#messageText(entry);
     const touches = at !== undefined && what !== "leave";
     const access = touches ? [this.#accessOf(entry, !["load", "wait", "notify"].includes(`${name}`))] : [];
     this.#add({
       what: what === "act" ? "call" : /** @type {"wait" | "leave"} */ (what),
-      agent, entry: number, event, place, sentence, text: callText(does), answer: answerText(entry),
+      agent, entry: number, event, place, sentence: message ?? sentence, text: message ?? callText(does),
+      answer: message === undefined ? answerText(entry) : "",
       accesses: access, stores: this.#storesOf(entry), fact: entry,
     });
+  }
+
+  /** @param {Entry} entry @returns {string | undefined} that a program's message is sent or received, if one is */
+  #messageText({ agent, does: [name], place }) {
+    const { senders, blocks } = this.data;
+    if (senders === undefined || name !== "notify" || place?.block !== blocks.length - 1) return undefined;
+    const message = place.byte / WORD_BYTES;
+    // A thread may send to itself.
+    const isSent = senders[message] === agent && !this.sent.has(message);
+    if (isSent) this.sent.add(message);
+    return `${isSent ? "sends" : "receives"} message ${message}`;
   }
 
   /** @param {Entry} entry @param {string} sentence */

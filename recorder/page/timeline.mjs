@@ -87,7 +87,12 @@ export class Timeline {
 
   #laneNames() {
     const lanes = made("span", "lanes");
-    for (let agent = 0; agent < this.run.data.agents; agent += 1) lanes.append(made("span", "lane", `${agent}`));
+    const { agents, threads = [] } = this.run.data;
+    for (let agent = 0; agent < agents; agent += 1) {
+      const lane = made("span", "lane", `${agent}`);
+      if (threads[agent]) lane.title = `agent ${agent}: ${threads[agent]}`;
+      lanes.append(lane);
+    }
     return lanes;
   }
 

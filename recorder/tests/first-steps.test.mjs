@@ -35,8 +35,8 @@ const PROGRAM = `
 
 test("a program in place of a module of agents is refused before it runs, and it is said what such a module is", async (context) => {
   const file = fileWith(context, "program.mjs", PROGRAM);
-  const why = `${file} is no module of agents, since it has no default export. If it is a program, write what one of `
-    + "its threads does as a function of a module: export default function agent({ buffers, agent }) { .. }";
+  const why = `${file} is no module of agents, since it has no default export. If it is a program, give it as `
+    + "`program` (--program). An agent is a function: export default function agent({ buffers, agent }) { .. }";
   assert.deepEqual(run(RECORD, [file]), { status: 2, output: "", errors: `record: ${why}\n` });
   const asked = record({ module: pathToFileURL(file), agents: 1, buffers: [4] });
   await assert.rejects(asked, (error) => error instanceof Refused && error.message === why);

@@ -75,7 +75,7 @@ test("the module must be named, and options that there aren't are refused by the
     await assert.rejects(record({ module, [name]: 1 }), (error) => error instanceof Refused && error.message === told);
   }
   for (const name of ["jobs", "count", "constructor", "__proto__x"]) {
-    const told = new RegExp(`^there is no option \`${name}\`: there are module, agents, buffers, .*, trace$`);
+    const told = new RegExp(`^there is no option \`${name}\`: there are module, program, agents, buffers, .*, trace$`);
     await assert.rejects(record({ module, [name]: 1 }), refused(told));
   }
 });

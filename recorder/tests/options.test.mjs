@@ -34,10 +34,14 @@ test("the reference's tables have each option of the command line, of record and
 });
 
 test("the library's types have each option of record and of explore", () => {
-  const [record, explore] = ["RecordOptions", "ExploreOptions"].map(membersOf);
-  assert.deepEqual(record.sort(), namesOf("record").sort());
-  const without = ["seed", "shorten"];
-  assert.deepEqual([...record, ...explore].filter((name) => !without.includes(name)).sort(), namesOf("explore").sort());
+  const [each, ofModule, ofProgram, one, many] = ["RunOptions", "OfModule", "OfProgram", "OneRun", "ManyRuns"].map(membersOf);
+  const shared = [...each, ...new Set([...ofModule, ...ofProgram])];
+  assert.deepEqual([...shared, ...one].sort(), namesOf("record").sort());
+  assert.deepEqual([...shared, ...many].sort(), namesOf("explore").sort());
+  for (const name of ["RecordOptions", "ExploreOptions"]) {
+    const more = name === "RecordOptions" ? "OneRun" : "ManyRuns";
+    assert.ok(TYPES.includes(`export type ${name} = RunOptions & ${more} & (OfModule | OfProgram);\n`), name);
+  }
 });
 
 test("each option of the command line has its line of help, and what serves where it isn't given can be given", () => {

@@ -9,7 +9,7 @@ import * as remote from "../lib/seeds/remote-job.mjs";
 import * as native from "../lib/simulator/native.mjs";
 import * as declaredTesting from "../testing.mjs";
 import * as writtenTesting from "../lib/suite/tests.mjs";
-import type { ExploreOptions, TrialOptions, WithBuffers } from "../lib/library/library-options.mjs";
+import type { ExploreOptions, ProgramTrialOptions, TrialOptions, WithBuffers } from "../lib/library/library-options.mjs";
 import type { Ending } from "../lib/run/outcome.mjs";
 import type { Side, RaceReport } from "../lib/run/findings.mjs";
 import type { Shortened } from "../lib/shorter/shorten.mjs";
@@ -26,6 +26,7 @@ export type Held = [
   Holds<Same<Flat<declared.RecordOptions>, Flat<recording.RecordOptions>>>,
   Holds<Same<Flat<declared.ExploreOptions>, Flat<ExploreOptions>>>,
   Holds<Same<Flat<declaredTesting.TrialOptions>, Flat<TrialOptions>>>,
+  Holds<Same<Flat<declaredTesting.ProgramTrialOptions>, Flat<ProgramTrialOptions>>>,
   Holds<Same<keyof typeof declaredTesting, keyof typeof writtenTesting>>,
   Holds<Same<Flat<declared.Outcome>, Flat<recording.Outcome>>>,
   Holds<Same<declared.Ending, Ending>>,
@@ -49,4 +50,8 @@ export const testAgents: typeof declaredTesting.testAgents = writtenTesting.test
 export const sameTestAgents: typeof writtenTesting.testAgents = declaredTesting.testAgents;
 export const assertAgents: typeof declaredTesting.assertAgents = writtenTesting.assertAgents;
 export const sameAssertAgents: typeof writtenTesting.assertAgents = declaredTesting.assertAgents;
+export const testProgram: typeof declaredTesting.testProgram = writtenTesting.testProgram;
+export const sameTestProgram: typeof writtenTesting.testProgram = declaredTesting.testProgram;
+export const assertProgram: typeof declaredTesting.assertProgram = writtenTesting.assertProgram;
+export const sameAssertProgram: typeof writtenTesting.assertProgram = declaredTesting.assertProgram;
 export const sameRecord: typeof recording.record = declared.record;

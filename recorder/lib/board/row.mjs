@@ -22,7 +22,7 @@ const codeAt = uncurried(String.prototype.charCodeAt);
 export const STRAYS = -2;
 
 // A draw makes two moves at least; and one may be the last thing that is done.
-const MOST_DRAWS = SCRIPT_LIMITS.moves / 2 + 1;
+export const MOST_DRAWS = SCRIPT_LIMITS.moves / 2 + 1;
 
 // Behind the row's end another agent that can move gets its turn after so many draws of one agent: it may spin.
 const MOST_ALIKE = 200;

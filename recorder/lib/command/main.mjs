@@ -22,7 +22,7 @@ function isFile(url) {
   }
 }
 
-/** @param {import("./options.mjs").Options} options @returns {string} the URL of what is run */
+/** @param {{ module: string, isProgram: boolean }} options @returns {string} the URL of what is run */
 function existing({ module, isProgram }) {
   const url = moduleUrl(module);
   if (!isFile(url)) throw new Refused(`there is no file ${module}`);
@@ -47,10 +47,15 @@ async function run(words, job) {
       await print(asked.text);
       return { failed: false, problems: [] };
     }
-    const module = existing(asked);
-    if (asked.replay === undefined) return await new Session(asked, module, job).run();
+    const { replay, isProgram } = asked;
+    if (replay !== undefined && isProgram) {
+      const { ProgramReplay } = await import("./replay-program.mjs");
+      return await new ProgramReplay(asked, replay).run();
+    }
+    const module = existing(/** @type {any} */ (asked));
+    if (replay === undefined) return await new Session(asked, module, job).run();
     const { Replay } = await import("./replay.mjs");
-    return await new Replay(asked, module, asked.replay).run();
+    return await new Replay(asked, module, replay).run();
   } catch (problem) {
     return { failed: false, problems: [problem] };
   } finally {

@@ -101,19 +101,21 @@ function shardFrom(asked, shard) {
 /**
  * The kept script by whose row the agents are to run.
  * @param {Record<string, any>} given
- * @returns {{ file: string, seed: number | undefined } | undefined} its seed where that is given
+ * @returns {{ file: string, seed: number | undefined, given: Record<string, any> } | undefined} its seed where that is
+ * given
  */
-function replayOf({ replay: file, seeds }) {
+function replayOf(given) {
+  const { replay: file, seeds } = given;
   if (file === undefined) return undefined;
-  if (seeds === undefined) return { file, seed: undefined };
+  if (seeds === undefined) return { file, seed: undefined, given };
   const { first, last } = seeds;
   if (first !== last) throw new Refused(`--replay makes one run: --seeds must be one seed, but is "${first}..${last}"`);
-  return { file, seed: first };
+  return { file, seed: first, given };
 }
 
 /**
  * @typedef {object} Own what a command line says besides the options of many runs
- * @property {string} module as it is named
+ * @property {string | undefined} module as it is named; undefined: the kept run that is replayed names its program
  * @property {boolean} isProgram whether that is a program, and no module of agents
  * @property {string[]} args for the agents, or for the program
  * @property {import("../seeds/ranges.mjs").Range} asked the seeds of all shards
@@ -123,7 +125,7 @@ function replayOf({ replay: file, seeds }) {
  * @property {string} format
  * @property {string} [out]
  * @property {boolean} shorten
- * @property {{ file: string, seed: number | undefined }} [replay]
+ * @property {{ file: string, seed: number | undefined, given: Record<string, any> }} [replay]
  */
 
 /**

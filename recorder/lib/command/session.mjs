@@ -84,7 +84,7 @@ export class Session {
     return { failed: this.summary.failed > 0, problems };
   }
 
-  /** Makes the runs, and looks for the shortest one that fails as the one that is kept, which it then replaces. */
+  /** Makes the runs, looks for the shortest one that fails as the one that is kept, and shows what a program prints. */
   async #record() {
     collectGarbage();
     stopGrowth();
@@ -92,15 +92,25 @@ export class Session {
     try {
       for await (const outcome of runs.outcomes()) if (this.#isLast(outcome)) break;
       summary.remembers = await runs.firstAgain();
-      const found = this.#toShorten();
-      if (found === undefined) return;
-      const shortening = runs.shorten(found, (tried) => this.progress.showShortening(found.seed, tried));
-      [summary.shortened] = await Promise.all([shortening, this.#prepare()]);
-      const { shortest } = summary.shortened;
-      if (shortest !== undefined) this.keeper?.keepShortest(found, shortest);
+      await this.#shorten();
+      const failing = this.#failing();
+      if (failing !== undefined && failing.seed === this.keeper?.seed) {
+        await runs.showOutput(failing, summary.shortened?.shortest);
+      }
     } finally {
       this.closed = runs.close();
     }
+  }
+
+  /** Looks for the shortest run that fails as the one that is kept, which it then replaces. */
+  async #shorten() {
+    const { runs, summary } = this;
+    const found = this.#toShorten();
+    if (found === undefined) return;
+    const shortening = runs.shorten(found, (tried) => this.progress.showShortening(found.seed, tried));
+    [summary.shortened] = await Promise.all([shortening, this.#prepare()]);
+    const { shortest } = summary.shortened;
+    if (shortest !== undefined) this.keeper?.keepShortest(found, shortest);
   }
 
   /**
@@ -157,7 +167,9 @@ export class Session {
       const outcome = shortened?.shortest ?? failing;
       const how = { simulator: this.simulator, ...howMade(this.options) };
       const { keepPictures, notesOn } = await import("../keeping/pictures.mjs");
-      this.leftOut.push(...keepPictures(keeper, outcome, how), ...missingFiles(outcome));
+      const { keepProgram } = await import("../keeping/kept-program.mjs");
+      const notKept = keepProgram(keeper, outcome, this.options);
+      this.leftOut.push(...notKept, ...keepPictures(keeper, outcome, how), ...missingFiles(outcome));
       this.notes.push(...notesOn(keeper, outcome));
     } else if (failing !== undefined) {
       this.leftOut.push(...missingFiles(failing));

@@ -53,6 +53,8 @@ export function modulePath(url) {
 export function optionsText(options) {
   const given = /** @type {Record<string, unknown>} */ (options);
   const names = Object.entries(OPTIONS).filter(([name, { of, isShared, ifNone }]) => {
+    // What is run isn't how it is run.
+    if (name === "program") return false;
     return isShared && (of.includes("record") || name === "fresh") && ![undefined, ifNone].includes(given[name]);
   });
   const { args = [] } = /** @type {{ args?: string[] }} */ (given);

@@ -32,14 +32,15 @@ export function replayCommand(options) {
 }
 
 /**
- * How a run was made. No command makes a program's run again, nor calls functions that somebody has given in place of
- * the module's `init` and `check`.
+ * How a run was made. A kept run of a program names its program and its options itself. No command calls functions that
+ * somebody has given in place of the module's `init` and `check`.
  * @param {GroupOptions} options of the run
  * @returns {import("./pictures.mjs").How}
  */
 export function howMade(options) {
   const { module, init, check, isProgram = false } = options;
-  const isModules = init === undefined && check === undefined && !isProgram;
-  const command = isModules ? replayCommand({ ...options, module: modulePath(module) }) : undefined;
-  return { module, options: optionsText(options), command };
+  const told = { module, options: optionsText(options) };
+  if (isProgram) return { ...told, command: { options: programWords(), args: "", isOfRow: true } };
+  if (init !== undefined || check !== undefined) return { ...told, command: undefined };
+  return { ...told, command: replayCommand({ ...options, module: modulePath(module) }) };
 }

@@ -4,6 +4,7 @@
 
 import { endingText } from "../../page/endings.mjs";
 import { builtSimulator, documentOf } from "./document.mjs";
+import { sendersIn } from "./messages.mjs";
 
 /** @typedef {import("../run/outcome.mjs").Outcome} Outcome */
 /** @typedef {import("../../page/run-data.mjs").RunData} RunData */
@@ -84,12 +85,14 @@ export function pageData(outcome, facts, module) {
   const numbers = new Map(events.map((event, at) => [event, at]));
   const places = [...new Set(events.map(({ source }) => source))].filter((source) => source !== null);
   const placeNumbers = new Map(places.map((place, at) => [place, at]));
+  const entries = told.filter(({ what }) => what === "act" || what === "wait" || what === "leave");
   return {
+    ...(outcome.threads === undefined ? {} : { threads: outcome.threads, senders: sendersIn(entries) }),
     seed, ending, detail, holds, blocks, views, arrays, places, files: sources, script,
     module: decodeURIComponent(module.replace(/[?#].*$/, "").replace(/^.*\//, "")),
     agents: outcome.progress.length,
     isWhole: events.length === all.length,
-    entries: told.filter(({ what }) => what === "act" || what === "wait" || what === "leave"),
+    entries,
     standings: told.filter(({ standing }) => standing !== undefined),
     events: events.map(({ event, agent, call, does, block, byte, size, read, write, source }) => {
       const place = placeNumbers.get(source) ?? -1;

@@ -4,7 +4,9 @@
 import { join } from "node:path";
 import { hasFloats } from "../../script/written.mjs";
 import { aboutOf } from "./about.mjs";
+import { PROGRAM_ENDING } from "./kept-program.mjs";
 import { pageText } from "./page.mjs";
+import { wordsText } from "./words.mjs";
 
 /** @typedef {import("../run/outcome.mjs").Outcome} Outcome */
 /** @typedef {import("../simulator/chosen.mjs").Simulator} Simulator */
@@ -14,6 +16,7 @@ import { pageText } from "./page.mjs";
  * @property {string} ending of its file's name
  * @property {"explained" | "svg" | "json"} format of the replay that it is made from
  * @property {(output: string, outcome: Outcome, module: string, told: Told) => string} made
+ * @property {boolean} [isOfPrograms] whether it is made of runs of programs alone
  */
 
 /**
@@ -21,7 +24,7 @@ import { pageText } from "./page.mjs";
  * @property {string} module the URL of the agents' module
  * @property {string} options of the command line that aren't as they are by themselves; empty: none
  * @property {Omit<import("../../page/run-data.mjs").Command, "script">} [command] that makes the run again, by its
- * script; undefined: none does
+ * script or by its row; undefined: none does
  */
 
 /** @typedef {ReturnType<typeof aboutOf>} Told how a run was made, as its page says it */
@@ -33,6 +36,7 @@ export class NotMade extends Error {}
 export const PICTURES = Object.freeze([
   { ending: "explained", format: "explained", made: (output) => output },
   { ending: "svg", format: "svg", made: (output) => output },
+  { ending: "words", format: "json", isOfPrograms: true, made: wordsText },
   { ending: "html", format: "json", made: pageMade },
 ]);
 
@@ -81,8 +85,10 @@ function replayed(simulator, format, script) {
 export function keepPictures(keeper, outcome, { simulator, ...how }) {
   const { seed, script } = outcome;
   if (script === undefined) return [];
-  const told = aboutOf(how, join(keeper.folder, keeper.nameOf(seed, "json")), simulator.version);
-  return PICTURES.flatMap((picture) => {
+  const again = how.command?.isOfRow ? PROGRAM_ENDING : "json";
+  const told = aboutOf(how, join(keeper.folder, keeper.nameOf(seed, again)), simulator.version);
+  const pictures = PICTURES.filter(({ isOfPrograms = false }) => !isOfPrograms || outcome.threads !== undefined);
+  return pictures.flatMap((picture) => {
     const { ending } = picture;
     try {
       keeper.keepAll(seed, { [ending]: pictureOf(simulator, picture, outcome, how.module, told) });

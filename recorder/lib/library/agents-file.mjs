@@ -23,6 +23,6 @@ export function needsAgents(url, name) {
     return;
   }
   if (HAS_DEFAULT.test(text)) return;
-  throw new Refused(`${name} is no module of agents, since it has no default export. If it is a program, write what `
-    + "one of its threads does as a function of a module: export default function agent({ buffers, agent }) { .. }");
+  throw new Refused(`${name} is no module of agents, since it has no default export. If it is a program, give it `
+    + "as `program` (--program). An agent is a function: export default function agent({ buffers, agent }) { .. }");
 }

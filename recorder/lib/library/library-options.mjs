@@ -2,6 +2,7 @@
 
 import { FLAG, named } from "../options/kinds.mjs";
 import { meant } from "../options/nearest.mjs";
+import { needFitting } from "../options/of-programs.mjs";
 import { Refused } from "../options/refused.mjs";
 import { defaultsOf, optionsOf } from "../options/table.mjs";
 import { moduleUrlOf } from "./module-url.mjs";
@@ -14,37 +15,54 @@ import { moduleUrlOf } from "./module-url.mjs";
  */
 
 /**
- * @typedef {object} RecordOptions
- * @property {string | URL} module the agents' module: a URL, or a path, from the folder of the file that calls `record`
- * @property {number} [agents] how many; else what the module's `setup` says
- * @property {number[]} [buffers] the bytes of each buffer; else what the module's `setup` says
- * @property {number[]} [noBlock] the agents that can't block; else what the module's `setup` says, and else none
- * @property {number} [seed] a whole number from 0 to 2^53 - 1; else 1
- * @property {string[]} [args] for the agents
+ * @typedef {object} RunOptions what each run may have
+ * @property {string[]} [args] for the agents, or for the program
  * @property {"mixed" | "uniform" | "partial-order" | `switch:${number}`} [strategy] who moves next; else "mixed"
- * @property {boolean} [everywhere] whether agents are switched before each call, also where none can meet another
  * @property {number | "never"} [timeouts] from 0 to 1: in how many of the draws the early end of a timed wait is
  * offered while something else can move; "never": no timed wait ends by itself; else 0.05
  * @property {number} [maxMoves] at most 100,000
  * @property {number} [seconds] for how long an agent may make no call
- * @property {"watch" | "store" | "refuse"} [ordinary] what is done with ordinary reads and writes; else "watch"
  * @property {"fail" | "allow"} [races] whether a run with unordered accesses fails; else "fail"
  * @property {"fail" | "allow"} [bounds] whether a run that meets a bound fails; else "fail"
+ * @property {string | boolean} [sabsim] the path of the native program, which then checks in place of the module;
+ * false: runs aren't checked
+ * @property {boolean} [trace] whether the outcome has its trace
+ */
+
+/**
+ * @typedef {object} OfModule what the runs of a module of agents have
+ * @property {string | URL} module the agents' module: a URL, or a path, from the folder of the file that calls `record`
+ * @property {undefined} [program]
+ * @property {number} [agents] how many; else what the module's `setup` says
+ * @property {number[]} [buffers] the bytes of each buffer; else what the module's `setup` says
+ * @property {number[]} [noBlock] the agents that can't block; else what the module's `setup` says, and else none
+ * @property {boolean} [everywhere] whether agents are switched before each call, also where none can meet another
+ * @property {"watch" | "store" | "refuse"} [ordinary] what is done with ordinary reads and writes; else "watch"
  * @property {"fail" | "allow"} [unrecorded] whether a run fails in which agents use shared memory that isn't recorded;
  * else "fail"
  * @property {"run" | "real"} [clock] the time that clocks tell agents: the run's own or the machine's; else "run"
  * @property {WithBuffers} [init] fills the buffers before the run
  * @property {WithBuffers} [check] is called after a run that finished; what it throws fails the run, as does `false`
  * or an error that it answers
- * @property {string | boolean} [sabsim] the path of the native program, which then checks in place of the module;
- * false: runs aren't checked
- * @property {boolean} [trace] whether the outcome has its trace
+ */
+
+/**
+ * @typedef {object} OfProgram what the runs of a whole program have
+ * @property {string | URL} program its main module: a URL, or a path, from the folder of the file that calls `record`
+ * @property {undefined} [module]
+ * @property {"fail" | "allow"} [stuck] whether a run that is stuck fails; else "fail"
+ * @property {"all" | "none"} [programOutput] of which runs it is shown what the program prints; else of the first one
+ */
+
+/**
+ * @typedef {object} OneRun what one run may have besides
+ * @property {number} [seed] a whole number from 0 to 2^53 - 1; else 1
  * @property {boolean} [shorten] whether the outcome of a run that fails is that of the shortest one that fails in the
  * same way; else false
  */
 
 /**
- * @typedef {object} ManyOptions
+ * @typedef {object} ManyRuns what many runs may have besides
  * @property {string | number | { first: number, last: number }} [seeds] as "1..1000"; a number: so many of them, from 1
  * on; else 1..100
  * @property {number} [jobs] how many groups of workers run side by side, 1 to 64: one in this process, several in one
@@ -57,8 +75,13 @@ import { moduleUrlOf } from "./module-url.mjs";
  * @property {AbortSignal} [signal] ends all runs when it is aborted
  */
 
-/** @typedef {Omit<RecordOptions, "seed" | "shorten"> & ManyOptions} ExploreOptions */
-/** @typedef {Omit<ExploreOptions, "failFast"> & { out?: string, shorten?: boolean }} TrialOptions */
+/** @typedef {{ out?: string, shorten?: boolean }} OfTrial */
+/** @typedef {RunOptions & Omit<ManyRuns, "failFast"> & OfTrial} TrialRuns */
+
+/** @typedef {RunOptions & OneRun & (OfModule | OfProgram)} RecordOptions */
+/** @typedef {RunOptions & ManyRuns & (OfModule | OfProgram)} ExploreOptions */
+/** @typedef {TrialRuns & OfModule} TrialOptions */
+/** @typedef {TrialRuns & OfProgram} ProgramTrialOptions */
 
 /**
  * @param {unknown} options
@@ -78,8 +101,26 @@ function checkedBy(options, taker, callersFolder) {
     }
     if (value !== undefined) checked[name] = kind.value(value, `\`${name}\``);
   }
-  if (checked.module === undefined) throw new Refused("`module` is missing: it must be a path or a URL");
-  return { ...checked, module: moduleUrlOf(checked.module, callersFolder) };
+  needFitting({ ...options, ...whatRuns(checked) }, (name) => `\`${name}\``);
+  const { module, program, ...rest } = checked;
+  if (program === undefined) return { ...rest, module: moduleUrlOf("module", module, callersFolder) };
+  return { ...rest, module: moduleUrlOf("program", program, callersFolder), isProgram: true };
+}
+
+/**
+ * What is run: a module of agents or a program.
+ * @param {{ module?: string | URL, program?: string | URL }} checked
+ * @throws {Refused} unless just one of them is given
+ */
+function whatRuns({ module, program }) {
+  if (module !== undefined && program !== undefined) {
+    throw new Refused("`module` and `program` can't both be given: `module` is one of agents, and `program` starts its "
+      + "threads itself");
+  }
+  if (module === undefined && program === undefined) {
+    throw new Refused("`module` is missing, or `program` in its place: it must be a path or a URL");
+  }
+  return { module, program };
 }
 
 /** @typedef {import("../run/group.mjs").GroupOptions & { sabsim?: string | boolean }} OfAll what all runs have */
@@ -119,11 +160,12 @@ export function exploreOptions(options, callersFolder) {
 
 /**
  * The options of a trial, of which only its own two were looked at.
- * @param {TrialOptions} options
- * @returns {TrialOptions}
+ * @template {OfTrial} Options
+ * @param {Options} options
+ * @returns {Options}
  */
 export function checkedOwn(options) {
   if (options?.out !== undefined) named("the path of a folder").value(options.out, "`out`");
   if (options?.shorten !== undefined) FLAG.value(options.shorten, "`shorten`");
-  return options ?? {};
+  return options ?? /** @type {any} */ ({});
 }

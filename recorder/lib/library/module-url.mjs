@@ -83,24 +83,25 @@ function pathOf(url) {
 
 /**
  * The URL of a module that somebody's code names.
+ * @param {"module" | "program"} name of the option that names it
  * @param {string | URL} module a URL; an absolute path; or a path from the folder of that code
  * @param {() => string | undefined} folderOf that folder, where it is known
  * @returns {string}
  * @throws {Refused} where there is no such file, or it can't be told which is meant
  */
-export function moduleUrlOf(module, folderOf) {
+export function moduleUrlOf(name, module, folderOf) {
   const isRelative = typeof module === "string" && !module.startsWith("file:") && !isAbsolute(module);
   const folder = isRelative ? folderOf() : undefined;
   if (isRelative && folder === undefined) {
     const instead = `give a URL, as new URL("${module}", import.meta.url)`;
-    throw new Refused(`\`module\` is "${module}", and it can't be told which file asks for that: ${instead}`);
+    throw new Refused(`\`${name}\` is "${module}", and it can't be told which file asks for that: ${instead}`);
   }
   const url = moduleUrl(module, folder);
   if (!url.startsWith("file:")) return url;
   if (isFile(url)) {
-    needsAgents(url, pathOf(url));
+    if (name === "module") needsAgents(url, pathOf(url));
     return url;
   }
-  const from = isRelative ? `: \`module\` is "${module}", from the folder of the file that asks for it` : "";
+  const from = isRelative ? `: \`${name}\` is "${module}", from the folder of the file that asks for it` : "";
   throw new Refused(`there is no file ${pathOf(url)}${from}`);
 }

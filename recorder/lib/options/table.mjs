@@ -45,7 +45,7 @@ const word = (words, help) => replayed(choice(words), words[0], help);
 /** @type {Readonly<Record<string, Option>>} by their names */
 export const OPTIONS = Object.freeze({
   module: { kind: PATH_OR_URL, of: LIBRARY },
-  program: { kind: named("the name of a program's main module"), of: COMMAND, isShared: true,
+  program: { kind: { ...PATH_OR_URL, text: named("the name of a program's main module").text }, of: ALL, isShared: true,
     help: ["FILE", "runs a program of several threads, in place of a module of agents: FILE is its main module, and it "
     + "makes its threads and its shared memory itself"] },
   agents: rule(AGENTS, undefined, ["N", "how many agents; else the module's `setup` says it"]),
@@ -81,9 +81,12 @@ export const OPTIONS = Object.freeze({
   unrecorded: word(["fail", "allow"],
     ["HOW", "shared memory that isn't recorded, as a SharedArrayBuffer that the code makes itself. fail: a run in which "
     + "agents use some fails; allow: it is only reported (fail)"]),
-  stuck: { kind: choice(["fail", "allow"]), of: COMMAND, isShared: true,
+  stuck: { kind: choice(["fail", "allow"]), of: ALL, isShared: true, isReplayed: true,
     help: ["HOW", "fail: a run of a program that is stuck fails; allow: it is only reported, as for a program that people "
     + "end by Ctrl-C (fail)"] },
+  programOutput: { kind: choice(["all", "none"]), of: ALL,
+    help: ["WHAT", "what is shown of what a program prints: that of all runs or of none (that of the first seed and of "
+    + "the kept run)"] },
   clock: word(["run", "real"],
     ["WHICH", "the time that clocks tell agents: run (the run's own, which comes from the seed) or real (run)"]),
   maxMoves: rule(whole(1, SCRIPT_LIMITS.moves), SCRIPT_LIMITS.moves,
@@ -113,8 +116,8 @@ export const OPTIONS = Object.freeze({
   shorten: { kind: FLAG, of: ["record"] },
   replay: { kind: named("the name of a script that was kept"), of: COMMAND,
     help: ["FILE", "runs the agents once more, by the row of a script that was kept or written, in this process, so "
-    + "that a debugger can stop in them (node --inspect-brk recorder/record.mjs ..); status 3 where the code no longer does "
-    + "what stands in the script"] },
+    + "that a debugger can stop in them (node --inspect-brk recorder/record.mjs ..); or a program, by its kept "
+    + "seed-N.program.json; status 3 where the code no longer does the same"] },
   signal: { kind: SIGNAL, of: ["explore"] },
   trace: { kind: FLAG, of: LIBRARY, ifNone: false },
   help: { kind: FLAG, of: COMMAND, letter: "h", help: ["", "this text"] },

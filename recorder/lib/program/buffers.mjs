@@ -46,6 +46,7 @@ function hasBytes(buffer) {
  * @typedef {object} Shown
  * @property {(place: import("../agent/ordinary/context.mjs").Place, from: number, to: number, writes: boolean) => void}
  * seen gets an ordinary access that is about to be made
+ * @property {(block: number, place: string) => void} named gets where the memory of a new block was made
  * @property {(why: string) => never} refuse ends the run
  */
 
@@ -110,6 +111,7 @@ export class Buffers {
         + "several threads reach, and this would be one more");
     }
     known.block = blocks.add(buffer);
+    shown.named(known.block, known.place ?? "");
     mesh.handAll({ kind: "block", block: known.block, buffer });
     if (!hasBytes(buffer)) return;
     shown.seen({ block: known.block, kind: WHOLE_BUFFER, offset: 0, length }, 0, length, true);

@@ -81,9 +81,19 @@ export class ProgramGroup extends Group {
     const all = seeds.map((wanted) => {
       this.#made += 1;
       const isFresh = wanted.isFresh || this.options.fresh || this.#made % MOST_RUNS === 0;
-      return { ...wanted, isFresh, isSilent: wanted.isSilent || wanted.seed !== this.#loud };
+      // A script alone doesn't make a program's run again: that needs its row.
+      return { ...wanted, isFresh, isSilent: !this.#isShown(wanted), tellsRow: true };
     });
     return super.run(all, onOutcome);
+  }
+
+  /** @param {Wanted} wanted @returns {boolean} whether it is shown what the run prints */
+  #isShown({ seed, row, tellsRow, isShown, isSilent }) {
+    const { programOutput } = this.options;
+    if (programOutput === "none" || isSilent) return false;
+    // Runs by which a shorter one is looked for are nobody's affair.
+    const isOfSeed = row === undefined && !tellsRow;
+    return isShown || (isOfSeed && (programOutput === "all" || seed === this.#loud));
   }
 
   /** @param {number} agent whose thread is ended, and another one takes its place */

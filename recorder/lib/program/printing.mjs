@@ -1,4 +1,6 @@
-// What a program prints goes to standard error at once, where it is shown: standard output is the recorder's.
+// What a program prints goes to standard error at once, where it is shown: standard output is the recorder's. Each line
+// begins with the thread that prints it. A text that ends amid a line is shown as a whole line, since another thread
+// may print the next one.
 
 import fs from "node:fs";
 import process from "node:process";
@@ -8,8 +10,9 @@ import { put } from "../primordials.mjs";
 const { writeSync } = fs;
 /** @type {(act: () => void) => void} */
 const later = /** @type {any} */ (process).nextTick;
+const textFrom = Buffer.from;
 
-/** @param {string | Uint8Array} text */
+/** @param {string} text */
 function print(text) {
   try {
     writeSync(2, text);
@@ -18,24 +21,43 @@ function print(text) {
   }
 }
 
-/** @param {() => boolean} isShown whether it is shown */
-export function printAtOnce(isShown) {
-  for (const name of /** @type {const} */ (["stdout", "stderr"])) {
-    const stream = new Writable({ write: (_chunk, _encoding, done) => done() });
+/** @param {string | Uint8Array} chunk @param {unknown} encoding @returns {string} */
+function textOf(chunk, encoding) {
+  if (typeof chunk !== "string") return textFrom(chunk).toString();
+  const isPlain = typeof encoding !== "string" || /^utf-?8$/i.test(encoding);
+  return isPlain ? chunk : textFrom(chunk, /** @type {any} */ (encoding)).toString();
+}
+
+/**
+ * A text with the thread before each of its lines.
+ * @param {string} text
+ * @param {string} name of the thread
+ * @returns {string}
+ */
+export const namedLines = (text, name) =>
+  text.replace(/\n$/, "").split("\n").map((line) => `[${name}] ${line}\n`).join("");
+
+/**
+ * @param {() => boolean} isShown whether it is shown
+ * @param {() => string} name of the thread
+ */
+export function printAtOnce(isShown, name) {
+  for (const stream of /** @type {const} */ (["stdout", "stderr"])) {
+    const written = new Writable({ write: (_chunk, _encoding, done) => done() });
     /** @type {(chunk: string | Uint8Array, encoding?: any, done?: any) => boolean} */
     const write = (chunk, encoding, done) => {
-      if (isShown()) print(chunk);
+      if (isShown()) print(namedLines(textOf(chunk, encoding), name()));
       const callback = typeof encoding === "function" ? encoding : done;
       if (typeof callback === "function") later(callback);
       return true;
     };
-    put(stream, "write", write);
-    put(stream, "fd", name === "stdout" ? 1 : 2);
+    put(written, "write", write);
+    put(written, "fd", stream === "stdout" ? 1 : 2);
     /** @type {any} node's messages for it may still come, and are taken by a method that a symbol names */
-    const former = process[name];
+    const former = process[stream];
     for (const symbol of Object.getOwnPropertySymbols(Object.getPrototypeOf(former))) {
-      put(stream, symbol, former[symbol].bind(former));
+      put(written, symbol, former[symbol].bind(former));
     }
-    Object.defineProperty(process, name, { value: stream, configurable: true });
+    Object.defineProperty(process, stream, { value: written, configurable: true });
   }
 }

@@ -25,5 +25,6 @@ export function programMemory(plan, logEvents) {
     blocks: Blocks.memory(),
     ports: PortTable.memory(),
     keepers: Array.from({ length: plan.agents }, () => Keepers.memory()),
+    madeAt: Array.from({ length: MOST_BLOCKS }, () => Keepers.memory()),
   };
 }

@@ -24,6 +24,7 @@ import { Records } from "../memory/records.mjs";
 import { Sources } from "../memory/sources.mjs";
 import { Stores } from "../memory/stores.mjs";
 import { onceMore } from "../processes/garbage.mjs";
+import { SourceNames } from "../run/source-names.mjs";
 import { broadcastClass } from "./broadcast.mjs";
 import { Buffers } from "./buffers.mjs";
 import { Ends } from "./ends.mjs";
@@ -67,9 +68,15 @@ const GRAPH_MODULE = new URL("./graph.mjs", import.meta.url);
 const TWINS_MODULE = new URL("./twins.mjs", import.meta.url);
 const SURFACE_MODULE = new URL("./surface.mjs", import.meta.url);
 const chance = new Chance();
+const placeNames = new SourceNames(program);
 
-/** @type {{ player: Player | undefined, buffers: Buffers | undefined }} none before the thread knows which one it is */
-const self = { player: undefined, buffers: undefined };
+/** @typedef {import("./workers.mjs").Start} Start */
+
+/**
+ * What the thread is; nothing before it knows which one.
+ * @type {{ player: Player | undefined, buffers: Buffers | undefined, start: Start | undefined }}
+ */
+const self = { player: undefined, buffers: undefined, start: undefined };
 
 const isPlaying = () => self.player !== undefined && self.player.isPlaying;
 
@@ -176,7 +183,7 @@ function partsOf(player, blocks, mesh) {
   const { agent, table: { board } } = player;
   const moves = new Moves(player, shared.buffers[MESSAGES]);
   const seen = watching.seen;
-  const buffers = new Buffers(blocks, mesh, { seen, refuse });
+  const buffers = new Buffers(blocks, mesh, { seen, refuse, named: nameBlock });
   const table = new PortTable(shared.ports);
   const all = new Threads(agent, board, table, moves);
   /** @type {{ loop?: Loop }} */
@@ -204,7 +211,7 @@ function partsOf(player, blocks, mesh) {
 function furnish({ moves, buffers, ends, events, timers, later }, putTwins) {
   const listAgain = listingOf([globalThis, buffer, crypto, process, util]);
   const { words } = moves.board;
-  printAtOnce(() => words[WORD.IS_SILENT] === 0 && isPlaying());
+  printAtOnce(() => words[WORD.IS_SILENT] === 0 && isPlaying(), printedName);
   simulateTime(() => (isPlaying() ? playing().look() : 0));
   simulateChance(chance);
   watchRealm(watching);
@@ -240,6 +247,19 @@ function taken({ mesh, ports, moves }) {
 /** @param {string} url @returns {string} the last part of its path */
 const fileName = (url) => (url.startsWith("data:") ? "a data: URL" : url.slice(url.lastIndexOf("/") + 1));
 
+/** @param {number} block @param {string} place where its memory was made */
+const nameBlock = (block, place) => new Keepers(shared.madeAt[block]).setName(place);
+
+/** @param {import("./workers.mjs").Start} start @returns {string} what the thread is, for people */
+const threadName = ({ url, isCode }) => (isCode ? "evaluated code" : fileName(url));
+
+/** @returns {string} the thread, before what it prints */
+function printedName() {
+  const { start } = self;
+  if (start === undefined || start.where === "") return "main";
+  return `${threadName(start)} started at ${placeNames.nameOf(start.where)}`;
+}
+
 /** @type {() => import("./workers.mjs").Start} */
 const mainStart = () =>
   ({ url: program, isCode: false, workerData: null, argv: args, env: { ...firstEnv }, environment: new Map(), where: "" });
@@ -266,7 +286,8 @@ function begin(parts, graph) {
     BroadcastChannel: broadcastClass({ ports, moves, mesh, buffers, uncaught: (thrown) => ends.uncaught(thrown) }),
   });
   graph.begin();
-  parts.keepers.setName(`${start.isCode ? "evaluated code" : fileName(start.url)}, started at ${start.where}`);
+  self.start = start;
+  parts.keepers.setName(start.where === "" ? "" : `${threadName(start)}, started at ${start.where}`);
   if (agent !== 0) {
     ends.parentPort = parentPort;
     ports.send(parentPort, undefined, [], undefined, KIND.ONLINE);

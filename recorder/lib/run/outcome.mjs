@@ -29,6 +29,7 @@
  * what they read
  * @property {string} [noTrace] why there is no trace, though it was wanted
  * @property {import("./source-names.mjs").SourceText[]} [sources] the code of each file that the trace names
+ * @property {string[]} [threads] of a program: what each thread is, its file and where it was started; empty: the first
  * @property {number[]} [row] which agent moved with each draw, in order, where that is asked for
  * @property {string} [onlyIf] of a failing run in which a timed wait has ended early: what time must pass for that
  * @property {import("./timed-ends.mjs").OnlyByTime[]} [onlyByTime] waits that have ended only since their time was up
@@ -53,6 +54,7 @@
  * @property {boolean} [tellsTrace] whether it has its trace in any case
  * @property {boolean} [tellsActs] whether the outcome has a digest of all that was done
  * @property {boolean} [isSilent] whether nothing is printed of what the agents print
+ * @property {boolean} [isShown] whether what a program prints is shown, though the run isn't the first one
  * @property {boolean} [isFresh] whether the agents' workers are started anew before
  */
 

@@ -5,6 +5,7 @@ import { PortTable } from "../board/port-table.mjs";
 import { Blocks } from "../memory/blocks.mjs";
 import { Keepers } from "../memory/keepers.mjs";
 import { WORD } from "../memory/layout.mjs";
+import { blockNames } from "./program-names.mjs";
 
 const CUT = "a thread was terminated while it waited, which no script can have; of such a run sabsim judges the trace "
   + "alone";
@@ -15,6 +16,7 @@ const CUT = "a thread was terminated while it waited, which no script can have; 
  * @property {SharedArrayBuffer[]} copies
  * @property {SharedArrayBuffer} ports
  * @property {SharedArrayBuffer[]} keepers
+ * @property {SharedArrayBuffer[]} madeAt where the memory of each block was made
  */
 
 export class ProgramState {
@@ -29,13 +31,14 @@ export class ProgramState {
     this.plan = plan;
     this.blocks = new Blocks(shared.blocks, shared.copies, memory, plan.buffers);
     this.keepers = shared.keepers.map((each) => new Keepers(each));
+    this.madeAt = shared.madeAt.map((each) => new Keepers(each));
     this.ports = new PortTable(shared.ports);
   }
 
   /** A run begins. */
   begin() {
     this.blocks.begin();
-    for (const keepers of this.keepers) keepers.clear();
+    for (const texts of [...this.keepers, ...this.madeAt]) texts.clear();
     this.ports.begin();
   }
 
@@ -60,17 +63,22 @@ export class ProgramState {
   }
 
   /**
-   * What each thread is, and what keeps those alive that have nothing to do.
+   * What keeps those threads alive that have nothing to do.
    * @param {string} ending of the run
    * @returns {string[]} a line each
    */
   idle(ending) {
     if (ending !== "stuck" && ending !== "deadlock") return [];
-    const named = this.threads.filter((agent) => agent > 0 && this.keepers[agent].name() !== "");
     const idle = this.threads.filter((agent) => this.board.line.isIdle(agent));
-    return [
-      ...named.map((agent) => `agent ${agent} is ${this.keepers[agent].name()}`),
-      ...idle.map((agent) => `agent ${agent} has nothing to do, and is kept alive by ${this.keepers[agent].read()}`),
-    ];
+    return idle.map((agent) => `agent ${agent} has nothing to do, and is kept alive by ${this.keepers[agent].read()}`);
+  }
+
+  /**
+   * @param {(text: string) => string} withNames names the places in a text
+   * @returns {import("./program-names.mjs").ProgramNames} what the threads and the blocks of the run are called
+   */
+  names(withNames) {
+    const blocks = this.madeAt.slice(0, this.blocks.count).map((each) => withNames(each.name()));
+    return { threads: this.threads.map((agent) => withNames(this.keepers[agent].name())), blocks: blockNames(blocks) };
   }
 }

@@ -7,6 +7,7 @@ import { onceMore } from "../processes/garbage.mjs";
 import { Meetings } from "./meetings.mjs";
 import { FirstFailing } from "./order.mjs";
 import { PILOTS, Pilots } from "./pilots.mjs";
+import { namedText } from "./program-names.mjs";
 import { RunMaker } from "./run-maker.mjs";
 import { RunReporter } from "./run-reporter.mjs";
 import { areSame } from "./same.mjs";
@@ -118,6 +119,7 @@ class Referee {
     await this.#addSources(wanted, outcome, found, hasSources);
     Object.assign(outcome, covering);
     if (outcome.ending === "race") outcome.detail = outcome.races.map(({ text }) => text).join("\n");
+    nameIn(outcome, found);
     this.tellsNext = this.tellsAlways || (found.racy && !isCut);
     return { outcome, judgement, taken, aside: asideOf(found) };
   }
@@ -130,6 +132,7 @@ class Referee {
     const outcome = reporter.brief(wanted, found);
     await this.#replace(found);
     if (tellsLines) await this.#addSources(wanted, outcome, found, maker.log.hasRoom());
+    nameIn(outcome, found);
     return { outcome, aside: asideOf(found) };
   }
 
@@ -176,6 +179,13 @@ class Referee {
     const isFirst = this.firstFailing.takes(outcome);
     return this.options.trace || tellsTrace || isFirst;
   }
+}
+
+/** @param {Outcome} outcome in whose text a program's threads and blocks get their names @param {Made} found */
+function nameIn(outcome, { names }) {
+  if (names === undefined) return;
+  outcome.detail = namedText(outcome.detail, names);
+  outcome.threads = names.threads;
 }
 
 /** @param {Made} found @returns {import("./outcome.mjs").Aside} */

@@ -30,6 +30,7 @@ import { unseenText } from "./unseen.mjs";
  * @property {import("./unseen.mjs").AgentsNote[]} unseen what agents did that nobody saw
  * @property {boolean} [isUnseen] whether it fails for that
  * @property {import("../board/row.mjs").Stray} [stray] how it has strayed from the row that it was to go by
+ * @property {import("./program-names.mjs").ProgramNames} [names] of a program's threads and blocks
  */
 
 /**
@@ -123,7 +124,8 @@ export class RunMaker {
     const lines = [named, ...idle].filter((line) => line !== "");
     const detail = stray === undefined ? lines.join("\n") : strayText(stray, named);
     const unseen = this.agents.flatMap((agent) => this.notes[agent].read().map((note) => ({ ...note, agent })));
-    return { ending: told.ending, detail, bytes, gone, endless, racy, initial, waiting, asking, unseen, stray };
+    const names = this.program?.names((text) => sourceNames.withNames(text));
+    return { ending: told.ending, detail, bytes, gone, endless, racy, initial, waiting, asking, unseen, stray, names };
   }
 
   /** @param {Made} found @returns {Promise<Made>} how a run ends, with what is known when its agents are home */

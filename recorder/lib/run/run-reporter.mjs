@@ -58,7 +58,7 @@ export class RunReporter {
       progress: maker.agents.map((agent) => journal.progress(agent)),
       state: this.states.of(ending, maker.ownBytes(found.bytes)),
       races: [],
-      ...(draws === undefined ? {} : { row: draws }),
+      ...(draws === undefined || (options.isBrief && !fails) ? {} : { row: draws }),
       ...(unrecorded.length === 0 ? {} : { unrecorded }),
       ...(fails && early !== undefined ? { onlyIf: earlyText(early) } : {}),
       ...(maker.board.spins.isWatching() ? this.#timedEnds(ending) : {}),

@@ -34,7 +34,7 @@ import { ModuleSimulator } from "../simulator/module.mjs";
  * @param {Checked} outcome
  * @returns {Checked}
  */
-function lightened({ script, report, trace, accesses, sources, bytes, answers, ...rest }) {
+function lightened({ script, report, trace, accesses, sources, bytes, answers, row, ...rest }) {
   return rest;
 }
 

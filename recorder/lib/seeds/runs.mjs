@@ -101,6 +101,20 @@ export class Runs {
   }
 
   /**
+   * Makes the run of a program that is kept once more, so that what it prints is shown, unless that was shown already.
+   * @param {Outcome} found the failing run
+   * @param {Outcome} [shortest] that is kept in its place
+   */
+  async showOutput(found, shortest) {
+    const { first, isProgram, programOutput } = this.options;
+    const { seed, row } = shortest ?? found;
+    const wasShown = shortest === undefined && seed === first;
+    if (!isProgram || programOutput !== undefined || row === undefined || wasShown) return;
+    const wanted = { seed, row, whole: false, isExact: true, isTrial: true, isShown: true };
+    await this.#atRest(() => this.jobs[0].run([wanted], () => {}));
+  }
+
+  /**
    * Makes the run of the first seed once more, in the same job, if there were other runs and workers are kept.
    * @returns {Promise<import("./first-again.mjs").Remembering | undefined>} how it differed, if it did
    */

@@ -46,6 +46,9 @@ function initText({ text }) {
   return `\`init\` left ${text} in the script`;
 }
 
+/** @param {Step | undefined} step @returns {string | undefined} what another step must have to be the same */
+const nameOf = (step) => step && `${step.agent} ${step.isOwn} ${step.key}`;
+
 /**
  * The first step in which a run differs from a script.
  * @param {KeptScript} kept
@@ -54,8 +57,6 @@ function initText({ text }) {
  */
 export function differenceText(kept, now) {
   const { length } = kept.steps;
-  /** @param {Step | undefined} step */
-  const nameOf = (step) => step && `${step.agent} ${step.isOwn} ${step.key}`;
   let at = 0;
   while (at < length && nameOf(kept.steps[at]) === nameOf(now.steps[at])) at += 1;
   const [was, is] = [kept.steps[at], now.steps[at]];
@@ -68,4 +69,33 @@ export function differenceText(kept, now) {
   const text = was.agent < kept.canBlock.length ? writeText(was) : initText(was);
   const isOther = is !== undefined && !is.isOwn && is.agent === was.agent;
   return isOther ? `${text}, and is now ${is.text}` : `${text}, and isn't made now`;
+}
+
+/**
+ * The first call or write of a program in which its run differs from a script.
+ * @param {KeptScript} kept
+ * @param {KeptScript} now
+ * @returns {string | undefined} undefined: none differs, as far as the run goes
+ */
+export function firstOtherText(kept, now) {
+  const at = now.steps.findIndex((step, number) => nameOf(step) !== nameOf(kept.steps[number]));
+  if (at < 0) return undefined;
+  const [was, is] = [kept.steps[at], now.steps[at]];
+  if (was === undefined) return `the script ends before ${stepText(is)}`;
+  return `in the script comes ${stepText(was)}, and now ${stepText(is)}`;
+}
+
+/** @param {Step} step in words */
+const stepText = ({ agent, isOwn, call, text }) =>
+  `agent ${agent}'s ${isOwn ? "call" : "ordinary write before its call"} ${call}, ${text}`;
+
+/**
+ * How a run of a program has strayed from the row of a kept one.
+ * @param {import("../board/row.mjs").Stray} stray
+ * @returns {string}
+ */
+export function rowStrayedText({ reason, agent, draw }) {
+  if (reason === "goes on") return `agent ${agent} goes on where the kept run ends`;
+  const now = reason === "waits" ? "has nothing to do, or waits" : "has come to its end, or hasn't begun";
+  return `agent ${agent} moved with draw ${draw} of the kept run, and now it ${now}`;
 }

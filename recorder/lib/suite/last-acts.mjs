@@ -79,7 +79,9 @@ function actsOf(lines, data) {
     const isOrdinary = what === "ordinary" || what === "store";
     const does = `${move} ${agent} ${count} ${access?.writes ? "write" : "read"} `.padEnd(width);
     const where = place < 0 ? "" : `, at ${data.places[place]}`;
-    const text = `${shortened(isOrdinary ? `${does}${sentence}` : line)}${where}`;
+    const words = data.senders === undefined || !/^(?:sends|receives) message /.test(sentence)
+      ? line : `${line.slice(0, width)}${sentence}`;
+    const text = `${shortened(isOrdinary ? `${does}${sentence}` : words)}${where}`;
     return { at, text, isMarked: event !== undefined && racing.has(event) };
   });
 }

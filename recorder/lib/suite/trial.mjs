@@ -1,4 +1,5 @@
-// A trial of a module of agents in somebody's test suite: it fails as an assertion does where a run fails.
+// A trial of a module of agents, or of a program, in somebody's test suite: it fails as an assertion does where a run
+// fails.
 
 import { AssertionError } from "node:assert";
 import { resolve } from "node:path";
@@ -6,6 +7,7 @@ import { OnlyByTime, onlyByTimeLines } from "../command/only-by-time.mjs";
 import { isExpected, toldOf } from "../command/problems.mjs";
 import { howMade } from "../keeping/how-made.mjs";
 import { Keeper, missingFiles } from "../keeping/keep.mjs";
+import { keepProgram } from "../keeping/kept-program.mjs";
 import { keepPictures, notesOn } from "../keeping/pictures.mjs";
 import { runsOf } from "../library/explore.mjs";
 import { checkedOwn } from "../library/library-options.mjs";
@@ -19,6 +21,7 @@ import { keptFolder } from "./kept-folder.mjs";
 /** @typedef {import("../library/recorder.mjs").Outcome} Outcome */
 /** @typedef {import("../seeds/runs.mjs").Runs} Runs */
 /** @typedef {import("../library/library-options.mjs").TrialOptions} TrialOptions */
+/** @typedef {import("../library/library-options.mjs").ProgramTrialOptions} ProgramTrialOptions */
 
 /**
  * @typedef {object} Caller whose code asks for the trial
@@ -81,7 +84,7 @@ function atCaller(problem, place) {
 /**
  * Makes runs until one fails. If it fails only after the early end of a timed wait, runs are made until one fails
  * without that.
- * @param {TrialOptions} given
+ * @param {TrialOptions | ProgramTrialOptions} given
  * @param {Caller} caller
  * @returns {Promise<string>} what is to be said where none failed; fails with an AssertionError where one did
  */
@@ -93,7 +96,7 @@ export async function tried(given, caller) {
   }
 }
 
-/** @param {TrialOptions} given @param {Caller} caller @returns {Promise<string>} as above */
+/** @param {TrialOptions | ProgramTrialOptions} given @param {Caller} caller @returns {Promise<string>} as above */
 async function passedOf(given, caller) {
   const { out, shorten = true, ...options } = checkedOwn(given);
   const passed = new Passed();
@@ -137,7 +140,9 @@ async function failureOf(runs, failing, passed, { out, shorten, caller }) {
   const { module, sabsim } = options;
   const simulator = simulatorAt(sabsim || undefined);
   const besides = await rememberingLines(runs);
-  const outcome = shorten ? (await runs.shorten(failing)).shortest ?? failing : failing;
+  const { shortest } = shorten ? await runs.shorten(failing) : { shortest: undefined };
+  const outcome = shortest ?? failing;
+  await runs.showOutput(failing, shortest);
   const folder = () => out ?? keptFolder(module, testOf(caller));
   const kept = [...besides, ...keptLines({ failing, outcome }, options, folder, simulator)];
   return failureText({ outcome, passed, simulator, module, kept });
@@ -161,7 +166,9 @@ function keptLines({ failing, outcome }, options, folder, simulator) {
     const keeper = new Keeper(resolve(folder()), "`out`");
     keeper.keepFirst(failing);
     if (outcome !== failing) keeper.keepShortest(failing, outcome);
-    const notKept = [...keepPictures(keeper, outcome, { simulator, ...howMade(options) }), ...missingFiles(outcome)];
+    const noRow = keepProgram(keeper, outcome, options);
+    const pictures = keepPictures(keeper, outcome, { simulator, ...howMade(options) });
+    const notKept = [...noRow, ...pictures, ...missingFiles(outcome)];
     const kept = keeper.names.length === 0 ? [] : [`kept in ${keeper.folder}: ${keeper.names.join(", ")}`];
     return [...kept, ...notesOn(keeper, outcome), ...notKept];
   } catch (problem) {

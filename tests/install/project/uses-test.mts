@@ -1,7 +1,7 @@
 // Uses every name of `sabsim/test`, as TypeScript of a project of one's own.
 
-import { assertAgents, testAgents } from "sabsim/test";
-import type { TrialOptions } from "sabsim/test";
+import { assertAgents, assertProgram, testAgents, testProgram } from "sabsim/test";
+import type { OfTrial, ProgramTrialOptions, TrialOptions, TrialRuns } from "sabsim/test";
 
 const options: TrialOptions = { module: "./lock.mjs", args: ["counting"], seeds: "1..20", jobs: 2, out: "found" };
 
@@ -10,3 +10,12 @@ export const asserted = (): Promise<void> => assertAgents({ ...options, sabsim: 
 
 // @ts-expect-error: a test ends at the first failing run in any case
 export const wrong: TrialOptions = { ...options, failFast: true };
+
+const kept: OfTrial = { out: "found", shorten: false };
+const runs: TrialRuns = { ...kept, seeds: 200 };
+const program: ProgramTrialOptions = { program: "./main.mjs", ...runs };
+export const testedProgram: Promise<void> = testProgram("no answer is lost", program);
+export const assertedProgram = (): Promise<void> => assertProgram(program);
+
+// @ts-expect-error: a program isn't a module of agents
+export const other: Promise<void> = testAgents("no answer is lost", program);

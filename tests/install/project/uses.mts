@@ -3,7 +3,7 @@
 import { explore, record, Difference, LostJob, NoSabsim, Refused } from "sabsim";
 import type { Accesses, Agent, AgentRun, Ending, ExploreOptions, Outcome, Race, RaceSide } from "sabsim";
 import type { Kind, NamedPart, NamedPlace, OnlyByTime, RecordOptions, Setup, Shortened, Standing } from "sabsim";
-import type { WithBuffers } from "sabsim";
+import type { ManyRuns, OfModule, OfProgram, OneRun, RunOptions, WithBuffers } from "sabsim";
 
 const kind: Kind = "Uint8";
 const slots: NamedPlace = [kind, 1];
@@ -23,7 +23,7 @@ const filled: WithBuffers = ([buffer], { agents, args }) => {
   new Uint8Array(buffer!).fill(agents + args.length);
 };
 
-const options: RecordOptions = {
+const options: RunOptions & OneRun & OfModule = {
   module: "./lock.mjs", agents: 2, buffers: [8], noBlock: [0], seed: 7, args: ["counting"], strategy: "switch:0.5",
   timeouts: 0.1, maxMoves: 1_000, seconds: 2, ordinary: "watch", races: "allow", bounds: "fail", clock: "run",
   unrecorded: "fail", init: filled, check: ([buffer]) => buffer!.byteLength === 8, sabsim: false, trace: true, shorten: true,
@@ -34,6 +34,13 @@ export const seeds = { ...rest, seeds: "1..20", jobs: 1, checkEvery: 5, fresh: f
 const range = { first: 1, last: seed ?? 2 };
 export const many: ExploreOptions[] = [seeds, { ...rest, seeds: 20 }, { ...rest, seeds: range, timeouts: "never" }];
 
+const program: OfProgram = { program: "./main.mjs", stuck: "allow", programOutput: "none" };
+const few: ManyRuns = { seeds: 5 };
+export const ofProgram: RecordOptions = { ...program, args: ["fast"], seed: 3, trace: true };
+export const manyOfProgram: ExploreOptions = { ...program, ...few };
+
+// @ts-expect-error: there can't be a program beside a module of agents
+const two: RecordOptions = { module: "./lock.mjs", program: "./main.mjs" };
 // @ts-expect-error: what has many seeds has no one
 export const both: ExploreOptions = { module: "./lock.mjs", seed: 7 };
 // @ts-expect-error: the module must be given
@@ -73,7 +80,7 @@ function summary(outcome: Outcome): string {
   const answered = [...timed, ...answers.flat().map((answer) => answer ?? "waits")];
   const stands = standing.map(standingText);
   return [...numbers, ...texts, ...bytes, ...answered, ...stands, script?.length, scriptHolds, noScript, report, trace,
-    ...unrecorded, remembers?.seed, remembers?.differs, remembers?.was, remembers?.is, remembers?.threw].join(" ");
+    ...unrecorded, ...(outcome.threads ?? []), remembers?.seed, remembers?.differs, remembers?.was, remembers?.is, remembers?.threw].join(" ");
 }
 
 export async function told(): Promise<string> {
@@ -97,4 +104,4 @@ export async function lowest(): Promise<number | undefined> {
   return undefined;
 }
 
-export const refused: RecordOptions[] = [without, wrong];
+export const refused: RecordOptions[] = [without, wrong, two];

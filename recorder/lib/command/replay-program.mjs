@@ -1,0 +1,63 @@
+// What --replay does with a kept run of a program: its threads run once more, by the row of that run, in this process.
+
+import { existsSync } from "node:fs";
+import { shortPath } from "../keeping/about.mjs";
+import { howMade } from "../keeping/how-made.mjs";
+import { PROGRAM_ENDING, keepProgram, keptProgram, urlOf } from "../keeping/kept-program.mjs";
+import { keepPictures, notesOn } from "../keeping/pictures.mjs";
+import { Refused } from "../options/refused.mjs";
+import { firstOtherText, rowStrayedText } from "../shorter/differing.mjs";
+import { keptScript } from "../shorter/kept-script.mjs";
+import { Replaying, textOf } from "./replaying.mjs";
+
+/** @typedef {import("../seeds/job.mjs").Checked} Checked */
+
+export class ProgramReplay extends Replaying {
+  /**
+   * @param {import("./options.mjs").Options} options of which those that are given go before those of the kept run
+   * @param {NonNullable<import("./options.mjs").Options["replay"]>} wanted
+   */
+  constructor(options, { file, seed, given }) {
+    const run = keptProgram(textOf(file), file);
+    const args = options.args.length > 0 ? options.args : run.args;
+    super({ ...options, ...run.options, ...given, args, isProgram: true }, file);
+    this.row = run.row;
+    this.seed = seed ?? run.seed;
+    this.main = options.module ?? run.program;
+    if (!existsSync(this.main)) throw new Refused(`there is no file ${this.main}: --program says where the program is`);
+    this.module = urlOf(this.main);
+    const script = run.script;
+    this.script = script === undefined || !existsSync(script) ? undefined : keptScript(textOf(script), script);
+    this.keepsAs(new RegExp(`\\.${PROGRAM_ENDING.replace(".", "\\.")}$`));
+  }
+
+  /** @returns {Promise<Checked>} */
+  made() {
+    const { module, row, seed } = this;
+    return this.one(seed, { module, wanted: { row, isExact: true, tellsRow: true, isShown: true } });
+  }
+
+  /** @param {Checked} outcome @returns {string | undefined} */
+  differenceOf({ stray, script }) {
+    const now = script === undefined ? undefined : keptScript(script, "the run");
+    const other = this.script && now && firstOtherText(this.script, now);
+    return other ?? (stray && rowStrayedText(stray));
+  }
+
+  titles() {
+    return [`replayed ${this.file}: ${shortPath(this.main)}, with the clocks and random numbers of seed ${this.seed}`];
+  }
+
+  /**
+   * @param {Checked} outcome
+   * @param {import("../keeping/keep.mjs").Keeper} keeper
+   * @returns {import("./summary.mjs").Ending} where its files lie
+   */
+  kept(outcome, keeper) {
+    const options = { ...this.options, module: this.module };
+    keeper.keepFirst(outcome);
+    const noRow = keepProgram(keeper, outcome, options);
+    const pictures = keepPictures(keeper, outcome, { simulator: this.simulator, ...howMade(options) });
+    return { kept: keeper.told(notesOn(keeper, outcome)), notKept: [...noRow, ...pictures] };
+  }
+}

@@ -1,0 +1,128 @@
+// What replays of agents and of programs have in common: the run is made in this process, kept where that is asked for,
+// and it is printed how it ended.
+
+import { readFileSync } from "node:fs";
+import { createRequire } from "node:module";
+import { basename } from "node:path";
+import { Keeper } from "../keeping/keep.mjs";
+import { Refused } from "../options/refused.mjs";
+import { preloads } from "../processes/preloads.mjs";
+import { Job } from "../seeds/job.mjs";
+import { Runs } from "../seeds/runs.mjs";
+import { NoLongerTheSame } from "../shorter/differing.mjs";
+import { chosenProgram, simulatorAt } from "../simulator/chosen.mjs";
+import { print } from "./print.mjs";
+import { summaryText } from "./summary-text.mjs";
+import { Summary } from "./summary.mjs";
+
+// A debugger holds agents for as long as somebody looks at them.
+const DEBUGGED_SECONDS = 3_600;
+
+/** @param {string} file @returns {string} what is in it */
+export function textOf(file) {
+  try {
+    return readFileSync(file, "utf8");
+  } catch (error) {
+    throw new Refused(`--replay ${file} can't be read: ${/** @type {Error} */ (error).message}`);
+  }
+}
+
+/** @returns {boolean} whether a debugger may be attached to this process */
+function isDebugged() {
+  try {
+    return createRequire(import.meta.url)("node:inspector").url() !== undefined;
+  } catch {
+    // A node without one can't be debugged.
+    return false;
+  }
+}
+
+export class Replaying {
+  /**
+   * @param {import("./options.mjs").Options} options
+   * @param {string} file that is replayed
+   */
+  constructor(options, file) {
+    this.options = options;
+    this.file = file;
+    /** @type {string | false | undefined} */
+    this.sabsim = options.checkEvery === 0 ? false : chosenProgram(options.sabsim);
+    this.simulator = simulatorAt(this.sabsim || undefined);
+    /** @type {Keeper | undefined} */
+    this.keeper = undefined;
+  }
+
+  /** @param {RegExp} ending of the file's name, which the names of the files that are kept don't have */
+  keepsAs(ending) {
+    const { options: { out }, file } = this;
+    if (out !== undefined) this.keeper = new Keeper(out, "--out", `${basename(file).replace(ending, "")}.replayed`);
+  }
+
+  /**
+   * Makes the run, keeps it where that is asked for, and prints how it ended.
+   * @returns {Promise<{ failed: boolean, problems: unknown[] }>} whether it failed
+   * @throws {NoLongerTheSame}
+   */
+  async run() {
+    const outcome = await this.made();
+    const difference = this.differenceOf(outcome);
+    if (difference !== undefined) throw new NoLongerTheSame(difference);
+    const { options: { ordinary, races, unrecorded }, sabsim, simulator } = this;
+    const checkedBy = sabsim === false ? undefined : simulator.version;
+    const summary = new Summary({ ordinary, races, unrecorded, checkedBy, preloads: preloads() });
+    summary.add(outcome);
+    const lines = this.titles().map((line) => `${line}\n`).join("");
+    const ending = this.keeper === undefined ? {} : this.kept(outcome, this.keeper);
+    await print(`${lines}${summaryText(summary.told(ending))}`);
+    return { failed: outcome.fails, problems: [] };
+  }
+
+  /** @returns {Promise<import("../seeds/job.mjs").Checked>} what came of the run */
+  async made() {
+    throw new Error("nothing is replayed");
+  }
+
+  /**
+   * How a run differs from the one that was kept.
+   * @param {import("../seeds/job.mjs").Checked} _outcome
+   * @returns {string | undefined} undefined: it is the same
+   */
+  differenceOf(_outcome) {
+    return undefined;
+  }
+
+  /** @returns {string[]} what is said before the summary */
+  titles() {
+    return [];
+  }
+
+  /**
+   * @param {import("../seeds/job.mjs").Checked} outcome
+   * @param {Keeper} keeper
+   * @returns {import("./summary.mjs").Ending} where its files lie
+   */
+  kept(outcome, keeper) {
+    keeper.keepFirst(outcome);
+    return { kept: keeper.told([]) };
+  }
+
+  /**
+   * Makes the one run.
+   * @param {number} seed
+   * @param {object} options of it
+   * @returns {Promise<import("../seeds/job.mjs").Checked>}
+   */
+  async one(seed, options) {
+    const long = { seconds: DEBUGGED_SECONDS, loadSeconds: DEBUGGED_SECONDS };
+    const limits = isDebugged() ? long : { seconds: this.options.seconds };
+    const only = { first: seed, last: seed, jobs: 1, fresh: false, trace: true };
+    const checking = { sabsim: this.sabsim, checkEvery: 1 };
+    const all = { ...this.options, ...limits, ...only, ...checking, ...options };
+    const runs = new Runs(/** @type {any} */ (all), { job: new Job() });
+    try {
+      return /** @type {any} */ ((await runs.outcomes().next()).value);
+    } finally {
+      await runs.close();
+    }
+  }
+}

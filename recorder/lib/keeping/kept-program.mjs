@@ -1,0 +1,148 @@
+// The file by which a kept run of a program is made again: it names the program, its arguments, the options and the
+// seed, and says which thread moved with each draw. A script doesn't have the turns of event loops.
+
+import { createHash } from "node:crypto";
+import { isAbsolute, relative, resolve } from "node:path";
+import { fileURLToPath, pathToFileURL } from "node:url";
+import { SCRIPT_LIMITS } from "../../script/limits.mjs";
+import { MOST_DRAWS } from "../board/row.mjs";
+import { Refused } from "../options/refused.mjs";
+import { optionsOf } from "../options/table.mjs";
+import { rowOf, stretchesOf } from "../shorter/stretches.mjs";
+
+/** What its name ends with, behind that of the run. */
+export const PROGRAM_ENDING = "program.json";
+
+/**
+ * @typedef {object} KeptProgram
+ * @property {string} program the path of its main module
+ * @property {string[]} args
+ * @property {number} seed
+ * @property {Record<string, unknown>} options of the run that aren't as they are by themselves
+ * @property {number[]} row
+ * @property {string | undefined} script the path of the run's script, if the row is still the one that it belongs to
+ */
+
+/** @typedef {import("../run/group.mjs").GroupOptions} GroupOptions */
+
+/** @param {number[]} row */
+const digestOf = (row) => createHash("sha256").update(row.join()).digest("hex").slice(0, 16);
+
+/** The options on which a run depends, besides what is run. */
+const RULES = optionsOf("record").filter(([name, { isShared }]) => isShared && name !== "program");
+
+/**
+ * Keeps what makes a run of a program again.
+ * @param {import("./keep.mjs").Keeper} keeper
+ * @param {import("../run/outcome.mjs").Outcome} outcome of the run that is kept
+ * @param {GroupOptions} options of the run
+ * @returns {string[]} why that isn't kept, if so
+ */
+export function keepProgram(keeper, { seed, row, script }, options) {
+  if (!options.isProgram || row === undefined) return [];
+  if (row.length >= MOST_DRAWS) {
+    return [`not kept: ${keeper.nameOf(seed, PROGRAM_ENDING)}: the run has ${MOST_DRAWS} draws or more`];
+  }
+  const name = keeper.nameOf(seed, "json");
+  const text = textOf({ seed, row, script: script === undefined ? undefined : name }, options, keeper.folder);
+  keeper.keepAll(seed, { [PROGRAM_ENDING]: text });
+  return [];
+}
+
+/**
+ * @param {{ seed: number, row: number[], script: string | undefined }} run
+ * @param {GroupOptions} options
+ * @param {string} folder in which the file will be
+ */
+function textOf({ seed, row, script }, options, folder) {
+  const given = RULES.filter(([name, { ifNone }]) =>
+    ![undefined, ifNone].includes(/** @type {any} */ (options)[name]));
+  const members = {
+    program: relative(resolve(folder), fileURLToPath(options.module)), args: options.args, seed,
+    options: Object.fromEntries(given.map(([name]) => [name, /** @type {any} */ (options)[name]])),
+    row: stretchesOf(row).map(({ agent, draws }) => [agent, draws]),
+    ...(script === undefined ? {} : { script: { file: script, row: digestOf(row) } }),
+  };
+  const lines = Object.entries(members).map(([name, value]) => `  ${JSON.stringify(name)}: ${JSON.stringify(value)}`);
+  return `{\n${lines.join(",\n")}\n}\n`;
+}
+
+/** @param {unknown} value @returns {value is Record<string, any>} */
+const isObject = (value) => typeof value === "object" && value !== null && !Array.isArray(value);
+
+/** @param {unknown} args @returns {args is string[]} */
+const areWords = (args) => Array.isArray(args) && args.every((each) => typeof each === "string");
+
+/** @param {unknown} pair @returns {boolean} whether it is a thread and how many draws it has in a row */
+function isStretch(pair) {
+  if (!Array.isArray(pair) || pair.length !== 2 || !pair.every(Number.isInteger)) return false;
+  const [agent, draws] = pair;
+  return agent >= 0 && agent < SCRIPT_LIMITS.agents && draws > 0;
+}
+
+/**
+ * @param {unknown} given
+ * @param {(why: string) => never} refuse
+ * @returns {number[]}
+ */
+function rowFrom(given, refuse) {
+  if (!Array.isArray(given) || !given.every(isStretch)) {
+    refuse("its row must have pairs of a thread and a number of draws");
+  }
+  const stretches = /** @type {[number, number][]} */ (given).map(([agent, draws]) => ({ agent, draws }));
+  const length = stretches.reduce((sum, { draws }) => sum + draws, 0);
+  if (length > MOST_DRAWS) refuse(`its row has ${length} draws, and there can be ${MOST_DRAWS}`);
+  return rowOf(stretches);
+}
+
+/**
+ * The options that a kept file has, as the library takes them.
+ * @param {unknown} given
+ * @param {(why: string) => never} refuse
+ */
+function optionsFrom(given, refuse) {
+  if (!isObject(given)) return refuse("its options must be an object");
+  const rules = new Map(RULES);
+  return Object.fromEntries(Object.entries(given).map(([name, value]) => {
+    const kind = rules.get(name)?.kind ?? refuse(`there is no option ${name} of a run`);
+    return [name, kind.value(value, `${name} of its options`)];
+  }));
+}
+
+/**
+ * Reads such a file, which somebody may have changed.
+ * @param {string} text
+ * @param {string} file its path
+ * @returns {KeptProgram}
+ * @throws {Refused}
+ */
+export function keptProgram(text, file) {
+  /** @type {(why: string) => never} */
+  const refuse = (why) => {
+    throw new Refused(`${file} is no run of a program that was kept: ${why}`);
+  };
+  let given;
+  try {
+    given = JSON.parse(text);
+  } catch (problem) {
+    return refuse(/** @type {Error} */ (problem).message.split("\n")[0]);
+  }
+  if (!isObject(given) || typeof given.program !== "string") {
+    return refuse("it names no program; if it is a script of agents, name their module");
+  }
+  const { program, args = [], seed, options = {}, script } = given;
+  if (!areWords(args)) refuse("its args must be words");
+  if (!Number.isSafeInteger(seed) || seed < 0) refuse("its seed must be a whole number");
+  const row = rowFrom(given.row, refuse);
+  const isOwn = isObject(script) && typeof script.file === "string" && script.row === digestOf(row);
+  return {
+    program: besides(file, program), args, seed, options: optionsFrom(options, refuse), row,
+    script: isOwn ? besides(file, script.file) : undefined,
+  };
+}
+
+/** @param {string} file @param {string} path from that file's folder @returns {string} */
+const besides = (file, path) => (isAbsolute(path) ? path : resolve(file, "..", path));
+
+/** @param {string} path @returns {string} */
+export const urlOf = (path) => pathToFileURL(path).href;

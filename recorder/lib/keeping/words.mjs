@@ -1,0 +1,28 @@
+// A program's run in words: its threads, and then each step with its line of code. A message is sent and received.
+
+import { Views } from "../../page/elements.mjs";
+import { endingText } from "../../page/endings.mjs";
+import { Stepper } from "../../page/steps.mjs";
+import { pageData } from "./page.mjs";
+
+/** In place of the number of a move, where a step isn't in the script. */
+const NO_MOVE = "-";
+
+/**
+ * @param {string} facts what `sabsim replay --format json` prints of the run
+ * @param {import("../run/outcome.mjs").Outcome} outcome that has a script
+ * @param {string} module the URL of the program's main module
+ * @returns {string} lines
+ */
+export function wordsText(facts, outcome, module) {
+  const data = pageData(outcome, facts, module);
+  const { seed, ending, detail, threads = [], places } = data;
+  const names = threads.map((name, agent) => `agent ${agent}: ${name === "" ? data.module : name}`);
+  const steps = new Stepper(data, new Views(data)).all();
+  const lines = steps.filter(({ agent }) => agent !== undefined).map(({ entry, agent, sentence, place }) => {
+    const where = place < 0 ? "" : `, at ${places[place]}`;
+    return `${entry ?? NO_MOVE} ${agent} ${sentence}${where}`;
+  });
+  const head = `seed ${seed} of ${data.module}: ${endingText(ending, detail)}`;
+  return [head, ...names, "", ...lines, "", ...detail.split("\n"), ""].join("\n");
+}

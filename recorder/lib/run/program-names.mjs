@@ -1,0 +1,46 @@
+// The threads and blocks of a program, as texts about its runs name them: a thread by its file and where it was
+// started, a block by where its memory was made.
+
+/**
+ * @typedef {object} ProgramNames
+ * @property {string[]} threads by their numbers: the file, and where it was started; empty: the thread has no name
+ * @property {string[]} blocks by their numbers: file and line where the memory was made; empty: it isn't known
+ */
+
+/**
+ * The names of blocks, by the places where their memory was made.
+ * @param {string[]} places file, line and column; empty: it isn't known
+ * @returns {string[]} file and line, with a number where several were made at one line
+ */
+export function blockNames(places) {
+  const lines = places.map((place) => place.replace(/:\d+$/, ""));
+  return lines.map((line, block) => {
+    const all = lines.filter((each) => each === line).length;
+    const number = lines.slice(0, block + 1).filter((each) => each === line).length;
+    return line === "" || all === 1 ? line : `${line}, number ${number}`;
+  });
+}
+
+/** A mention of a thread; of a block; and of an element by its view's name, which has the block's number. */
+const MENTION = /\bagent (\d+)(?= )|\bblock (\d+)\b|\b[A-Z]\w*_b(\d)(?:_\w+)?\[\d+\]/g;
+
+/**
+ * A text in which the first mention of each thread and block has its name.
+ * @param {string} text
+ * @param {ProgramNames} names
+ * @returns {string}
+ */
+export function namedText(text, { threads, blocks }) {
+  const known = new Set();
+  /** @type {(found: string, key: string, name?: string) => string} */
+  const named = (found, key, name = "") => {
+    if (name === "" || known.has(key)) return found;
+    known.add(key);
+    return `${found} (${name})`;
+  };
+  return text.replace(MENTION, (found, agent, block, viewed) => {
+    if (agent !== undefined) return named(found, `agent ${agent}`, threads[agent]);
+    const number = block ?? viewed;
+    return named(found, `block ${number}`, blocks[number]);
+  });
+}

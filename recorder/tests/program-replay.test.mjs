@@ -1,0 +1,175 @@
+// --replay of a kept run of a program: the same run, from the file that names the program and has its row; and what is
+// said if the code or the row no longer makes it.
+
+import assert from "node:assert/strict";
+import { spawnSync } from "node:child_process";
+import { readFileSync, readdirSync, writeFileSync } from "node:fs";
+import { dirname, join } from "node:path";
+import { test } from "node:test";
+import { MOST_DRAWS } from "../lib/board/row.mjs";
+import { Keeper } from "../lib/keeping/keep.mjs";
+import { keepProgram, keptProgram } from "../lib/keeping/kept-program.mjs";
+import { Refused } from "../lib/options/refused.mjs";
+import { explore } from "../recorder.mjs";
+import { RECORD, temporaryFolder } from "./helpers/common.mjs";
+import { programOf } from "./helpers/whole-programs.mjs";
+
+// Main looks at the word when the first message has come. The worker may have stored it or not.
+const MAIN = `import { Worker } from "node:worker_threads";
+const words = new Int32Array(new SharedArrayBuffer(8));
+const worker = new Worker(new URL("./worker.mjs", import.meta.url), { workerData: words });
+worker.once("message", (text) => {
+  if (Atomics.load(words, 0) === 0) throw new Error(process.argv[2] + ": " + text + " too soon");
+});
+`;
+const WORKER = `import { parentPort, workerData } from "node:worker_threads";
+await new Promise((done) => setTimeout(done, 5));
+parentPort.postMessage("ready");
+Atomics.store(workerData, 0, 7);
+`;
+
+/**
+ * @param {string[]} words of the command line
+ * @param {object} [options]
+ */
+function recorded(words, options = {}) {
+  const { status, stdout, stderr } = spawnSync(process.execPath, [RECORD, ...words], { encoding: "utf8", ...options });
+  return { status, stdout, stderr };
+}
+
+/**
+ * A program of which a failing run is kept.
+ * @param {import("node:test").TestContext} context
+ * @param {Record<string, string>} [files]
+ * @param {string[]} [words]
+ */
+function kept(context, files = { "main.mjs": MAIN, "worker.mjs": WORKER }, words = ["--timeouts", "0.2", "--", "mine"]) {
+  const main = programOf(context, files);
+  const folder = join(dirname(main), "found");
+  const { status, stderr } = recorded(["--program", main, "--seeds", "1..60", "--fail-fast", "--out", folder, ...words]);
+  assert.equal(status, 1, stderr);
+  const name = readdirSync(folder).find((each) => each.endsWith(".program.json"));
+  return { main, folder, file: join(folder, name ?? "none"), name: (name ?? "").replace(".program.json", "") };
+}
+
+test("a kept run of a program is made again from its file alone: the same script, report and trace", (context) => {
+  const { main, folder, file, name } = kept(context);
+  const seed = Number(name.replace("seed-", ""));
+  const { program, args, options, row, script } = keptProgram(readFileSync(file, "utf8"), file);
+  assert.deepEqual([program, args, options], [main, ["mine"], { timeouts: 0.2 }]);
+  assert.deepEqual([script, row.length > 0], [join(folder, `${name}.json`), true]);
+  // In another folder than that of the runs.
+  const { status, stdout, stderr } = recorded(["--replay", join("found", `${name}.program.json`), "--out", "again"], { cwd: dirname(main) });
+  assert.deepEqual([status, stderr], [1, ""], stderr);
+  const [title, failed, , detail] = stdout.split("\n");
+  assert.equal(title, `replayed found/${name}.program.json: main.mjs, with the clocks and random numbers of seed ${seed}`);
+  assert.deepEqual([failed, detail], ["1 of 1 run failed: 1 threw", "  agent 0 threw Error: mine: ready too soon"]);
+  assert.match(stdout, /^every run was replayed and judged by sabsim \(\w+\): it says the same$/m);
+  for (const ending of ["json", "report", "trace.jsonl", "explained"]) {
+    const again = readFileSync(join(dirname(main), "again", `${name}.replayed.${ending}`), "utf8");
+    assert.equal(again, readFileSync(join(folder, `${name}.${ending}`), "utf8"), ending);
+  }
+  const command = JSON.parse(/<script type="application\/json" id="run">(.*)<\/script>/.exec(
+    readFileSync(join(folder, `${name}.html`), "utf8"))[1].replaceAll("\\u003c", "<")).command;
+  assert.equal(command.isOfRow, true);
+  assert.match(command.script, new RegExp(`${name}\\.program\\.json$`));
+});
+
+test("a run without a script is made again, too, and options of the command line go before the kept ones", (context) => {
+  const { file, folder } = kept(context, {
+    "main.mjs": `import { Worker } from "node:worker_threads";
+      const words = new Int32Array(new SharedArrayBuffer(8));
+      const worker = new Worker(new URL("./worker.mjs", import.meta.url), { workerData: words });
+      worker.on("message", async () => { await worker.terminate(); process.exitCode = 3; });`,
+    "worker.mjs": `import { parentPort, workerData } from "node:worker_threads";
+      parentPort.postMessage("waits");
+      Atomics.wait(workerData, 0, 0);`,
+  }, []);
+  assert.ok(!readdirSync(folder).some((name) => /^seed-\d+\.json$/.test(name)));
+  const { status, stdout } = recorded(["--replay", file, "--races", "allow"]);
+  assert.equal(status, 1);
+  assert.match(stdout, /^ {2}agent 0 exited with code 3$/m);
+  // It has fewer moves than that.
+  assert.match(recorded(["--replay", file, "--max-moves", "2"]).stdout, /^1 of 1 run failed: 1 limit met$/m);
+});
+
+test("where the code does other things the first of them is named", (context) => {
+  const { main, file } = kept(context);
+  const files = { main, worker: join(dirname(main), "worker.mjs") };
+  const changed = [
+    ["main", MAIN.replace("Atomics.load(words, 0)", "Atomics.load(words, 1)"),
+      /: in the script comes agent 0's call \d+, \["load", "Int32_b0", 0\], and now agent 0's call \d+, \["load", "Int32_b0", 1\]$/],
+    ["main", MAIN.replace("if (", "Atomics.add(words, 1, 2);\n if ("),
+      /: in the script comes agent 0's call \d+, \["load", .*\], and now agent 0's call \d+, \["add", "Int32_b0", 1, 2\]$/],
+    ["worker", WORKER.replace('parentPort.postMessage("ready");', ""),
+      /: in the script comes agent 1's call \d+, \["notify", .*\], and now agent 1's call \d+, \["store", "Int32_b0", 0, 7\]$/],
+    // It makes no other call, and comes less far.
+    ["worker", WORKER.replace("setTimeout(done, 5)", 'parentPort.once("message", done)'),
+      /: agent \d moved with draw \d+ of the kept run, and now it has nothing to do, or waits$/],
+  ];
+  for (const [name, text, why] of changed) {
+    const before = readFileSync(files[name], "utf8");
+    assert.notEqual(text, before);
+    writeFileSync(files[name], text);
+    const { status, stdout, stderr } = recorded(["--replay", file]);
+    writeFileSync(files[name], before);
+    assert.deepEqual([status, stdout], [3, ""]);
+    assert.match(stderr.trimEnd(), new RegExp(`^record: the code no longer does the same${why.source}`));
+  }
+});
+
+test("an edited row makes another run of the program, or it is said which draw it can't make", async (context) => {
+  const { main, file } = kept(context);
+  const all = JSON.parse(readFileSync(file, "utf8"));
+  /** @param {number[][]} row */
+  const replayedBy = (row) => {
+    const path = join(dirname(file), "edited.program.json");
+    writeFileSync(path, JSON.stringify({ ...all, row }));
+    return recorded(["--replay", path]);
+  };
+  for await (const { ending, row } of explore({ program: main, args: ["mine"], seeds: "1..60", timeouts: 0.2 })) {
+    if (ending !== "finished") continue;
+    const { status, stdout } = replayedBy(row.map((agent) => [agent, 1]));
+    assert.equal(status, 0, stdout);
+    assert.match(stdout, /^1 run: 1 finished$/m);
+    break;
+  }
+  const { status, stderr } = replayedBy([[0, 50], [1, 1]]);
+  assert.equal(status, 3);
+  assert.match(stderr, /^record: the code no longer does the same: agent 0 moved with draw \d+ of the kept run, and now it has nothing to do, or waits\n$/);
+});
+
+test("what is no kept run of a program is refused, and so is a program that isn't there", (context) => {
+  const folder = temporaryFolder(context);
+  const file = join(folder, "seed-1.program.json");
+  const right = { program: "main.mjs", args: [], seed: 1, options: {}, row: [[0, 1]] };
+  const wrong = [
+    ["{", /: .*JSON/], ["[]", /: it names no program; if it is a script of agents, name their module$/],
+    [{ ...right, program: 5 }, /it names no program/], [{ ...right, args: [1] }, /its args must be words$/],
+    [{ ...right, seed: -1 }, /its seed must be a whole number$/], [{ ...right, options: [] }, /its options must be an object$/],
+    [{ ...right, options: { agents: 2, faster: true } }, /there is no option faster of a run$/],
+    [{ ...right, row: [[16, 1]] }, /its row must have pairs of a thread and a number of draws$/],
+    [{ ...right, row: [[0, 0]] }, /its row must have pairs/], [{ ...right, row: undefined }, /its row must have pairs/],
+    [{ ...right, row: [[0, 100_000]] }, /its row has 100000 draws, and there can be 50001$/],
+  ];
+  for (const [given, why] of wrong) {
+    const text = typeof given === "string" ? given : JSON.stringify(given);
+    assert.throws(() => keptProgram(text, file), (error) => error instanceof Refused && why.test(error.message));
+  }
+  const { script } = keptProgram(JSON.stringify({ ...right, script: { file: "seed-1.json", row: "another" } }), file);
+  assert.equal(script, undefined);
+  writeFileSync(file, JSON.stringify(right));
+  assert.deepEqual(recorded(["--replay", file]), {
+    status: 2, stdout: "", stderr: `record: there is no file ${join(folder, "main.mjs")}: --program says where the program is\n`,
+  });
+  const { status, stderr } = recorded(["--replay", join(folder, "seed-1.json")]);
+  assert.deepEqual([status, stderr], [2, "record: the agents' module is missing; --help shows more\n"]);
+});
+
+test("a row that is too long to be known whole isn't kept, and it is said so", (context) => {
+  const keeper = new Keeper(temporaryFolder(context));
+  const options = /** @type {any} */ ({ isProgram: true, module: "file:///main.mjs", args: [] });
+  const kept = (/** @type {number} */ draws) => keepProgram(keeper, /** @type {any} */ ({ seed: 7, row: Array(draws).fill(0) }), options);
+  assert.deepEqual(kept(MOST_DRAWS), [`not kept: seed-7.program.json: the run has ${MOST_DRAWS} draws or more`]);
+  assert.deepEqual([kept(MOST_DRAWS - 1), keeper.names], [[], ["seed-7.program.json"]]);
+});

@@ -1,0 +1,61 @@
+// The run of a program in words and on its page: its threads, and messages that are sent and received.
+
+import assert from "node:assert/strict";
+import { test } from "node:test";
+import { fileURLToPath, pathToFileURL } from "node:url";
+import { sendersIn } from "../lib/keeping/messages.mjs";
+import { pageData } from "../lib/keeping/page.mjs";
+import { wordsText } from "../lib/keeping/words.mjs";
+import { Views } from "../page/elements.mjs";
+import { Stepper } from "../page/steps.mjs";
+import { record } from "../recorder.mjs";
+import { simulated } from "./helpers/simulate.mjs";
+
+/** An entry of a notify that wakes nobody. @param {number} agent @param {number} block @param {number} byte */
+const notified = (agent, block, byte) =>
+  /** @type {any} */ ({ what: "act", agent, does: ["notify", "Int32_b3", byte / 4, 0], place: { block, byte } });
+
+test("who sends a message is the thread that is first at its place; a place of several messages says nothing", () => {
+  const entries = [notified(0, 3, 0), notified(1, 3, 4), notified(1, 3, 0), notified(0, 0, 8), notified(1, 3, 4)];
+  assert.deepEqual(sendersIn(entries), [0, 1]);
+  assert.equal(sendersIn([...entries, notified(1, 3, 0)]), undefined);
+});
+
+test("a program's run in words has its threads, its messages with their lines, and the finding", async () => {
+  const program = fileURLToPath(new URL("programs/hand-over/too-soon.mjs", import.meta.url));
+  const outcome = await record({ program, seed: 3, trace: true, programOutput: "none" });
+  assert.equal(outcome.ending, "race");
+  const { output } = simulated(["replay", "--format", "json"], outcome.script);
+  const module = pathToFileURL(program).href;
+  const lines = wordsText(output, outcome, module).split("\n");
+  const started = "too-soon-worker.mjs, started at too-soon.mjs:7:1";
+  assert.deepEqual(lines.slice(0, 4), ["seed 3 of too-soon.mjs: race", "agent 0: too-soon.mjs", `agent 1: ${started}`, ""]);
+  assert.match(lines[4], /^1 0 sends message 0, at too-soon\.mjs:7:1$/);
+  const acts = lines.slice(4).map((line) => line.replace(/^\S+ /, ""));
+  assert.ok(acts.includes("1 receives message 0"));
+  assert.ok(acts.includes("1 writes Uint8_b0_at4[4], without Atomics: changes Uint8_b0_at4[4] from 0 to 111, at too-soon-worker.mjs:7:12"));
+  assert.equal(acts.filter((line) => /(?:sends|receives) message/.test(line)).length % 2, 0);
+  assert.deepEqual(lines.slice(-2), [outcome.detail, ""]);
+  assert.ok(!lines.some((line) => line.includes("Int32_b3")));
+  const data = pageData(outcome, output, module);
+  assert.deepEqual([data.threads, data.senders?.[0]], [["", started], 0]);
+  const texts = new Stepper(data, new Views(data)).all().map(({ text, answer }) => `${text}${answer}`);
+  assert.ok(texts.includes("sends message 0") && texts.includes("receives message 0"));
+});
+
+test("a thread that sends to itself sends first, and a module of agents has no messages", async () => {
+  const program = new URL("programs/channels/in-order.mjs", import.meta.url);
+  const outcome = await record({ program, trace: true, programOutput: "none" });
+  const { output } = simulated(["replay", "--format", "json"], outcome.script);
+  const data = pageData(outcome, output, program.href);
+  const steps = new Stepper(data, new Views(data)).all();
+  const kinds = new Map();
+  for (const { text } of steps) {
+    const [, kind, message] = /^(sends|receives) message (\d+)$/.exec(text) ?? [];
+    if (message !== undefined) kinds.set(message, `${kinds.get(message) ?? ""}${kind} `);
+  }
+  assert.ok(kinds.size > 0);
+  for (const each of kinds.values()) assert.match(each, /^sends (?:receives )?$/);
+  const plain = new Stepper({ ...data, senders: undefined }, new Views(data)).all();
+  assert.ok(!plain.some(({ text }) => /message/.test(text)));
+});
