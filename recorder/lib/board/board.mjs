@@ -5,6 +5,7 @@ import { SCRIPT_LIMITS } from "../../script/limits.mjs";
 import { KnownPlaces } from "../memory/known-places.mjs";
 import { ORDER, PHASE, WORD, wordsFor } from "../memory/layout.mjs";
 import { Random } from "../memory/random.mjs";
+import { AsyncWaiters } from "./async-waiters.mjs";
 import { Clock } from "./clock.mjs";
 import { Deadlines } from "./deadlines.mjs";
 import { End } from "./end.mjs";
@@ -31,6 +32,7 @@ const TEXT_BYTES = 16_384;
  * @property {SharedArrayBuffer} early
  * @property {SharedArrayBuffer} places
  * @property {import("./row.mjs").RowMemory} row
+ * @property {SharedArrayBuffer} [waiters] of a program: for the waits of Atomics.waitAsync
  */
 
 export class Board {
@@ -56,7 +58,8 @@ export class Board {
     this.words = new Int32Array(memory.words);
     this.end = new End(this.words, bufferFrom(memory.text));
     this.turn = new Turn(this.words, bufferFrom(memory.reasons), this.end, agents);
-    this.line = new Line(this.words, agents);
+    this.waiters = memory.waiters === undefined ? undefined : new AsyncWaiters(memory.waiters);
+    this.line = new Line(this.words, agents, this.waiters);
     this.journal = new Journal(this.words, new Float64Array(memory.views), agents);
     this.clock = new Clock(memory.times);
     this.places = new KnownPlaces(memory.places);
@@ -75,6 +78,7 @@ export class Board {
   begin(seed, isPilot = false) {
     this.#prepare(ORDER.PLAY);
     this.line.begin(this.rules.starts);
+    this.waiters?.begin();
     this.words[WORD.JOINED] = this.strategy.starts;
     this.words[WORD.MESSAGES] = 0;
     this.journal.begin();

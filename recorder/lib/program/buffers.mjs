@@ -56,6 +56,9 @@ export class Buffers {
   /** @type {Known[]} those that were made here, by their own numbers less the first one */
   #own = [];
 
+  /** @type {(own: number, block: number) => void} called when a buffer of this thread has become a block */
+  onBlock = () => {};
+
   /**
    * @param {import("../memory/blocks.mjs").Blocks} blocks
    * @param {import("./mesh.mjs").Mesh} mesh
@@ -111,8 +114,10 @@ export class Buffers {
     }
     known.block = blocks.add(buffer);
     mesh.handAll({ kind: "block", block: known.block, buffer });
-    if (!hasBytes(buffer)) return;
-    shown.seen({ block: known.block, kind: WHOLE_BUFFER, offset: 0, length }, 0, length, true);
+    if (hasBytes(buffer)) {
+      shown.seen({ block: known.block, kind: WHOLE_BUFFER, offset: 0, length }, 0, length, true);
+    }
+    this.onBlock(known.own, known.block);
   }
 
   /** @param {number} agent that begins, and has to know the blocks that there are */
