@@ -9,6 +9,7 @@ import { unwrapped } from "../agent/ordinary/watched.mjs";
 import { NO_WAITER } from "../board/async-waiters.mjs";
 import { byteOf } from "../memory/memory.mjs";
 import { apply, bufferOf, likeEngine, put } from "../primordials.mjs";
+import { Buffers } from "./buffers.mjs";
 
 const { wait: WAIT, notify: NOTIFY } = CALL_NUMBERS;
 const { Promise: EnginePromise } = globalThis;
@@ -111,6 +112,9 @@ export class WaitAsync {
     const kind = kindOf(view);
     const buffer = kind < 0 ? -1 : buffers.numberOf(bufferOf(view));
     given[0] = view;
+    if (buffer < 0 && kind >= 0 && isPlaying() && Buffers.isShared(bufferOf(view))) {
+      refuse("called Atomics.waitAsync on a SharedArrayBuffer that grows, which isn't simulated yet");
+    }
     if (buffer < 0 || !isPlaying()) return apply(engineWaitAsync, Atomics, given);
     const refused = (/** @type {string} */ why) => refuse(`called Atomics.waitAsync: ${why}`);
     // Conversions run the program's code, which may share the memory.

@@ -28,7 +28,7 @@ import { broadcastClass } from "./broadcast.mjs";
 import { Buffers } from "./buffers.mjs";
 import { Ends } from "./ends.mjs";
 import {
-  furnishMemory, furnishProcess, furnishThreads, furnishTimers, keepProcess, restoreProcess,
+  furnishCloning, furnishMemory, furnishProcess, furnishThreads, furnishTimers, keepProcess, restoreProcess,
 } from "./furnish.mjs";
 import { Loop } from "./loop.mjs";
 import { listingOf } from "./member.mjs";
@@ -212,9 +212,12 @@ function furnish({ moves, buffers, waits, ends, events, timers, later }, putTwin
   printAtOnce(() => words[WORD.IS_SILENT] === 0 && isPlaying());
   simulateTime(() => (isPlaying() ? playing().look() : 0));
   simulateChance(chance);
+  // Node makes a context of its own when a reader is released first. That isn't the program's, and so comes before.
+  new ReadableStream().getReader().releaseLock();
   watchRealm(watching);
   putTwins({ later, isPlaying });
   furnishMemory((buffer) => buffers.made(buffer, sourceHere()), refuse);
+  furnishCloning(buffers);
   globalThis.Atomics = atomicsOf(moves, waits);
   waits.furnish(Atomics);
   furnishTimers(timers);
