@@ -2,8 +2,10 @@
 // row of random numbers, the time, what was done, and how the run ended. Only the thread that has the turn changes it.
 
 import { SCRIPT_LIMITS } from "../../script/limits.mjs";
+import { loopPlace } from "../memory/blocks.mjs";
 import { KnownPlaces } from "../memory/known-places.mjs";
-import { ORDER, PHASE, WORD, wordsFor } from "../memory/layout.mjs";
+import { LOOP, ORDER, PHASE, WORD, wordsFor } from "../memory/layout.mjs";
+import { FLAG } from "../memory/log.mjs";
 import { Random } from "../memory/random.mjs";
 import { AsyncWaiters } from "./async-waiters.mjs";
 import { Clock } from "./clock.mjs";
@@ -176,9 +178,16 @@ export class Board {
    * @param {number | undefined} milliseconds until it goes on by itself
    */
   rest(agent, where, milliseconds) {
-    this.strategy.asks(agent, 0, 0, 0);
+    if (where === LOOP) this.asksForTask(agent);
+    else this.strategy.asks(agent, 0, 0, 0);
     this.line.join(agent, where, agent, milliseconds !== undefined);
     if (milliseconds !== undefined) this.clock.setDeadline(agent, milliseconds);
+  }
+
+  /** @param {number} agent whose next move is one of its event loop, or takes a message from a port */
+  asksForTask(agent) {
+    const place = loopPlace(agent);
+    this.strategy.asks(agent, place, place + 1, FLAG.WAITERS);
   }
 
   /** An agent's event loop takes up something: that is a move, though none of a script. */

@@ -24,6 +24,9 @@ const TASKS = 64;
 /** A timer that is further away is never early. */
 const SOON_MILLISECONDS = 1_000;
 
+/** How likely it is that the time of the first timer comes, in runs in which short times are up early. */
+const HASTY = 0.5;
+
 /**
  * @typedef {object} Served
  * @property {import("./moves.mjs").Moves} moves
@@ -219,7 +222,8 @@ export class Loop {
     const { board: { clock, strategy } } = this.served.moves;
     const left = this.#deadline() - clock.now();
     if (!(left > 0 && left < SOON_MILLISECONDS)) return;
-    if (strategy.early > 0 && this.random.fraction() < strategy.early) clock.pass(left);
+    const likelihood = strategy.isHasty ? HASTY : strategy.early;
+    if (likelihood > 0 && this.random.fraction() < likelihood) clock.pass(left);
   }
 }
 

@@ -4,7 +4,7 @@
 
 import { CALL_NUMBERS, KINDS, SIZES } from "../../script/kinds.mjs";
 import { LEAVE, TIME_UP } from "../board/journal.mjs";
-import { MESSAGES, MESSAGE_PLACES } from "../memory/blocks.mjs";
+import { CHANNEL_PLACE, LOOP_PLACES, MESSAGES, MESSAGE_PLACES, PORT_PLACES } from "../memory/blocks.mjs";
 import { LOOP, NOWHERE, PHASE, WORD } from "../memory/layout.mjs";
 import { FLAG } from "../memory/log.mjs";
 import { byteOf } from "../memory/memory.mjs";
@@ -13,6 +13,15 @@ import { byteOf } from "../memory/memory.mjs";
 
 const { Int32Array } = globalThis;
 const INT32 = KINDS.indexOf("Int32");
+
+/** @param {number} agent @returns {number} what a message to a port of a thread goes to, for strategies */
+export const toThread = (agent) => LOOP_PLACES + agent;
+
+/** @param {number} port that is under way itself @returns {number} what a message to it goes to */
+export const toPort = (port) => PORT_PLACES + (port % (MESSAGE_PLACES - PORT_PLACES));
+
+/** What a message to all channels of a name goes to. */
+export const TO_CHANNELS = CHANNEL_PLACE;
 
 export class Moves {
   /**
@@ -29,12 +38,13 @@ export class Moves {
   /**
    * Asks for the turn to send a message.
    * @param {Function} called the function that the program's code has called
+   * @param {number} to what it goes to, as `toThread`, `toPort` and `TO_CHANNELS` say
    * @returns {number} the message's number
    */
-  send(called) {
+  send(called, to) {
     const { words } = this.board;
     // Others may send some before it is this one's turn, so its number is known then.
-    const call = this.#edge(0);
+    const call = this.#edge(to);
     this.count();
     this.player.make(call, this.view, called, () => {
       call.index = words[WORD.MESSAGES] % MESSAGE_PLACES;
@@ -183,7 +193,7 @@ export class Moves {
   #ask() {
     const { player, board, agent } = this;
     player.part.enter();
-    board.strategy.asks(agent, 0, 0, 0);
+    board.asksForTask(agent);
     board.line.become(agent, PHASE.ASKS);
   }
 
