@@ -33,7 +33,7 @@ const { wait: WAIT, notify: NOTIFY } = CALL_NUMBERS;
  * @param {(why: string) => never} refuse
  * @returns {Call}
  */
-function callOf(call, given, view, kind, block, refuse) {
+export function callOf(call, given, view, kind, block, refuse) {
   /** @type {Call} */
   const asked = {
     call, kind, block, offset: offsetOf(view), length: lengthOf(view), index: 0, operands: [], limit: undefined,

@@ -1,8 +1,9 @@
 // What a call of Atomics does to its element, as flags of the log: what it may do, before it is made, and what it did.
 
 import { CALL_NUMBERS } from "../../script/kinds.mjs";
+import { END } from "../board/deadlines.mjs";
 import { FLAG } from "../memory/log.mjs";
-import { isEqualElement } from "./engine.mjs";
+import { engineCall, isEqualElement } from "./engine.mjs";
 
 const { wait: WAIT, notify: NOTIFY, load: LOAD, store: STORE, compareExchange: COMPARE_EXCHANGE } = CALL_NUMBERS;
 
@@ -29,4 +30,15 @@ export function effectOf(call, value) {
   if (call.call === STORE) return FLAG.WRITES;
   if (call.call !== COMPARE_EXCHANGE) return FLAG.READS | FLAG.WRITES;
   return isEqualElement(call.kind, call.operands[0], value) ? FLAG.READS | FLAG.WRITES : FLAG.READS;
+}
+
+/**
+ * Whether a wait went on only since its time was up: nothing else could move, and it hasn't seen that its word has
+ * changed, or nobody else is left who could go on.
+ * @param {Call} call
+ * @param {object} view
+ * @param {number} end one of `END`
+ */
+export function isOnlyByTime(call, view, end) {
+  return end === END.ALONE || (end === END.LAST && engineCall(call, view) === "not-equal");
 }

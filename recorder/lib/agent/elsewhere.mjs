@@ -15,6 +15,7 @@ const { toPrimitive } = Symbol;
  * @property {(milliseconds: number) => void} sleep lets the run's time pass in a wait that nobody can end
  * @property {import("./unseen.mjs").Unseen} unseen where their use is noted
  * @property {() => never} endUnseen ends the run for what was noted
+ * @property {(given: any[]) => number} [notify] wakes waits in which nobody sleeps; without, there are none
  */
 
 /** @param {number} timeout @returns {boolean} whether a wait with it never ends by itself */
@@ -91,6 +92,7 @@ function wait(engine, how, given, buffer) {
 export function callElsewhere(engine, how, name, given, buffer) {
   if (!how.isRecording() || !how.unseen.isTheirs(buffer)) return apply(engine[name], engine, given);
   if (name === "wait") return wait(engine, how, given, buffer);
+  if (name === "notify" && how.notify !== undefined) return how.notify(given);
   count(how, buffer);
   return apply(engine[name], engine, given);
 }

@@ -2,13 +2,16 @@
 
 import { SCRIPT_LIMITS } from "../../script/limits.mjs";
 import { UNKNOWN } from "../memory/sources.mjs";
+import { callText, textRoom, viewKey, viewName } from "../memory/spelling.mjs";
+import { mapGet, mapHas, mapSet, uncurried } from "../primordials.mjs";
 import { Accesses } from "./accesses.mjs";
 import { numberHere, sourceHere } from "./frames.mjs";
 import { changeText, laterText } from "./undone.mjs";
 
 /** @typedef {import("../memory/records.mjs").Call} Call */
 
-const { Error: EngineError } = globalThis;
+const { Error: EngineError, Map: EngineMap } = globalThis;
+const clearMap = uncurried(Map.prototype.clear);
 
 // How often an agent may catch that its run is over. Code that cleans up does so a few times, and then ends.
 const MOST_CAUGHT = 100;
@@ -44,9 +47,12 @@ export class Part {
     /** @type {Call | undefined} the last call, for messages */
     this.last = undefined;
     this.accesses = new Accesses(agent, table);
+    /** @type {Map<number, number>} the views that the script has, by their keys: the length of each one's name */
+    this.views = new EngineMap();
   }
 
   begin() {
+    clearMap(this.views);
     this.made = 0;
     this.isInside = false;
     this.accesses.begin();
@@ -78,6 +84,34 @@ export class Part {
   take() {
     const change = this.accesses.take();
     if (change !== undefined) this.end("failed", changeText(change, this));
+  }
+
+  /**
+   * Ends the run where the script could not have the call.
+   * @param {Call} call
+   */
+  stayWithin(call) {
+    const { calls, views, text } = SCRIPT_LIMITS;
+    const { board, lengths } = this.table;
+    if (this.made >= calls) this.meetsMostCalls();
+    const key = viewKey(call);
+    if (!mapHas(this.views, key)) {
+      if (!board.journal.registers(key)) this.meetsLimit(`more than ${views} different typed arrays were used`);
+      mapSet(this.views, key, viewName(lengths, call).length);
+    }
+    if (!board.journal.takesText(textRoom(mapGet(this.views, key), call))) {
+      this.meetsLimit(`the script would be longer than ${text} bytes`);
+    }
+  }
+
+  /**
+   * Ends the run where something else was to be done.
+   * @param {Call} [call] that the agent makes; else it goes on from a wait
+   */
+  stayInRow(call) {
+    const { board, lengths } = this.table;
+    if (board.row.allows(this.agent, call)) return;
+    this.end("failed", call === undefined ? "" : callText(viewName(lengths, call), call));
   }
 
   /** Goes on only in a run that goes on. */

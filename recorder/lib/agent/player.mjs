@@ -2,26 +2,25 @@
 // when the agent has the turn, and logs it.
 
 import { CALL_NUMBERS, SIZES } from "../../script/kinds.mjs";
-import { SCRIPT_LIMITS } from "../../script/limits.mjs";
 import { END } from "../board/deadlines.mjs";
 import { JOIN, LEAVE, MAKE, TIME_UP } from "../board/journal.mjs";
 import { placeNumber } from "../memory/known-places.mjs";
 import { PHASE, WORD } from "../memory/layout.mjs";
 import { FLAG } from "../memory/log.mjs";
 import { byteOf } from "../memory/memory.mjs";
-import { callText, textRoom, viewKey, viewName } from "../memory/spelling.mjs";
-import { mapGet, mapSet, mapHas, uncurried } from "../primordials.mjs";
 import { NOTED } from "./accesses.mjs";
 import { foundBy, leftOpen } from "./answer.mjs";
-import { effectOf, flagsAsked, isWithin } from "./effects.mjs";
+import { effectOf, flagsAsked, isOnlyByTime, isWithin } from "./effects.mjs";
 import { engineCall } from "./engine.mjs";
 import { numberAbove } from "./frames.mjs";
 import { Part, RunIsOver } from "./part.mjs";
 import { undone } from "./undone.mjs";
 
 const { wait: WAIT, notify: NOTIFY } = CALL_NUMBERS;
-const { RangeError: EngineRangeError, TypeError: EngineTypeError, Map: EngineMap } = globalThis;
-const clearMap = uncurried(Map.prototype.clear);
+const { RangeError: EngineRangeError, TypeError: EngineTypeError } = globalThis;
+
+/** What a wait does as it is called: it compares, and looks at the waiters. */
+const COMPARES = FLAG.ATOMIC | FLAG.READS | FLAG.WAITERS;
 
 /** @typedef {import("../memory/records.mjs").Call} Call */
 /** @typedef {import("./ordinary/context.mjs").Place} Place */
@@ -34,8 +33,6 @@ export class Player {
     this.table = table;
     /** The run in which it began last. What a worker before it has begun isn't begun again. */
     this.started = table.board.turn.lastStart(agent);
-    /** @type {Map<number, number>} the views that the script has, by their keys: the length of each one's name */
-    this.views = new EngineMap();
     this.part = new Part(agent, table);
   }
 
@@ -99,24 +96,41 @@ export class Player {
    * @returns {unknown} what it answers; what it throws, it throws
    */
   make(call, view, called, before) {
-    this.part.enter();
-    this.#stayWithin(call);
-    const source = this.#source(called);
-    this.#ask(call);
-    this.untilTurn();
-    before?.();
-    this.#stayInRow(call);
-    this.#made(call);
+    const source = this.begins(call, called, before);
     if (call.call === WAIT) return this.#wait(call, view, source, called);
     if (call.call === NOTIFY) return this.#notify(call, view, source);
     return this.#access(call, view, source);
   }
 
-  /** @param {Call} call a notify that is made without a draw: the agent has just got the turn @param {object} view */
-  note(call, view) {
+  /**
+   * Begins a call when it is the agent's turn.
+   * @param {Call} call
+   * @param {Function} called
+   * @param {() => void} [before] as above
+   * @returns {number} its line of code, if these are recorded
+   */
+  begins(call, called, before) {
     this.part.enter();
-    this.#stayWithin(call);
+    this.part.stayWithin(call);
+    const source = this.#source(called);
+    this.#ask(call);
+    this.untilTurn();
+    before?.();
+    this.part.stayInRow(call);
     this.#made(call);
+    return source;
+  }
+
+  /** @param {Call} call that begins without a draw: the agent has just got the turn */
+  beginsNow(call) {
+    this.part.enter();
+    this.part.stayWithin(call);
+    this.#made(call);
+  }
+
+  /** @param {Call} call a notify that is made without a draw @param {object} view */
+  note(call, view) {
+    this.beginsNow(call);
     this.#notify(call, view, 0);
   }
 
@@ -176,7 +190,6 @@ export class Player {
 
   begin() {
     const { board, stores, later, messages, unseen, chance } = this.table;
-    clearMap(this.views);
     this.part.begin();
     messages.begin();
     unseen.begin();
@@ -220,33 +233,21 @@ export class Player {
    * @param {Function} called
    */
   #wait(call, view, source, called) {
-    const { board, canBlock, records, stores } = this.table;
-    const word = this.#tried(call, source, () => {
-      const from = byteOf(call);
-      if (isWithin(call)) stores.touch(call.block, from, from + SIZES[call.kind]);
-      const found = engineCall(call, view);
-      if (!canBlock) throw new EngineTypeError("Atomics.wait cannot be called in this context");
-      return found;
-    });
-    const flags = FLAG.ATOMIC | FLAG.READS | FLAG.WAITERS;
+    const { board } = this.table;
+    const word = this.compared(call, view, source);
     if (call.limit !== undefined) board.spins.watch();
-    if (word === "not-equal") {
-      this.#log(MAKE, call, flags, source);
-      return this.#answer(word, MAKE);
-    }
-    records.join(this.part.made);
-    this.#log(JOIN, call, flags, source);
-    board.did(this.agent, JOIN);
+    if (word === "not-equal") return this.ends(call, word, source);
+    this.joins(call, source);
     const milliseconds = call.limit === undefined ? undefined : call.milliseconds ?? call.limit;
     board.wait(this.agent, call.block, byteOf(call), milliseconds);
     this.untilTurn();
-    this.#stayInRow();
+    this.part.stayInRow();
     const end = board.deadlines.end(this.agent, milliseconds ?? 0);
     if (end === END.WOKEN) {
       this.#log(LEAVE, call, FLAG.WAITERS, source);
       return this.#answer("ok", LEAVE);
     }
-    if (this.#isOnlyByTime(call, view, end)) {
+    if (isOnlyByTime(call, view, end)) {
       const line = numberAbove(this.table.sources, called);
       this.#log(TIME_UP, call, FLAG.WAITERS | FLAG.ONLY_BY_TIME, line);
     } else this.#log(TIME_UP, call, FLAG.WAITERS, source);
@@ -254,14 +255,34 @@ export class Player {
   }
 
   /**
-   * Whether a wait went on only since its time was up: nothing else could move, and it hasn't seen that its word has
-   * changed, or nobody else is left who could go on.
+   * The engine's part of a wait: it makes the checks and compares.
    * @param {Call} call
    * @param {object} view
-   * @param {number} end one of `END`
+   * @param {number} source
+   * @returns {"not-equal" | "timed-out"}
    */
-  #isOnlyByTime(call, view, end) {
-    return end === END.ALONE || (end === END.LAST && engineCall(call, view) === "not-equal");
+  compared(call, view, source) {
+    const { canBlock, stores } = this.table;
+    return this.#tried(call, source, () => {
+      const from = byteOf(call);
+      if (isWithin(call)) stores.touch(call.block, from, from + SIZES[call.kind]);
+      const found = engineCall(call, view);
+      if (!canBlock) throw new EngineTypeError("Atomics.wait cannot be called in this context");
+      return found;
+    });
+  }
+
+  /** @param {Call} call a wait that doesn't join the line @param {string} word its result @param {number} source */
+  ends(call, word, source) {
+    this.#log(MAKE, call, COMPARES, source);
+    return this.#answer(word, MAKE);
+  }
+
+  /** @param {Call} call a wait that joins the line @param {number} source */
+  joins(call, source) {
+    this.table.records.join(this.part.made);
+    this.#log(JOIN, call, COMPARES, source);
+    this.table.board.did(this.agent, JOIN);
   }
 
   /**
@@ -363,34 +384,6 @@ export class Player {
     const why = problem ?? undone(later, "an agent");
     if (why === undefined) board.pass(this.agent);
     else board.end.end("failed", `agent ${this.agent} ${why}`);
-  }
-
-  /**
-   * Ends the run where the script could not have the call.
-   * @param {Call} call
-   */
-  #stayWithin(call) {
-    const { calls, views, text } = SCRIPT_LIMITS;
-    const { board, lengths } = this.table;
-    if (this.part.made >= calls) this.part.meetsMostCalls();
-    const key = viewKey(call);
-    if (!mapHas(this.views, key)) {
-      if (!board.journal.registers(key)) this.part.meetsLimit(`more than ${views} different typed arrays were used`);
-      mapSet(this.views, key, viewName(lengths, call).length);
-    }
-    if (!board.journal.takesText(textRoom(mapGet(this.views, key), call))) {
-      this.part.meetsLimit(`the script would be longer than ${text} bytes`);
-    }
-  }
-
-  /**
-   * Ends the run where something else was to be done.
-   * @param {Call} [call] that the agent makes; else it goes on from a wait
-   */
-  #stayInRow(call) {
-    const { board, lengths } = this.table;
-    if (board.row.allows(this.agent, call)) return;
-    this.part.end("failed", call === undefined ? "" : callText(viewName(lengths, call), call));
   }
 
   /** @param {Function} called @returns {number} where the agent's code is, where sources are told */

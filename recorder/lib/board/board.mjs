@@ -2,9 +2,12 @@
 // row of random numbers, the time, what was done, and how the run ended. Only the thread that has the turn changes it.
 
 import { SCRIPT_LIMITS } from "../../script/limits.mjs";
+import { loopPlace } from "../memory/blocks.mjs";
 import { KnownPlaces } from "../memory/known-places.mjs";
-import { ORDER, PHASE, WORD, wordsFor } from "../memory/layout.mjs";
+import { LOOP, ORDER, PHASE, WORD, wordsFor } from "../memory/layout.mjs";
+import { FLAG } from "../memory/log.mjs";
 import { Random } from "../memory/random.mjs";
+import { AsyncWaiters } from "./async-waiters.mjs";
 import { Clock } from "./clock.mjs";
 import { Deadlines } from "./deadlines.mjs";
 import { End } from "./end.mjs";
@@ -31,6 +34,7 @@ const TEXT_BYTES = 16_384;
  * @property {SharedArrayBuffer} early
  * @property {SharedArrayBuffer} places
  * @property {import("./row.mjs").RowMemory} row
+ * @property {SharedArrayBuffer} [waiters] of a program: for the waits of Atomics.waitAsync
  */
 
 export class Board {
@@ -56,7 +60,8 @@ export class Board {
     this.words = new Int32Array(memory.words);
     this.end = new End(this.words, bufferFrom(memory.text));
     this.turn = new Turn(this.words, bufferFrom(memory.reasons), this.end, agents);
-    this.line = new Line(this.words, agents);
+    this.waiters = memory.waiters === undefined ? undefined : new AsyncWaiters(memory.waiters);
+    this.line = new Line(this.words, agents, this.waiters);
     this.journal = new Journal(this.words, new Float64Array(memory.views), agents);
     this.clock = new Clock(memory.times);
     this.places = new KnownPlaces(memory.places);
@@ -75,6 +80,7 @@ export class Board {
   begin(seed, isPilot = false) {
     this.#prepare(ORDER.PLAY);
     this.line.begin(this.rules.starts);
+    this.waiters?.begin();
     this.words[WORD.JOINED] = this.strategy.starts;
     this.words[WORD.MESSAGES] = 0;
     this.journal.begin();
@@ -172,9 +178,16 @@ export class Board {
    * @param {number | undefined} milliseconds until it goes on by itself
    */
   rest(agent, where, milliseconds) {
-    this.strategy.asks(agent, 0, 0, 0);
+    if (where === LOOP) this.asksForTask(agent);
+    else this.strategy.asks(agent, 0, 0, 0);
     this.line.join(agent, where, agent, milliseconds !== undefined);
     if (milliseconds !== undefined) this.clock.setDeadline(agent, milliseconds);
+  }
+
+  /** @param {number} agent whose next move is one of its event loop, or takes a message from a port */
+  asksForTask(agent) {
+    const place = loopPlace(agent);
+    this.strategy.asks(agent, place, place + 1, FLAG.WAITERS);
   }
 
   /** An agent's event loop takes up something: that is a move, though none of a script. */

@@ -1,14 +1,20 @@
 // Who is at what, and the line of waiters: who waits where, in order of arrival.
 
 import { AGENT_WORD, LOOP, PHASE, WORD, wordOf } from "../memory/layout.mjs";
+import { NO_WAITER } from "./async-waiters.mjs";
 
 const { load } = Atomics;
 
 export class Line {
-  /** @param {Int32Array} words of the board @param {number} agents how many */
-  constructor(words, agents) {
+  /**
+   * @param {Int32Array} words of the board
+   * @param {number} agents how many
+   * @param {import("./async-waiters.mjs").AsyncWaiters} [waiters] of a program: the waits in which nobody sleeps
+   */
+  constructor(words, agents, waiters) {
     this.words = words;
     this.agents = agents;
+    this.waiters = waiters;
   }
 
   /** Nobody waits. @param {number} [starts] how many agents begin by themselves: the others are none yet */
@@ -40,8 +46,7 @@ export class Line {
     const { words } = this;
     words[wordOf(agent, AGENT_WORD.WHERE_BLOCK)] = block;
     words[wordOf(agent, AGENT_WORD.WHERE_BYTE)] = byte;
-    words[wordOf(agent, AGENT_WORD.TICKET)] = words[WORD.TICKETS];
-    words[WORD.TICKETS] += 1;
+    words[wordOf(agent, AGENT_WORD.TICKET)] = this.ticket();
     this.become(agent, timed ? PHASE.WAITS_TIMED : PHASE.WAITS);
   }
 
@@ -54,12 +59,7 @@ export class Line {
    */
   notify(block, byte, count) {
     let woken = 0;
-    while (count === undefined || woken < count) {
-      const agent = this.#oldest(block, byte);
-      if (agent < 0) break;
-      this.become(agent, PHASE.WOKEN);
-      woken += 1;
-    }
+    while ((count === undefined || woken < count) && this.#wakeOldest(block, byte)) woken += 1;
     return woken;
   }
 
@@ -72,6 +72,12 @@ export class Line {
       block: words[wordOf(agent, AGENT_WORD.WHERE_BLOCK)],
       byte: words[wordOf(agent, AGENT_WORD.WHERE_BYTE)],
     }));
+  }
+
+  /** @returns {number} a number that is greater than those of all who have joined the line before */
+  ticket() {
+    this.words[WORD.TICKETS] += 1;
+    return this.words[WORD.TICKETS] - 1;
   }
 
   /** @param {number} agent @returns {boolean} whether there is a move for it: also the end of a wait's time */
@@ -100,6 +106,25 @@ export class Line {
   /** @param {number} agent @returns {boolean} whether its event loop has nothing to do */
   isIdle(agent) {
     return this.waits(agent) && this.words[wordOf(agent, AGENT_WORD.WHERE_BLOCK)] === LOOP;
+  }
+
+  /**
+   * Takes the oldest waiter of a place off the line. Of a wait in which nobody sleeps, the event loop goes on.
+   * @param {number} block
+   * @param {number} byte
+   * @returns {boolean} whether there was one
+   */
+  #wakeOldest(block, byte) {
+    const { waiters } = this;
+    const agent = this.#oldest(block, byte);
+    const slot = waiters === undefined ? NO_WAITER : waiters.oldest(block, byte);
+    if (waiters !== undefined && slot !== NO_WAITER && (agent < 0 || waiters.ticket(slot) < this.#ticket(agent))) {
+      this.#wakeOldest(LOOP, waiters.notify(slot));
+      return true;
+    }
+    if (agent < 0) return false;
+    this.become(agent, PHASE.WOKEN);
+    return true;
   }
 
   /**

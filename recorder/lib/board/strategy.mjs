@@ -7,8 +7,11 @@ import { AGENT_WORD, PHASE, WORD, wordOf } from "../memory/layout.mjs";
 import { MOST_MOVES } from "./journal.mjs";
 import { Able } from "./strategy/able.mjs";
 import { Asked } from "./strategy/asked.mjs";
+import { Slow } from "./strategy/slow.mjs";
 import { STRATEGIES } from "./strategy/table.mjs";
 import { PILOT_WAYS } from "./strategy/ways.mjs";
+
+const { imul } = Math;
 
 /**
  * @typedef {object} Rules what stays the same in all runs of a group
@@ -17,6 +20,8 @@ import { PILOT_WAYS } from "./strategy/ways.mjs";
  * @property {number | "never"} timeouts in how many draws the end of a timed wait is offered while something else can
  * move; never: it isn't, and not where nothing else can move either
  * @property {number} maxMoves
+ * @property {number} [soon] of a program: the time of a wait that is less than so many milliseconds away may be up as
+ * easily as anything else may move, in some seeds
  * @property {number} [starts] how many agents begin by themselves; others start the rest. If it isn't given, all begin
  */
 
@@ -30,6 +35,16 @@ export const NOBODY_MOVES = -1;
 
 // All that can move are drawn for: no call is its agent's own affair.
 const NOBODY_GOES_ON = -2;
+
+// What may be changed in how a seed of a program is drawn: short times are up early, and an agent is slow now and then.
+const HASTY = 1;
+const SLOW = 2;
+
+/** Of eight seeds two have neither, one each has one of them, and four have both, whatever their strategies. */
+const CHANGES = Object.freeze([0, 0, HASTY, SLOW, HASTY | SLOW, HASTY | SLOW, HASTY | SLOW, HASTY | SLOW]);
+
+/** @param {number} seed @param {boolean} hasTime whether times may be up early at all */
+const changesOf = (seed, hasTime) => CHANGES[imul(seed, 0x9e3779b1) >>> 29] & (hasTime ? HASTY | SLOW : SLOW);
 
 // A pilot that is long shows little more.
 const MOST_PILOT_MOVES = 10_000;
@@ -53,6 +68,7 @@ export class Strategy {
     this.deadlines = deadlines;
     this.able = new Able(rules.agents);
     this.asked = new Asked(words, places);
+    this.slow = new Slow(words, random);
     this.ways = this.#made(rules.ways);
     this.pilotWays = this.#made(PILOT_WAYS);
   }
@@ -64,9 +80,16 @@ export class Strategy {
     words[WORD.STARTED] = 0;
     words[WORD.IS_PILOT] = isPilot ? 1 : 0;
     words[WORD.STRATEGY] = seed % (isPilot ? this.pilotWays : this.ways).length;
+    words[WORD.CHANGES] = this.rules.soon === undefined ? 0 : changesOf(seed, this.early > 0);
+    this.slow.begin();
     this.random.seed(seed);
     this.#way().drawing.begin();
     for (let agent = 0; agent < this.rules.agents; agent += 1) this.asked.begin(agent);
+  }
+
+  /** Whether short times are as likely to be up as anything else is to move. */
+  get isHasty() {
+    return (this.words[WORD.CHANGES] & HASTY) !== 0;
   }
 
   /**
@@ -112,7 +135,9 @@ export class Strategy {
     if (last >= 0 && this.#goesOn(last)) return last;
     const sure = this.#gather();
     if (sure !== NOBODY_GOES_ON) return sure;
-    return able.count === 0 ? NOBODY_MOVES : this.#way().drawing.drawn(able, last);
+    if (able.count === 0) return NOBODY_MOVES;
+    if ((this.words[WORD.CHANGES] & SLOW) !== 0) this.slow.hold(able);
+    return this.#way().drawing.drawn(able, last);
   }
 
   #way() {
@@ -169,7 +194,17 @@ export class Strategy {
     if (!this.#isMoving()) {
       able.clear();
       able.add(deadlines.first());
-    } else if (this.random.fraction() < this.early) this.#addTimed(false);
+    } else if (this.isHasty) this.#addSoon();
+    else if (this.random.fraction() < this.early) this.#addTimed(false);
+  }
+
+  /** Adds waits whose time isn't up, but soon. */
+  #addSoon() {
+    const { able, deadlines, deadlines: { clock }, rules: { soon = 0 } } = this;
+    const until = clock.now() + soon;
+    for (let agent = 0; agent < this.rules.agents; agent += 1) {
+      if (deadlines.isTimed(agent) && !clock.isDue(agent) && clock.deadline(agent) < until) able.add(agent);
+    }
   }
 
   /** @param {boolean} isDue whether those are added that are due, or the others @returns {number} how many they are */

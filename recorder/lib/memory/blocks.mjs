@@ -3,6 +3,7 @@
 // So what was done before it was sent happens before what is done after it is received.
 
 import { SCRIPT_LIMITS } from "../../script/limits.mjs";
+import { placeNumber } from "./known-places.mjs";
 
 const { Int32Array, Uint8Array, SharedArrayBuffer } = globalThis;
 
@@ -10,6 +11,18 @@ const { Int32Array, Uint8Array, SharedArrayBuffer } = globalThis;
 export const MESSAGES = SCRIPT_LIMITS.blocks - 1;
 export const MESSAGE_BYTES = 16_384;
 export const MESSAGE_PLACES = MESSAGE_BYTES / 4;
+
+/**
+ * The places by which strategies know what a move of an event loop or a message conflicts with, before the message has a
+ * number. They are in the block for messages: one for each thread's event loop, one for all channels that have names,
+ * and the rest for ports that are under way in a message.
+ */
+export const LOOP_PLACES = 0;
+export const CHANNEL_PLACE = SCRIPT_LIMITS.agents;
+export const PORT_PLACES = CHANNEL_PLACE + 1;
+
+/** @param {number} agent @returns {number} the place of its event loop, as strategies know it */
+export const loopPlace = (agent) => placeNumber(MESSAGES, 4 * (LOOP_PLACES + agent));
 
 /** How many blocks a program can have for its memory, and how long each can be. */
 export const MOST_BLOCKS = MESSAGES;

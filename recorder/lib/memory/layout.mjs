@@ -35,6 +35,10 @@ export const WORD = Object.freeze({
   JOINED: 29,
   MESSAGES: 30,
   THREADS: 31,
+  /** Of a program: what is changed in how its seed is drawn, and which agent is slow for how many draws more. */
+  CHANGES: 32,
+  SLOW: 33,
+  SLOW_FOR: 34,
 });
 
 /** Words of each agent; each agent has a line of the processor's cache for itself. */
@@ -57,7 +61,7 @@ export const AGENT_WORD = Object.freeze({
   SAME: 15,
 });
 
-const AGENTS = 32;
+const AGENTS = 48;
 const AGENT_WORDS = 16;
 
 /** @param {number} agent @param {number} word one of `AGENT_WORD` @returns {number} the position of an agent's word */

@@ -2,6 +2,7 @@
 // message goes by the hidden ports of threads, to each channel of the name that there is when it is sent.
 
 import { uncurried } from "../primordials.mjs";
+import { TO_CHANNELS } from "./moves.mjs";
 import { sent } from "./values.mjs";
 
 const { TypeError, structuredClone } = globalThis;
@@ -37,7 +38,7 @@ function numberOf(name) {
 function cast({ ports, moves, mesh, buffers }, from, value, called) {
   const { table, agent } = ports.world;
   const bare = structuredClone(sent(value, buffers));
-  const number = moves.send(called);
+  const number = moves.send(called, TO_CHANNELS);
   for (let id = 0; id < table.count; id += 1) {
     if (id === from || table.name(id) !== table.name(from) || table.isClosed(id)) continue;
     const owner = table.owner(id);

@@ -5,7 +5,7 @@
 import { learn } from "../agent/ordinary/context.mjs";
 import { WHOLE_BUFFER } from "../agent/ordinary/watched.mjs";
 import { MOST_BLOCKS, MOST_BYTES } from "../memory/blocks.mjs";
-import { sharedLengthOf, weakGet, weakSet } from "../primordials.mjs";
+import { sharedLengthOf, slotOf, weakGet, weakSet } from "../primordials.mjs";
 
 const { SharedArrayBuffer: EngineShared, Uint8Array, WeakMap: EngineWeakMap } = globalThis;
 const { load, store } = Atomics;
@@ -16,6 +16,9 @@ const FIRST_OWN = 16;
 const NO_BLOCK = -1;
 
 /** @typedef {{ block: number, own: number, place: string | undefined }} Known a buffer: its block, or its own number */
+
+/** @type {(buffer: object) => boolean} whether a shared buffer can grow */
+const isGrowable = slotOf(EngineShared.prototype, "growable");
 
 /**
  * Whether two buffers have the same memory. Nobody else writes meanwhile.
@@ -54,8 +57,14 @@ export class Buffers {
   /** @type {WeakMap<object, Known>} */
   #known = new EngineWeakMap();
 
+  /** @type {WeakMap<object, string | undefined>} where those were made that grow: their arrays aren't watched */
+  #growing = new EngineWeakMap();
+
   /** @type {Known[]} those that were made here, by their own numbers less the first one */
   #own = [];
+
+  /** @type {(own: number, block: number) => void} called when a buffer of this thread has become a block */
+  onBlock = () => {};
 
   /**
    * @param {import("../memory/blocks.mjs").Blocks} blocks
@@ -75,6 +84,10 @@ export class Buffers {
    * @param {string | undefined} place where
    */
   made(buffer, place) {
+    if (isGrowable(buffer)) {
+      weakSet(this.#growing, buffer, place);
+      return;
+    }
     const known = { block: NO_BLOCK, own: FIRST_OWN + this.#own.length, place };
     this.#own[this.#own.length] = known;
     weakSet(this.#known, buffer, known);
@@ -97,6 +110,7 @@ export class Buffers {
    * @param {SharedArrayBuffer} buffer
    */
   share(buffer) {
+    if (isGrowable(buffer)) this.#refuseGrowing(buffer);
     const known = weakGet(this.#known, buffer);
     if (known === undefined || known.block >= 0 || sharedLengthOf(buffer) === 0) return;
     const { blocks, mesh, shown } = this;
@@ -113,8 +127,22 @@ export class Buffers {
     known.block = blocks.add(buffer);
     shown.named(known.block, known.place ?? "");
     mesh.handAll({ kind: "block", block: known.block, buffer });
-    if (!hasBytes(buffer)) return;
-    shown.seen({ block: known.block, kind: WHOLE_BUFFER, offset: 0, length }, 0, length, true);
+    if (hasBytes(buffer)) {
+      shown.seen({ block: known.block, kind: WHOLE_BUFFER, offset: 0, length }, 0, length, true);
+    }
+    this.onBlock(known.own, known.block);
+  }
+
+  /**
+   * Another object on the memory of a buffer, which this thread has got from structuredClone.
+   * @param {SharedArrayBuffer} clone
+   * @param {SharedArrayBuffer} buffer
+   */
+  cloned(clone, buffer) {
+    const known = weakGet(this.#known, buffer);
+    if (known === undefined) return;
+    learn(clone, buffer);
+    weakSet(this.#known, clone, known);
   }
 
   /** @param {number} agent that begins, and has to know the blocks that there are */
@@ -131,7 +159,7 @@ export class Buffers {
    * @param {SharedArrayBuffer} buffer
    */
   received(buffer) {
-    if (weakGet(this.#known, buffer) !== undefined || sharedLengthOf(buffer) === 0) return;
+    if (weakGet(this.#known, buffer) !== undefined || sharedLengthOf(buffer) === 0 || isGrowable(buffer)) return;
     this.mesh.take();
     const { blocks } = this;
     for (let block = 0; block < blocks.count; block += 1) {
@@ -147,6 +175,7 @@ export class Buffers {
   /** Nothing of an earlier run is left. */
   clear() {
     this.#known = new EngineWeakMap();
+    this.#growing = new EngineWeakMap();
     this.#own = [];
     this.blocks.clear();
   }
@@ -154,6 +183,13 @@ export class Buffers {
   /** @param {unknown} value @returns {value is SharedArrayBuffer} */
   static isShared(value) {
     return value instanceof EngineShared;
+  }
+
+  /** @param {SharedArrayBuffer} buffer that another thread could reach */
+  #refuseGrowing(buffer) {
+    const place = weakGet(this.#growing, buffer);
+    this.shown.refuse(`gave another thread a SharedArrayBuffer that grows${place === undefined ? "" : `, made at ${place}`}, `
+      + "which isn't simulated yet");
   }
 
   /** @param {number} block @param {SharedArrayBuffer} buffer */

@@ -6,8 +6,9 @@ import process from "node:process";
 import timers from "node:timers";
 import timersPromises from "node:timers/promises";
 import threads from "node:worker_threads";
-import { construct, likeEngine, put } from "../primordials.mjs";
+import { apply, construct, likeEngine, put } from "../primordials.mjs";
 import { member } from "./member.mjs";
+import { clonedValue } from "./values.mjs";
 
 const { Proxy: EngineProxy } = globalThis;
 const EngineShared = SharedArrayBuffer;
@@ -32,15 +33,13 @@ export function furnishTimers(own) {
 
 /**
  * Has each shared buffer known that the program makes.
- * @param {(buffer: SharedArrayBuffer) => void} made
+ * @param {(buffer: SharedArrayBuffer) => void} made also gets those that grow
  * @param {Refuse} refuse
  */
 export function furnishMemory(made, refuse) {
   const traps = {
     /** @param {Function} target @param {any[]} given @param {Function} asked */
     construct(target, given, asked) {
-      const { maxByteLength } = Object(given[1]);
-      if (maxByteLength !== undefined) refuse("made a SharedArrayBuffer that grows, which isn't simulated yet");
       const buffer = construct(target, given, asked === StandIn ? target : asked);
       made(buffer);
       return buffer;
@@ -58,6 +57,14 @@ export function furnishMemory(made, refuse) {
     },
   });
   put(WebAssembly, "Memory", Memory);
+}
+
+/** @param {import("./buffers.mjs").Buffers} buffers of the thread, which clones of their objects have too */
+export function furnishCloning(buffers) {
+  const engine = globalThis.structuredClone;
+  member(globalThis, "structuredClone", likeEngine((/** @type {any[]} */ ...given) => {
+    return given.length === 0 ? apply(engine, undefined, given) : clonedValue(given[0], given[1], buffers);
+  }, engine));
 }
 
 /**

@@ -19,6 +19,9 @@ import { programMemory, programPlan } from "./program-memory.mjs";
 const PROGRAM_MODULE = new URL("./worker.mjs", import.meta.url);
 const REFEREE_MODULE = new URL("../run/referee.mjs", import.meta.url);
 
+/** The time of a wait or a timer that is further away is never up early in the seeds that hurry. */
+const SOON_MILLISECONDS = 1_000;
+
 /** How many threads stand ready at first: the program's own one, and two workers. */
 const FIRST_THREADS = 3;
 
@@ -61,7 +64,7 @@ export class ProgramGroup extends Group {
     const plan = programPlan(SCRIPT_LIMITS.agents);
     const ways = waysOf(strategy, true);
     this.plan = plan;
-    this.rules = { agents: plan.agents, starts: 1, ways, timeouts, maxMoves };
+    this.rules = { agents: plan.agents, starts: 1, soon: SOON_MILLISECONDS, ways, timeouts, maxMoves };
     this.memory = programMemory(plan, this.options.logEvents);
     this.board = new Board(this.memory.board, this.rules);
     const options = this.refereeOptions({ hasInit: false, hasCheck: false });

@@ -24,12 +24,16 @@ const TASKS = 64;
 /** A timer that is further away is never early. */
 const SOON_MILLISECONDS = 1_000;
 
+/** How likely it is that the time of the first timer comes, in runs in which short times are up early. */
+const HASTY = 0.5;
+
 /**
  * @typedef {object} Served
  * @property {import("./moves.mjs").Moves} moves
  * @property {import("./ports.mjs").Ports} ports
  * @property {import("./port-events.mjs").PortEvents} events
  * @property {import("./timers.mjs").Timers} timers
+ * @property {import("./wait-async.mjs").WaitAsync} waits
  * @property {import("./ends.mjs").Ends} ends
  * @property {import("../memory/keepers.mjs").Keepers} keepers
  * @property {(why: string) => never} refuse ends the run
@@ -116,7 +120,7 @@ export class Loop {
     ends.beforeExit();
     this.#drain();
     if (ends.isOver) return true;
-    if (this.#hasTask() || this.#keepers().length > 0) return false;
+    if (this.#hasOwnTask() || this.#keepers().length > 0) return false;
     ends.leave();
     return true;
   }
@@ -126,13 +130,25 @@ export class Loop {
   }
 
   #hasTask() {
+    const { waits } = this.served;
+    return waits.isWoken || waits.deadline <= this.#now() || this.#hasOwnTask();
+  }
+
+  /** Whether there is something to do besides promises of waitAsync: node doesn't look at those after `beforeExit`. */
+  #hasOwnTask() {
     const { ports, timers: { deadline, immediates } } = this.served;
     return this.#tasks.length > 0 || immediates > 0 || deadline <= this.#now() || ports.ready().length > 0;
   }
 
-  /** @returns {number | undefined} how long it is until the first timer is due */
+  /** @returns {number} when the first timer is due, or the time of the first waitAsync is up */
+  #deadline() {
+    const { timers: { deadline }, waits } = this.served;
+    return Math.min(deadline, waits.deadline);
+  }
+
+  /** @returns {number | undefined} how long it is until the first timer is due, or the first waitAsync */
   #untilTimer() {
-    const { deadline } = this.served.timers;
+    const deadline = this.#deadline();
     return deadline === Infinity ? undefined : Math.max(0, deadline - this.#now());
   }
 
@@ -159,15 +175,16 @@ export class Loop {
 
   /**
    * What may be taken up now. In node the timers that are due come first in each turn of the loop, then messages and
-   * the like, then the immediates: a timer isn't between those, but may be between two messages.
+   * the like, then the immediates: a timer isn't between those, but may be between two messages. What waitAsync has
+   * promised by now is settled before the immediates.
    * @returns {(() => void)[]}
    */
   #choices() {
-    const { ports, events, timers: armed } = this.served;
+    const { ports, events, timers: armed, waits } = this.served;
     if (armed.inRound > 0) return [() => this.#runImmediate()];
     this.#offerEarly();
-    const isDue = armed.deadline <= this.#now();
-    if (isDue && this.#isTurning) return [() => void armed.runTimer()];
+    const isDue = this.#deadline() <= this.#now();
+    if (isDue && this.#isTurning) return [() => this.#runDue()];
     this.#isTurning = false;
     const acts = ports.ready().map((port) => () => events.deliver(port));
     const [task] = this.#tasks;
@@ -177,9 +194,17 @@ export class Loop {
         task.act();
       });
     }
-    if (armed.immediates > 0) acts.push(() => this.#runImmediate());
-    else if (isDue) acts.push(() => void armed.runTimer());
+    if (waits.isWoken) acts.push(() => waits.settle());
+    else if (armed.immediates > 0) acts.push(() => this.#runImmediate());
+    else if (isDue) acts.push(() => this.#runDue());
     return acts;
+  }
+
+  /** Runs the first timer that is due, or ends the first waitAsync whose time is up. */
+  #runDue() {
+    const { timers: armed, waits } = this.served;
+    if (waits.deadline < armed.deadline) waits.timeOut();
+    else armed.runTimer();
   }
 
   /** Behind the last immediate of a round the loop turns. */
@@ -194,10 +219,11 @@ export class Loop {
 
   /** In some of the draws the time of the first timer comes though there is something else to do. */
   #offerEarly() {
-    const { moves: { board: { clock, strategy } }, timers: armed } = this.served;
-    const left = armed.deadline - clock.now();
+    const { board: { clock, strategy } } = this.served.moves;
+    const left = this.#deadline() - clock.now();
     if (!(left > 0 && left < SOON_MILLISECONDS)) return;
-    if (strategy.early > 0 && this.random.fraction() < strategy.early) clock.pass(left);
+    const likelihood = strategy.isHasty ? HASTY : strategy.early;
+    if (likelihood > 0 && this.random.fraction() < likelihood) clock.pass(left);
   }
 }
 

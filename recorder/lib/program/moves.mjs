@@ -2,12 +2,26 @@
 // own, one where it is sent and one where it is received: notifies that wake nobody. An event loop that has nothing to
 // do waits; one that has something asks for the turn.
 
-import { CALL_NUMBERS, KINDS } from "../../script/kinds.mjs";
-import { MESSAGES, MESSAGE_PLACES } from "../memory/blocks.mjs";
+import { CALL_NUMBERS, KINDS, SIZES } from "../../script/kinds.mjs";
+import { LEAVE, TIME_UP } from "../board/journal.mjs";
+import { CHANNEL_PLACE, LOOP_PLACES, MESSAGES, MESSAGE_PLACES, PORT_PLACES } from "../memory/blocks.mjs";
 import { LOOP, NOWHERE, PHASE, WORD } from "../memory/layout.mjs";
+import { FLAG } from "../memory/log.mjs";
+import { byteOf } from "../memory/memory.mjs";
+
+/** @typedef {import("../memory/records.mjs").Call} Call */
 
 const { Int32Array } = globalThis;
 const INT32 = KINDS.indexOf("Int32");
+
+/** @param {number} agent @returns {number} what a message to a port of a thread goes to, for strategies */
+export const toThread = (agent) => LOOP_PLACES + agent;
+
+/** @param {number} port that is under way itself @returns {number} what a message to it goes to */
+export const toPort = (port) => PORT_PLACES + (port % (MESSAGE_PLACES - PORT_PLACES));
+
+/** What a message to all channels of a name goes to. */
+export const TO_CHANNELS = CHANNEL_PLACE;
 
 export class Moves {
   /**
@@ -24,12 +38,13 @@ export class Moves {
   /**
    * Asks for the turn to send a message.
    * @param {Function} called the function that the program's code has called
+   * @param {number} to what it goes to, as `toThread`, `toPort` and `TO_CHANNELS` say
    * @returns {number} the message's number
    */
-  send(called) {
+  send(called, to) {
     const { words } = this.board;
     // Others may send some before it is this one's turn, so its number is known then.
-    const call = this.#edge(0);
+    const call = this.#edge(to);
     this.count();
     this.player.make(call, this.view, called, () => {
       call.index = words[WORD.MESSAGES] % MESSAGE_PLACES;
@@ -52,6 +67,50 @@ export class Moves {
   /** @param {number} message that is received now */
   receive(message) {
     this.player.note(this.#edge(message), this.view);
+  }
+
+  /**
+   * Asks for the turn to begin a wait in which nobody sleeps. If the word is equal, and the wait's time isn't over, it
+   * joins the line.
+   * @param {Call} call
+   * @param {object} view
+   * @param {Function} called the function that the program's code has called
+   * @returns {"not-equal" | "timed-out"} what the engine found, with no time
+   */
+  compare(call, view, called) {
+    const { player } = this;
+    this.count();
+    const source = player.begins(call, called);
+    const word = player.compared(call, view, source);
+    const isOver = call.limit !== undefined && (call.milliseconds ?? call.limit) <= 0;
+    if (word === "not-equal" || isOver) player.ends(call, word, source);
+    else this.#join(call, source);
+    return word;
+  }
+
+  /** @param {Call} call a wait that joins the line without a draw @returns {number} which of the thread's calls it is */
+  joinNow(call) {
+    const { player } = this;
+    player.beginsNow(call);
+    this.#join(call, 0);
+    return player.part.made - 1;
+  }
+
+  /**
+   * A wait in which nobody sleeps is settled.
+   * @param {number} made which of the thread's calls it is
+   * @param {Call} call
+   * @param {boolean} isTimeUp
+   */
+  leave(made, call, isTimeUp) {
+    const { board, agent, player: { part, table: { log, records } } } = this;
+    const event = isTimeUp ? TIME_UP : LEAVE;
+    const from = byteOf(call);
+    part.enter();
+    log.append(event, agent, call.call, FLAG.WAITERS, made, call.block, from, from + SIZES[call.kind], call, 0);
+    records.answer(made, isTimeUp ? "timed-out" : "ok");
+    board.did(agent, event);
+    this.#goesOn();
   }
 
   /** Counts the ordinary accesses so far: another thread may end this one where it gives up its turn. */
@@ -95,6 +154,22 @@ export class Moves {
     this.board.line.notify(LOOP, agent, 1);
   }
 
+  /** @param {Call} call @param {number} source */
+  #join(call, source) {
+    const { player } = this;
+    player.joins(call, source);
+    player.part.made += 1;
+    this.#goesOn();
+  }
+
+  /** The thread's own code goes on. */
+  #goesOn() {
+    const { board, agent, player } = this;
+    board.line.become(agent, PHASE.RUNS);
+    player.part.goOn();
+    board.turn.leave(agent);
+  }
+
   /** @param {number | undefined} milliseconds of a rest; undefined: it was none */
   #goOn(milliseconds) {
     this.count();
@@ -118,21 +193,19 @@ export class Moves {
   #ask() {
     const { player, board, agent } = this;
     player.part.enter();
-    board.strategy.asks(agent, 0, 0, 0);
+    board.asksForTask(agent);
     board.line.become(agent, PHASE.ASKS);
   }
 
   /** @param {number | undefined} milliseconds as above: the thread has the turn now */
   #begin(milliseconds) {
-    const { player, board, agent } = this;
+    const { board, agent } = this;
     if (milliseconds !== undefined) board.deadlines.end(agent, milliseconds);
     board.turned();
-    board.line.become(agent, PHASE.RUNS);
-    player.part.goOn();
-    board.turn.leave(agent);
+    this.#goesOn();
   }
 
-  /** @param {number} message @returns {import("../memory/records.mjs").Call} */
+  /** @param {number} message @returns {Call} */
   #edge(message) {
     return {
       call: CALL_NUMBERS.notify, kind: INT32, block: MESSAGES, offset: 0, length: MESSAGE_PLACES,

@@ -6,6 +6,7 @@ import { AsyncResource } from "node:async_hooks";
 import threads from "node:worker_threads";
 import { put, uncurried, weakGet, weakHas, weakSet } from "../primordials.mjs";
 import { NOBODYS } from "../board/port-table.mjs";
+import { toPort, toThread } from "./moves.mjs";
 import { received, sent } from "./values.mjs";
 
 const { receiveMessageOnPort: receive } = threads;
@@ -150,7 +151,7 @@ export class Ports {
     const list = listOf(transfer);
     const ports = list.filter((each) => weakHas(this.#metas, each));
     const bare = sent(value, buffers);
-    const number = called === undefined ? moves.sendNow() : moves.send(called);
+    const number = called === undefined ? moves.sendNow() : moves.send(called, this.#goesTo(id ^ 1));
     const ids = ports.map((each) => this.known(each).id);
     post(port, { value: bare, kind, number, ports, ids }, list);
     for (const each of ports) this.leave(each);
@@ -222,6 +223,12 @@ export class Ports {
       if (refed && !closed && keeps) texts.push(`a port ${listens ? "with a listener from" : "that is kept alive at"} ${where}`);
     }
     return texts;
+  }
+
+  /** @param {number} id of a port @returns {number} what a message to it goes to: its thread, or the port itself */
+  #goesTo(id) {
+    const owner = this.world.table.owner(id);
+    return owner === NOBODYS ? toPort(id) : toThread(owner);
   }
 
   /** @param {number} id of a port that has got a message */

@@ -1,5 +1,6 @@
 // The memory that the threads of a program share, besides the program's own.
 
+import { AsyncWaiters } from "../board/async-waiters.mjs";
 import { memoryOf } from "../board/group-memory.mjs";
 import { Blocks, MESSAGE_BYTES, MOST_BLOCKS, MOST_BYTES } from "../memory/blocks.mjs";
 import { Keepers } from "../memory/keepers.mjs";
@@ -20,8 +21,10 @@ export const programPlan = (agents) =>
  * @param {number} [logEvents] how many events its log has room for
  */
 export function programMemory(plan, logEvents) {
+  const memory = memoryOf(plan, logEvents);
   return {
-    ...memoryOf(plan, logEvents),
+    ...memory,
+    board: { ...memory.board, waiters: AsyncWaiters.memory() },
     blocks: Blocks.memory(),
     ports: PortTable.memory(),
     keepers: Array.from({ length: plan.agents }, () => Keepers.memory()),

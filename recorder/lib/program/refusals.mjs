@@ -4,7 +4,6 @@
 import process from "node:process";
 import { isCalledByAgents } from "../agent/frames.mjs";
 import { defineProperty } from "../primordials.mjs";
-import { member } from "./member.mjs";
 
 /** @typedef {(why: string) => never} Refuse */
 
@@ -16,7 +15,6 @@ const OURS = new Set(["Immediate", "MessagePort", "Timeout"]);
  * @param {Refuse} refuse
  */
 export function furnishRefusals(refuse) {
-  member(Atomics, "waitAsync", () => refuse("called Atomics.waitAsync, which isn't simulated yet"));
   // Node itself, and what lists the members of its modules, gets none.
   const get = () => (isCalledByAgents(get) ? refuse("read process.stdin, which isn't simulated") : undefined);
   defineProperty(process, "stdin", { configurable: true, get });

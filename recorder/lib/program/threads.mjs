@@ -61,7 +61,8 @@ export class Threads {
 
   /** @param {number} agent that ends: the other side of each of its ports gets to know it, behind what was sent */
   closePorts(agent) {
-    const { table, moves } = this;
+    const { table, moves, board } = this;
+    board.waiters?.endOf(agent);
     for (let port = 0; port < table.count; port += 1) {
       if (table.owner(port) !== agent || table.isClosed(port)) continue;
       table.close(port);

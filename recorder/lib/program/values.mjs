@@ -9,11 +9,31 @@ import { anyWatchedOf } from "../agent/ordinary/watched.mjs";
 import { bufferOf, tagOf, viewBufferOf } from "../primordials.mjs";
 import { Buffers } from "./buffers.mjs";
 
-const { Map: EngineMap } = globalThis;
+const { Map: EngineMap, structuredClone: engineClone } = globalThis;
 const { isView } = ArrayBuffer;
 
 /** @param {any} view of the engine's own */
 const bufferBehind = (view) => (tagOf(view) === undefined ? viewBufferOf(view) : bufferOf(view));
+
+/** @param {unknown} inner @returns {boolean} whether a value is shared memory, or a view of the engine's own on it */
+const isSharedMemory = (inner) => Buffers.isShared(inner) || (isView(inner) && Buffers.isShared(bufferBehind(inner)));
+
+/**
+ * A value with the engine's own arrays.
+ * @param {unknown} value
+ * @param {(buffer: SharedArrayBuffer) => void} met gets each shared buffer in it
+ * @returns {unknown}
+ */
+function bare(value, met) {
+  return mirrored(value, new EngineMap(), {
+    isIt: (inner) => anyWatchedOf(inner) !== undefined || isSharedMemory(inner),
+    copyOf: (inner) => {
+      const real = anyWatchedOf(inner)?.real ?? inner;
+      met(isView(real) ? bufferBehind(real) : real);
+      return real;
+    },
+  });
+}
 
 /**
  * A value as it is sent.
@@ -21,16 +41,7 @@ const bufferBehind = (view) => (tagOf(view) === undefined ? viewBufferOf(view) :
  * @param {Buffers} buffers
  * @returns {unknown}
  */
-export function sent(value, buffers) {
-  return mirrored(value, new EngineMap(), {
-    isIt: (inner) => anyWatchedOf(inner) !== undefined || Buffers.isShared(inner),
-    copyOf: (inner) => {
-      const watched = anyWatchedOf(inner);
-      buffers.share(watched === undefined ? inner : bufferBehind(watched.real));
-      return watched === undefined ? inner : watched.real;
-    },
-  });
-}
+export const sent = (value, buffers) => bare(value, (buffer) => buffers.share(buffer));
 
 /**
  * A value as it is received.
@@ -40,13 +51,31 @@ export function sent(value, buffers) {
  */
 export function received(value, buffers) {
   return mirrored(value, new EngineMap(), {
-    isIt: (inner) => Buffers.isShared(inner) || (isView(inner) && Buffers.isShared(bufferBehind(inner))),
+    isIt: isSharedMemory,
     copyOf: (inner) => {
       const buffer = isView(inner) ? bufferBehind(inner) : inner;
       buffers.received(buffer);
       if (buffer === inner) return inner;
       const number = memoryNumber(buffer);
+      if (number < 0) return inner;
       return tagOf(inner) === undefined ? wrappedView(inner, number) : wrapped(inner, number);
     },
   });
+}
+
+/**
+ * What structuredClone makes of a value: the clone has the same shared memory, as in node.
+ * @param {unknown} value
+ * @param {unknown} options
+ * @param {Buffers} buffers
+ * @returns {unknown}
+ */
+export function clonedValue(value, options, buffers) {
+  /** @type {SharedArrayBuffer[]} */
+  const met = [];
+  const together = [bare(value, (buffer) => met.push(buffer)), ...met];
+  if (met.length === 0) return engineClone(value, /** @type {any} */ (options));
+  const [clone, ...clones] = /** @type {any[]} */ (engineClone(together, /** @type {any} */ (options)));
+  clones.forEach((each, at) => buffers.cloned(each, met[at]));
+  return received(clone, buffers);
 }

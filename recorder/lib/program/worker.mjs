@@ -29,7 +29,7 @@ import { broadcastClass } from "./broadcast.mjs";
 import { Buffers } from "./buffers.mjs";
 import { Ends } from "./ends.mjs";
 import {
-  furnishMemory, furnishProcess, furnishThreads, furnishTimers, keepProcess, restoreProcess,
+  furnishCloning, furnishMemory, furnishProcess, furnishThreads, furnishTimers, keepProcess, restoreProcess,
 } from "./furnish.mjs";
 import { Loop } from "./loop.mjs";
 import { listingOf } from "./member.mjs";
@@ -43,6 +43,7 @@ import { furnishRefusals } from "./refusals.mjs";
 import { argvOf, evaluated } from "./start.mjs";
 import { Threads } from "./threads.mjs";
 import { Timers } from "./timers.mjs";
+import { WaitAsync } from "./wait-async.mjs";
 import { workerClass } from "./workers.mjs";
 
 const { Error: EngineError } = globalThis;
@@ -125,8 +126,8 @@ const private_ = {
   isAllowed: false, lasting: [], isUsed: () => false, isTheirs: Buffers.isShared, use: () => false, wait: () => {},
 };
 
-/** @param {Moves} moves @returns {typeof Atomics} */
-const atomicsOf = (moves) => recordedAtomics(Atomics, {
+/** @param {Moves} moves @param {WaitAsync} waits @returns {typeof Atomics} */
+const atomicsOf = (moves, waits) => recordedAtomics(Atomics, {
   blockOf,
   isRecording: isPlaying,
   make: (call, view, called) => {
@@ -138,6 +139,7 @@ const atomicsOf = (moves) => recordedAtomics(Atomics, {
   refuse: (why) => refuse(`made a call that the recorder can't record: ${why}`),
   unseen: /** @type {any} */ (private_),
   endUnseen: () => /** @type {never} */ (moves.sleep(Infinity)),
+  notify: (given) => waits.notify(given),
 });
 
 /** What the recorder notes of agents that are synchronous. */
@@ -197,9 +199,12 @@ function partsOf(player, blocks, mesh) {
   const keepers = new Keepers(shared.keepers[agent]);
   /** @type {{ goHome: () => void }} */
   const after = { goHome: () => {} };
-  const loop = new Loop({ moves, ports, events, timers, ends, keepers, children, refuse, goHome: () => after.goHome() });
+  const waits = new WaitAsync({ moves, buffers, isPlaying, refuse });
+  const loop = new Loop({
+    moves, ports, events, timers, waits, ends, keepers, children, refuse, goHome: () => after.goHome(),
+  });
   late.loop = loop;
-  return { moves, buffers, ports, ends, events, timers, loop, children, threads: all, mesh, later, after, keepers };
+  return { moves, waits, buffers, ports, ends, events, timers, loop, children, threads: all, mesh, later, after, keepers };
 }
 
 /** @typedef {ReturnType<typeof partsOf>} Parts */
@@ -208,16 +213,20 @@ function partsOf(player, blocks, mesh) {
  * @param {Parts} parts
  * @param {(given: import("./twin-calls.mjs").Given) => void} putTwins of `twins.mjs`
  */
-function furnish({ moves, buffers, ends, events, timers, later }, putTwins) {
+function furnish({ moves, buffers, waits, ends, events, timers, later }, putTwins) {
   const listAgain = listingOf([globalThis, buffer, crypto, process, util]);
   const { words } = moves.board;
   printAtOnce(() => words[WORD.IS_SILENT] === 0 && isPlaying(), printedName);
   simulateTime(() => (isPlaying() ? playing().look() : 0));
   simulateChance(chance);
+  // Node makes a context of its own when a reader is released first. That isn't the program's, and so comes before.
+  new ReadableStream().getReader().releaseLock();
   watchRealm(watching);
   putTwins({ later, isPlaying });
   furnishMemory((buffer) => buffers.made(buffer, sourceHere()), refuse);
-  globalThis.Atomics = atomicsOf(moves);
+  furnishCloning(buffers);
+  globalThis.Atomics = atomicsOf(moves, waits);
+  waits.furnish(Atomics);
   furnishTimers(timers);
   servePorts(events);
   furnishRefusals(refuse);
@@ -305,8 +314,9 @@ function begin(parts, graph) {
  * Leaves nothing of a run in the thread, except for what its code has changed in the realm.
  * @param {Parts} parts
  */
-function clear({ buffers, ports, timers, loop, ends, children }) {
+function clear({ buffers, waits, ports, timers, loop, ends, children }) {
   buffers.clear();
+  waits.clear();
   ports.clear();
   timers.clear();
   loop.clear();

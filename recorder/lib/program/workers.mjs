@@ -9,6 +9,7 @@ import threads from "node:worker_threads";
 import { pathToFileURL } from "node:url";
 import { SCRIPT_LIMITS } from "../../script/limits.mjs";
 import { WORD } from "../memory/layout.mjs";
+import { toThread } from "./moves.mjs";
 import { KIND } from "./ports.mjs";
 import { sent } from "./values.mjs";
 
@@ -84,8 +85,8 @@ function started({ ports, moves, mesh, buffers, threads: all, refuse, environmen
   needsSimulated(options, refuse);
   const url = urlOf(file, options);
   const workerData = sent(options.workerData, buffers);
-  const number = moves.send(called);
   const { words } = moves.board;
+  const number = moves.send(called, toThread(words[WORD.JOINED]));
   const agent = words[WORD.JOINED];
   if (agent === SCRIPT_LIMITS.agents) refuse(`started a Worker more than the ${agent} threads that a run can have`);
   mesh.needs(agent + 1);

@@ -10,6 +10,9 @@ import { blockNames } from "./program-names.mjs";
 const CUT = "a thread was terminated while it waited, which no script can have; of such a run sabsim judges the trace "
   + "alone";
 
+const WAITS_ASYNC = "it has waited by Atomics.waitAsync, which no script can have yet; of such a run sabsim judges the "
+  + "trace alone";
+
 /**
  * @typedef {object} ProgramMemory
  * @property {SharedArrayBuffer} blocks
@@ -54,7 +57,8 @@ export class ProgramState {
 
   /** @returns {string | undefined} why the run can't have a script, if so */
   whyNoScript() {
-    return this.ports.isCut() ? CUT : undefined;
+    if (this.ports.isCut()) return CUT;
+    return (this.board.waiters?.joined ?? 0) > 0 ? WAITS_ASYNC : undefined;
   }
 
   /** @returns {number[]} the threads that took part */

@@ -74,6 +74,7 @@ const ALL = [
   right("calls/right.mjs"),
   right("calls/timer.mjs"),
   rare("calls/late-notify.mjs", failed(/woken without an answer/, ["calls.mjs", "woken without an answer"])),
+  rare("calls/late-answer.mjs", failed(/woken without an answer/, ["calls.mjs", "woken without an answer"])),
   wrong("calls/notify-first.mjs", failed(/woken without an answer/, ["calls.mjs", "woken without an answer"])),
   ofTime("calls/time-limit.mjs", failed(/is answered by/, ["time-limit.mjs", THROWS])),
 

@@ -20,6 +20,14 @@ export class Able {
     this.count += 1;
   }
 
+  /** @param {number} agent that is left out, if it is there */
+  remove(agent) {
+    const place = this.place(agent);
+    if (place < 0) return;
+    this.count -= 1;
+    for (let at = place; at < this.count; at += 1) this.agents[at] = this.agents[at + 1];
+  }
+
   /** @param {number} agent @returns {number} where it stands in the list, or -1 */
   place(agent) {
     for (let at = 0; at < this.count; at += 1) {

@@ -1,7 +1,7 @@
 // What agents ask for, before it is done: which bytes a call will touch, and how. So a strategy can tell which calls
 // conflict and which are private.
 
-import { AGENT_WORD, PHASE, wordOf } from "../../memory/layout.mjs";
+import { AGENT_WORD, LOOP, PHASE, wordOf } from "../../memory/layout.mjs";
 import { FLAG } from "../../memory/log.mjs";
 
 /** Set beside the flags of a call that needs no draw. */
@@ -70,8 +70,10 @@ export class Asked {
   /** @param {number} agent @returns {number} what its next move does, as flags */
   #does(agent) {
     const phase = this.words[wordOf(agent, AGENT_WORD.PHASE)];
-    if (phase === PHASE.ASKS) return this.words[wordOf(agent, AGENT_WORD.ASKS_HOW)];
-    // The end of a time takes an agent off the line; of one that was woken nothing is left to be decided.
+    const isLoop = this.words[wordOf(agent, AGENT_WORD.WHERE_BLOCK)] === LOOP;
+    if (phase === PHASE.ASKS || (phase === PHASE.WOKEN && isLoop)) return this.words[wordOf(agent, AGENT_WORD.ASKS_HOW)];
+    // The end of a time takes an agent off the line; of one that was woken nothing is left to be decided, except which
+    // task its event loop takes up.
     return phase === PHASE.WAITS_TIMED ? FLAG.WAITERS : 0;
   }
 }

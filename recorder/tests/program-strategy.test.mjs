@@ -1,0 +1,135 @@
+// How the moves of whole programs are drawn: what the tasks of event loops and messages conflict with, short times that
+// are up early, and agents that are slow.
+
+import assert from "node:assert/strict";
+import { readFileSync } from "node:fs";
+import { describe, it } from "node:test";
+import { Board } from "../lib/board/board.mjs";
+import { waysOf } from "../lib/board/strategy/ways.mjs";
+import { loopPlace } from "../lib/memory/blocks.mjs";
+import { LOOP, PHASE } from "../lib/memory/layout.mjs";
+import { FLAG } from "../lib/memory/log.mjs";
+import { runsOf } from "./helpers/whole-programs.mjs";
+
+const { WAITERS } = FLAG;
+const SEEDS = 400;
+
+/** A board of a program, or of a module's agents, all of which ask for a call. @param {object} [rules] */
+function asking({ seed = 1, strategy = "uniform", agents = 3, isProgram = true, timeouts = 0.05 } = {}) {
+  const ways = waysOf(strategy, true);
+  const board = new Board(Board.memory(), { agents, ways, maxMoves: 100_000, timeouts, soon: isProgram ? 1_000 : undefined });
+  board.begin(seed);
+  for (let agent = 1; agent < agents; agent += 1) board.pass(agent - 1);
+  for (let agent = 0; agent < agents; agent += 1) ask(board, agent, 400 + agent);
+  return board;
+}
+
+function ask(board, agent, place) {
+  board.strategy.asks(agent, place, place + 1, WAITERS);
+  board.line.become(agent, PHASE.ASKS);
+}
+
+/** Who is drawn, one after the other, if each asks again. @param {Board} board @param {number} count */
+function drawn(board, count) {
+  return Array.from({ length: count }, () => board.strategy.next());
+}
+
+const allSeeds = Array.from({ length: SEEDS }, (_, seed) => seed);
+
+describe("what conflicts", () => {
+  const conflicts = (board, one, other) => board.strategy.asked.conflict(one, other);
+
+  it("two messages to one thread do, and two to different threads don't", () => {
+    const board = asking();
+    ask(board, 0, loopPlace(2));
+    ask(board, 1, loopPlace(2));
+    assert.equal(conflicts(board, 0, 1), true);
+    ask(board, 1, loopPlace(1));
+    assert.equal(conflicts(board, 0, 1), false);
+  });
+
+  it("a message conflicts with a task of the thread that gets it, whether that asks, waits for a time or was woken", () => {
+    const board = asking();
+    ask(board, 0, loopPlace(2));
+    board.asksForTask(2);
+    assert.equal(conflicts(board, 0, 2), true);
+    board.rest(2, LOOP, 10);
+    assert.equal(conflicts(board, 0, 2), true);
+    board.rest(2, LOOP, undefined);
+    assert.equal(board.line.notify(LOOP, 2, 1), 1);
+    assert.equal(conflicts(board, 0, 2), true);
+    assert.equal(conflicts(board, 1, 2), false);
+  });
+
+  it("an agent that was woken in a call has nothing to be decided", () => {
+    const board = asking();
+    board.wait(2, 0, 400, undefined);
+    board.line.notify(0, 400, 1);
+    assert.equal(conflicts(board, 0, 2), false);
+  });
+});
+
+describe("a short time", () => {
+  /** In how many seeds an event loop's time is up first though two others can move. */
+  const early = (milliseconds, rules) => allSeeds.filter((seed) => {
+    const board = asking({ seed, ...rules });
+    board.rest(2, LOOP, milliseconds);
+    return board.strategy.next() === 2;
+  }).length / SEEDS;
+
+  it("is as likely to be up as anything else is to move, in more than half of the seeds", () => {
+    const share = early(10, {});
+    // A third in five of eight seeds, and hardly ever in the others.
+    assert.ok(share > 0.16 && share < 0.27, `${share}`);
+  });
+
+  it("isn't where it is longer, or no time may be up early, or where agents of a module are run", () => {
+    assert.ok(early(5_000, {}) < 0.03);
+    assert.ok(early(10, { isProgram: false }) < 0.05);
+    assert.equal(early(10, { timeouts: 0 }), 0);
+  });
+});
+
+describe("a slow agent", () => {
+  /** In how many seeds agent 1 isn't among the first 60 draws for 12 in a row. */
+  const gaps = (rules) => allSeeds.filter((seed) => {
+    const board = asking({ seed, agents: 2, ...rules });
+    return /0{12}/.test(drawn(board, 60).join(""));
+  }).length / SEEDS;
+
+  it("is left out for a while, in more than half of the seeds of a program alone", () => {
+    assert.ok(gaps({}) > 0.3, `${gaps({})}`);
+    assert.ok(gaps({ isProgram: false }) < 0.03);
+  });
+
+  it("moves where nobody else can", () => {
+    const board = asking({ agents: 2, seed: 5 });
+    board.line.become(0, PHASE.FINISHED);
+    assert.deepEqual(new Set(drawn(board, 50)), new Set([1]));
+  });
+});
+
+describe("findings", () => {
+  const fileOf = (name) => readFileSync(new URL(`./programs/${name}`, import.meta.url), "utf8");
+
+  it("a late notify behind a timer of 10 ms is found, with what time must pass", async (context) => {
+    const names = ["late-answer.mjs", "calls.mjs", "slow-worker.mjs"];
+    const files = Object.fromEntries(names.map((name) => [name, fileOf(`calls/${name}`)]));
+    const main = 'import "./late-answer.mjs";';
+    const seeds = Array.from({ length: 120 }, (_, at) => at + 1);
+    const failing = (await runsOf(context, { "main.mjs": main, ...files }, { seeds })).filter(({ fails }) => fails);
+    assert.ok(failing.length >= 1, "no seed fails");
+    for (const { detail, onlyIf } of failing) {
+      assert.match(detail, /^agent 0 threw Error: call \d: woken without an answer/);
+      assert.match(onlyIf ?? "", /^only if (?:9\.\d+|10) ms pass/);
+    }
+  });
+
+  it("an await between look and take is found within ten seeds", async (context) => {
+    const names = ["await-between.mjs", "pool.mjs", "worker.mjs"];
+    const files = Object.fromEntries(names.map((name) => [name, fileOf(`pool/${name}`)]));
+    const seeds = Array.from({ length: 10 }, (_, at) => at + 1);
+    const outcomes = await runsOf(context, { "main.mjs": 'import "./await-between.mjs";', ...files }, { seeds });
+    assert.ok(outcomes.some(({ ending, detail }) => ending === "failed" && /resolve/.test(detail)));
+  });
+});

@@ -1,0 +1,107 @@
+// Values that whole programs clone and share: structuredClone keeps shared memory, memory that grows is one thread's
+// own, and a thread that is kept has no port of an earlier run.
+
+import assert from "node:assert/strict";
+import { describe, it } from "node:test";
+import { runsOf } from "./helpers/whole-programs.mjs";
+
+/** @param {import("./helpers/whole-programs.mjs").Checked[]} outcomes */
+const endingsOf = (outcomes) => [...new Set(outcomes.map(({ ending, detail }) => `${ending}: ${detail}`))];
+
+const MAIN = 'import { MessageChannel, Worker } from "node:worker_threads";\n';
+
+describe("structuredClone", () => {
+  it("gives objects on the same shared memory, before and after another thread can reach it", async (context) => {
+    const outcomes = await runsOf(context, {
+      "main.mjs": `${MAIN}const words = new Int32Array(new SharedArrayBuffer(16));
+        const check = (value) => {
+          const inside = { deep: [words, new Map([["b", words.buffer]])], view: new DataView(words.buffer, 4) };
+          const copy = structuredClone(inside);
+          if (copy.deep[0] === words || copy.deep[0].buffer !== copy.deep[1].get("b")) throw new Error("no clone");
+          copy.deep[0][1] = value;
+          const found = [words[1], new Int32Array(copy.deep[1].get("b"))[1], copy.view.getInt32(0, true)];
+          if (found.join() !== [value, value, value].join()) throw new Error("it has " + found);
+          return copy.deep[0];
+        };
+        check(5);
+        const copy = check(6);
+        const worker = new Worker(new URL("./worker.mjs", import.meta.url), { workerData: words });
+        Atomics.wait(copy, 0, 0);
+        if (copy[1] !== 7) throw new Error("it is " + copy[1]);
+        worker.on("exit", () => check(8));`,
+      "worker.mjs": `import { workerData } from "node:worker_threads";
+        const { words } = structuredClone({ words: workerData });
+        words[1] = 7; Atomics.store(words, 0, 1); Atomics.notify(words, 0);`,
+    }, { seeds: [1, 2, 3] });
+    assert.deepEqual(endingsOf(outcomes), ["finished: "]);
+    for (const { ordinary, checked } of outcomes) assert.deepEqual([ordinary > 0, checked], [true, true]);
+  });
+
+  it("lets races be seen that are made by a clone", async (context) => {
+    const outcomes = await runsOf(context, {
+      "main.mjs": `${MAIN}const words = new Int32Array(new SharedArrayBuffer(16));
+new Worker(new URL("./worker.mjs", import.meta.url), { workerData: words });
+structuredClone([words])[0][1] = 5;`,
+      "worker.mjs": 'import { workerData } from "node:worker_threads";\nstructuredClone({ workerData }).workerData[1] = 7;',
+    }, { seeds: [1, 2] });
+    assert.deepEqual([...new Set(outcomes.map(({ ending }) => ending))], ["race"]);
+    for (const { races } of outcomes) assert.deepEqual(races.map(({ lines }) => lines), [["main.mjs:4:32", "worker.mjs:2:47"]]);
+  });
+});
+
+describe("memory that grows", () => {
+  it("is as in node where one thread has it alone", async (context) => {
+    const outcomes = await runsOf(context, {
+      "main.mjs": `const grows = new SharedArrayBuffer(4, { maxByteLength: 64 });
+        const words = new Int32Array(grows);
+        grows.grow(32);
+        if (words.length !== 8 || grows.byteLength !== 32 || grows.maxByteLength !== 64) throw new Error("it hasn't grown");
+        words[7] = 5;
+        if (Atomics.add(words, 7, 1) !== 5 || words.at(-1) !== 6) throw new Error("it is " + words[7]);
+        if (new DataView(structuredClone({ grows }).grows).getInt32(28, true) !== 6) throw new Error("no clone");`,
+    });
+    assert.deepEqual(endingsOf(outcomes), ["finished: "]);
+  });
+
+  const refused = "agent 0 gave another thread a SharedArrayBuffer that grows, made at main.mjs:2:15, "
+    + "which isn't simulated yet, at main.mjs:3:";
+  for (const sent of ["grows", "[new Int32Array(grows)]", "{ clone: structuredClone(new DataView(grows)) }"]) {
+    it(`ends the run by both lines where another thread could get ${sent}`, async (context) => {
+      const [{ ending, detail }] = await runsOf(context, {
+        "main.mjs": `${MAIN}const grows = new SharedArrayBuffer(4, { maxByteLength: 64 });
+new MessageChannel().port1.postMessage(${sent});`,
+      });
+      assert.equal(ending, "failed");
+      const where = sent.includes("clone") ? refused.replace(", made at main.mjs:2:15", "") : refused;
+      assert.ok(detail.startsWith(where), detail);
+    });
+  }
+});
+
+describe("what node does by itself", () => {
+  it("isn't the program's: to end a stream of the web makes a context, which isn't refused", async (context) => {
+    const outcomes = await runsOf(context, {
+      "main.mjs": `const web = new ReadableStream({ start(controller) { controller.enqueue(1); controller.close(); } });
+        let sum = 0;
+        for await (const number of web) sum += number;
+        if (sum !== 1) throw new Error("the sum is " + sum);`,
+    });
+    assert.deepEqual(endingsOf(outcomes), ["finished: "]);
+  });
+});
+
+describe("a thread that is kept", () => {
+  it("isn't kept alive by a port of an earlier run", async (context) => {
+    const outcomes = await runsOf(context, {
+      // The first run ends while its worker is kept alive by a port. Each other one ends only when its worker does.
+      "main.mjs": `${MAIN}const worker = new Worker(new URL("./worker.mjs", import.meta.url));
+        worker.once("message", (isFirst) => { if (isFirst) worker.unref(); });`,
+      // The realm's globals show that the thread is the same.
+      "worker.mjs": `import { MessageChannel, parentPort } from "node:worker_threads";
+        globalThis.runs = (globalThis.runs ?? 0) + 1;
+        if (globalThis.runs === 1) new MessageChannel().port1.on("message", () => {});
+        parentPort.postMessage(globalThis.runs === 1);`,
+    }, { seeds: [1, 2, 3], options: { timeouts: 0 } });
+    assert.deepEqual(endingsOf(outcomes), ["finished: "]);
+  });
+});
