@@ -1,6 +1,7 @@
 // How a program's thread ends: nothing keeps it alive, it exits, or it throws what nobody catches. The first thread's end
 // is the run's. Another one lets the thread know that has started it.
 
+import { createRequire } from "node:module";
 import process from "node:process";
 import { described } from "../agent/described.mjs";
 import { PHASE } from "../memory/layout.mjs";
@@ -25,6 +26,8 @@ const LISTENER_THREW = 7;
 
 /** @type {any} node's, with more than is written down of it */
 const own = process;
+// Only node has it, and only with the flags of `graph-flags.mjs`, so its name is no literal for the checker of types.
+const { clearAsyncIdStack } = createRequire(import.meta.url)(["internal", "async_hooks"].join("/"));
 /** @type {(name: string, ...given: unknown[]) => boolean} */
 const emit = own.emit.bind(own);
 /** @type {(name: string) => number} */
@@ -56,17 +59,19 @@ export class Ends {
   /** @param {unknown} thrown @param {Origin} [origin] */
   uncaught(thrown, origin = "uncaughtException") {
     if (this.isOver) return;
-    // This one's own guard is a listener too.
-    if (listenersOf("uncaughtException") === 1) {
-      this.#fail(thrown, origin);
-      return;
-    }
+    // What was thrown has left contexts of async_hooks open. Node, too, leaves all of them where it catches something.
+    clearAsyncIdStack();
+    let isListenedTo = false;
     try {
-      emit("uncaughtException", thrown, origin);
+      emit("uncaughtExceptionMonitor", thrown, origin);
+      // This one's own guard is a listener too.
+      isListenedTo = listenersOf("uncaughtException") > 1;
+      if (isListenedTo) emit("uncaughtException", thrown, origin);
     } catch (problem) {
       this.isOver = true;
       this.#go(LISTENER_THREW, `threw in a listener of uncaughtException: ${described(problem)}`);
     }
+    if (!isListenedTo) this.#fail(thrown, origin);
   }
 
   /** Nothing is left to be done: the program may find something. */

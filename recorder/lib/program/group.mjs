@@ -87,6 +87,18 @@ export class ProgramGroup extends Group {
     return super.run(all, onOutcome);
   }
 
+  /**
+   * The next runs are of another program, in the same threads. Places in its code are named from the folder of the
+   * program that the group was opened with. Its first run prints. No run may be under way.
+   * @param {string} module the URL of its main module
+   * @param {string[]} [args]
+   */
+  enter(module, args = []) {
+    Object.assign(this.options, { module, args });
+    this.#loud = undefined;
+    this.#controls[0].postMessage({ main: { program: module, args } });
+  }
+
   /** @param {number} agent whose thread is ended, and another one takes its place */
   async replace(agent) {
     this.#prepare();
@@ -98,12 +110,12 @@ export class ProgramGroup extends Group {
   /** Keeps some threads ready. */
   #prepare() {
     const modules = ownModules(PROGRAM_MODULE);
-    const { module: program, args, ordinary } = this.options;
+    const { ordinary } = this.options;
     const { memory, plan, rules } = this;
     while (this.#spare.length < this.#ahead) {
       const thread = begunWith(FLAGS);
       this.threads.add(thread);
-      thread.post({ modules, program, args, ordinary, memory, plan, rules });
+      thread.post({ modules, ordinary, memory, plan, rules });
       this.#spare.push(thread.next().then(() => thread));
     }
   }
@@ -130,8 +142,9 @@ export class ProgramGroup extends Group {
    */
   async #hand(agent, thread) {
     const { port1, port2 } = channel();
+    const { module: program, args } = this.options;
     thread.onEnd = (why) => this.board?.turn.die(agent, why);
-    /** @type {any} */ (thread.port).postMessage({ agent, control: port2 }, [port2]);
+    /** @type {any} */ (thread.port).postMessage({ agent, control: port2, main: { program, args } }, [port2]);
     const { ended } = await this.inTime(thread.next());
     if (ended !== undefined) throw new Refused(`a thread for ${this.options.module} ended before it could begin: ${ended}`);
     this.agents[agent] = thread;

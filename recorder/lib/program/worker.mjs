@@ -49,8 +49,6 @@ const { Error: EngineError } = globalThis;
 /**
  * @typedef {object} Given what the thread is started with
  * @property {import("node:worker_threads").MessagePort} port
- * @property {string} program the URL of the program's main module
- * @property {string[]} args
  * @property {"watch" | "store" | "refuse"} ordinary
  * @property {ReturnType<typeof import("./program-memory.mjs").programMemory>} memory
  * @property {import("../options/plan.mjs").Plan} plan
@@ -59,7 +57,7 @@ const { Error: EngineError } = globalThis;
 
 /** @typedef {{ start: import("./workers.mjs").Start, number: number, ports: any[], ids: number[] }} Handed */
 
-const { port, program, args, memory: shared, plan, rules } = /** @type {Given} */ (threads.workerData);
+const { port, memory: shared, plan, rules } = /** @type {Given} */ (threads.workerData);
 const receive = threads.receiveMessageOnPort;
 const { setImmediate: turnLater } = nodeTimers;
 const firstEnv = { ...process.env };
@@ -240,8 +238,8 @@ function taken({ mesh, ports, moves }) {
 /** @param {string} url @returns {string} the last part of its path */
 const fileName = (url) => (url.startsWith("data:") ? "a data: URL" : url.slice(url.lastIndexOf("/") + 1));
 
-/** @type {() => import("./workers.mjs").Start} */
-const mainStart = () =>
+/** @param {import("./mesh.mjs").Main} main @returns {import("./workers.mjs").Start} */
+const mainStart = ({ program, args }) =>
   ({ url: program, isCode: false, workerData: null, argv: args, env: { ...firstEnv }, environment: new Map(), where: "" });
 
 /**
@@ -251,8 +249,8 @@ const mainStart = () =>
  */
 function begin(parts, graph) {
   const { agent } = parts.moves;
-  const { start, parentPort } = agent === 0 ? { start: mainStart(), parentPort: null } : taken(parts);
   const { moves, mesh, buffers, ports, threads: all, later, ends, loop } = parts;
+  const { start, parentPort } = agent === 0 ? { start: mainStart(mesh.main), parentPort: null } : taken(parts);
   const starting = {
     ports, moves, mesh, buffers, threads: all, here, refuse, later, environment: start.environment,
     children: parts.children,
@@ -339,12 +337,12 @@ export async function main(load) {
   const { putTwins } = await load(TWINS_MODULE.href);
   const graph = new Graph({ refuse: (/** @type {string} */ what) => refuse(`used ${what}, which isn't simulated`) });
   port.postMessage({ begun: true });
-  const { agent, control } = await numbered;
+  const { agent, ...given } = await numbered;
   chance.agent = agent;
   chance.begin(0);
   const { player, blocks } = playerOf(agent);
   const { board } = player.table;
-  const parts = partsOf(player, blocks, new Mesh(agent, control, port, board.words));
+  const parts = partsOf(player, blocks, new Mesh(agent, given, port, board.words));
   self.player = player;
   self.buffers = parts.buffers;
   furnish(parts, putTwins);
