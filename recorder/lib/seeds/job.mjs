@@ -8,6 +8,7 @@ import { Group } from "../run/group.mjs";
 import { FirstFailing } from "../run/order.mjs";
 import { shorten } from "../shorter/shorten.mjs";
 import { simulatorAt } from "../simulator/chosen.mjs";
+import { KeepsGlobals, keepsGlobals } from "./first-again.mjs";
 
 /** @typedef {import("../run/outcome.mjs").Outcome} Outcome */
 /** @typedef {{ stray?: import("../board/row.mjs").Stray, acts?: string }} Besides `acts` is a digest of what was done */
@@ -44,7 +45,7 @@ export class Job {
   /** @type {import("../simulator/chosen.mjs").Simulator | undefined} */
   #simulator;
 
-  /** @type {unknown} why a check has failed */
+  /** @type {unknown} why a check has failed, or why a run is no finding */
   #failure;
 
   #every = 1;
@@ -69,12 +70,15 @@ export class Job {
    * Makes runs, and checks them.
    * @param {import("../run/outcome.mjs").Wanted[]} seeds
    * @param {(outcome: Checked) => void} onOutcome
-   * @returns {Promise<void>} fails if a check has failed; the outcome of that run is the last one
+   * @returns {Promise<void>} fails if a check has failed, and the outcome of that run is the last one; also if a program
+   * keeps something in globals
    */
   async run(seeds, onOutcome) {
     await (await this.#opened()).run(seeds, (outcome, judgement, aside) => {
       if (this.#failure !== undefined) return;
       const checked = this.#checked({ outcome, judgement, aside });
+      // Such a run is no finding.
+      if (this.#failure instanceof KeepsGlobals) return;
       // Only the first failing run is kept, and a job's seeds ascend.
       const isWhole = this.#firstFailing.takes(outcome) || !this.#isBrief;
       onOutcome(isWhole ? checked : lightened(checked));
@@ -108,7 +112,9 @@ export class Job {
   /** @param {import("../run/outcome.mjs").One} run @returns {Checked} */
   #checked(run) {
     try {
-      const { stray } = run.aside;
+      const { stray, again } = run.aside;
+      const keeps = keepsGlobals(run.outcome, again);
+      if (keeps !== undefined) throw keeps;
       return { ...checkedBy(this.#simulator, run, this.#every), ...(stray === undefined ? {} : { stray }) };
     } catch (failure) {
       this.#failure = failure;
