@@ -21,8 +21,8 @@ const BUILT = fileURLToPath(new URL("../../crates/sabsim/out/sabsim", import.met
 // The files that take the most processor time begin first, so that none of them is left alone at the end.
 const SLOWEST = [
   "page-schedule", "known", "programs-known", "realm", "race-programs", "runs", "judge", "examples", "seeds", "program",
-  "explore", "pilots", "shards", "jobs", "library", "programs-in-node", "wrong", "bench", "rows", "checks", "shorter", "replay",
-  "unseen", "testing",
+  "explore", "pilots", "shards", "jobs", "library", "programs-in-node", "wrong", "bench", "rows", "checks", "shorter",
+  "replay", "unseen", "testing",
 ].map((name) => `${name}.test.mjs`);
 
 /** @typedef {import("./helpers/results.mjs").Result & { name: string, seconds: number }} FileResult */

@@ -302,7 +302,8 @@ function serve(parts, graph) {
   onceMore();
   player.awaitOrder();
   if (agent !== 0) board.turn.sleep(agent);
-  if (board.end.isOver()) {
+  // Another thread may have ended it meanwhile.
+  if (board.end.isOver() || (agent !== 0 && !parts.threads.isAlive(agent))) {
     board.turn.goHome(agent);
     turnLater(() => serve(parts, graph));
     return;
