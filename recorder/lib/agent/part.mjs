@@ -85,6 +85,22 @@ export class Part {
     if (this.isOver || this.table.board.end.hasEnded()) this.over();
   }
 
+  /**
+   * Whether the run may go beyond what a script can have. Then it has none, and only a spin ends it.
+   * @returns {boolean}
+   */
+  goesBeyond() {
+    const { calls } = SCRIPT_LIMITS;
+    if (this.table.goesBeyond !== true) {
+      if (this.made >= calls) this.meetsMostCalls();
+      return false;
+    }
+    if (this.made > 0 && this.made % calls === 0 && this.table.records.endsAlike(this.made)) {
+      this.spins(`it has made ${this.made} calls, and goes on`);
+    }
+    return true;
+  }
+
   /** @returns {never} */
   meetsMostCalls() {
     const { calls } = SCRIPT_LIMITS;

@@ -370,9 +370,9 @@ export class Player {
    * @param {Call} call
    */
   #stayWithin(call) {
-    const { calls, views, text } = SCRIPT_LIMITS;
+    const { views, text } = SCRIPT_LIMITS;
     const { board, lengths } = this.table;
-    if (this.part.made >= calls) this.part.meetsMostCalls();
+    if (this.part.goesBeyond()) return;
     const key = viewKey(call);
     if (!mapHas(this.views, key)) {
       if (!board.journal.registers(key)) this.part.meetsLimit(`more than ${views} different typed arrays were used`);

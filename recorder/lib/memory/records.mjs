@@ -58,14 +58,14 @@ const INDEX = 3;
 const LIMIT = 4;
 
 export class Records {
-  /** @returns {SharedArrayBuffer} room for all calls that an agent can make */
-  static memory() {
-    return new SharedArrayBuffer(SCRIPT_LIMITS.calls * BYTES_EACH);
+  /** @param {number} [calls] how many there is room for: all that an agent can make @returns {SharedArrayBuffer} */
+  static memory(calls = SCRIPT_LIMITS.calls) {
+    return new SharedArrayBuffer(calls * BYTES_EACH);
   }
 
   /** @param {SharedArrayBuffer} memory */
   constructor(memory) {
-    const room = SCRIPT_LIMITS.calls;
+    const room = memory.byteLength / BYTES_EACH;
     this.bigs = new BigInt64Array(memory, 0, room * BIGS_EACH);
     this.numbers = new Float64Array(memory, this.bigs.byteLength, room * NUMBERS_EACH);
     this.words = new Int32Array(memory, this.bigs.byteLength + this.numbers.byteLength, room * WORDS_EACH);

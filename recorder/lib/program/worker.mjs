@@ -154,6 +154,7 @@ function playerOf(agent) {
     lengths: plan.buffers,
     canBlock: true,
     ordinary: "watch",
+    goesBeyond: true,
     parks: true,
   });
   return { player, blocks: new Blocks(shared.blocks, shared.copies, memory, plan.buffers) };

@@ -106,7 +106,7 @@ const ALL = [
   rare("ring/overflows.mjs", failed(/found \d in place of \d/, ["threads.mjs", THROWS])),
   rare("ring/silence.mjs", failed(/the sum is [0-5]/, ["silence.mjs", THROWS])),
   right("mutex/right.mjs"),
-  rare("mutex/forgets-sleepers.mjs", deadlock(["forgets-sleepers.mjs", "Atomics.wait("])),
+  wrong("mutex/forgets-sleepers.mjs", deadlock(["forgets-sleepers.mjs", "Atomics.wait("])),
   wrong("mutex/test-then-set.mjs", race(COUNTS, COUNTS), failed(/counted [1-5]/, ["threads.mjs", THROWS])),
   rare("mutex/gives-up.mjs", failed(/counted [1-5]/, ["gives-up.mjs", THROWS])),
   right("semaphore/right.mjs"),
