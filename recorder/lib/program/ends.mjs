@@ -1,10 +1,10 @@
 // How a program's thread ends: nothing keeps it alive, it exits, or it throws what nobody catches. The first thread's end
 // is the run's. Another one lets the thread know that has started it.
 
-import { createRequire } from "node:module";
 import process from "node:process";
 import { described } from "../agent/described.mjs";
 import { PHASE } from "../memory/layout.mjs";
+import { clearAsyncIdStack, serializeError } from "./internals.mjs";
 import { KIND } from "./ports.mjs";
 
 /** The exit code of a thread whose module is still being evaluated when nothing keeps it alive. */
@@ -26,8 +26,6 @@ const LISTENER_THREW = 7;
 
 /** @type {any} node's, with more than is written down of it */
 const own = process;
-// Only node has it, and only with the flags of `graph-flags.mjs`, so its name is no literal for the checker of types.
-const { clearAsyncIdStack } = createRequire(import.meta.url)(["internal", "async_hooks"].join("/"));
 /** @type {(name: string, ...given: unknown[]) => boolean} */
 const emit = own.emit.bind(own);
 /** @type {(name: string) => number} */
@@ -81,9 +79,11 @@ export class Ends {
 
   /** Nothing keeps the thread alive. */
   leave() {
+    // Listeners get the code as it was before node sets that of an unsettled await.
+    const before = Number(own.exitCode ?? 0);
     if (!this.isEvaluated) own.exitCode ??= UNSETTLED;
     const why = this.isEvaluated ? "" : "has a top-level await that never settles";
-    this.#emitExit(Number(own.exitCode ?? 0));
+    this.#emitExit(before);
     const code = Number(own.exitCode ?? 0);
     const { agent, player: { table: { board } } } = this.leaving;
     if (agent !== 0) {
@@ -122,13 +122,7 @@ export class Ends {
     const { ports } = this.leaving;
     const what = origin === "unhandledRejection" ? "threw (a rejection that nobody handles)" : "threw";
     const text = `${what} ${described(thrown)}`;
-    if (this.parentPort !== undefined) {
-      try {
-        ports.send(this.parentPort, thrown, [], undefined, KIND.ERROR);
-      } catch {
-        ports.send(this.parentPort, new Error(String(thrown)), [], undefined, KIND.ERROR);
-      }
-    }
+    if (this.parentPort !== undefined) ports.send(this.parentPort, serializeError(thrown), [], undefined, KIND.ERROR);
     own.exitCode = 1;
     this.#end(1, text);
   }

@@ -16,6 +16,9 @@ export const NOT_YET = Object.freeze({
   "wait-async.mjs": "Atomics.waitAsync", "slow-functions.mjs": "SubtleCrypto.digest",
 });
 
+/** What node prints of a warning. */
+const WARNING = /^\((?:node:\d+|Use `node --trace-warnings)/;
+
 const RECORDING = fileURLToPath(new URL("../helpers/order-process.mjs", import.meta.url));
 
 /** @param {string} name of a program @returns {string} the path of its file */
@@ -73,6 +76,7 @@ export async function runsInRecorder(names, seeds) {
   const printed = texts.stderr.split("\0\n");
   const endings = texts.stdout.split("\n").slice(0, -1);
   if (endings.length !== names.length * seeds) throw new Error(`the recorder has ended: ${texts.stderr}`);
-  const runs = endings.map((line, at) => ({ ...JSON.parse(line), lines: printed[at].split("\n").slice(0, -1) }));
+  const linesOf = (/** @type {string} */ text) => text.split("\n").slice(0, -1).filter((line) => !WARNING.test(line));
+  const runs = endings.map((line, at) => ({ ...JSON.parse(line), lines: linesOf(printed[at]) }));
   return new Map(names.map((name, at) => [name, runs.slice(at * seeds, (at + 1) * seeds)]));
 }
