@@ -198,13 +198,14 @@ describe("threads that are kept", () => {
         process.env.LEFT = "yes";
         globalThis.runs = (globalThis.runs ?? 0) + 1;
         await new Promise((done) => setTimeout(done, 3_000 * globalThis.runs));
-        const word = new Int32Array(new SharedArrayBuffer(4));
+        const word = new Int32Array(new SharedArrayBuffer(8));
         const [worker, other] = [started(word), started(word)];
         worker.postMessage("never taken");
         await once(other, "exit");
         other.terminate();
         worker.unref();
-        if (Atomics.load(word, 0) < 1 || globalThis.runs > 1) process.exitCode = 40 + globalThis.runs;
+        if (Atomics.load(word, 0) < 1) throw new Error("nobody has added");
+        Atomics.store(word, 1, globalThis.runs);
         setTimeout(() => { process.exitCode = 9; throw new Error("a timer is still there"); }, 2_000).unref();`,
       "worker.mjs": `${WORKER}import { count } from "./count.mjs";
         if (count() !== 1) throw new Error("a module is still there");
@@ -213,6 +214,7 @@ describe("threads that are kept", () => {
       "counted.cjs": "let counted = 0;\nexports.counted = () => (counted += 1);",
     }, { seeds: seedsTo(4) });
     // The realm's globals show that the thread is the same. Each run is made twice, the second time to learn its lines.
-    assert.deepEqual(outcomes.map(({ detail }) => detail), ["", ...[3, 5, 7].map((run) => `agent 0 exited with code 4${run}`)]);
+    assert.deepEqual(endingsOf(outcomes), ["finished: "]);
+    assert.deepEqual(outcomes.map(({ state: { shown: [bytes] } }) => Number(bytes.slice(8, 10))), [1, 3, 5, 7]);
   });
 });

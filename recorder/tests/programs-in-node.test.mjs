@@ -1,15 +1,16 @@
 // The programs of `programs/` in node itself: the right ones end with exit code 0, and those on the order of events
-// print the same whenever they run.
+// print the same whenever they run, also in the recorder.
 
 import assert from "node:assert/strict";
 import { readFileSync, readdirSync } from "node:fs";
-import { describe, it, test } from "node:test";
+import { before, describe, it, test } from "node:test";
 import { fileURLToPath } from "node:url";
-import { ORDER, pathOf, runInNode } from "./programs/order.mjs";
+import { NOT_YET, ORDER, pathOf, runInNode, runsInRecorder } from "./programs/order.mjs";
 import { PROGRAMS, placesOf, urlOf } from "./programs/table.mjs";
 
 const FOLDER = new URL("./programs/", import.meta.url);
 const SIDE_BY_SIDE = 4;
+const SEEDS = 3;
 const LEAST = { programs: 40, rare: 10, order: 30 };
 
 /** What each program says about itself in its first line. */
@@ -70,12 +71,38 @@ describe("endless programs run in node until Ctrl-C", () => {
   }
 });
 
-describe("programs on the order of events print the same twice in node", { concurrency: SIDE_BY_SIDE }, () => {
+/** What the recorder says of an exit code other than 0, if it isn't that of an exception that nobody catches. */
+const CODES = [[/ exited with code (\d+)/, undefined], [/ threw in a listener of uncaughtException/, 7]];
+const THREW = 1;
+
+/** @param {import("./programs/order.mjs").InRecorder} run @returns {number} the exit code that it stands for */
+function codeOf({ ending, detail }) {
+  if (ending === "finished") return 0;
+  assert.equal(ending, "failed", detail);
+  for (const [pattern, code] of CODES) {
+    const [found, number] = pattern.exec(detail) ?? [];
+    if (found !== undefined) return code ?? Number(number);
+  }
+  return THREW;
+}
+
+describe("programs on the order of events print the same twice in node and under each seed", { concurrency: SIDE_BY_SIDE }, () => {
+  /** @type {Promise<Map<string, import("./programs/order.mjs").InRecorder[]>>} */
+  let recorded;
+  before(() => { recorded = runsInRecorder(ORDER, SEEDS); });
+
   for (const name of ORDER) {
     it(name, async () => {
-      const [one, other] = await Promise.all([runInNode(pathOf(name)), runInNode(pathOf(name))]);
+      const [one, other, inRecorder] = await Promise.all([runInNode(pathOf(name)), runInNode(pathOf(name)), recorded]);
       assert.ok(one.lines.length > 0 && one.status !== null && !one.lines.some((line) => /\bnever\b/.test(line)), name);
       assert.deepEqual([other.lines, other.status], [one.lines, one.status]);
+      const runs = inRecorder.get(name) ?? [];
+      assert.equal(runs.length, SEEDS);
+      const notYet = NOT_YET[name];
+      for (const run of runs) {
+        if (notYet !== undefined) assert.ok(run.detail.includes(`called ${notYet}, which isn't simulated`), run.detail);
+        else assert.deepEqual([run.lines, codeOf(run)], [one.lines, one.status], run.detail);
+      }
     });
   }
 });

@@ -20,10 +20,10 @@ const BUILT = fileURLToPath(new URL("../../crates/sabsim/out/sabsim", import.met
 
 // The files that take the most processor time begin first, so that none of them is left alone at the end.
 const SLOWEST = [
-  "page-schedule", "known", "realm", "race-programs", "program", "jobs", "examples", "seeds", "known-judged",
-  "program-ends", "runs", "pilots", "explore", "shards", "library", "programs-in-node", "wrong", "program-runs",
-  "bench", "first-again", "judged", "rows", "checks", "shorter", "replay", "judge", "conversions", "catches-all",
-  "unseen", "testing",
+  "page-schedule", "known", "realm", "programs-known", "race-programs", "program", "jobs", "examples", "seeds",
+  "known-judged", "program-ends", "runs", "pilots", "explore", "shards", "library", "programs-in-node", "wrong",
+  "program-runs", "bench", "first-again", "judged", "rows", "checks", "shorter", "replay", "judge", "conversions",
+  "catches-all", "unseen", "testing",
 ].map((name) => `${name}.test.mjs`);
 
 /** @typedef {import("./helpers/results.mjs").Result & { name: string, seconds: number }} FileResult */

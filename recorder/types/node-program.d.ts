@@ -33,3 +33,7 @@ declare class MessageEvent extends Event {
 declare class EventTarget {
   dispatchEvent(event: Event): boolean;
 }
+
+declare class ReadableStream {
+  getReader(): { releaseLock(): void };
+}

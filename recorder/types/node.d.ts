@@ -143,7 +143,7 @@ declare namespace WebAssembly {
 declare function setTimeout(call: (...given: any[]) => void, milliseconds: number, ...given: unknown[]): NodeJS.Timer;
 declare function clearTimeout(timer: NodeJS.Timer | undefined): void;
 declare function setInterval(call: () => void, milliseconds: number): NodeJS.Timer;
-declare function structuredClone<T>(value: T): T;
+declare function structuredClone<T>(value: T, options?: { transfer?: unknown[] }): T;
 
 declare module "node:assert" {
   interface Assert {

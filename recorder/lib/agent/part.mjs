@@ -91,9 +91,9 @@ export class Part {
    * @param {Call} call
    */
   stayWithin(call) {
-    const { calls, views, text } = SCRIPT_LIMITS;
+    const { views, text } = SCRIPT_LIMITS;
     const { board, lengths } = this.table;
-    if (this.made >= calls) this.meetsMostCalls();
+    if (this.goesBeyond()) return;
     const key = viewKey(call);
     if (!mapHas(this.views, key)) {
       if (!board.journal.registers(key)) this.meetsLimit(`more than ${views} different typed arrays were used`);
@@ -117,6 +117,22 @@ export class Part {
   /** Goes on only in a run that goes on. */
   needsRun() {
     if (this.isOver || this.table.board.end.hasEnded()) this.over();
+  }
+
+  /**
+   * Whether the run may go beyond what a script can have. Then it has none, and only a spin ends it.
+   * @returns {boolean}
+   */
+  goesBeyond() {
+    const { calls } = SCRIPT_LIMITS;
+    if (this.table.goesBeyond !== true) {
+      if (this.made >= calls) this.meetsMostCalls();
+      return false;
+    }
+    if (this.made > 0 && this.made % calls === 0 && this.table.records.endsAlike(this.made)) {
+      this.spins(`it has made ${this.made} calls, and goes on`);
+    }
+    return true;
   }
 
   /** @returns {never} */

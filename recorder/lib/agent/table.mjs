@@ -14,6 +14,7 @@
  * @property {number[]} lengths of the buffers
  * @property {boolean} canBlock
  * @property {"watch" | "store" | "refuse"} ordinary
+ * @property {boolean} [goesBeyond] whether its run may have more calls, views and text than a script can have
  * @property {boolean} [parks] whether its thread sleeps for good when its run is over
  */
 

@@ -3,13 +3,14 @@
 import { Difference } from "../check/check.mjs";
 import { NotKept } from "../keeping/keep.mjs";
 import { Refused } from "../options/refused.mjs";
+import { KeepsGlobals } from "../seeds/first-again.mjs";
 import { LostJob } from "../seeds/remote-job.mjs";
 import { NoLongerTheSame } from "../shorter/differing.mjs";
 import { NoSabsim } from "../simulator/native.mjs";
 import { NotPrinted } from "./print.mjs";
 
 /** What can go wrong without a defect of the recorder: a sentence says all of it. */
-const EXPECTED = [Refused, Difference, NoSabsim, LostJob, NoLongerTheSame, NotKept, NotPrinted];
+const EXPECTED = [Refused, Difference, NoSabsim, LostJob, KeepsGlobals, NoLongerTheSame, NotKept, NotPrinted];
 
 /** @param {unknown} problem @returns {boolean} whether its message says all of it */
 export const isExpected = (problem) => EXPECTED.some((kind) => problem instanceof kind);

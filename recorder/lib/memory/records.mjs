@@ -65,9 +65,9 @@ export const FINGERPRINT = 11;
 const isShort = (value) => (value | 0) === value;
 
 export class Records {
-  /** @returns {SharedArrayBuffer} room for all calls that an agent can make */
-  static memory() {
-    return new SharedArrayBuffer(SCRIPT_LIMITS.calls * BYTES_EACH);
+  /** @param {number} [calls] how many there is room for: all that an agent can make @returns {SharedArrayBuffer} */
+  static memory(calls = SCRIPT_LIMITS.calls) {
+    return new SharedArrayBuffer(calls * BYTES_EACH);
   }
 
   /** @param {ArrayBufferLike} memory in which each record has as many bytes */

@@ -70,6 +70,8 @@ function world() {
 class BroadcastChannel extends EngineTarget {
   #id;
   #isClosed = false;
+  /** Where it was made. */
+  #where;
   /** @type {Record<string, Function | null>} */
   #handlers = {};
 
@@ -81,12 +83,13 @@ class BroadcastChannel extends EngineTarget {
     const { table, agent } = ports.world;
     moves.yield();
     this.name = `${name}`;
+    this.#where = ports.world.here();
     this.#id = table.addPair(agent);
     ports.adopt(this, this.#id);
     const meta = ports.known(this);
     meta.queue = [];
     meta.refed = true;
-    meta.where = ports.world.here();
+    meta.where = this.#where;
     meta.taker = ({ value }) => this.#take(value);
     table.setName(this.#id, numberOf(this.name));
     table.start(this.#id);
@@ -98,6 +101,10 @@ class BroadcastChannel extends EngineTarget {
 
   set onmessage(/** @type {any} */ handler) {
     this.#handlers.message = handler;
+    const { ports } = world();
+    const listens = typeof handler === "function";
+    // What keeps the thread alive is named by the line that matters most to a reader.
+    Object.assign(ports.known(this), { listens, where: listens ? ports.world.here() : this.#where });
   }
 
   /** @param {unknown} value */

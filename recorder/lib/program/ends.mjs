@@ -4,6 +4,7 @@
 import process from "node:process";
 import { described } from "../agent/described.mjs";
 import { PHASE } from "../memory/layout.mjs";
+import { clearAsyncIdStack, serializeError } from "./internals.mjs";
 import { KIND } from "./ports.mjs";
 
 /** The exit code of a thread whose module is still being evaluated when nothing keeps it alive. */
@@ -56,17 +57,19 @@ export class Ends {
   /** @param {unknown} thrown @param {Origin} [origin] */
   uncaught(thrown, origin = "uncaughtException") {
     if (this.isOver) return;
-    // This one's own guard is a listener too.
-    if (listenersOf("uncaughtException") === 1) {
-      this.#fail(thrown, origin);
-      return;
-    }
+    // What was thrown has left contexts of async_hooks open. Node, too, leaves all of them where it catches something.
+    clearAsyncIdStack();
+    let isListenedTo = false;
     try {
-      emit("uncaughtException", thrown, origin);
+      emit("uncaughtExceptionMonitor", thrown, origin);
+      // This one's own guard is a listener too.
+      isListenedTo = listenersOf("uncaughtException") > 1;
+      if (isListenedTo) emit("uncaughtException", thrown, origin);
     } catch (problem) {
       this.isOver = true;
       this.#go(LISTENER_THREW, `threw in a listener of uncaughtException: ${described(problem)}`);
     }
+    if (!isListenedTo) this.#fail(thrown, origin);
   }
 
   /** Nothing is left to be done: the program may find something. */
@@ -76,9 +79,11 @@ export class Ends {
 
   /** Nothing keeps the thread alive. */
   leave() {
+    // Listeners get the code as it was before node sets that of an unsettled await.
+    const before = Number(own.exitCode ?? 0);
     if (!this.isEvaluated) own.exitCode ??= UNSETTLED;
     const why = this.isEvaluated ? "" : "has a top-level await that never settles";
-    this.#emitExit(Number(own.exitCode ?? 0));
+    this.#emitExit(before);
     const code = Number(own.exitCode ?? 0);
     const { agent, player: { table: { board } } } = this.leaving;
     if (agent !== 0) {
@@ -117,13 +122,7 @@ export class Ends {
     const { ports } = this.leaving;
     const what = origin === "unhandledRejection" ? "threw (a rejection that nobody handles)" : "threw";
     const text = `${what} ${described(thrown)}`;
-    if (this.parentPort !== undefined) {
-      try {
-        ports.send(this.parentPort, thrown, [], undefined, KIND.ERROR);
-      } catch {
-        ports.send(this.parentPort, new Error(String(thrown)), [], undefined, KIND.ERROR);
-      }
-    }
+    if (this.parentPort !== undefined) ports.send(this.parentPort, serializeError(thrown), [], undefined, KIND.ERROR);
     own.exitCode = 1;
     this.#end(1, text);
   }

@@ -13,7 +13,9 @@ const { SourceTextModule, SyntheticModule } = /** @type {any} */ (vm);
 const Modules = /** @type {any} */ (Module);
 const require = createRequire(import.meta.url);
 // Only node has it, and only with the flag, so its name is no literal for the checker of types.
-const { decorateErrorStack } = require(["internal", "util"].join("/"));
+const { decorateErrorStack, SideEffectFreeRegExpPrototypeSymbolReplace } = require(["internal", "util"].join("/"));
+// Node makes a context of its own when it first needs one, for the text of an error. From now on it has it.
+SideEffectFreeRegExpPrototypeSymbolReplace(/a/, "", "");
 const engineSync = Modules.syncBuiltinESMExports;
 const { parse } = JSON;
 

@@ -55,12 +55,16 @@ export class ProgramGroup extends Group {
   /** @type {number | undefined} the seed whose run prints */
   #loud = undefined;
 
+  /** The program that the group was opened with: places in the code are named from its folder. */
+  #origin = "";
+
   /** @param {() => void} meanwhile */
   async start(meanwhile) {
     const referee = this.thread(REFEREE_MODULE);
     this.referee = referee;
     referee.give(REFEREE_MODULE);
-    const { strategy, timeouts, maxMoves } = this.options;
+    const { module, strategy, timeouts, maxMoves } = this.options;
+    this.#origin = module;
     const plan = programPlan(SCRIPT_LIMITS.agents);
     const ways = waysOf(strategy, true);
     this.plan = plan;
@@ -68,7 +72,8 @@ export class ProgramGroup extends Group {
     this.memory = programMemory(plan, this.options.logEvents);
     this.board = new Board(this.memory.board, this.rules);
     const options = this.refereeOptions({ hasInit: false, hasCheck: false });
-    referee.post({ memory: this.memory, plan, rules: this.rules, options: { ...options, stuck: this.options.stuck, isProgram: true, fresh: false } });
+    const asked = { ...options, stuck: this.options.stuck, isProgram: true, fresh: false };
+    referee.post({ memory: this.memory, plan, rules: this.rules, options: asked });
     this.#prepare();
     meanwhile();
     await this.#grow(FIRST_THREADS);
@@ -99,6 +104,18 @@ export class ProgramGroup extends Group {
     return isShown || (isOfSeed && (programOutput === "all" || seed === this.#loud));
   }
 
+  /**
+   * The next runs are of another program, in the same threads. Places in its code are named from the folder of the
+   * program that the group was opened with. Its first run prints. No run may be under way.
+   * @param {string} module the URL of its main module
+   * @param {string[]} [args]
+   */
+  enter(module, args = []) {
+    Object.assign(this.options, { module, args });
+    this.#loud = undefined;
+    this.#controls[0].postMessage({ main: { program: module, args } });
+  }
+
   /** @param {number} agent whose thread is ended, and another one takes its place */
   async replace(agent) {
     this.#prepare();
@@ -112,12 +129,12 @@ export class ProgramGroup extends Group {
 
   /** Keeps some threads ready. */
   #prepare() {
-    const { module: program, args, ordinary } = this.options;
+    const { ordinary } = this.options;
     const { memory, plan, rules } = this;
     while (this.#spare.length < this.#ahead) {
       const thread = begunWith(FLAGS);
       this.threads.add(thread);
-      thread.give(PROGRAM_MODULE, { program, args, ordinary, memory, plan, rules });
+      thread.give(PROGRAM_MODULE, { origin: this.#origin, ordinary, memory, plan, rules });
       this.#spare.push(thread.next().then(() => thread));
     }
   }
@@ -144,8 +161,9 @@ export class ProgramGroup extends Group {
    */
   async #hand(agent, thread) {
     const { port1, port2 } = channel();
+    const { module: program, args } = this.options;
     thread.onEnd = (why) => this.board?.turn.die(agent, why);
-    /** @type {any} */ (thread.port).postMessage({ agent, control: port2 }, [port2]);
+    /** @type {any} */ (thread.port).postMessage({ agent, control: port2, main: { program, args } }, [port2]);
     const { ended } = await this.inTime(thread.next());
     if (ended !== undefined) throw new Refused(`a thread for ${this.options.module} ended before it could begin: ${ended}`);
     this.agents[agent] = thread;

@@ -11,6 +11,8 @@ const { load, wait } = Atomics;
 
 /** @typedef {import("node:worker_threads").MessagePort} Port */
 /** @typedef {Record<string, any>} Item what one thread hands to another */
+/** @typedef {{ program: string, args: string[] }} Main the URL of a program's main module, and what it is given */
+/** @typedef {{ control: Port, main: Main }} Numbered `control` comes from the thread that has started this one */
 
 export class Mesh {
   /** @type {(Port | undefined)[]} by the agents to which they lead */
@@ -19,17 +21,27 @@ export class Mesh {
   /** @type {Record<string, (item: any) => void>} what is done with an item, by its kind */
   #takers = {};
 
+  /** @type {Main} */
+  #main;
+
   /**
    * @param {number} agent
-   * @param {Port} control from the thread that has started this one
-   * @param {Port} port to that thread
+   * @param {Numbered} numbered what the thread got with its number
+   * @param {Port} port to the thread that has started this one
    * @param {Int32Array} words of the board
    */
-  constructor(agent, control, port, words) {
+  constructor(agent, { control, main }, port, words) {
     this.agent = agent;
     this.control = control;
     this.port = port;
     this.words = words;
+    this.#main = main;
+  }
+
+  /** @returns {Main} the program of this run */
+  get main() {
+    this.#meet();
+    return this.#main;
   }
 
   /** @param {string} kind of items @param {(item: any) => void} take */
@@ -83,11 +95,12 @@ export class Mesh {
     }
   }
 
-  /** Takes the ports to threads that have come since. */
+  /** Takes the ports to threads that have come since, and the program, if it is another one. */
   #meet() {
     for (let found = receive(this.control); found !== undefined; found = receive(this.control)) {
-      const { peer, port } = found.message;
-      this.#peers[peer] = port;
+      const { peer, port, main } = found.message;
+      if (main === undefined) this.#peers[peer] = port;
+      else this.#main = main;
     }
   }
 }

@@ -1,10 +1,16 @@
 // The memory that the threads of a program share, besides the program's own.
 
+import { SCRIPT_LIMITS } from "../../script/limits.mjs";
 import { AsyncWaiters } from "../board/async-waiters.mjs";
 import { memoryOf } from "../board/group-memory.mjs";
+import { MAKE, MOVES } from "../board/journal.mjs";
 import { Blocks, MESSAGE_BYTES, MOST_BLOCKS, MOST_BYTES } from "../memory/blocks.mjs";
 import { Keepers } from "../memory/keepers.mjs";
+import { Records } from "../memory/records.mjs";
 import { PortTable } from "../board/port-table.mjs";
+
+/** How many calls a thread can make: more than a script can have, and no more than a run has moves for. */
+const MOST_CALLS = Math.ceil(SCRIPT_LIMITS.moves / MOVES[MAKE]) + 1;
 
 /** How long each block can be; the last one stands for messages. */
 const longest = () => [...Array.from({ length: MOST_BLOCKS }, () => MOST_BYTES), MESSAGE_BYTES];
@@ -25,6 +31,7 @@ export function programMemory(plan, logEvents) {
   return {
     ...memory,
     board: { ...memory.board, waiters: AsyncWaiters.memory() },
+    records: Array.from({ length: plan.agents }, () => Records.memory(MOST_CALLS)),
     blocks: Blocks.memory(),
     ports: PortTable.memory(),
     keepers: Array.from({ length: plan.agents }, () => Keepers.memory()),

@@ -44,10 +44,10 @@ export class Threads {
     this.closePorts(agent);
     this.endChildren(agent);
     const { line, turn } = this.board;
-    const isIdle = line.isIdle(agent);
+    // If its code is at no call, or hasn't begun, its thread can begin again.
+    const isKept = line.isIdle(agent) || !this.hasBegun(agent);
     line.become(agent, PHASE.FINISHED);
-    // Its code is at no call, so its thread can begin again.
-    if (isIdle) turn.wake(agent);
+    if (isKept) turn.wake(agent);
     else turn.lay(agent);
     return true;
   }

@@ -51,8 +51,7 @@ const { Error: EngineError } = globalThis;
 /**
  * @typedef {object} Given what the thread is started with
  * @property {import("node:worker_threads").MessagePort} port
- * @property {string} program the URL of the program's main module
- * @property {string[]} args
+ * @property {string} origin the URL of the module from whose folder places in the code are named
  * @property {"watch" | "store" | "refuse"} ordinary
  * @property {ReturnType<typeof import("./program-memory.mjs").programMemory>} memory
  * @property {import("../options/plan.mjs").Plan} plan
@@ -61,7 +60,7 @@ const { Error: EngineError } = globalThis;
 
 /** @typedef {{ start: import("./workers.mjs").Start, number: number, ports: any[], ids: number[] }} Handed */
 
-const { port, program, args, memory: shared, plan, rules } = /** @type {Given} */ (threads.workerData);
+const { port, origin, memory: shared, plan, rules } = /** @type {Given} */ (threads.workerData);
 const receive = threads.receiveMessageOnPort;
 const { setImmediate: turnLater } = nodeTimers;
 const firstEnv = { ...process.env };
@@ -69,7 +68,7 @@ const GRAPH_MODULE = new URL("./graph.mjs", import.meta.url);
 const TWINS_MODULE = new URL("./twins.mjs", import.meta.url);
 const SURFACE_MODULE = new URL("./surface.mjs", import.meta.url);
 const chance = new Chance();
-const placeNames = new SourceNames(program);
+const placeNames = new SourceNames(origin);
 
 /** @typedef {import("./workers.mjs").Start} Start */
 
@@ -165,6 +164,7 @@ function playerOf(agent) {
     lengths: plan.buffers,
     canBlock: true,
     ordinary: "watch",
+    goesBeyond: true,
     parks: true,
   });
   return { player, blocks: new Blocks(shared.blocks, shared.copies, memory, plan.buffers) };
@@ -269,8 +269,8 @@ function printedName() {
   return `${threadName(start)} started at ${placeNames.nameOf(start.where)}`;
 }
 
-/** @type {() => import("./workers.mjs").Start} */
-const mainStart = () =>
+/** @param {import("./mesh.mjs").Main} main @returns {import("./workers.mjs").Start} */
+const mainStart = ({ program, args }) =>
   ({ url: program, isCode: false, workerData: null, argv: args, env: { ...firstEnv }, environment: new Map(), where: "" });
 
 /**
@@ -280,8 +280,8 @@ const mainStart = () =>
  */
 function begin(parts, graph) {
   const { agent } = parts.moves;
-  const { start, parentPort } = agent === 0 ? { start: mainStart(), parentPort: null } : taken(parts);
   const { moves, mesh, buffers, ports, threads: all, later, ends, loop } = parts;
+  const { start, parentPort } = agent === 0 ? { start: mainStart(mesh.main), parentPort: null } : taken(parts);
   const starting = {
     ports, moves, mesh, buffers, threads: all, here, refuse, later, environment: start.environment,
     children: parts.children,
@@ -335,7 +335,8 @@ function serve(parts, graph) {
   onceMore();
   player.awaitOrder();
   if (agent !== 0) board.turn.sleep(agent);
-  if (board.end.isOver()) {
+  // Another thread may have ended it meanwhile.
+  if (board.end.isOver() || (agent !== 0 && !parts.threads.isAlive(agent))) {
     board.turn.goHome(agent);
     turnLater(() => serve(parts, graph));
     return;
@@ -370,12 +371,12 @@ export async function main(load) {
   const { putTwins } = await load(TWINS_MODULE.href);
   const graph = new Graph({ refuse: (/** @type {string} */ what) => refuse(`used ${what}, which isn't simulated`) });
   port.postMessage({ begun: true });
-  const { agent, control } = await numbered;
+  const { agent, ...given } = await numbered;
   chance.agent = agent;
   chance.begin(0);
   const { player, blocks } = playerOf(agent);
   const { board } = player.table;
-  const parts = partsOf(player, blocks, new Mesh(agent, control, port, board.words));
+  const parts = partsOf(player, blocks, new Mesh(agent, given, port, board.words));
   self.player = player;
   self.buffers = parts.buffers;
   furnish(parts, putTwins);

@@ -9,6 +9,7 @@ import threads from "node:worker_threads";
 import { pathToFileURL } from "node:url";
 import { SCRIPT_LIMITS } from "../../script/limits.mjs";
 import { WORD } from "../memory/layout.mjs";
+import { deserializeError } from "./internals.mjs";
 import { toThread } from "./moves.mjs";
 import { KIND } from "./ports.mjs";
 import { sent } from "./values.mjs";
@@ -182,7 +183,7 @@ class Worker extends EventEmitter {
   #take({ kind, value }) {
     if (kind === KIND.MESSAGE) this.emit("message", value);
     else if (kind === KIND.ONLINE) this.emit("online");
-    else if (kind === KIND.ERROR) this.emit("error", value);
+    else if (kind === KIND.ERROR) this.emit("error", deserializeError(value));
     else if (kind === KIND.EXIT) this.#gone(value);
   }
 

@@ -21,6 +21,10 @@ import { UNSEEN, transcriptOf } from "./transcript.mjs";
  * @property {string} [noScript] why there is no script
  */
 
+/** Why there is no script of a run whose calls alone are too many, as a program's may be. */
+const BEYOND = `a thread made more than ${SCRIPT_LIMITS.calls} calls, which no script can have; of such a run sabsim judges `
+  + "the trace alone";
+
 /** The unsigned kinds, the largest first. */
 const UNSIGNED = ["BigUint64", "Uint32", "Uint16", "Uint8"].map((name) => {
   const kind = KINDS.indexOf(name);
@@ -228,6 +232,7 @@ export function fitted(run, stores, initial, final) {
   let noScript = "too many ordinary writes were made to bytes that calls touch";
   if (stores.isLost()) return { transcript: transcriptOf(run, []), noScript };
   const counts = countsOf(run.log, run.canBlock.length);
+  if (reasonAgainst(counts, []) !== undefined) return { transcript: transcriptOf(run, []), noScript: BEYOND };
   let isOfCallsAlone = true;
   for (const { holds, list } of stores.isWhole() ? choices : choices.slice(2)) {
     const [own, first] = list();
@@ -240,7 +245,7 @@ export function fitted(run, stores, initial, final) {
     const bytes = holds === "all" ? final : bytesLeft(final, touched(), [...first, ...own]);
     return { transcript, script, holds, bytes };
   }
-  // The calls alone fit, since the run ends at their limits.
+  // The calls alone fit, since the run ends at their limits; of a program they may have too many views, or be too long.
   const withMore = isOfCallsAlone ? UNSEEN : "the ordinary writes of bytes that calls touch";
   return { transcript: transcriptOf(run, []), noScript: `${noScript}, with ${withMore}` };
 }

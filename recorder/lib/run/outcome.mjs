@@ -65,6 +65,14 @@
  * @property {{ agent: number, block: number, byte: number }[]} waiting who waits where in a deadlock, in order of
  * arrival
  * @property {import("../board/row.mjs").Stray} [stray] how it has strayed from the row that it was to go by exactly
+ * @property {Again} [again] what a program's run came to in fresh threads, if it was made once more there
+ */
+
+/**
+ * @typedef {object} Again
+ * @property {string} acts a digest of all that was done in the run itself
+ * @property {Pick<Outcome, "ending" | "detail" | "state"> & { acts: string }} again the same run in fresh threads
+ * @property {string} [place] where that one first did something else
  */
 
 /**

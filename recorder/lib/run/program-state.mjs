@@ -61,6 +61,11 @@ export class ProgramState {
     return (this.board.waiters?.joined ?? 0) > 0 ? WAITS_ASYNC : undefined;
   }
 
+  /** @returns {number[]} all threads that there are, also those that took no part */
+  get all() {
+    return Array.from({ length: Atomics.load(this.board.words, WORD.THREADS) }, (_, agent) => agent);
+  }
+
   /** @returns {number[]} the threads that took part */
   get threads() {
     return Array.from({ length: this.plan.agents }, (_, agent) => agent);

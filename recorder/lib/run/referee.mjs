@@ -3,7 +3,9 @@
 
 import { workerData } from "node:worker_threads";
 import { WORD } from "../memory/layout.mjs";
+import { Log } from "../memory/log.mjs";
 import { onceMore } from "../processes/garbage.mjs";
+import { firstDifferent } from "./differing-events.mjs";
 import { Meetings } from "./meetings.mjs";
 import { FirstFailing } from "./order.mjs";
 import { PILOTS, Pilots } from "./pilots.mjs";
@@ -47,15 +49,18 @@ class Referee {
     this.tellsNext = this.tellsAlways;
     /** The trace of a failing run is made if it may be the first one: others aren't kept. */
     this.firstFailing = new FirstFailing();
+    /** How many runs were made since all threads were started anew. */
+    this.sinceFresh = 0;
   }
 
   /** @param {{ seeds?: Wanted[], learns?: boolean }} work */
   async record({ seeds = [], learns = false }) {
-    const { port, maker } = this;
+    const { port } = this;
     if (learns) await this.#learn();
     for (const wanted of seeds) {
-      if (wanted.isFresh) await maker.replace(maker.agents);
+      if (wanted.isFresh) await this.#startAnew();
       await this.#send(await (wanted.isTrial ? this.#tried(wanted) : this.#one(wanted)));
+      this.sinceFresh += 1;
       onceMore();
     }
     this.awaitWork();
@@ -115,13 +120,54 @@ class Referee {
     if (wanted.tellsActs) Object.assign(outcome, { acts: reporter.acts(outcome, found) });
     // Here the log has all events. The log of a run that is made once more, with lines of code, may lack some reads.
     const judgement = reporter.judgement(outcome, found, taken);
+    const isFirst = !found.isUnseen && this.firstFailing.takes(outcome);
     await this.#replace(found);
-    await this.#addSources(wanted, outcome, found, hasSources);
+    const again = isFirst && this.#mayRemember(wanted, found)
+      ? await this.#inFreshThreads(wanted, outcome, found) : undefined;
+    const hasLines = again === undefined ? hasSources : maker.log.hasRoom();
+    await this.#addSources(wanted, outcome, found, { hasSources: hasLines, isFirst });
     Object.assign(outcome, covering);
     if (outcome.ending === "race") outcome.detail = outcome.races.map(({ text }) => text).join("\n");
     nameIn(outcome, found);
     this.tellsNext = this.tellsAlways || (found.racy && !isCut);
-    return { outcome, judgement, taken, aside: asideOf(found) };
+    return { outcome, judgement, taken, aside: { ...asideOf(found), ...(again === undefined ? {} : { again }) } };
+  }
+
+  /** All threads are started anew. */
+  async #startAnew() {
+    await this.maker.replace(this.maker.all);
+    this.sinceFresh = 0;
+  }
+
+  /**
+   * Whether a program's run may have gone as it did for what earlier runs have left in the globals of its threads.
+   * @param {Wanted} wanted
+   * @param {Made} found
+   */
+  #mayRemember({ row }, { endless }) {
+    const { isProgram, fresh } = this.options;
+    // An agent that made no call for long would take as long again.
+    return isProgram === true && !fresh && this.sinceFresh > 0 && row === undefined && endless.length === 0;
+  }
+
+  /**
+   * Makes a run once more in fresh threads. It notes its lines of code.
+   * @param {Wanted} wanted
+   * @param {Outcome} outcome
+   * @param {Made} found
+   * @returns {Promise<import("./outcome.mjs").Again>}
+   */
+  async #inFreshThreads(wanted, outcome, found) {
+    const { maker, reporter } = this;
+    const acts = reporter.acts(outcome, found);
+    const before = Log.from(maker.log.taken());
+    await this.#startAnew();
+    const made = await maker.judged(await maker.made({ ...wanted, isSilent: true }, true));
+    const other = reporter.brief(wanted, made);
+    const again = { ...other, acts: reporter.acts(other, made) };
+    const place = reporter.placeOf(firstDifferent(before, maker.log));
+    await this.#replace(made);
+    return { acts, again, place };
   }
 
   /** @param {Wanted} wanted @returns {Promise<One>} a run that is made only to see how it ends */
@@ -131,7 +177,7 @@ class Referee {
     const found = await maker.judged(await maker.made(wanted, tellsLines));
     const outcome = reporter.brief(wanted, found);
     await this.#replace(found);
-    if (tellsLines) await this.#addSources(wanted, outcome, found, maker.log.hasRoom());
+    if (tellsLines) await this.#addSources(wanted, outcome, found, { hasSources: maker.log.hasRoom(), isFirst: false });
     nameIn(outcome, found);
     return { outcome, aside: asideOf(found) };
   }
@@ -141,12 +187,13 @@ class Referee {
    * @param {Wanted} wanted
    * @param {Outcome} outcome
    * @param {Made} found
-   * @param {boolean} hasSources whether its accesses have noted their lines
+   * @param {{ hasSources: boolean, isFirst: boolean }} known whether its accesses have noted their lines; whether it
+   * may be the first failing run
    */
-  async #addSources(wanted, outcome, found, hasSources) {
+  async #addSources(wanted, outcome, found, { hasSources, isFirst }) {
     const { maker, reporter } = this;
     if (found.isUnseen) return;
-    const wantsTrace = this.#isTraceWanted(wanted, outcome);
+    const wantsTrace = this.#isTraceWanted(wanted, isFirst);
     if (!found.racy && !wantsTrace) return;
     if (hasSources) {
       reporter.addSources(outcome, wantsTrace);
@@ -170,14 +217,12 @@ class Referee {
 
   /** @param {Made} run after which workers that can't run again are started anew, or all if the option says so */
   async #replace({ gone }) {
-    await this.maker.replace(this.options.fresh ? this.maker.agents : gone);
+    await this.maker.replace(this.options.fresh ? this.maker.all : gone);
   }
 
-  /** @param {Wanted} wanted @param {Outcome} outcome @returns {boolean} whether a run's trace is made */
-  #isTraceWanted({ isTrial = false, tellsTrace = false }, outcome) {
-    if (isTrial) return false;
-    const isFirst = this.firstFailing.takes(outcome);
-    return this.options.trace || tellsTrace || isFirst;
+  /** @param {Wanted} wanted @param {boolean} isFirst as above @returns {boolean} whether a run's trace is made */
+  #isTraceWanted({ isTrial = false, tellsTrace = false }, isFirst) {
+    return !isTrial && (this.options.trace || tellsTrace || isFirst);
   }
 }
 

@@ -189,6 +189,11 @@ export class RunMaker {
     return this.program === undefined ? bytes : bytes.slice(0, this.program.blocks.count);
   }
 
+  /** @returns {number[]} all agents whose threads can be replaced */
+  get all() {
+    return this.program === undefined ? this.agents : this.program.all;
+  }
+
   /** How many calls of Atomics were begun. */
   callCount() {
     return this.agents.reduce((sum, agent) => sum + this.board.journal.progress(agent).calls, 0);

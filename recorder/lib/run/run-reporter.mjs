@@ -134,6 +134,16 @@ export class RunReporter {
   }
 
   /**
+   * Where an event was made, if its run has noted lines of code.
+   * @param {import("../memory/log.mjs").LogEvent} [event]
+   * @returns {string | undefined}
+   */
+  placeOf(event) {
+    const source = event === undefined ? undefined : this.sources[event.agent].list()[event.source];
+    return source === undefined || source === "" ? undefined : this.sourceNames.nameOf(source);
+  }
+
+  /**
    * The unordered accesses, with their lines of code if these are known.
    * @param {boolean} tellsSources
    */

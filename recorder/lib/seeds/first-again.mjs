@@ -1,5 +1,5 @@
 // Whether the run of the first seed is the same when it is made once more, after the others. If it isn't, the agents'
-// module keeps something from run to run.
+// module keeps something from run to run. A program's first failing run is made once more at once, in fresh threads.
 
 import { endingsText, hasThrown } from "../../page/endings.mjs";
 
@@ -40,9 +40,27 @@ const DIFFERENCES = {
   acts: () => "did something else",
 };
 
+/** @param {Remembering} found @returns {string} */
+const differenceText = (found) => (DIFFERENCES[found.differs] ?? DIFFERENCES.acts)(found);
+
+/** A failing run of a program isn't the same in fresh threads: it is no finding. */
+export class KeepsGlobals extends Error {}
+
+/**
+ * @param {Pick<Outcome, "seed" | "ending" | "detail" | "state">} outcome of a program's run that fails
+ * @param {import("../run/outcome.mjs").Again} [made] what it came to in fresh threads
+ * @returns {KeepsGlobals | undefined} undefined if it is the same there
+ */
+export function keepsGlobals(outcome, made) {
+  const found = made && differenceBetween({ ...outcome, acts: made.acts }, made.again);
+  if (found === undefined) return undefined;
+  const where = made?.place === undefined ? "" : `, first at ${made.place}`;
+  return new KeepsGlobals(`seed ${found.seed} was run once more in fresh threads, and ${differenceText(found)}${where}: `
+    + "the program keeps something in globals: --fresh");
+}
+
 /** @param {Remembering} found @returns {string} a line of a summary */
 export function rememberingText(found) {
-  const what = (DIFFERENCES[found.differs] ?? DIFFERENCES.acts)(found);
-  return `seed ${found.seed} was run once more at the end, and ${what}: `
+  return `seed ${found.seed} was run once more at the end, and ${differenceText(found)}: `
     + "the module keeps something in its own variables: --fresh";
 }

@@ -8,6 +8,7 @@ import { Group } from "../run/group.mjs";
 import { FirstFailing } from "../run/order.mjs";
 import { simulatorAt } from "../simulator/chosen.mjs";
 import { ModuleSimulator } from "../simulator/module.mjs";
+import { KeepsGlobals, keepsGlobals } from "./first-again.mjs";
 
 /** @typedef {import("../run/outcome.mjs").Outcome} Outcome */
 /** @typedef {{ stray?: import("../board/row.mjs").Stray, acts?: string }} Besides `acts` is a digest of what was done */
@@ -59,7 +60,7 @@ export class Job {
   /** @type {Repeats | undefined} undefined: each run is replayed, since the module isn't asked */
   #repeats;
 
-  /** @type {unknown} why a check has failed */
+  /** @type {unknown} why a check has failed, or why a run is no finding */
   #failure;
 
   #every = 1;
@@ -86,7 +87,8 @@ export class Job {
    * Makes runs, and checks them.
    * @param {import("../run/outcome.mjs").Wanted[]} seeds
    * @param {(outcome: Checked) => void} onOutcome
-   * @returns {Promise<void>} fails if a check has failed; the outcome of that run is the last one
+   * @returns {Promise<void>} fails if a check has failed, and the outcome of that run is the last one; also if a program
+   * keeps something in globals
    */
   async run(seeds, onOutcome) {
     const group = await this.#opened();
@@ -96,6 +98,7 @@ export class Job {
       const isFirst = this.#firstFailing.takes(outcome);
       if (isFirst && this.#shortens) group.beginAhead();
       const checked = this.#checked({ outcome, judgement, aside });
+      if (checked === undefined) return;
       onOutcome(isFirst || !this.#isBrief ? checked : lightened(checked));
     });
     if (this.#failure !== undefined) throw this.#failure;
@@ -125,15 +128,17 @@ export class Job {
     return this.#group ?? Promise.reject(new Error("the job wasn't opened"));
   }
 
-  /** @param {import("../run/outcome.mjs").One} run @returns {Checked} */
+  /** @param {import("../run/outcome.mjs").One} run @returns {Checked | undefined} undefined: it is no finding */
   #checked(run) {
     try {
-      const { stray } = run.aside;
+      const { stray, again } = run.aside;
+      const keeps = keepsGlobals(run.outcome, again);
+      if (keeps !== undefined) throw keeps;
       const checked = checkedBy(this.#simulator, run, this.#every, this.#repeats);
       return { ...checked, ...(stray === undefined ? {} : { stray }) };
     } catch (failure) {
       this.#failure = failure;
-      return { ...run.outcome, checked: false };
+      return failure instanceof KeepsGlobals ? undefined : { ...run.outcome, checked: false };
     }
   }
 }

@@ -5,6 +5,7 @@ import { Difference } from "../check/check.mjs";
 import { Refused } from "../options/refused.mjs";
 import { endGroup } from "../processes/group-end.mjs";
 import { NoSabsim } from "../simulator/native.mjs";
+import { KeepsGlobals } from "./first-again.mjs";
 
 /** @typedef {import("./job.mjs").Checked} Checked */
 
@@ -36,7 +37,7 @@ import { NoSabsim } from "../simulator/native.mjs";
 export class LostJob extends Error {}
 
 /** @type {Record<string, { new (message: string): Error }>} */
-const KINDS = { Refused, NoSabsim, LostJob };
+const KINDS = { Refused, NoSabsim, LostJob, KeepsGlobals };
 
 /**
  * An error as a message.

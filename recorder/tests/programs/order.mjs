@@ -1,4 +1,5 @@
-// Little programs whose lines come in an order that node and the program alone decide, and their runs in node itself.
+// Little programs whose lines come in an order that node and the program alone decide, and their runs in node itself and
+// in the recorder.
 
 import { spawn } from "node:child_process";
 import { readdirSync } from "node:fs";
@@ -9,6 +10,16 @@ const SECONDS = 120;
 
 /** The names of the programs: each file of the folder is one; what they import is in folders below. */
 export const ORDER = readdirSync(FOLDER).filter((name) => /\.[cm]js$/.test(name)).sort();
+
+/** What some programs need that the recorder doesn't simulate yet, as the recorder names it. */
+export const NOT_YET = Object.freeze({
+  "wait-async.mjs": "Atomics.waitAsync", "slow-functions.mjs": "SubtleCrypto.digest",
+});
+
+/** What node prints of a warning. */
+const WARNING = /^\((?:node:\d+|Use `node --trace-warnings)/;
+
+const RECORDING = fileURLToPath(new URL("../helpers/order-process.mjs", import.meta.url));
 
 /** @param {string} name of a program @returns {string} the path of its file */
 export function pathOf(name) {
@@ -39,4 +50,33 @@ export function runInNode(path, { args = [], whenPrinted = () => {} } = {}) {
       done({ lines: texts.stdout.split("\n").slice(0, -1), status, signal, problems: texts.stderr });
     });
   });
+}
+
+/**
+ * @typedef {object} InRecorder a run in the recorder
+ * @property {string[]} lines what it printed
+ * @property {string} ending
+ * @property {string} detail
+ */
+
+/**
+ * Runs programs in the recorder, in one process and in the same threads.
+ * @param {string[]} names
+ * @param {number} seeds how many of each
+ * @returns {Promise<Map<string, InRecorder[]>>} the runs of each, in the order of the seeds
+ */
+export async function runsInRecorder(names, seeds) {
+  const child = spawn(process.execPath, [RECORDING, String(seeds), ...names], { stdio: ["ignore", "pipe", "pipe"] });
+  const texts = { stdout: "", stderr: "" };
+  for (const name of /** @type {const} */ (["stdout", "stderr"])) {
+    child[name].setEncoding("utf8").on("data", (text) => { texts[name] += text; });
+  }
+  await new Promise((done) => child.on("close", done));
+  // What the program prints goes to standard error, and between two runs there is a line with NUL.
+  const printed = texts.stderr.split("\0\n");
+  const endings = texts.stdout.split("\n").slice(0, -1);
+  if (endings.length !== names.length * seeds) throw new Error(`the recorder has ended: ${texts.stderr}`);
+  const linesOf = (/** @type {string} */ text) => text.split("\n").slice(0, -1).filter((line) => !WARNING.test(line));
+  const runs = endings.map((line, at) => ({ ...JSON.parse(line), lines: linesOf(printed[at]) }));
+  return new Map(names.map((name, at) => [name, runs.slice(at * seeds, (at + 1) * seeds)]));
 }

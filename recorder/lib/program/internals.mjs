@@ -1,0 +1,12 @@
+// Functions of node that none of its modules exports. Only threads with the flags of `graph-flags.mjs` have them.
+
+import { createRequire } from "node:module";
+
+/** @param {string} name of a module of node's own, which is no literal for the checker of types @returns {any} */
+const internal = (name) => createRequire(import.meta.url)(`internal/${name}`);
+
+/** Forgets which contexts of async_hooks are open. */
+export const { clearAsyncIdStack } = internal("async_hooks");
+
+/** What a thread hands on of what it threw, and what the other one makes of that. */
+export const { serializeError, deserializeError } = internal("error_serdes");

@@ -1,0 +1,23 @@
+// Runs programs on the order of events in the recorder. It prints how each run ended, a line of JSON each; what a program
+// prints goes to standard error, and behind it a line with NUL.
+
+import { writeSync } from "node:fs";
+import { pathToFileURL } from "node:url";
+import { defaultsOf } from "../../lib/options/table.mjs";
+import { ProgramGroup } from "../../lib/program/group.mjs";
+import { pathOf } from "../programs/order.mjs";
+
+const [seeds, ...names] = process.argv.slice(2);
+
+const STDERR = 2;
+const urlOf = (/** @type {string} */ name) => pathToFileURL(pathOf(name)).href;
+const options = { ...defaultsOf("record"), isProgram: true, seconds: 20, args: [], module: urlOf(names[0]) };
+const group = /** @type {ProgramGroup} */ (await ProgramGroup.open(options));
+for (const name of names) {
+  for (let seed = 1; seed <= Number(seeds); seed += 1) {
+    group.enter(urlOf(name));
+    await group.run([{ seed, whole: false }], ({ ending, detail }) => console.log(JSON.stringify({ ending, detail })));
+    writeSync(STDERR, "\0\n");
+  }
+}
+await group.close();

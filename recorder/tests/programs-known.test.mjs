@@ -1,0 +1,88 @@
+// The programs of `programs/` under the recorder. A right one passes under each seed. Of a wrong one some run fails, and
+// each run that fails is a finding of the table: with its ending, thread, words and lines. What a program needs that
+// isn't simulated yet is refused by its name and line.
+
+import assert from "node:assert/strict";
+import { after, before, describe, it } from "node:test";
+import { TableRuns, findingOf } from "./helpers/program-findings.mjs";
+import { PROGRAMS, urlOf } from "./programs/table.mjs";
+
+const SEEDS = 200;
+
+/** A run that loses a thread takes twenty times as long as others, so such programs have fewer seeds. */
+const FEW_SEEDS = 40;
+
+/** Of a rare program at most one run in so many fails, if each thread that can go on is as likely. */
+const RARE = 50;
+
+/** @typedef {import("./programs/table.mjs").Program} Program */
+/** @typedef {import("../lib/run/outcome.mjs").Outcome} Outcome */
+
+/** @param {Program} program @param {Outcome[]} outcomes: each that fails is known */
+function demandKnown(program, outcomes) {
+  const strange = outcomes.filter((outcome) => outcome.fails && findingOf(program, outcome) === undefined);
+  assert.deepEqual(strange.map(({ seed, ending, detail }) => `seed ${seed}: ${ending}: ${detail}`), []);
+}
+
+/** @param {Program} program @returns {number} under how many seeds it is to pass */
+const seedsOf = ({ losesThreads }) => (losesThreads ? FEW_SEEDS : SEEDS);
+
+/** @param {Program} program @param {Outcome[]} outcomes */
+function demandRight({ isEndless }, outcomes) {
+  const ending = isEndless ? "stuck" : "finished";
+  const others = outcomes.filter((outcome) => outcome.ending !== ending);
+  assert.deepEqual(others.map(({ seed, detail }) => `seed ${seed}: ${detail}`), []);
+}
+
+/** @param {(program: Program) => boolean} isOne */
+const programs = (isOne) => PROGRAMS.filter(isOne);
+
+describe("programs with known answers in the recorder", () => {
+  /** @type {TableRuns} */
+  let runs;
+  before(async () => { runs = await TableRuns.open(); });
+  after(() => runs.close());
+
+  for (const program of programs(({ right, notYet }) => right && notYet === undefined)) {
+    it(`${program.name} passes under ${seedsOf(program)} seeds`, async () => {
+      const outcomes = await runs.runs(program, { last: seedsOf(program) });
+      assert.equal(outcomes.length, seedsOf(program));
+      demandRight(program, outcomes);
+      assert.ok(outcomes[0].checked || outcomes[0].noScript !== undefined);
+    });
+  }
+
+  for (const program of programs(({ right, notYet }) => !right && notYet === undefined)) {
+    it(`${program.name} is found`, async () => {
+      const outcomes = await runs.untilFailing(program, SEEDS);
+      assert.ok(outcomes.some(({ fails }) => fails), "no run has failed");
+      demandKnown(program, outcomes);
+    });
+  }
+
+  for (const program of programs(({ notYet }) => notYet !== undefined)) {
+    it(`${program.name} is refused, since it needs ${program.notYet}`, async () => {
+      const [{ ending, detail }] = await runs.runs(program, { last: 1 });
+      const folder = new URL("./", urlOf(program)).pathname.split("/").at(-2);
+      assert.equal(ending, "failed");
+      assert.ok(detail.includes(program.notYet) && /isn't simulated/.test(detail), detail);
+      assert.match(detail, new RegExp(`at ${folder}/[\\w-]+\\.[cm]js:\\d+:\\d+`));
+    });
+  }
+});
+
+describe("rare programs, if each thread that can go on is as likely", () => {
+  /** @type {TableRuns} */
+  let runs;
+  before(async () => { runs = await TableRuns.open("uniform"); });
+  after(() => runs.close());
+
+  for (const program of programs(({ isRare, notYet }) => isRare && notYet === undefined)) {
+    it(`${program.name} fails in at most one run in ${RARE}`, async () => {
+      const outcomes = await runs.runs(program, { last: SEEDS });
+      const failed = outcomes.filter(({ fails }) => fails);
+      assert.ok(failed.length <= SEEDS / RARE, `${failed.length} of ${SEEDS} runs have failed`);
+      demandKnown(program, outcomes);
+    });
+  }
+});
