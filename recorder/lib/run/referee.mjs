@@ -50,7 +50,7 @@ class Referee {
 
   /** @param {{ seeds?: Wanted[], learns?: boolean }} work */
   async record({ seeds = [], learns = false }) {
-    const { port, maker } = this;
+    const { port } = this;
     if (learns) await this.#learn();
     for (const wanted of seeds) {
       if (wanted.isFresh) await this.#startAnew();

@@ -77,8 +77,7 @@ export class Job {
     await (await this.#opened()).run(seeds, (outcome, judgement, aside) => {
       if (this.#failure !== undefined) return;
       const checked = this.#checked({ outcome, judgement, aside });
-      // Such a run is no finding.
-      if (this.#failure instanceof KeepsGlobals) return;
+      if (this.#isNoFinding()) return;
       // Only the first failing run is kept, and a job's seeds ascend.
       const isWhole = this.#firstFailing.takes(outcome) || !this.#isBrief;
       onOutcome(isWhole ? checked : lightened(checked));
@@ -107,6 +106,11 @@ export class Job {
   /** @returns {Promise<Group>} */
   #opened() {
     return this.#group ?? Promise.reject(new Error("the job wasn't opened"));
+  }
+
+  /** @returns {boolean} whether the last run has failed only since the program keeps something in globals */
+  #isNoFinding() {
+    return this.#failure instanceof KeepsGlobals;
   }
 
   /** @param {import("../run/outcome.mjs").One} run @returns {Checked} */
