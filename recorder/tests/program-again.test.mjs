@@ -17,16 +17,19 @@ import { programOf } from "./helpers/whole-programs.mjs";
 const FILES = {
   "main.mjs": `import { Worker } from "node:worker_threads";
 const words = new Int32Array(new SharedArrayBuffer(12));
-const worker = new Worker(new URL("./worker.mjs", import.meta.url), { workerData: words });
+const worker = new Worker(new URL("./worker.mjs", import.meta.url), { workerData: words, argv: process.argv.slice(2) });
 await new Promise((done) => worker.on("exit", done));
 globalThis.runs = (globalThis.runs ?? 0) + 1;
 const [way] = process.argv.slice(2);
 if (way === "bytes") Atomics.store(words, 1, globalThis.runs);
 Atomics.load(words,
   way === "acts" && globalThis.runs > 1 ? 1 : 0);
-Atomics.load(words, 2);
-if (way === "ending" ? globalThis.runs > 1 : Math.random() >= 0.5) throw new Error("it fails");`,
+const left = Atomics.load(words, 2);
+const fails = { ending: globalThis.runs > 1, worker: left === 1 };
+if (fails[way] ?? Math.random() >= 0.5) throw new Error("it fails");`,
   "worker.mjs": `import { workerData } from "node:worker_threads";
+globalThis.runs = (globalThis.runs ?? 0) + 1;
+if (process.argv[2] === "worker" && globalThis.runs > 1) Atomics.store(workerData, 2, 1);
 Atomics.add(workerData, 0, 1);`,
 };
 
@@ -34,7 +37,8 @@ const KEEPS = "the program keeps something in globals: --fresh";
 
 /** What the message says of each way. The first act that differs is in the line where the call begins. */
 const SAID = {
-  ending: "ended otherwise (threw, then finished)", bytes: "left other bytes", acts: "did something else, first at main.mjs:8:9",
+  ending: "ended otherwise (threw, then finished)", bytes: "left other bytes",
+  acts: "did something else, first at main.mjs:8:9",
 };
 
 /** @param {string[]} words of the command line @returns {Promise<{ status: number, stdout: string, stderr: string }>} */
@@ -54,10 +58,10 @@ async function made(context, way, options = {}) {
   const job = new Job();
   const outcomes = [];
   const module = pathToFileURL(programOf(context, FILES)).href;
-  const all = { ...defaultsOf("record"), isProgram: true, seconds: 20, checks: true, checkEvery: 1, module, args: [way], ...options };
+  const asked = { ...defaultsOf("record"), isProgram: true, seconds: 20, checks: true, checkEvery: 1, module, args: [way] };
   const seeds = Array.from({ length: 8 }, (_, at) => ({ seed: at + 1, whole: true, isSilent: true }));
   try {
-    await job.open(all);
+    await job.open({ ...asked, ...options });
     await job.run(seeds, (outcome) => void outcomes.push(outcome));
     return { outcomes };
   } catch (problem) {
@@ -91,6 +95,15 @@ describe("a failing run that goes another way in fresh threads", { concurrency: 
     const { outcomes, problem } = await made(context, "bytes", { fresh: true });
     assert.equal(problem, undefined);
     assert.ok(outcomes.some(({ fails }) => fails) && outcomes.length === 8);
+  });
+});
+
+describe("a failing run of which another thread is to blame", () => {
+  it("is no finding, though the thread that failed was replaced", async (context) => {
+    const { outcomes, problem } = await made(context, "worker");
+    assert.ok(problem instanceof KeepsGlobals, String(problem));
+    assert.ok(problem.message.startsWith(`seed 2 was run once more in fresh threads, and ${SAID.ending}`));
+    assert.equal(outcomes.length, 1);
   });
 });
 
