@@ -125,6 +125,13 @@ describe("findings", () => {
     }
   });
 
+  it("code that tries again when its time is up comes to its end", async (context) => {
+    const seeds = Array.from({ length: 12 }, (_, at) => at + 1);
+    const main = fileOf("deadline/race-of-promises.mjs");
+    const outcomes = await runsOf(context, { "main.mjs": main }, { seeds });
+    assert.deepEqual([...new Set(outcomes.map(({ ending, detail }) => ending + detail))], ["finished"]);
+  });
+
   it("an await between look and take is found within ten seeds", async (context) => {
     const names = ["await-between.mjs", "pool.mjs", "worker.mjs"];
     const files = Object.fromEntries(names.map((name) => [name, fileOf(`pool/${name}`)]));

@@ -40,6 +40,9 @@ const NOBODY_GOES_ON = -2;
 const HASTY = 1;
 const SLOW = 2;
 
+/** After so many early ends a run hurries no more: else code that tries again when its time is up might never end. */
+const MOST_HASTY = 20;
+
 /** Of eight seeds two have neither, one each has one of them, and four have both, whatever their strategies. */
 const CHANGES = Object.freeze([0, 0, HASTY, SLOW, HASTY | SLOW, HASTY | SLOW, HASTY | SLOW, HASTY | SLOW]);
 
@@ -89,7 +92,7 @@ export class Strategy {
 
   /** Whether short times are as likely to be up as anything else is to move. */
   get isHasty() {
-    return (this.words[WORD.CHANGES] & HASTY) !== 0;
+    return (this.words[WORD.CHANGES] & HASTY) !== 0 && this.words[WORD.EARLY] < MOST_HASTY;
   }
 
   /**
