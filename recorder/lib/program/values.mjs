@@ -78,6 +78,6 @@ export function clonedValue(value, options, buffers) {
   const together = [bare(value, (buffer) => met.push(buffer)), ...met];
   if (met.length === 0) return engineClone(value, options);
   const [clone, ...clones] = engineClone(together, options);
-  clones.forEach((each, at) => buffers.cloned(each, met[at]));
+  clones.forEach((/** @type {SharedArrayBuffer} */ each, /** @type {number} */ at) => buffers.cloned(each, met[at]));
   return received(clone, buffers);
 }
