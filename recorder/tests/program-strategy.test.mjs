@@ -15,8 +15,10 @@ const { WAITERS } = FLAG;
 const SEEDS = 400;
 
 /** A board of a program, or of a module's agents, all of which ask for a call. @param {object} [rules] */
-function asking({ seed = 1, strategy = "uniform", agents = 3, isProgram = true, timeouts = 0.05 } = {}) {
-  const ways = waysOf(strategy, true);
+function asking({ seed = 1, strategy = "uniform", agents = 3, isProgram = true, isMixed = true, timeouts = 0.05 } = {}) {
+  const way = waysOf(strategy, true);
+  // Of several ways a run takes one by its seed, also if they are alike.
+  const ways = isMixed ? [...way, ...way] : way;
   const board = new Board(Board.memory(), { agents, ways, maxMoves: 100_000, timeouts, soon: isProgram ? 1_000 : undefined });
   board.begin(seed);
   for (let agent = 1; agent < agents; agent += 1) board.pass(agent - 1);
@@ -100,6 +102,7 @@ describe("a slow agent", () => {
   it("is left out for a while, in more than half of the seeds of a program alone", () => {
     assert.ok(gaps({}) > 0.3, `${gaps({})}`);
     assert.ok(gaps({ isProgram: false }) < 0.03);
+    assert.ok(gaps({ isMixed: false }) < 0.03);
   });
 
   it("moves where nobody else can", () => {
@@ -123,6 +126,13 @@ describe("findings", () => {
       assert.match(detail, /^agent 0 threw Error: call \d: woken without an answer/);
       assert.match(onlyIf ?? "", /^only if (?:9\.\d+|10) ms pass/);
     }
+  });
+
+  it("code that tries again when its time is up comes to its end", async (context) => {
+    const seeds = Array.from({ length: 12 }, (_, at) => at + 1);
+    const main = fileOf("deadline/race-of-promises.mjs");
+    const outcomes = await runsOf(context, { "main.mjs": main }, { seeds });
+    assert.deepEqual([...new Set(outcomes.map(({ ending, detail }) => ending + detail))], ["finished"]);
   });
 
   it("an await between look and take is found within ten seeds", async (context) => {

@@ -40,11 +40,14 @@ const NOBODY_GOES_ON = -2;
 const HASTY = 1;
 const SLOW = 2;
 
+/** After so many early ends a run hurries no more: else code that tries again when its time is up might never end. */
+const MOST_HASTY = 20;
+
 /** Of eight seeds two have neither, one each has one of them, and four have both, whatever their strategies. */
 const CHANGES = Object.freeze([0, 0, HASTY, SLOW, HASTY | SLOW, HASTY | SLOW, HASTY | SLOW, HASTY | SLOW]);
 
-/** @param {number} seed @param {boolean} hasTime whether times may be up early at all */
-const changesOf = (seed, hasTime) => CHANGES[imul(seed, 0x9e3779b1) >>> 29] & (hasTime ? HASTY | SLOW : SLOW);
+/** @param {number} seed @returns {number} what is changed, unless a single strategy or no early time is asked for */
+const changesOf = (seed) => CHANGES[imul(seed, 0x9e3779b1) >>> 29];
 
 // A pilot that is long shows little more.
 const MOST_PILOT_MOVES = 10_000;
@@ -80,7 +83,8 @@ export class Strategy {
     words[WORD.STARTED] = 0;
     words[WORD.IS_PILOT] = isPilot ? 1 : 0;
     words[WORD.STRATEGY] = seed % (isPilot ? this.pilotWays : this.ways).length;
-    words[WORD.CHANGES] = this.rules.soon === undefined ? 0 : changesOf(seed, this.early > 0);
+    const all = (this.early > 0 ? HASTY : 0) | (this.ways.length > 1 ? SLOW : 0);
+    words[WORD.CHANGES] = this.rules.soon === undefined ? 0 : changesOf(seed) & all;
     this.slow.begin();
     this.random.seed(seed);
     this.#way().drawing.begin();
@@ -89,7 +93,7 @@ export class Strategy {
 
   /** Whether short times are as likely to be up as anything else is to move. */
   get isHasty() {
-    return (this.words[WORD.CHANGES] & HASTY) !== 0;
+    return (this.words[WORD.CHANGES] & HASTY) !== 0 && this.words[WORD.EARLY] < MOST_HASTY;
   }
 
   /**

@@ -9,7 +9,9 @@ import { anyWatchedOf } from "../agent/ordinary/watched.mjs";
 import { bufferOf, tagOf, viewBufferOf } from "../primordials.mjs";
 import { Buffers } from "./buffers.mjs";
 
-const { Map: EngineMap, structuredClone: engineClone } = globalThis;
+const { Map: EngineMap } = globalThis;
+/** @type {(value: unknown, options: unknown) => any} */
+const engineClone = /** @type {any} */ (globalThis).structuredClone;
 const { isView } = ArrayBuffer;
 
 /** @param {any} view of the engine's own */
@@ -74,8 +76,8 @@ export function clonedValue(value, options, buffers) {
   /** @type {SharedArrayBuffer[]} */
   const met = [];
   const together = [bare(value, (buffer) => met.push(buffer)), ...met];
-  if (met.length === 0) return engineClone(value, /** @type {any} */ (options));
-  const [clone, ...clones] = /** @type {any[]} */ (engineClone(together, /** @type {any} */ (options)));
-  clones.forEach((each, at) => buffers.cloned(each, met[at]));
+  if (met.length === 0) return engineClone(value, options);
+  const [clone, ...clones] = engineClone(together, options);
+  clones.forEach((/** @type {SharedArrayBuffer} */ each, /** @type {number} */ at) => buffers.cloned(each, met[at]));
   return received(clone, buffers);
 }

@@ -220,7 +220,7 @@ function furnish({ moves, buffers, waits, ends, events, timers, later }, putTwin
   simulateTime(() => (isPlaying() ? playing().look() : 0));
   simulateChance(chance);
   // Node makes a context of its own when a reader is released first. That isn't the program's, and so comes before.
-  new ReadableStream().getReader().releaseLock();
+  new (/** @type {any} */ (globalThis).ReadableStream)().getReader().releaseLock();
   watchRealm(watching);
   putTwins({ later, isPlaying });
   furnishMemory((buffer) => buffers.made(buffer, sourceHere()), refuse);
