@@ -287,6 +287,9 @@ export interface Shortened {
   unchanged?: string;
 }
 
+/** What `record.mjs --format json` and `merge.mjs --format json` print: the summary of many runs. */
+export type Summary = import("./summary.mjs").Summary;
+
 /** Two unordered accesses. */
 export interface Race {
   /** The lines of code, in their order; of one that isn't known, what it did. */

@@ -13,6 +13,7 @@ import type { ExploreOptions, ProgramTrialOptions, TrialOptions, WithBuffers } f
 import type { Ending } from "../lib/run/outcome.mjs";
 import type { Side, RaceReport } from "../lib/run/findings.mjs";
 import type { Shortened } from "../lib/shorter/shorten.mjs";
+import type { WholeSummary } from "../lib/command/summary-form.mjs";
 
 type Same<One, Other> =
   (<T>() => T extends One ? 1 : 2) extends (<T>() => T extends Other ? 1 : 2) ? true : false;
@@ -33,6 +34,7 @@ export type Held = [
   Holds<Same<Flat<declared.Race>, Flat<RaceReport>>>,
   Holds<Same<Flat<declared.RaceSide>, Flat<Side>>>,
   Holds<Same<Flat<declared.Shortened>, Flat<Shortened>>>,
+  Holds<Same<Flat<declared.Summary>, Flat<WholeSummary>>>,
   Holds<Same<Parameters<declared.WithBuffers>, Parameters<WithBuffers>>>,
   Holds<Same<ReturnType<declared.WithBuffers>, ReturnType<WithBuffers>>>,
   Holds<Same<Flat<declared.Difference["outcome"]>, Flat<check.Difference["outcome"]>>>,

@@ -3,7 +3,7 @@
 import { explore, record, Difference, LostJob, NoSabsim, Refused } from "sabsim";
 import type { Accesses, Agent, AgentRun, Ending, ExploreOptions, Outcome, Race, RaceSide } from "sabsim";
 import type { Kind, NamedPart, NamedPlace, OnlyByTime, RecordOptions, Setup, Shortened, Standing } from "sabsim";
-import type { ManyRuns, OfModule, OfProgram, OneRun, RunOptions, WithBuffers } from "sabsim";
+import type { ManyRuns, OfModule, OfProgram, OneRun, RunOptions, Summary, WithBuffers } from "sabsim";
 
 const kind: Kind = "Uint8";
 const slots: NamedPlace = [kind, 1];
@@ -56,6 +56,9 @@ const raceText = ({ lines, text, sides: [first, second] }: Race): string =>
 
 const shortening = ({ runs, changes, calls, stopped = "", unchanged = "" }: Shortened): string =>
   [runs, changes.before - changes.after, calls.before - calls.after, stopped, unchanged, shorten].join(" ");
+
+export const failureText = ({ failed, runs, firstFailing }: Summary): string =>
+  `${failed} of ${runs}: ${firstFailing?.detail.join() ?? "none"}`;
 
 const waitText = ({ agent, line, milliseconds, block, byte }: OnlyByTime): string =>
   [agent, line ?? "unknown", milliseconds, block, byte].join(" ");
