@@ -11,7 +11,9 @@ const [seeds, ...names] = process.argv.slice(2);
 
 const STDERR = 2;
 const urlOf = (/** @type {string} */ name) => pathToFileURL(pathOf(name)).href;
-const options = { ...defaultsOf("record"), isProgram: true, seconds: 20, args: [], module: urlOf(names[0]) };
+// In node what these programs do takes nearly no time. So no timer of theirs is up while something else can be done.
+const timeouts = 0;
+const options = { ...defaultsOf("record"), timeouts, isProgram: true, seconds: 20, args: [], module: urlOf(names[0]) };
 const group = /** @type {ProgramGroup} */ (await ProgramGroup.open(options));
 for (const name of names) {
   for (let seed = 1; seed <= Number(seeds); seed += 1) {

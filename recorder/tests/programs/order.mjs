@@ -12,9 +12,10 @@ const SECONDS = 120;
 export const ORDER = readdirSync(FOLDER).filter((name) => /\.[cm]js$/.test(name)).sort();
 
 /** What some programs need that the recorder doesn't simulate yet, as the recorder names it. */
-export const NOT_YET = Object.freeze({
-  "wait-async.mjs": "Atomics.waitAsync", "slow-functions.mjs": "SubtleCrypto.digest",
-});
+export const NOT_YET = Object.freeze({ "slow-functions.mjs": "SubtleCrypto.digest" });
+
+/** What the recorder puts before each line that a program prints: the thread. */
+const THREAD = /^\[[^\]]*\] /;
 
 /** What node prints of a warning. */
 const WARNING = /^\((?:node:\d+|Use `node --trace-warnings)/;
@@ -76,7 +77,8 @@ export async function runsInRecorder(names, seeds) {
   const printed = texts.stderr.split("\0\n");
   const endings = texts.stdout.split("\n").slice(0, -1);
   if (endings.length !== names.length * seeds) throw new Error(`the recorder has ended: ${texts.stderr}`);
-  const linesOf = (/** @type {string} */ text) => text.split("\n").slice(0, -1).filter((line) => !WARNING.test(line));
+  const linesOf = (/** @type {string} */ text) =>
+    text.split("\n").slice(0, -1).map((line) => line.replace(THREAD, "")).filter((line) => !WARNING.test(line));
   const runs = endings.map((line, at) => ({ ...JSON.parse(line), lines: linesOf(printed[at]) }));
   return new Map(names.map((name, at) => [name, runs.slice(at * seeds, (at + 1) * seeds)]));
 }

@@ -69,13 +69,11 @@ const ALL = [
   wrong("message/before-exit.mjs",
     race(["before-exit.mjs", "const last"], ["fills.mjs", "data[at] = at / 2"]),
     failed(/the last number is 0/, ["before-exit.mjs", THROWS])),
-  ...notYet("Atomics.waitAsync", [
-    right("wait-async/right.mjs"),
-    right("wait-async/one-by-one.mjs"),
-    wrong("wait-async/stale.mjs", failed(/\b13\b/)),
-    wrong("wait-async/two-take-one.mjs", failed(/took a piece that isn't there/, ["two-take-one.mjs", THROWS])),
-    rare("wait-async/pulse.mjs", failed(/notified, and the word is 0/, ["pulse.mjs", THROWS])),
-  ]),
+  right("wait-async/right.mjs"),
+  right("wait-async/one-by-one.mjs"),
+  wrong("wait-async/stale.mjs", failed(/\b13\b/)),
+  wrong("wait-async/two-take-one.mjs", failed(/took a piece that isn't there/, ["two-take-one.mjs", THROWS])),
+  rare("wait-async/pulse.mjs", failed(/notified, and the word is 0/, ["pulse.mjs", THROWS])),
 
   // Main blocks, and the worker is asynchronous.
   right("calls/right.mjs"),
