@@ -6,7 +6,7 @@ from collections import namedtuple
 from contextlib import contextmanager
 
 from .edits import Edit, functions_touched
-from .functions import IN_A_TWIN, IN_PLACE, Unreadable, calls_of, functions_of, source_files
+from .functions import IN_A_TWIN, IN_PLACE, Unreadable, calls_of, functions_of, readers_of, source_files
 from .kit import rt, rtlib
 from .modules import save_nothing_of, unpack_modules
 from .twins import InPlace, Twin, apart, placed_of, tried_of, wants_copy, write_texts, write_with
@@ -154,27 +154,29 @@ class Trial:
         return result_of(rt.must_fail(self.crate, edit.file, self.flags))
 
     def try_touched(self, edit, kept):
-        """Tries the functions that an edit changes or adds, and nothing else of the crate. Returns the edit's result if
-        one of them is refused for a reason of its own. Else this decides nothing, and it returns None; also if the edit
-        changes more than code, since then not all that it changes is read."""
+        """Tries the functions that an edit changes or adds, or that name a constant which it changes, and nothing else of
+        the crate. Returns the edit's result if one of them is refused for a reason of its own. Else this decides nothing,
+        and it returns None; also if the edit changes more than code, since then not all that it changes is read."""
         texts, why = rt.read_edit(edit.file, self.crate.folder)
         if why or not all(file.startswith("src/") for file in texts):
             return None
         with tempfile.TemporaryDirectory(prefix="sabsim-edit-") as room:
-            functions = self.functions_of_texts(texts, room)
-            tried = [InPlace(it, edit) for it in functions_touched(texts, self.crate.folder, functions)]
+            readers = self.readers_of_texts(texts, room)
+            tried = [InPlace(it, edit) for it in functions_touched(texts, self.crate.folder, readers)]
             if not tried:
                 return None
+            functions = [function for reader in readers for function in reader.found]
             with copy_of(kept) as own:
                 judge, why, _ = self.judge(tried, functions, room, own)
         line = "" if why else next((line for line, _ in map(judge.verdict, tried) if line), "")
         return Result(REFUSED, line, True) if line else None
 
-    def functions_of_texts(self, texts, room):
-        """Writes the crate with some texts of its files into a folder. Returns its functions; none, if it can't be read."""
+    def readers_of_texts(self, texts, room):
+        """Writes the crate with some texts of its files into a folder. Returns the readers of its files; none, if it can't
+        be read."""
         write_texts(self.crate, texts, room)
         try:
-            return functions_of(self.crate.name, room)
+            return readers_of(self.crate.name, room)
         except Unreadable:
             return []
 
