@@ -27,13 +27,17 @@ class Trial:
 
     def __init__(self, crate, files, report, alone=False):
         self.crate, self.report, self.flags = crate, report, ["--jobs", "1"]
-        self.functions, self.calls = functions_of(crate.name, crate.folder), calls_of(crate.rlib)
+        self.functions, self.calls = functions_of(crate.name, crate.folder), self.read_calls()
         self.edits = [Edit(file, crate, self.functions, self.calls) for file in files]
         self.batches = [] if alone else self.make_batches()
         # The edits with which the crate is surely still proved over what is kept.
         self.proved = set()
         # The edits whose changed functions no check has tried, and that aren't to be tried as rt tries them.
         self.untried = set() if alone else {edit.name for edit in self.edits} - {edit.name for batch in self.batches for edit in batch}
+
+    def read_calls(self):
+        """Returns for each function of the crate which of its functions it calls or passes on."""
+        return calls_of(self.crate.rlib)
 
     def make_batches(self):
         """Returns the edits to try together each time. Those in place go with the first twins, as far as they can, and
