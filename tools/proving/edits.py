@@ -53,22 +53,34 @@ def changes_between(old, new):
     return changes
 
 
-def functions_touched(texts, folder, functions):
-    """Returns the functions of edited texts that have a line which isn't in the files of a folder, and a name of their own."""
-    names, found = [function.name for function in functions], []
+def functions_touched(texts, folder, readers):
+    """Returns the functions that edited texts change, and that have a name of their own: those with a line which isn't in
+    the files of a folder. If there is none, it returns those that name a constant with such a line."""
+    functions = [function for reader in readers for function in reader.found]
+    names, found = [function.name for function in functions], touched(texts, folder, functions)
+    if not found:
+        constants = touched(texts, folder, [constant for reader in readers for constant in reader.constants])
+        changed_names = {constant.name for constant in constants}
+        found = [function for reader in readers for function in reader.functions_naming(changed_names)]
+    return [function for function in found if names.count(function.name) == 1]
+
+
+def touched(texts, folder, items):
+    """Returns the items of edited texts that have a line which isn't in the files of a folder."""
+    found = []
     for file, text in texts.items():
         with open(f"{folder}/{file}", encoding="utf-8") as it:
             old, new = it.read().split("\n"), text.split("\n")
         lines = [at for at, (one, other) in enumerate(zip(old, new), 1) if one != other]
-        for function in (it for it in functions if it.file == file and names.count(it.name) == 1):
-            first, last = lines_of(function, text)
-            found += [function] * any(first <= line <= last for line in lines)
+        for item in (it for it in items if it.file == file):
+            first, last = lines_of(item, text)
+            found += [item] * any(first <= line <= last for line in lines)
     return found
 
 
-def lines_of(function, text):
-    """Returns the numbers of the first and the last line of a function, from the text of its file."""
-    return text.count("\n", 0, function.begin) + 1, text.count("\n", 0, function.end) + 1
+def lines_of(item, text):
+    """Returns the numbers of the first and the last line of an item, from the text of its file."""
+    return text.count("\n", 0, item.begin) + 1, text.count("\n", 0, item.end) + 1
 
 
 def changed(text, changes):

@@ -14,6 +14,9 @@ Token = namedtuple("Token", "begin end text")
 # body begins, and where it ends; how an edit of its body can be tried together with others.
 Function = namedtuple("Function", "name file begin name_token body end way")
 
+# A constant: its name, without a path; its file; where it begins, with its attributes, and where it ends.
+Constant = namedtuple("Constant", "name file begin end")
+
 # How an edit can be tried: in a copy of the function under another name, put after it; where the function is, as a trait's
 # impl has room for no copy; or alone.
 IN_A_TWIN, IN_PLACE, ALONE = "in a twin", "in place", "alone"
@@ -65,7 +68,9 @@ class Reader:
     """Reads the items of one file."""
 
     def __init__(self, crate, file, tokens):
-        self.file, self.tokens, self.found = file, tokens, []
+        self.file, self.tokens = file, tokens
+        # The functions, the constants, and the types by their paths.
+        self.found, self.constants, self.types = [], [], []
         self.closing = self.matched()
         path = file[len("src/") : -len(".rt")].split("/")
         if path[-1] in ("lib", "main", "mod"):
@@ -113,6 +118,7 @@ class Reader:
         word, after = self.text(at), self.end_of_item(at)
         if word == "fn" and WORD.match(self.text(at + 1)):
             return self.read_function(begin, at, path, way)
+        self.read_declared(begin, at, path)
         opening = self.opening(at)
         if self.text(opening) != "{":
             return after
@@ -124,6 +130,22 @@ class Reader:
             name, is_of_trait = self.impl_name(at + 1, opening)
             self.read_items(opening + 1, after - 1, [*path, name], IN_PLACE if is_of_trait else IN_A_TWIN)
         return after
+
+    def read_declared(self, begin, at, path):
+        """Notes the type or the constant that an item declares, if it declares one."""
+        at += self.text(at) == "pub"
+        at = self.closing[at] + 1 if self.text(at) == "(" else at
+        word, name = self.text(at), self.text(at + 1)
+        if word in ("struct", "enum", "union"):
+            self.types.append("::".join([*path, name]))
+        elif word == "const":
+            end = self.tokens[self.end_of_item(at) - 1].end
+            self.constants.append(Constant(name, self.file, self.tokens[begin].begin, end))
+
+    def functions_naming(self, names):
+        """Returns the functions that have one of these words in their code."""
+        places = [token.begin for token in self.tokens if token.text in names]
+        return [it for it in self.found if any(it.begin <= place < it.end for place in places)]
 
     def attribute(self, at):
         """Returns what follows an attribute, and its words."""
@@ -191,11 +213,30 @@ class Reader:
         return after
 
 
-def functions_of(name, folder):
-    """Returns the functions of the crate of this name in a folder."""
+def readers_of(name, folder):
+    """Returns readers that have read the files of the crate of this name in a folder. Each function has the name that
+    rattle prints: a method's begins with the path of its type, also if its impl is in another module."""
     files = source_files(folder)
     tokens = tokens_of(folder, files)
-    return [function for file in files for function in Reader(name, file, tokens[file]).found]
+    readers = [Reader(name, file, tokens[file]) for file in files]
+    types = [path for reader in readers for path in reader.types]
+    for reader in readers:
+        reader.found = [at_its_type(function, types) for function in reader.found]
+    return readers
+
+
+def at_its_type(function, types):
+    """Returns a function under the path of its type, if it is in an impl of a type of another module, and the crate has
+    one type of that name."""
+    path, _, name = function.name.rpartition("::")
+    of_name = [it for it in types if it.rpartition("::")[2] == path.rpartition("::")[2]]
+    is_elsewhere = len(of_name) == 1 and path not in types
+    return function._replace(name=f"{of_name[0]}::{name}") if is_elsewhere else function
+
+
+def functions_of(name, folder):
+    """Returns the functions of the crate of this name in a folder."""
+    return [function for reader in readers_of(name, folder) for function in reader.found]
 
 
 def calls_of(rlib):

@@ -1,4 +1,6 @@
-"""Makes a folder of modules that a check begins with, of what a crate's own proof has checked and its library holds."""
+"""Makes a folder of modules that a check begins with, of what a crate's own proof has checked and its library holds; and
+reads from such modules which functions call which."""
+import io
 import os
 import re
 from collections import namedtuple
@@ -38,6 +40,36 @@ def save_nothing_of(functions, crate, folder):
             if os.path.isfile(f"{inside}/{file}"):
                 os.remove(f"{inside}/{file}")
             os.mkdir(f"{inside}/{file}")
+
+
+def calls_in(crate):
+    """Returns for each function that the crate's own proof has checked which of these it calls or passes on, by rattle's
+    names: those of whose modules its code imports one. A function in a cycle of calls, whose name begins with `+`, imports
+    the code of the cycle: it calls itself."""
+    code, imports = re.compile(rf"Rattle-{crate.name}-proofs\.(.+)\.Code(\.Mir)?\.oantt"), {}
+    with open(f"{crate.rlib}/toolchain/checked.a", "rb") as it:
+        for member in members_of(it.read()):
+            found = code.fullmatch(member.name)
+            if found:
+                imports.setdefault(found[1], set()).update(imports_of(member.data, f"Rattle-{crate.name}-proofs."))
+    name_of = lambda path: f"{crate.name}::{path.replace('.', '::')}"
+    is_in_cycle = lambda found: any(it.rpartition(".")[2].startswith("+") for it in found)
+    called = lambda path, found: {it for it in imports if it in found and it != path} | ({path} if is_in_cycle(found) else set())
+    return {name_of(path): set(map(name_of, called(path, found))) for path, found in imports.items()}
+
+
+def imports_of(data, prefix):
+    """Returns the paths behind a prefix of the modules that a checked module imports, and of all that these are in. Its
+    first lines name them."""
+    found = set()
+    for line in io.BytesIO(data):
+        if not line.startswith(b"--@ "):
+            break
+        words = line.decode(errors="replace").split()
+        if words[1] == "import" and words[2].startswith(prefix):
+            parts = words[2][len(prefix) :].split(".")
+            found.update(".".join(parts[:end]) for end in range(1, len(parts) + 1))
+    return found
 
 
 def build_of(data):

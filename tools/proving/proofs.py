@@ -172,7 +172,9 @@ class Proofs:
 
     def trial_of(self, crate, files, alone):
         """Returns the trial of some edits of a crate."""
-        return (StaticTrial if crate.is_static else Trial)(crate, files, self.tally.say, alone)
+        if crate.is_static:
+            return StaticTrial(crate, self.paths[proving_of(crate).made], files, self.tally.say, alone)
+        return Trial(crate, files, self.tally.say, alone)
 
     def report(self, label, result):
         """Reports and counts what an edit came to."""

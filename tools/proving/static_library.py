@@ -5,10 +5,13 @@ import shlex
 import tempfile
 
 from .crates import Proving
-from .kit import rtlib, stop
+from .kit import rtlib
+from .modules import calls_in
 from .trial import Trial
 
 TOOLCHAIN = f"{rtlib.KIT}/toolchain"
+# What the check of a static library leaves beside its code, for its edits.
+CHECKED = "checked"
 
 
 class StaticProving(Proving):
@@ -19,32 +22,32 @@ class StaticProving(Proving):
         return f"{self.name}.bc"
 
     def prove(self, folder, jobs):
-        """Proves the library, and keeps the code that the kit gives to its clang for x86-64. Nothing is compiled."""
-        words = ["build", *self.crate.words(["--jobs", str(jobs)], keeps=False)]
+        """Proves the library, keeps what was checked, and the code that the kit gives to its clang for x86-64. Nothing is
+        compiled."""
+        # Later processors of this kind have instructions of their own, which the code could name.
+        words = [*self.crate.words(["--jobs", str(jobs)], keeps=False), "--cpu=x86-64"]
+        status = self.crate.prove(["check", *words, "-o", f"{folder}/{CHECKED}"])
+        for flag in ("--logic-built", "--jobs"):
+            at = words.index(flag)
+            words = [*words[:at], *words[at + 2 :]]
         with tempfile.TemporaryDirectory(prefix="sabsim-bitcode-") as room:
-            # Later processors of this kind have instructions of their own, which the code could name.
             toolchain = toolchain_that_keeps(f"{folder}/{self.made}", room)
-            how = ["--cpu=x86-64", "--toolchain", toolchain, "--backend", "llvm", "-o", f"{room}/unused.a"]
-            return self.crate.prove([*words, *how])
+            # It makes nothing unless the code is what the check has proved.
+            how = ["--crate-checked", f"{folder}/{CHECKED}", "--toolchain", toolchain, "--backend", "llvm"]
+            return status or self.crate.call(rtlib.RATTLE, "build", *words, *how, "-o", f"{room}/unused.a")
 
 
 class StaticTrial(Trial):
-    """The edits of a static library, tried on it as on a plain library. A static library keeps nothing of its proof, so
-    it is proved once more, as a plain one."""
+    """The edits of a static library, tried on it as on a plain library, over what its own proof left in a folder."""
 
-    def __init__(self, crate, files, report, alone=False):
-        self.folder, plain = tempfile.TemporaryDirectory(prefix="sabsim-plain-"), copy.copy(crate)
-        plain.is_static = False
-        proving = Proving(plain)
-        if not proving.make(self.folder.name, 1):
-            stop(f"{proving.said}{crate.name} isn't proved as a plain library")
-        plain.rlib = f"{self.folder.name}/{proving.made}"
+    def __init__(self, crate, folder, files, report, alone=False):
+        plain = copy.copy(crate)
+        plain.is_static, plain.rlib = False, f"{folder}/{CHECKED}"
         super().__init__(plain, files, report, alone)
 
-    def results(self):
-        """Tries all edits, and yields each one's name with its result."""
-        with self.folder:
-            yield from super().results()
+    def read_calls(self):
+        """Returns for each function of the crate which of its functions it calls or passes on."""
+        return calls_in(self.crate)
 
 
 def toolchain_that_keeps(bitcode, room):

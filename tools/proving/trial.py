@@ -6,7 +6,7 @@ from collections import namedtuple
 from contextlib import contextmanager
 
 from .edits import Edit, functions_touched
-from .functions import IN_A_TWIN, IN_PLACE, Unreadable, calls_of, functions_of, source_files
+from .functions import IN_A_TWIN, IN_PLACE, Unreadable, calls_of, functions_of, readers_of, source_files
 from .kit import rt, rtlib
 from .modules import save_nothing_of, unpack_modules
 from .twins import InPlace, Twin, apart, placed_of, tried_of, wants_copy, write_texts, write_with
@@ -27,13 +27,17 @@ class Trial:
 
     def __init__(self, crate, files, report, alone=False):
         self.crate, self.report, self.flags = crate, report, ["--jobs", "1"]
-        self.functions, self.calls = functions_of(crate.name, crate.folder), calls_of(crate.rlib)
+        self.functions, self.calls = functions_of(crate.name, crate.folder), self.read_calls()
         self.edits = [Edit(file, crate, self.functions, self.calls) for file in files]
         self.batches = [] if alone else self.make_batches()
         # The edits with which the crate is surely still proved over what is kept.
         self.proved = set()
         # The edits whose changed functions no check has tried, and that aren't to be tried as rt tries them.
         self.untried = set() if alone else {edit.name for edit in self.edits} - {edit.name for batch in self.batches for edit in batch}
+
+    def read_calls(self):
+        """Returns for each function of the crate which of its functions it calls or passes on."""
+        return calls_of(self.crate.rlib)
 
     def make_batches(self):
         """Returns the edits to try together each time. Those in place go with the first twins, as far as they can, and
@@ -154,27 +158,29 @@ class Trial:
         return result_of(rt.must_fail(self.crate, edit.file, self.flags))
 
     def try_touched(self, edit, kept):
-        """Tries the functions that an edit changes or adds, and nothing else of the crate. Returns the edit's result if
-        one of them is refused for a reason of its own. Else this decides nothing, and it returns None; also if the edit
-        changes more than code, since then not all that it changes is read."""
+        """Tries the functions that an edit changes or adds, or that name a constant which it changes, and nothing else of
+        the crate. Returns the edit's result if one of them is refused for a reason of its own. Else this decides nothing,
+        and it returns None; also if the edit changes more than code, since then not all that it changes is read."""
         texts, why = rt.read_edit(edit.file, self.crate.folder)
         if why or not all(file.startswith("src/") for file in texts):
             return None
         with tempfile.TemporaryDirectory(prefix="sabsim-edit-") as room:
-            functions = self.functions_of_texts(texts, room)
-            tried = [InPlace(it, edit) for it in functions_touched(texts, self.crate.folder, functions)]
+            readers = self.readers_of_texts(texts, room)
+            tried = [InPlace(it, edit) for it in functions_touched(texts, self.crate.folder, readers)]
             if not tried:
                 return None
+            functions = [function for reader in readers for function in reader.found]
             with copy_of(kept) as own:
                 judge, why, _ = self.judge(tried, functions, room, own)
         line = "" if why else next((line for line, _ in map(judge.verdict, tried) if line), "")
         return Result(REFUSED, line, True) if line else None
 
-    def functions_of_texts(self, texts, room):
-        """Writes the crate with some texts of its files into a folder. Returns its functions; none, if it can't be read."""
+    def readers_of_texts(self, texts, room):
+        """Writes the crate with some texts of its files into a folder. Returns the readers of its files; none, if it can't
+        be read."""
         write_texts(self.crate, texts, room)
         try:
-            return functions_of(self.crate.name, room)
+            return readers_of(self.crate.name, room)
         except Unreadable:
             return []
 

@@ -13,6 +13,19 @@ pub(crate) struct ForeignLine {
     pub what: Foreign,
 }
 
+impl ForeignLine {
+    ghost use Rattle.std.specs.Fmt.{WritesOnOk};
+    ghost use Rattle.sab_check.specs.Foreign.{foreign_line};
+
+    /// Writes where it stands, and what it is.
+    fn write_to<W: fmt::Write>(&self, f: &mut fmt::Formatter<W>) -> fmt::Result
+        ensures { WritesOnOk W.write_str_gives f.old result (foreign_line self.now.spot self.now.what) f.new }
+    {
+        let (spot, what) = (self.spot, self.what);
+        write!(f, "{spot}: 16 NotJson: {what}")
+    }
+}
+
 impl fmt::Display for ForeignLine {
     ghost use Rattle.std.specs.Prelude.{Some};
     ghost use Rattle.sab_check.specs.Foreign.{foreign_line};
@@ -20,7 +33,6 @@ impl fmt::Display for ForeignLine {
     ghost output = { λ line. Some (foreign_line line.spot line.what) };
 
     fn fmt<W: fmt::Write>(&self, f: &mut fmt::Formatter<W>) -> fmt::Result {
-        let (spot, what) = (self.spot, self.what);
-        write!(f, "{spot}: 16 NotJson: {what}")
+        self.write_to(f)
     }
 }

@@ -1,7 +1,8 @@
 //! What is reported about a job that failed.
 
-ghost use Rattle.std.specs.Prelude.{◌≡◌};
-ghost use Rattle.sab_ending.specs.Complaint.{advice_text};
+ghost use Rattle.std.specs.Prelude.{◌≡◌, ◌++◌};
+ghost use Rattle.std.specs.Fmt.{WritesOnOk};
+ghost use Rattle.sab_ending.specs.Complaint.{file_text, line_text, advice_text};
 
 use crate::fault_line::FaultLine;
 use sab_tool::ToolFault;
@@ -33,16 +34,43 @@ impl fmt::Display for Complaint<'_> {
     fn fmt<W: fmt::Write>(&self, f: &mut fmt::Formatter<W>) -> fmt::Result {
         let fault = FaultLine(self.fault);
         write!(f, "{fault}")?;
-        if let Some(file) = self.file {
-            write!(f, ": {file}")?;
-        }
-        if let Some(line) = self.line {
-            write!(f, ": line {line}")?;
-        }
+        write_file(f, self.file)?;
+        write_line(f, self.line)?;
         f.write_str("\n")?;
-        f.write_str(advice_of(self.fault))?;
-        f.write_str(self.why)
+        write_advice(f, self.fault, self.why)
     }
+}
+
+/// Writes the name of the file that failed, if one did, behind a colon and a space.
+fn write_file<W: fmt::Write>(f: &mut fmt::Formatter<W>, file: Option<&str>) -> fmt::Result
+    ensures { WritesOnOk W.write_str_gives f.old result (file_text file.entry) f.new }
+{
+    if let Some(file) = file {
+        write!(f, ": {file}")?;
+    }
+    Ok(())
+}
+
+/// Writes the line of the input that is refused, if that is reported, behind a colon and a space.
+fn write_line<W: fmt::Write>(f: &mut fmt::Formatter<W>, line: Option<u32>) -> fmt::Result
+    ensures { WritesOnOk W.write_str_gives f.old result (line_text line) f.new }
+{
+    if let Some(line) = line {
+        write!(f, ": line {line}")?;
+    }
+    Ok(())
+}
+
+/// Writes what can be done instead of what ended with this fault, and what a check says about the script.
+fn write_advice<W: fmt::Write>(
+    f: &mut fmt::Formatter<W>,
+    fault: ToolFault,
+    why: &str,
+) -> fmt::Result
+    ensures { WritesOnOk W.write_str_gives f.old result (advice_text fault ++ why.now) f.new }
+{
+    f.write_str(advice_of(fault))?;
+    f.write_str(why)
 }
 
 /// What can be done instead of what ended with this fault, as a line; empty if there is nothing to say.

@@ -51,6 +51,22 @@ impl fmt::Display for Excerpt {
 #[derive(Clone, Copy, Debug)]
 pub(crate) struct Bare(pub(crate) Excerpt);
 
+impl Bare {
+    ghost use Rattle.std.specs.Fmt.{WritesOnOk};
+    ghost use Rattle.sab_refusal.specs.Excerpt.{shown};
+
+    /// Writes a byte as it is shown.
+    fn write_byte<W: fmt::Write>(f: &mut fmt::Formatter<W>, byte: u8) -> fmt::Result
+        ensures { WritesOnOk W.write_str_gives f.old result (shown byte) f.new }
+    {
+        if (byte.is_ascii_graphic() || byte == b' ') && byte != b'"' && byte != b'\\' {
+            return f.write_char(char::from(byte));
+        }
+        let (high, low) = (byte / 16, byte % 16);
+        write!(f, "\\x{high:x}{low:x}")
+    }
+}
+
 impl fmt::Display for Bare {
     ghost use Rattle.std.specs.Prelude.{Some};
     ghost use Rattle.sab_refusal.specs.Excerpt.{bare_text};
@@ -60,28 +76,8 @@ impl fmt::Display for Bare {
     fn fmt<W: fmt::Write>(&self, f: &mut fmt::Formatter<W>) -> fmt::Result {
         let excerpt = self.0;
         for byte in &excerpt.bytes[..excerpt.len] {
-            f.write(Shown(*byte))?;
+            Bare::write_byte(f, *byte)?;
         }
         Ok(())
-    }
-}
-
-/// A byte, as it is shown.
-#[derive(Clone, Copy)]
-struct Shown(u8);
-
-impl fmt::Display for Shown {
-    ghost use Rattle.std.specs.Prelude.{Some};
-    ghost use Rattle.sab_refusal.specs.Excerpt.{shown};
-
-    ghost output = { λ byte. Some (shown byte.0) };
-
-    fn fmt<W: fmt::Write>(&self, f: &mut fmt::Formatter<W>) -> fmt::Result {
-        let byte = self.0;
-        if (byte.is_ascii_graphic() || byte == b' ') && byte != b'"' && byte != b'\\' {
-            return f.write_char(char::from(byte));
-        }
-        let (high, low) = (byte / 16, byte % 16);
-        write!(f, "\\x{high:x}{low:x}")
     }
 }

@@ -7,6 +7,7 @@ mod location;
 mod member;
 mod read_fault;
 mod reason;
+mod reason_text;
 mod refusal;
 
 pub use excerpt::Excerpt;

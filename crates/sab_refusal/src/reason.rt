@@ -1,8 +1,12 @@
 //! What is wrong with a value of a script.
 
-use crate::excerpt::{Bare, Excerpt};
+use crate::excerpt::Excerpt;
 use crate::member::Member;
 use crate::read_fault::ReadFault;
+use crate::reason_text::{
+    write_beyond, write_few_elements, write_fraction, write_minus_zero, write_near_kind,
+    write_too_many, write_twice,
+};
 use sab_block::Kind;
 use std::fmt;
 
@@ -231,20 +235,17 @@ impl fmt::Display for Reason {
             Reason::Missing(member) => write!(f, "member {member} is missing"),
             Reason::Surplus(name) => write!(f, "member {name} isn't called for"),
             Reason::EmptyCall => f.write_str("a call has a name, a view and an index"),
-            Reason::TooMany(unit, count, most) => write!(f, "{count} {unit}, at most {most}"),
+            Reason::TooMany(unit, count, most) => write_too_many(f, *unit, *count, *most),
             Reason::NameForm(name) => {
                 write!(
                     f,
                     "{name} isn't 1 to 32 ASCII letters, digits and low lines"
                 )
             }
-            Reason::Twice(name, view) => write!(f, "{name} is the name of views[{view}] too"),
+            Reason::Twice(name, view) => write_twice(f, *name, *view),
             Reason::NoView(name) => write!(f, "no view is called {name}"),
-            Reason::Fraction(number) => {
-                let number = Bare(*number);
-                write!(f, "{number} has a fraction: write a whole number")
-            }
-            Reason::MinusZero => f.write_str("-0 isn't read as a whole number: write 0"),
+            Reason::Fraction(number) => write_fraction(f, *number),
+            Reason::MinusZero => write_minus_zero(f),
             Reason::PointOrExponent(n) => {
                 write!(f, "a whole number has no point and no exponent: write {n}")
             }
@@ -255,24 +256,14 @@ impl fmt::Display for Reason {
                 "{digits} isn't how a BigInt of 128 bits is spelled"
             ),
             Reason::NoCall(name) => write!(f, "no call is called {name}"),
-            Reason::FewElements(count, least, most) if least == most => {
-                write!(f, "{count} of {least} elements")
-            }
             Reason::FewElements(count, least, most) => {
-                write!(f, "{count} of {least} or {most} elements")
+                write_few_elements(f, *count, *least, *most)
             }
             Reason::ManyElements(count, most) => write!(f, "{count} elements, at most {most}"),
             Reason::NoKind(name) => write!(f, "no kind is called {name}"),
-            Reason::NearKind(name, kind) => {
-                write!(f, "no kind is called {name}: is {kind} meant?")
-            }
+            Reason::NearKind(name, kind) => write_near_kind(f, *name, *kind),
             Reason::Misfit(misfit) => write!(f, "{misfit}"),
-            Reason::Beyond(counted, n, count) => {
-                write!(
-                    f,
-                    "there is no {counted} {n}: numbered from 0, their count is {count}"
-                )
-            }
+            Reason::Beyond(counted, n, count) => write_beyond(f, *counted, *n, *count),
             Reason::NoBlocks => f.write_str("there is no block"),
             Reason::Memory => f.write_str("there is no memory for the script"),
         }

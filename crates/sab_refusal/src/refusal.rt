@@ -17,7 +17,9 @@ pub enum Refusal {
 
 impl Refusal {
     ghost use Rattle.std.specs.Prelude.{◌≡◌, ◌↔◌, IsTrue};
-    ghost use Rattle.sab_refusal.specs.Refusal.{IsMemory};
+    ghost use Rattle.std.specs.Fmt.{WritesOnOk};
+    ghost use Rattle.sab_refusal.specs.declared.refusal.Refusal.TheVariants.{NotJson};
+    ghost use Rattle.sab_refusal.specs.Refusal.{IsMemory, refusal_text};
 
     /// Whether it is for want of memory alone.
     pub fn is_memory(self) -> bool
@@ -26,6 +28,17 @@ impl Refusal {
         match self {
             Refusal::Tree(refusal) => matches!(refusal.why, Reason::Memory),
             Refusal::NotJson(_) => false,
+        }
+    }
+
+    /// Writes where bytes stop being a JSON text, and why.
+    fn write_not_json<W: fmt::Write>(f: &mut fmt::Formatter<W>, place: Place) -> fmt::Result
+        ensures { WritesOnOk W.write_str_gives f.old result (refusal_text (NotJson place)) f.new }
+    {
+        let spot = place.spot;
+        match place.fault {
+            Some(fault) => write!(f, "{spot}: 16 NotJson: {fault}"),
+            None => write!(f, "{spot}: 16 NotJson: the text ends too early"),
         }
     }
 }
@@ -38,13 +51,7 @@ impl fmt::Display for Refusal {
 
     fn fmt<W: fmt::Write>(&self, f: &mut fmt::Formatter<W>) -> fmt::Result {
         match self {
-            Refusal::NotJson(place) => {
-                let spot = place.spot;
-                match place.fault {
-                    Some(fault) => write!(f, "{spot}: 16 NotJson: {fault}"),
-                    None => write!(f, "{spot}: 16 NotJson: the text ends too early"),
-                }
-            }
+            Refusal::NotJson(place) => Refusal::write_not_json(f, *place),
             Refusal::Tree(refusal) => write!(f, "{refusal}"),
         }
     }

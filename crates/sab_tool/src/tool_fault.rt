@@ -66,6 +66,8 @@ pub enum ToolFault {
 
 impl ToolFault {
     ghost use Rattle.sab_tool.specs.ToolFault.{number_of, name_of};
+    ghost use Rattle.sab_tool.specs.Replay.{as_tool_fault, script_as_tool_fault};
+    ghost use Rattle.sab_tool.specs.Racing.{race_as_tool_fault};
 
     /// The number that it is reported by.
     pub fn number(self) -> u32
@@ -121,14 +123,11 @@ impl ToolFault {
     {
         Self::WriteFailed
     }
-}
 
-impl From<ReadFault> for ToolFault {
-    ghost use Rattle.sab_tool.specs.Replay.{as_tool_fault};
-
-    ghost from_gives = { λ e f. f ≡ as_tool_fault e };
-
-    fn from(fault: ReadFault) -> ToolFault {
+    /// The fault of a script that is refused with this one.
+    fn of_read(fault: ReadFault) -> ToolFault
+        ensures { result ≡ as_tool_fault fault }
+    {
         match fault {
             ReadFault::TooMany => ToolFault::TooMany,
             ReadFault::BadShape => ToolFault::BadShape,
@@ -141,6 +140,37 @@ impl From<ReadFault> for ToolFault {
             ReadFault::OutOfMemory => ToolFault::OutOfMemory,
         }
     }
+
+    /// The fault of bytes that are refused as a script.
+    fn of_refusal(refusal: Refusal) -> ToolFault
+        ensures { result ≡ script_as_tool_fault refusal }
+    {
+        match refusal {
+            Refusal::NotJson(_) => ToolFault::NotJson,
+            Refusal::Tree(refusal) => ToolFault::of_read(refusal.fault()),
+        }
+    }
+
+    /// The fault of a race that ends with this one.
+    fn of_race(fault: RaceFault) -> ToolFault
+        ensures { result ≡ race_as_tool_fault fault }
+    {
+        match fault {
+            RaceFault::TooManyMoves => ToolFault::TooManyMoves,
+            RaceFault::OutOfMemory => ToolFault::OutOfMemory,
+            RaceFault::NoThread => ToolFault::NoThread,
+        }
+    }
+}
+
+impl From<ReadFault> for ToolFault {
+    ghost use Rattle.sab_tool.specs.Replay.{as_tool_fault};
+
+    ghost from_gives = { λ e f. f ≡ as_tool_fault e };
+
+    fn from(fault: ReadFault) -> ToolFault {
+        ToolFault::of_read(fault)
+    }
 }
 
 impl From<Refusal> for ToolFault {
@@ -149,10 +179,7 @@ impl From<Refusal> for ToolFault {
     ghost from_gives = { λ r f. f ≡ script_as_tool_fault r };
 
     fn from(refusal: Refusal) -> ToolFault {
-        match refusal {
-            Refusal::NotJson(_) => ToolFault::NotJson,
-            Refusal::Tree(refusal) => ToolFault::from(refusal.fault()),
-        }
+        ToolFault::of_refusal(refusal)
     }
 }
 
@@ -172,10 +199,6 @@ impl From<RaceFault> for ToolFault {
     ghost from_gives = { λ e f. f ≡ race_as_tool_fault e };
 
     fn from(fault: RaceFault) -> ToolFault {
-        match fault {
-            RaceFault::TooManyMoves => ToolFault::TooManyMoves,
-            RaceFault::OutOfMemory => ToolFault::OutOfMemory,
-            RaceFault::NoThread => ToolFault::NoThread,
-        }
+        ToolFault::of_race(fault)
     }
 }
