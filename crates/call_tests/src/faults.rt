@@ -72,7 +72,7 @@ fn lines<T: fmt::Display>(alloc: Global, errors: &[T]) -> Result<String, AllocEr
     Ok(lines)
 }
 
-/// Fails, and says what is expected, where errors print other lines.
+/// Fails, and shows what is expected, if errors print other lines.
 fn print<T: fmt::Display>(alloc: Global, errors: &[T], text: &'static str) -> Result<(), Fail> {
     expect(lines(alloc, errors)?.as_str() == text, text)
 }

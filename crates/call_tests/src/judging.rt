@@ -27,17 +27,12 @@ fn write(agent: u32) -> Event {
     access(agent, Place { block: 0, byte: 8 }, 4, true)
 }
 
-/// An agent reads so many bytes of a block from a byte on.
-fn read(block: u32, byte: u32, len: u32) -> Event {
-    access(15, Place { block, byte }, len, false)
-}
-
 /// An event in the critical section of the waiters of a word, as a notify has.
-fn section(byte: u32) -> Event {
+fn section(agent: u32, waiters: Place) -> Event {
     Event {
-        agent: 0,
+        agent,
         access: None,
-        waiters: Some(Place { block: 0, byte }),
+        waiters: Some(waiters),
     }
 }
 
@@ -60,7 +55,7 @@ fn race(first: usize, second: usize) -> Race {
 }
 
 /// Whether a verdict has the first two of six data races, and how many are left.
-fn tells_two_of_six(verdict: &Verdict) -> bool {
+fn has_two_of_six(verdict: &Verdict) -> bool {
     verdict.races.as_slice() == [race(0, 1), race(0, 2)].as_slice()
         && verdict.rest == 4
         && verdict.data_races == 6
@@ -73,7 +68,7 @@ fn races_beyond_the_most_are_counted(rt: HostRuntime) -> Result<(), Fail> {
     let has_events = trace.events() == [write(0), write(1), write(2), write(3)].as_slice();
     expect(has_events, "the trace has other events")?;
     let verdict = judge(rt.alloc(), &trace, 2)?;
-    expect(tells_two_of_six(&verdict), "another verdict")
+    expect(has_two_of_six(&verdict), "another verdict")
 }
 
 /// Whether a trace without events has no race.
@@ -94,18 +89,51 @@ fn fault_of(alloc: Global, event: Event) -> Option<TraceFault> {
     trace.push(event).err()
 }
 
+const NO_AGENT: Option<TraceFault> = Some(TraceFault::NoAgent);
+
+const OUT_OF_RANGE: Option<TraceFault> = Some(TraceFault::OutOfRange);
+
+/// What an event shows; its agent, its block and its first byte; how many bytes are read or written, if it is an access;
+/// whether it writes; and why it is refused, if it is.
+const EVENTS: [(&str, u32, u32, u32, Option<u32>, bool, Option<TraceFault>); 7] = [
+    ("the last agent", 15, 0, 8, Some(4), true, None),
+    ("the longest access", 15, 3, 0, Some(65_536), false, None),
+    ("the last place of waiters", 0, 0, 65_535, None, false, None),
+    ("an agent too many", 16, 0, 8, Some(4), true, NO_AGENT),
+    (
+        "an access beyond its block",
+        15,
+        3,
+        1,
+        Some(65_536),
+        false,
+        OUT_OF_RANGE,
+    ),
+    ("a block too many", 15, 4, 0, Some(1), false, OUT_OF_RANGE),
+    (
+        "waiters beyond their block",
+        0,
+        0,
+        65_536,
+        None,
+        false,
+        OUT_OF_RANGE,
+    ),
+];
+
+/// An access of so many bytes; or an event in the critical section of waiters, if there is no length.
+fn event(agent: u32, place: Place, len: Option<u32>, writes: bool) -> Event {
+    match len {
+        Some(len) => access(agent, place, len, writes),
+        None => section(agent, place),
+    }
+}
+
 #[test]
 fn events_beyond_the_limits_are_refused(rt: HostRuntime) -> Result<(), Fail> {
-    let alloc = rt.alloc();
-    let are_taken = fault_of(alloc, write(15)).is_none()
-        && fault_of(alloc, read(3, 0, 65_536)).is_none()
-        && fault_of(alloc, section(65_535)).is_none();
-    expect(are_taken, "an event at a limit is refused")?;
-    let no_agent = fault_of(alloc, write(16)) == Some(TraceFault::NoAgent);
-    expect(no_agent, "an agent too many")?;
-    let out = Some(TraceFault::OutOfRange);
-    let are_refused = fault_of(alloc, read(3, 1, 65_536)) == out
-        && fault_of(alloc, read(4, 0, 1)) == out
-        && fault_of(alloc, section(65_536)) == out;
-    expect(are_refused, "a place beyond its block, or a block too many")
+    for &(shows, agent, block, byte, len, writes, fault) in &EVENTS {
+        let event = event(agent, Place { block, byte }, len, writes);
+        expect(fault_of(rt.alloc(), event) == fault, shows)?;
+    }
+    Ok(())
 }

@@ -1,7 +1,7 @@
 //! Plans that are made or refused, and the parts of one.
 
 use crate::expecting::expect;
-use crate::run::{notify, plan, plan_or_fault, wait, whole};
+use crate::run::{notify, plan, wait, whole};
 use sab_block::{Access, Kind};
 use sab_sim::{Call, Plan, PlanFault, PlanView, Script};
 use std::alloc::{AllocError, Global};
@@ -12,122 +12,216 @@ const LOAD: Call = Call::Access {
     access: Access::Load { index: 0 },
 };
 
-/// What parts show: the lengths of blocks, the block and the block's length of views, agents, and why there is no plan.
-type Parts = (
-    &'static str,
-    &'static [u32],
-    &'static [(u32, u32)],
-    &'static [(bool, &'static [Call])],
-    Option<PlanFault>,
-);
+/// The parts of a plan.
+#[derive(Clone, Copy)]
+struct Parts {
+    /// How many blocks there are, how long the last one is, and how long each other one is.
+    blocks: usize,
+    last: u32,
+    others: u32,
+    /// How many views there are, and of which kind. Each is of a whole block of this length.
+    views: usize,
+    kind: Kind,
+    block: u32,
+    block_len: u32,
+    /// How many agents there are, whether they can block, and how many calls each has.
+    agents: usize,
+    can_block: bool,
+    calls: usize,
+}
 
-const PARTS: [Parts; 9] = [
-    ("the longest blocks", &[65_536; 4], &[], &[], None),
+/// One block of four bytes.
+const WORD: Parts = Parts {
+    blocks: 1,
+    last: 4,
+    others: 4,
+    views: 0,
+    kind: Kind::Int32,
+    block: 0,
+    block_len: 4,
+    agents: 0,
+    can_block: true,
+    calls: 0,
+};
+
+/// As many views, agents and calls as there can be.
+const FULL: Parts = Parts {
+    views: 64,
+    agents: 16,
+    calls: 1_000,
+    ..WORD
+};
+
+/// One block of no bytes, and no agent.
+const NOTHING: Parts = Parts { last: 0, ..WORD };
+
+/// An agent that has no calls, on one block of no bytes.
+const IDLE: Parts = Parts {
+    agents: 1,
+    ..NOTHING
+};
+
+/// An agent that has one call, on a view of one block.
+const ONE_CALL: Parts = Parts {
+    views: 1,
+    agents: 1,
+    calls: 1,
+    ..WORD
+};
+
+const TOO_MANY: Option<PlanFault> = Some(PlanFault::TooMany);
+
+const NO_BLOCK: Option<PlanFault> = Some(PlanFault::NoBlock);
+
+const NO_VIEW: Option<PlanFault> = Some(PlanFault::NoView);
+
+/// What parts show, the parts, and why there is no plan of them.
+const PARTS: [(&str, Parts, Option<PlanFault>); 12] = [
+    (
+        "the longest blocks",
+        Parts {
+            blocks: 4,
+            last: 65_536,
+            others: 65_536,
+            ..WORD
+        },
+        None,
+    ),
     (
         "too long a block",
-        &[65_537],
-        &[],
-        &[],
-        Some(PlanFault::TooMany),
+        Parts {
+            last: 65_537,
+            ..WORD
+        },
+        TOO_MANY,
     ),
     (
         "too long a last block",
-        &[4, 4, 4, 65_537],
-        &[],
-        &[],
-        Some(PlanFault::TooMany),
+        Parts {
+            blocks: 4,
+            last: 65_537,
+            ..WORD
+        },
+        TOO_MANY,
     ),
     (
         "a block of the greatest number",
-        &[u32::MAX],
-        &[],
-        &[],
-        Some(PlanFault::TooMany),
+        Parts {
+            last: u32::MAX,
+            ..WORD
+        },
+        TOO_MANY,
     ),
-    ("five blocks", &[0; 5], &[], &[], Some(PlanFault::TooMany)),
-    ("no block", &[], &[], &[], Some(PlanFault::NoBlock)),
+    (
+        "five blocks",
+        Parts {
+            blocks: 5,
+            last: 0,
+            others: 0,
+            ..WORD
+        },
+        TOO_MANY,
+    ),
+    ("no block", Parts { blocks: 0, ..WORD }, NO_BLOCK),
     (
         "a view on no block",
-        &[4],
-        &[(1, 4)],
-        &[],
-        Some(PlanFault::NoBlock),
+        Parts {
+            views: 1,
+            block: 1,
+            ..WORD
+        },
+        NO_BLOCK,
     ),
     (
         "a view of another length",
-        &[4],
-        &[(0, 8)],
-        &[],
-        Some(PlanFault::NoView),
+        Parts {
+            views: 1,
+            block_len: 8,
+            ..WORD
+        },
+        NO_VIEW,
     ),
     (
         "a call on no view",
-        &[4],
-        &[],
-        &[(true, &[LOAD])],
-        Some(PlanFault::NoView),
+        Parts {
+            views: 0,
+            ..ONE_CALL
+        },
+        NO_VIEW,
+    ),
+    ("one view too many", Parts { views: 65, ..FULL }, TOO_MANY),
+    ("one agent too many", Parts { agents: 17, ..FULL }, TOO_MANY),
+    (
+        "one call too many",
+        Parts {
+            calls: 1_001,
+            ..FULL
+        },
+        TOO_MANY,
     ),
 ];
 
-/// Int32 views, each of a whole block of this length.
-fn words(alloc: Global, blocks: &[(u32, u32)]) -> Result<Vec<PlanView>, Fail> {
-    let mut views = Vec::new(alloc);
-    for &(block, block_len) in blocks {
-        views.push(whole(Kind::Int32, block, block_len)?)?;
+/// The lengths of the blocks.
+fn lens(alloc: Global, parts: &Parts) -> Result<Vec<u32>, AllocError> {
+    let mut lens = vec![in alloc; parts.others; parts.blocks]?;
+    if let Some(last) = lens.last_mut() {
+        *last = parts.last;
     }
-    Ok(views)
+    Ok(lens)
 }
 
-/// Why there is no plan of these parts.
-fn fault_of(alloc: Global, (_, lens, blocks, agents, _): Parts) -> Result<Option<PlanFault>, Fail> {
-    let views = words(alloc, blocks)?;
-    Ok(plan_or_fault(alloc, lens, &views, agents)?.err())
+/// The views.
+fn views(alloc: Global, parts: &Parts) -> Result<Vec<PlanView>, Fail> {
+    let view = whole(parts.kind, parts.block, parts.block_len)?;
+    Ok(vec![in alloc; view; parts.views]?)
 }
 
-#[test]
-fn parts_that_do_not_fit_are_refused(rt: HostRuntime) -> Result<(), Fail> {
-    for parts in &PARTS {
-        expect(fault_of(rt.alloc(), *parts)? == parts.4, parts.0)?;
-    }
-    Ok(())
-}
-
-/// So many agents of so many calls.
-fn scripts(alloc: Global, agents: usize, calls: usize) -> Result<Vec<Script>, AllocError> {
+/// The agents, of which each makes the same call so often.
+fn scripts(alloc: Global, parts: &Parts, call: Call) -> Result<Vec<Script>, AllocError> {
     let mut scripts = Vec::new(alloc);
-    for _ in 0..agents {
-        let calls = vec![in alloc; LOAD; calls]?;
+    for _ in 0..parts.agents {
         scripts.push(Script {
-            can_block: true,
-            calls,
+            can_block: parts.can_block,
+            calls: vec![in alloc; call; parts.calls]?,
         })?;
     }
     Ok(scripts)
 }
 
-/// A plan of so many views, and of so many agents of so many calls, if there can be one.
-fn sized(
-    alloc: Global,
-    views: usize,
-    agents: usize,
-    calls: usize,
-) -> Result<Result<Plan, PlanFault>, Fail> {
-    let view = whole(Kind::Int32, 0, 4)?;
-    let scripts = scripts(alloc, agents, calls)?;
-    let views = vec![in alloc; view; views]?;
-    Ok(Plan::new(Vec::from_array(alloc, [4])?, views, scripts))
+/// A plan of these parts, or why there is none.
+fn made(alloc: Global, parts: &Parts, call: Call) -> Result<Result<Plan, PlanFault>, Fail> {
+    let scripts = scripts(alloc, parts, call)?;
+    let views = views(alloc, parts)?;
+    Ok(Plan::new(lens(alloc, parts)?, views, scripts))
 }
 
-/// One view too many, one agent, and one call.
-const TOO_MANY: [(usize, usize, usize); 3] = [(65, 16, 1_000), (64, 17, 1_000), (64, 16, 1_001)];
+/// A plan of these parts that is expected to be one.
+fn plan_with(alloc: Global, parts: &Parts, call: Call) -> Result<Plan, Fail> {
+    match made(alloc, parts, call)? {
+        Ok(plan) => Ok(plan),
+        Err(_) => Err(Fail::new("no plan")),
+    }
+}
 
 #[test]
-fn one_more_than_a_limit_is_too_many(rt: HostRuntime) -> Result<(), Fail> {
-    for &(views, count, calls) in &TOO_MANY {
-        let fault = sized(rt.alloc(), views, count, calls)?.err();
-        expect(fault == Some(PlanFault::TooMany), "too many aren't refused")?;
+fn parts_that_do_not_fit_are_refused(rt: HostRuntime) -> Result<(), Fail> {
+    for (shows, parts, fault) in &PARTS {
+        let found = made(rt.alloc(), parts, LOAD)?.err();
+        expect(found == *fault, *shows)?;
     }
     Ok(())
+}
+
+/// Whether a plan and its copy are equal, and another plan differs.
+fn is_copied(alloc: Global, plan: &Plan, other: &Plan) -> Result<bool, AllocError> {
+    Ok(plan.copy(alloc)? == *plan && plan != other && other != plan)
+}
+
+/// The same of plans of these parts, whose agents make the same call.
+fn differs(alloc: Global, one: &Parts, other: &Parts, call: Call) -> Result<bool, Fail> {
+    let one = plan_with(alloc, one, call)?;
+    let other = plan_with(alloc, other, call)?;
+    Ok(is_copied(alloc, &one, &other)?)
 }
 
 /// Whether a plan has 64 views and 16 agents of 1,000 calls.
@@ -140,39 +234,80 @@ fn is_full(plan: &Plan) -> bool {
     plan.scripts().len() == 16 && plan.views().len() == 64
 }
 
-/// Whether a plan and its copy are equal, and another plan differs.
-fn is_copied(alloc: Global, plan: &Plan, other: &Plan) -> Result<bool, AllocError> {
-    Ok(plan.copy(alloc)? == *plan && plan != other)
+/// The copy of a plan that has as much as there can be.
+fn full_copy(alloc: Global) -> Result<Plan, Fail> {
+    let full = plan_with(alloc, &FULL, LOAD)?;
+    Ok(full.copy(alloc)?)
 }
 
-/// A plan of a block of no bytes, and of these agents.
-fn of_nothing(alloc: Global, agents: &[(bool, &[Call])]) -> Result<Plan, Fail> {
-    plan(alloc, &[0], &[], agents)
-}
+/// The parts of plans that are copied, and each time those of another plan.
+const COPIED: [(Parts, Parts); 3] = [(NOTHING, FULL), (FULL, IDLE), (IDLE, NOTHING)];
 
 #[test]
 fn a_plan_at_its_limits_and_one_of_nothing_are_copied(rt: HostRuntime) -> Result<(), Fail> {
     let alloc = rt.alloc();
-    let full = sized(alloc, 64, 16, 1_000)?.ok().ok_or("no plan")?;
-    expect(is_full(&full.copy(alloc)?), "another size")?;
-    let empty = of_nothing(alloc, &[])?;
-    let is_empty_copied = is_copied(alloc, &empty, &full)?;
-    let idle = of_nothing(alloc, &[(true, &[])])?;
-    let are_copied = is_copied(alloc, &full, &idle)? && is_copied(alloc, &idle, &empty)?;
-    expect(is_empty_copied && are_copied, "another copy")
+    for (one, other) in &COPIED {
+        expect(differs(alloc, one, other, LOAD)?, "another copy")?;
+    }
+    expect(is_full(&full_copy(alloc)?), "another size")
 }
 
-/// Whether a plan has these parts, and of its two agents the first can block.
-fn has_parts(plan: &Plan, lens: &[u32], views: &[PlanView], calls: &[Call]) -> bool {
+/// The parts of plans that each differ in one thing from a plan of an agent that waits once at a word.
+const OTHERS: [Parts; 4] = [
+    Parts {
+        blocks: 2,
+        ..ONE_CALL
+    },
+    Parts {
+        kind: Kind::Uint8,
+        ..ONE_CALL
+    },
+    Parts {
+        can_block: false,
+        ..ONE_CALL
+    },
+    Parts {
+        calls: 0,
+        ..ONE_CALL
+    },
+];
+
+#[test]
+fn plans_of_other_parts_differ(rt: HostRuntime) -> Result<(), Fail> {
+    let waits = wait(0, 0, None);
+    for other in &OTHERS {
+        let is_other = differs(rt.alloc(), &ONE_CALL, other, waits)?;
+        expect(is_other, "another plan is the same")?;
+    }
+    Ok(())
+}
+
+/// The calls of both agents of a plan.
+fn wait_and_notify() -> [Call; 2] {
+    [wait(0, 0, None), notify(0, 0, Some(1))]
+}
+
+/// A plan of two agents on a word, of which the first can block.
+fn two_agents(alloc: Global) -> Result<Plan, Fail> {
+    let calls = wait_and_notify();
+    let views = [whole(Kind::Int32, 0, 4)?];
+    plan(alloc, &[4], &views, &[(true, &calls), (false, &calls)])
+}
+
+/// Whether an agent can block or not as is said, and has those calls.
+fn is_script(script: &Script, can_block: bool) -> bool {
+    script.can_block == can_block && script.calls.as_slice() == wait_and_notify().as_slice()
+}
+
+/// Whether a plan has the parts of the plan of two agents.
+fn has_parts(plan: &Plan, view: PlanView) -> bool {
     let [first, second] = plan.scripts() else {
         return false;
     };
-    plan.block_lens() == lens
-        && plan.views() == views
-        && first.calls.as_slice() == calls
-        && second.calls.as_slice() == calls
-        && first.can_block
-        && !second.can_block
+    plan.block_lens() == [4].as_slice()
+        && plan.views() == [view].as_slice()
+        && is_script(first, true)
+        && is_script(second, false)
 }
 
 /// Whether the first agent's script and its copy are equal.
@@ -185,43 +320,10 @@ fn is_script_copied(alloc: Global, plan: &Plan) -> Result<bool, AllocError> {
 
 #[test]
 fn a_plan_and_its_copy_have_its_parts(rt: HostRuntime) -> Result<(), Fail> {
-    let alloc = rt.alloc();
-    let views = [whole(Kind::Int32, 0, 4)?];
-    let calls = [wait(0, 0, None), notify(0, 0, Some(1))];
-    let made = plan(alloc, &[4], &views, &[(true, &calls), (false, &calls)])?;
-    let copy = made.copy(alloc)?;
-    let have_parts = has_parts(&made, &[4], &views, &calls)
-        && has_parts(&copy, &[4], &views, &calls);
-    let is_copied = copy == made && is_script_copied(alloc, &made)?;
+    let view = whole(Kind::Int32, 0, 4)?;
+    let made = two_agents(rt.alloc())?;
+    let copy = made.copy(rt.alloc())?;
+    let is_copied = copy == made && is_script_copied(rt.alloc(), &made)?;
+    let have_parts = has_parts(&made, view) && has_parts(&copy, view);
     expect(have_parts && is_copied, "other parts")
-}
-
-/// Whether a plan of a word at which its agent waits differs from the plan of these parts.
-fn differs(
-    alloc: Global,
-    plan_of_a_wait: &Plan,
-    lens: &[u32],
-    kind: Kind,
-    agent: (bool, &[Call]),
-) -> Result<bool, Fail> {
-    let other = plan(alloc, lens, &[whole(kind, 0, 4)?], &[agent])?;
-    Ok(other != *plan_of_a_wait && *plan_of_a_wait != other)
-}
-
-#[test]
-fn plans_of_other_parts_differ(rt: HostRuntime) -> Result<(), Fail> {
-    let views = [whole(Kind::Int32, 0, 4)?];
-    let calls = [wait(0, 0, None)];
-    let made = plan(rt.alloc(), &[4], &views, &[(true, &calls)])?;
-    let others: [(&[u32], Kind, (bool, &[Call])); 4] = [
-        (&[4, 4], Kind::Int32, (true, &calls)),
-        (&[4], Kind::Uint8, (true, &calls)),
-        (&[4], Kind::Int32, (false, &calls)),
-        (&[4], Kind::Int32, (true, &[])),
-    ];
-    for (lens, kind, agent) in others {
-        let is_other = differs(rt.alloc(), &made, lens, kind, agent)?;
-        expect(is_other, "another plan is the same")?;
-    }
-    Ok(())
 }

@@ -18,7 +18,7 @@ pub fn shows<T: fmt::Debug>(alloc: Global, value: &T, text: &str) -> Result<bool
     Ok(shown.as_str() == text)
 }
 
-/// Fails, and says what is expected, where a value shows something else or has another copy.
+/// Fails, and shows what is expected, if a value shows something else or has another copy.
 fn expect_shown<T: fmt::Debug + Clone + PartialEq + Drop>(
     alloc: Global,
     value: &T,

@@ -47,7 +47,7 @@ fn elements_are_little_endian(rt: HostRuntime) -> Result<(), Fail> {
 /// What accesses show; a script of one agent that makes them; and what each returns, and then the bytes.
 const ROWS: [(&str, &str, &str); 8] = [
     (
-        "a store answers the operand unwrapped",
+        "a store returns the operand unwrapped",
         r#"{"bytes":1,"views":[{"name":"a","kind":"Uint8","offset":0,"length":null}],
   "agents":[{"block":true,"calls":[["store","a",0,300],["load","a",0]]}],"schedule":[]}"#,
         "0 0 0 act 300\n1 0 0 act 44\nblock 0 2c\n",
@@ -93,7 +93,7 @@ const ROWS: [(&str, &str, &str); 8] = [
 4 0 0 act 18446744073709551615n\n5 0 0 act -1n\n6 0 0 act 18446744073709551615n\nblock 0 ffffffffffffffff\n",
     ),
     (
-        "each operation answers the old element",
+        "each operation returns the old element",
         r#"{"bytes":2,"views":[{"name":"a","kind":"Uint16","offset":0,"length":null}],
   "agents":[{"block":true,"calls":[
     ["store","a",0,4660],["and","a",0,4080],["or","a",0,1],["xor","a",0,65535],["sub","a",0,-1],
@@ -112,7 +112,7 @@ const ROWS: [(&str, &str, &str); 8] = [
 ];
 
 /// What a call returns that is an access through a view of a block.
-fn answer_of(block: &mut Block, plan: &Plan, call: Call) -> Option<Answer> {
+fn result_of(block: &mut Block, plan: &Plan, call: Call) -> Option<Answer> {
     let Call::Access { view, access } = call else {
         return None;
     };
@@ -127,35 +127,35 @@ fn answer_of(block: &mut Block, plan: &Plan, call: Call) -> Option<Answer> {
 }
 
 /// What the accesses of a plan's first agent return, as they are made one by one on a block.
-fn answers(alloc: Global, block: &mut Block, plan: &Plan) -> Result<Vec<Entry>, Fail> {
+fn results(alloc: Global, block: &mut Block, plan: &Plan) -> Result<Vec<Entry>, Fail> {
     let script = plan.scripts().first().ok_or("no agent")?;
     let mut journal = Vec::new(alloc);
     for call in &script.calls {
-        let answer = answer_of(block, plan, *call).ok_or("a call that can't be made")?;
+        let returned = result_of(block, plan, *call).ok_or("a call that can't be made")?;
         journal.push(Entry {
             agent: 0,
             call: 0,
-            what: What::Acted(answer),
+            what: What::Acted(returned),
         })?;
     }
     Ok(journal)
 }
 
-/// Whether the accesses of a script, made on a fresh block, have these answers, and leave these bytes.
-fn are_answered(alloc: Global, script: &str, text: &str) -> Result<bool, Fail> {
+/// Whether the accesses of a script, made on a fresh block, have these results, and leave these bytes.
+fn are_made(alloc: Global, script: &str, text: &str) -> Result<bool, Fail> {
     let plan = plan_of(alloc, script)?;
     let len = plan.block_lens().first().copied().unwrap_or(0);
     let mut block = Block::new(alloc, len)?;
     let mut report = empty(alloc);
-    report.journal = answers(alloc, &mut block, &plan)?;
+    report.journal = results(alloc, &mut block, &plan)?;
     report.blocks.push(block.into_bytes())?;
     Ok(is_text(alloc, &report, text)?)
 }
 
 #[test]
-fn accesses_answer_and_write_in_order(rt: HostRuntime) -> Result<(), Fail> {
+fn accesses_return_and_write_in_order(rt: HostRuntime) -> Result<(), Fail> {
     for &(shows, script, text) in &ROWS {
-        expect(are_answered(rt.alloc(), script, text)?, shows)?;
+        expect(are_made(rt.alloc(), script, text)?, shows)?;
     }
     Ok(())
 }

@@ -15,7 +15,7 @@ const NUMBERS: [(i64, bool); 4] = [
     (-9_007_199_254_740_992, false),
 ];
 
-/// Whether a Number can be had exactly where it is safe, and is itself then.
+/// Whether a Number can be had exactly if it is safe, and is itself then.
 fn is_number(v: i64, safe: bool) -> bool {
     match Operand::number(v) {
         Some(operand) => safe && operand.whole() == i128::from(v),
@@ -53,15 +53,15 @@ const SHOWN: [(bool, i128, &str); 6] = [
 fn is_shown(alloc: Global, big: bool, whole: i128, text: &str) -> Result<bool, AllocError> {
     match operand(big, whole) {
         Some(operand) => {
-            let is_told = operand.is_big() == big && operand.whole() == whole;
-            Ok(is_told && shows(alloc, &operand, text)?)
+            let has_parts = operand.is_big() == big && operand.whole() == whole;
+            Ok(has_parts && shows(alloc, &operand, text)?)
         }
         None => Ok(false),
     }
 }
 
 #[test]
-fn an_operand_is_told_and_shows_its_whole_number(rt: HostRuntime) -> Result<(), Fail> {
+fn an_operand_has_its_parts_and_shows_its_whole_number(rt: HostRuntime) -> Result<(), Fail> {
     for &(big, whole, text) in &SHOWN {
         expect(is_shown(rt.alloc(), big, whole, text)?, text)?;
     }

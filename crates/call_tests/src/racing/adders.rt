@@ -61,11 +61,11 @@ pub fn race_watched<R: Threads + Wait + Sync, H: Hold + 'static>(
     let report = way.race(rt, alloc, plan, 0, Arc::try_clone(&watch)?)?;
     expect(has_added(&report, counts), "another sum")?;
     let moves = moves_of(alloc, counts, 0)?;
-    expect(watch.saw(&moves), "a move that the gate wasn't told of")?;
+    expect(watch.saw(&moves), "a move that wasn't reported to the gate")?;
     Ok((report, watch))
 }
 
-/// The same, and gives what held the agents back. It fails where another than the caller has the gate.
+/// The same, and gives what held the agents back. It fails if another than the caller has the gate.
 pub fn race_adders<R: Threads + Wait + Sync, H: Hold + 'static>(
     rt: &R,
     alloc: Global,

@@ -2,7 +2,7 @@
 
 use std::sync::atomic::{AtomicBool, AtomicU32, Ordering};
 
-/// How often a gate was told of moves of each of sixteen agents, and whether it was told of them in order.
+/// How often moves of each of sixteen agents were reported to a gate, and whether that was in order.
 #[derive(Drop)]
 pub struct Calls {
     counts: [AtomicU32; 16],

@@ -105,7 +105,7 @@ fn run<R: Threads + Wait + Sync>(
 /// Runs a script into writers that fail at their first write, at their second and so on, until one takes the whole
 /// report.
 ///
-/// Answers how many of them failed, where each of these was told.
+/// Returns how many of them failed, if each failure was reported.
 fn failures_of<R: Threads + Wait + Sync>(
     rt: &R,
     alloc: Global,
@@ -121,19 +121,19 @@ fn failures_of<R: Threads + Wait + Sync>(
             writes,
             taken,
         };
-        let answer = run(rt, alloc, script, share, &mut taker);
-        if answer.is_ok() && taker.taken == report {
+        let returned = run(rt, alloc, script, share, &mut taker);
+        if returned.is_ok() && taker.taken == report {
             return Ok(writes);
         }
-        if answer != Err(ToolFault::WriteFailed) {
-            return Err(Fail::new("another answer"));
+        if returned != Err(ToolFault::WriteFailed) {
+            return Err(Fail::new("another result"));
         }
     }
     Err(Fail::new("no writer took it"))
 }
 
 /// Whether a write that fails is reported, whichever it is, a short report is one write, and a slow writer gets it all.
-fn is_told<R: Threads + Wait + Sync>(
+fn is_reported<R: Threads + Wait + Sync>(
     rt: &R,
     alloc: Global,
     script: &str,
@@ -153,15 +153,15 @@ const RUNS: [(&str, Option<Share>); 4] = [
 ];
 
 #[test]
-fn a_write_that_fails_is_told(rt: HostRuntime) -> Result<(), Fail> {
+fn a_write_that_fails_is_reported(rt: HostRuntime) -> Result<(), Fail> {
     for &(script, share) in &RUNS {
-        expect(is_told(&rt, rt.alloc(), script, share)?, script)?;
+        expect(is_reported(&rt, rt.alloc(), script, share)?, script)?;
     }
     Ok(())
 }
 
 #[test]
-fn a_later_write_of_a_long_report_that_fails_is_told(rt: HostRuntime) -> Result<(), Fail> {
+fn a_later_write_of_a_long_report_that_fails_is_reported(rt: HostRuntime) -> Result<(), Fail> {
     let long = r#"{"blocks":[65536,65536],"views":[],"agents":[],"schedule":[]}"#;
     let failures = failures_of(&rt, rt.alloc(), long, None, usize::MAX)?;
     expect(failures >= 2, "fewer writes")
@@ -179,14 +179,14 @@ fn unwritten(alloc: Global, report: &Report) -> Result<(), ToolFault> {
 }
 
 #[test]
-fn a_report_that_no_write_takes_is_told(rt: HostRuntime) -> Result<(), Fail> {
+fn a_report_that_no_write_takes_is_reported(rt: HostRuntime) -> Result<(), Fail> {
     let report = replayed(rt.alloc(), STORE_AND_LOAD)?;
-    let answer = unwritten(rt.alloc(), &report);
-    expect(answer == Err(ToolFault::WriteFailed), "another answer")
+    let returned = unwritten(rt.alloc(), &report);
+    expect(returned == Err(ToolFault::WriteFailed), "another result")
 }
 
 /// Whether a run into a writer that takes no byte is reported to have failed.
-fn is_told_of_no_byte<R: Threads + Wait + Sync>(
+fn is_reported_of_no_byte<R: Threads + Wait + Sync>(
     rt: &R,
     alloc: Global,
     script: &str,
@@ -205,8 +205,8 @@ fn is_told_of_no_byte<R: Threads + Wait + Sync>(
 fn a_writer_that_takes_no_byte_fails(rt: HostRuntime) -> Result<(), Fail> {
     for share in [None, Some(Share::Lock), Some(Share::Ring)] {
         for script in [SHARED_WORD, TWO_BLOCKS] {
-            let is_told = is_told_of_no_byte(&rt, rt.alloc(), script, share);
-            expect(is_told, script)?;
+            let is_reported = is_reported_of_no_byte(&rt, rt.alloc(), script, share);
+            expect(is_reported, script)?;
         }
     }
     Ok(())
@@ -229,7 +229,7 @@ fn given(
 }
 
 /// Whether a read that fails is reported, whichever it is.
-fn is_told_of_reads(alloc: Global, script: &str, fault: io::ErrorKind) -> bool {
+fn is_reported_of_reads(alloc: Global, script: &str, fault: io::ErrorKind) -> bool {
     for reads in 0..=script.len() {
         if given(alloc, script, reads, fault).err() != Some(ToolFault::ReadFailed) {
             return false;
@@ -239,10 +239,10 @@ fn is_told_of_reads(alloc: Global, script: &str, fault: io::ErrorKind) -> bool {
 }
 
 #[test]
-fn a_read_that_fails_is_told(rt: HostRuntime) -> Result<(), Fail> {
+fn a_read_that_fails_is_reported(rt: HostRuntime) -> Result<(), Fail> {
     for fault in [io::ErrorKind::BrokenPipe, io::ErrorKind::Interrupted] {
         for script in [SHARED_WORD, TWO_BLOCKS] {
-            expect(is_told_of_reads(rt.alloc(), script, fault), script)?;
+            expect(is_reported_of_reads(rt.alloc(), script, fault), script)?;
         }
     }
     Ok(())
@@ -288,6 +288,6 @@ fn an_input_of_spaces_is_no_script(rt: HostRuntime) -> Result<(), Fail> {
     let alloc = rt.alloc();
     let spaces = read_input(alloc, &mut Spaces::new(MAX_INPUT))?;
     let mut text = Vec::new(alloc);
-    let answer = replay_bytes(alloc, spaces.as_slice(), &mut text);
-    expect(answer == Err(ToolFault::NotJson), "another answer")
+    let returned = replay_bytes(alloc, spaces.as_slice(), &mut text);
+    expect(returned == Err(ToolFault::NotJson), "another result")
 }

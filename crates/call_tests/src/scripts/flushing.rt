@@ -53,8 +53,8 @@ impl Basin {
 
     /// Whether just this text was written and flushed, with this outcome; if flushes fail, whether it was written, and
     /// the fault is WriteFailed.
-    fn has(&self, text: &str, answer: Result<Outcome, Failure>, outcome: Outcome) -> bool {
-        let is_reported = match answer {
+    fn has(&self, text: &str, returned: Result<Outcome, Failure>, outcome: Outcome) -> bool {
+        let is_reported = match returned {
             Ok(found) => found == outcome && self.is_flushed,
             Err(failure) => failure.fault == ToolFault::WriteFailed && self.is_stuck,
         };
@@ -129,8 +129,8 @@ fn is_done(
     is_stuck: bool,
 ) -> bool {
     let mut output = Basin::new(alloc, is_stuck);
-    let answer = run(alloc, job, false, &mut script.as_bytes(), &mut output);
-    output.has(text, answer, outcome)
+    let returned = run(alloc, job, false, &mut script.as_bytes(), &mut output);
+    output.has(text, returned, outcome)
 }
 
 #[test]
@@ -170,8 +170,8 @@ fn is_raced<R: AllocGlobal + Threads + Wait + Sync + RandomSource>(
         finish,
     };
     let mut output = Basin::new(rt.alloc(), is_stuck);
-    let answer = run_race(rt, race, false, &mut STORE_AND_LOAD.as_bytes(), &mut output);
-    output.has(text, answer, Outcome::Done)
+    let returned = run_race(rt, race, false, &mut STORE_AND_LOAD.as_bytes(), &mut output);
+    output.has(text, returned, Outcome::Done)
 }
 
 #[test]
@@ -200,8 +200,8 @@ const ITS_RACE: &str =
 fn is_judged(alloc: Global, is_stuck: bool) -> bool {
     let mut output = Basin::new(alloc, is_stuck);
     let input = &mut RACY_TRACE.as_bytes();
-    let answer = judge_trace(alloc, VerdictFormat::Plain, input, &mut output);
-    output.has(ITS_RACE, answer, Outcome::Racy)
+    let returned = judge_trace(alloc, VerdictFormat::Plain, input, &mut output);
+    output.has(ITS_RACE, returned, Outcome::Racy)
 }
 
 #[test]

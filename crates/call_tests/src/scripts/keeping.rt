@@ -29,7 +29,7 @@ fn has_moves(report: &Report) -> bool {
     report.journal.len() == report.schedule.len()
 }
 
-/// Whether the script that a race is kept as replays to the report that the race answers, and whether
+/// Whether the script that a race is kept as replays to the report that the race returns, and whether
 /// the report's journal has its moves.
 fn comes_back<R: Threads + Wait + Sync>(
     rt: &R,

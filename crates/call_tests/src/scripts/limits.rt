@@ -89,8 +89,8 @@ fn a_script_at_its_limits_has_its_whole_report(rt: HostRuntime) -> Result<(), Fa
 fn is_too_many(alloc: Global, head: &str, moves: usize) -> Result<bool, AllocError> {
     let script = script(alloc, head, moves)?;
     let mut text = Vec::new(alloc);
-    let answer = replay_bytes(alloc, script.as_bytes(), &mut text);
-    Ok(answer == Err(ToolFault::TooMany) && text.is_empty())
+    let returned = replay_bytes(alloc, script.as_bytes(), &mut text);
+    Ok(returned == Err(ToolFault::TooMany) && text.is_empty())
 }
 
 #[test]

@@ -15,8 +15,8 @@ fn has_too_many_moves<R: Threads + Wait + Sync>(
     share: Share,
 ) -> bool {
     let mut text = Vec::new(alloc);
-    let answer = race_bytes(rt, alloc, script.as_bytes(), share, 1_000, &mut text);
-    answer == Err(ToolFault::TooManyMoves) && text.is_empty()
+    let returned = race_bytes(rt, alloc, script.as_bytes(), share, 1_000, &mut text);
+    returned == Err(ToolFault::TooManyMoves) && text.is_empty()
 }
 
 /// A script of so many agents that wait a thousand times each.
@@ -44,7 +44,7 @@ fn too_many_moves_are_refused(rt: HostRuntime) -> Result<(), Fail> {
 }
 
 /// Whether the race of a script with 1,005,000 moves is reported to its end.
-fn is_told<R: Threads + Wait + Sync>(
+fn is_reported<R: Threads + Wait + Sync>(
     rt: &R,
     alloc: Global,
     script: &str,
@@ -56,11 +56,11 @@ fn is_told<R: Threads + Wait + Sync>(
 }
 
 #[test]
-fn as_many_moves_as_a_thousand_waits_have_are_told(rt: HostRuntime) -> Result<(), Fail> {
+fn as_many_moves_as_a_thousand_waits_have_are_reported(rt: HostRuntime) -> Result<(), Fail> {
     let script = many_waits(rt.alloc(), 1)?;
     for share in [Share::Lock, Share::Ring] {
-        let is_told = is_told(&rt, rt.alloc(), script.as_str(), share)?;
-        expect(is_told, "another end")?;
+        let is_reported = is_reported(&rt, rt.alloc(), script.as_str(), share)?;
+        expect(is_reported, "another end")?;
     }
     Ok(())
 }

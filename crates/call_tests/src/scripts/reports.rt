@@ -18,7 +18,7 @@ fn entry(what: What) -> Entry {
     }
 }
 
-/// What an entry says, and how its line ends.
+/// What an entry is of, and how its line ends.
 const ENTRIES: [(What, &str); 14] = [
     (What::Began, "begin"),
     (What::Acted(Answer::NotEqual), "act not-equal"),
