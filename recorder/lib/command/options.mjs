@@ -26,8 +26,13 @@ function wrapped(text) {
 }
 
 /** @type {(row: ReturnType<typeof rowsOf>[number]) => string} */
-const helpOf = ([name, { help: [argument, text] = [], letter }]) =>
-  `  ${letter === undefined ? "" : `-${letter}, `}--${wordOf(name)} ${argument}`.padEnd(INDENT) + wrapped(text ?? "").join(`\n${" ".repeat(INDENT)}`);
+const helpOf = ([name, { help: [argument, text] = [], letter }]) => {
+  const words = `  ${letter === undefined ? "" : `-${letter}, `}--${wordOf(name)} ${argument}`.trimEnd();
+  const margin = " ".repeat(INDENT);
+  const lines = wrapped(text ?? "").join(`\n${margin}`);
+  // What is said of a long option begins on a line of its own.
+  return words.length < INDENT ? words.padEnd(INDENT) + lines : `${words}\n${margin}${lines}`;
+};
 
 const ROWS = rowsOf("command");
 

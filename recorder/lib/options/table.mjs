@@ -85,8 +85,7 @@ export const OPTIONS = Object.freeze({
     help: ["HOW", "fail: a run of a program that is stuck fails; allow: it is only reported, as for a program that people "
     + "end by Ctrl-C (fail)"] },
   programOutput: { kind: choice(["all", "none"]), of: ALL,
-    help: ["WHAT", "what is shown of what a program prints: that of all runs or of none (that of the first seed and of "
-    + "the kept run)"] },
+    help: ["HOW", "what a program prints is shown of all runs or of none (of the first seed's run and the kept one)"] },
   clock: word(["run", "real"],
     ["WHICH", "the time that clocks tell agents: run (the run's own, which comes from the seed) or real (run)"]),
   maxMoves: rule(whole(1, SCRIPT_LIMITS.moves), SCRIPT_LIMITS.moves,
