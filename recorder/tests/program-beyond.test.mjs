@@ -44,7 +44,7 @@ describe("more than 1,000 calls of a thread", { concurrency: 3 }, () => {
     const spins = `${ADDS}\nwhile (Atomics.load(words, 1) === 0);`;
     const [outcome] = await runsOf(context, filesOf(spins, ""));
     assert.equal(outcome.ending, "bound");
-    assert.match(outcome.detail, /^agent 1 spins at worker\.mjs:3:16: it has made 2000 calls, and goes on/);
+    assert.match(outcome.detail, /^agent 1 \(worker\.mjs, started at main\.mjs:3:1\) spins at worker\.mjs:3:16: it has made 2000 calls, and goes on/);
   });
 
   it("are counted in the summary", async (context) => {

@@ -4,6 +4,7 @@ import assert from "node:assert/strict";
 import { describe, it } from "node:test";
 import { defaultsOf } from "../lib/options/table.mjs";
 import { RemoteJob } from "../lib/seeds/remote-job.mjs";
+import { startJob } from "../lib/seeds/start-job.mjs";
 import { PROGRAMS, urlOf } from "./programs/table.mjs";
 
 /** Programs with messages, timers, waits and ordinary accesses; some of their runs fail. */
@@ -21,7 +22,7 @@ const ORDERS = [[1, 2, 3, 1, 2, 3], [50, 3, 51, 2, 2, 52, 1, 53, 3, 1]];
  */
 async function runsOf(name, seeds) {
   const module = urlOf(PROGRAMS.find((program) => program.name === name) ?? assert.fail(name)).href;
-  const job = new RemoteJob();
+  const job = new RemoteJob(startJob(true));
   /** @type {Map<number, string[]>} */
   const runs = new Map(COMPARED.map((seed) => [seed, []]));
   try {

@@ -7,7 +7,6 @@ import { describe, it } from "node:test";
 import { promisify } from "node:util";
 import { RECORD } from "./helpers/common.mjs";
 import { programOf, runsOf } from "./helpers/whole-programs.mjs";
-import { ORDER, pathOf, runInNode } from "./programs/order.mjs";
 
 const execute = promisify(execFile);
 
@@ -21,20 +20,6 @@ const WORKER = 'import { parentPort, workerData as words } from "node:worker_thr
 const MAIN = `import { Worker } from "node:worker_threads";
 const words = new Int32Array(new SharedArrayBuffer(16));
 const started = () => new Worker(new URL("./worker.mjs", import.meta.url), { workerData: words });\n`;
-
-describe("events come in the order of node's", { concurrency: 2 }, () => {
-  for (const name of ORDER.filter((each) => each.startsWith("wait-async"))) {
-    it(name, async () => {
-      const { lines } = await runInNode(pathOf(name));
-      for (const seed of [1, 4]) {
-        const words = [RECORD, "--program", pathOf(name), "--seeds", String(seed), "--jobs", "1", "--check", "0"];
-        const { stdout, stderr } = await execute(process.execPath, words);
-        assert.deepEqual(stderr.split("\n").slice(0, -1), lines);
-        assert.match(stdout, /^1 run: 1 finished/m);
-      }
-    });
-  }
-});
 
 describe("the line of waiters", () => {
   it("has threads that sleep and promises in the order in which they came", async (context) => {
