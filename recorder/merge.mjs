@@ -5,7 +5,7 @@ import { parseArgs } from "node:util";
 import { formatted } from "./lib/command/formats.mjs";
 import { merged, partsOf } from "./lib/command/merging.mjs";
 import { print } from "./lib/command/print.mjs";
-import { toldOf } from "./lib/command/problems.mjs";
+import { messageOf } from "./lib/command/problems.mjs";
 import { STATUS } from "./lib/command/status.mjs";
 import { missingText } from "./lib/command/summary-text.mjs";
 import { usageWords, versionLine } from "./lib/keeping/program.mjs";
@@ -14,10 +14,10 @@ import { OPTIONS } from "./lib/options/table.mjs";
 
 const USAGE = `usage: ${usageWords("merge")} FILE.. [options]
 
-Joins summaries of the recorder that were told by --format json, as those of shards: what all runs came to is told as if
+Joins summaries of the recorder that --format json printed, as those of shards. The result is the summary as if
 one command line had made them. A file may have several, each on a line of its own; - is standard input.
 
-  --format FORM   how the summary of all is told: plain, or json, which is one line (plain)
+  --format FORM   how the summary of all is printed: plain, or json, which is one line (plain)
   -h, --help      this text
   -V, --version   the version
 
@@ -41,7 +41,7 @@ function wordsOf(words) {
 
 /** @param {unknown} problem */
 function complain(problem) {
-  process.stderr.write(`merge: ${toldOf(problem)}\n`);
+  process.stderr.write(`merge: ${messageOf(problem)}\n`);
 }
 
 /** @param {string[]} words of the command line @returns {Promise<number>} the status */

@@ -15,9 +15,9 @@ export function record(options: RecordOptions): Promise<Outcome>;
 
 /**
  * Runs the agents of a module, or a program, under the schedules of many seeds, by workers that are kept from seed to
- * seed. The outcomes come in the order of the seeds. Runs that fail, and one in `checkEvery` of the others, are told
- * whole, and checked by the simulator. Runs are made only so far ahead of who takes their outcomes; and when no more is
- * asked for, as after a `break`, all workers and processes are ended. Throws `Refused` for options that can't be, and
+ * seed. The outcomes come in the order of the seeds. Runs that fail, and one in `checkEvery` of the others, have all
+ * members, and are checked by the simulator. Runs are made only so far ahead of the loop; and when no more is asked
+ * for, as after a `break`, all workers and processes are ended. Throws `Refused` for options that can't be, and
  * `NoSabsim`; fails with `Refused` for a module that can't be, with a `Difference`, with `LostJob`, and with its
  * signal's reason.
  */
@@ -94,7 +94,7 @@ export interface OfModule {
    * makes itself; else "fail".
    */
   unrecorded?: "fail" | "allow";
-  /** The time that clocks tell agents: the run's own or the machine's; else "run". */
+  /** The time that clocks give agents: the run's own or the machine's; else "run". */
   clock?: "run" | "real";
   /** Fills the buffers before the run, in place of the module's `init`. */
   init?: WithBuffers;
@@ -207,7 +207,7 @@ export interface Outcome {
   sources?: { file: string; text: string | null }[];
   /** Of a program's run: each thread's file and where it was started; of the first one nothing. */
   threads?: string[];
-  /** Which agent moved with each draw, in order; told of the shortest run, and of a program. */
+  /** Which agent moved with each draw, in order; of the shortest run alone, and of a program. */
   row?: number[];
   /** Of a failing run in which a timed wait has ended early: what time must pass for that, and before what. */
   onlyIf?: string;
@@ -283,7 +283,7 @@ export interface Shortened {
   calls: { before: number; after: number };
   /** Why it was ended before all was tried. */
   stopped?: string;
-  /** Why the run is told as it was found. */
+  /** Why the run is returned as it was found. */
   unchanged?: string;
 }
 

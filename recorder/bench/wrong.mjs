@@ -60,7 +60,7 @@ export async function counted(module, { seeds, jobs }, further = {}) {
     told.first ??= seed;
     told.endings.set(ending, (told.endings.get(ending) ?? 0) + 1);
   }
-  const [most] = hiddenWaits(onlyByTime.told());
+  const [most] = hiddenWaits(onlyByTime.data());
   return { ...told, hidden: most?.runs ?? 0 };
 }
 

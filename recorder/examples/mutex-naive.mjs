@@ -2,7 +2,7 @@
 // `unlock` rings the bell.
 //
 // It loses wake-ups. Between an agent's failed compareExchange and its wait the mutex may be unlocked, and the bell is
-// rung while nobody sleeps. Nothing in BELL tells so afterwards, since it is always 0: the agent lies down and may
+// rung while nobody sleeps. Nothing in BELL shows it afterwards, since it is always 0: the agent lies down and may
 // sleep for ever. A wait has to be on a word that the unlock changes, as in mutex-three-state.mjs.
 
 const FREE = 0;

@@ -17,7 +17,7 @@ import { callText, counted, valueText } from "./words.mjs";
 /** @typedef {{ agent?: number, call?: number, what: string, before: string, after: string }} Line of a table */
 
 /** @param {Report} report @param {number} agents how many are shown */
-function toldBy(report, agents) {
+function endOf(report, agents) {
   const standings = report.agents.filter(({ agent, standing }) => agent < agents && standing !== undefined);
   const open = standings.map(({ agent }) => agent);
   const who = open.length === 1 ? `agent ${open[0]} has` : `agents ${open.join(", ")} have`;
@@ -36,7 +36,7 @@ function toldBy(report, agents) {
  * @returns {RunData}
  */
 export function changedData(data, script, report) {
-  return { ...data, ...toldBy(report, data.agents), detail: "", races: [], events: retraced(data, script, report) };
+  return { ...data, ...endOf(report, data.agents), detail: "", races: [], events: retraced(data, script, report) };
 }
 
 /**
@@ -50,7 +50,7 @@ export function scriptData(script, report) {
   return {
     seed: 0, module: "", detail: "", holds: "all", isWhole: true, events: [], places: [], files: [], races: [],
     arrays: [],
-    blocks, agents: agents.length, ...toldBy(report, agents.length),
+    blocks, agents: agents.length, ...endOf(report, agents.length),
     views: views.map((/** @type {any} */ { block = 0, offset, length, ...view }) => {
       return { ...view, block, offset, length: length ?? Math.floor((blocks[block] - offset) / sizeOf(view)) };
     }),
@@ -109,7 +109,7 @@ const wokenText = (woken) => (woken.length === 0 ? "wakes nobody" : `wakes ${wok
 const answerWord = (answer) => (answer === undefined ? "no answer" : valueText(answer));
 
 /**
- * What is different, as the lines of a table. Of a notify that wakes others its answer isn't told too.
+ * What is different, as the lines of a table. The answer of a notify that wakes others isn't listed too.
  * @param {Differences} differences
  * @returns {Line[]}
  */
@@ -151,9 +151,9 @@ export function differenceText({ answers, woken, bytes }) {
     counted(woken.length, "notify wakes other agents", "notifies wake other agents"),
     counted(count, "byte differs at the end", "bytes differ at the end"),
   ];
-  const told = parts.filter((part) => !part.startsWith("0 "));
-  if (told.length === 0) return "Every answer, every wake-up and every byte at the end is the same.";
-  return `${told.join("; ")}.`;
+  const differing = parts.filter((part) => !part.startsWith("0 "));
+  if (differing.length === 0) return "Every answer, every wake-up and every byte at the end is the same.";
+  return `${differing.join("; ")}.`;
 }
 
 /**

@@ -34,7 +34,7 @@
  * @property {boolean} isWhole whether all are there; else those that are ordinary and don't race aren't
  * @property {string[]} places of the code: file, line and column
  * @property {{ file: string, text: string | null }[]} files
- * @property {[number, number][]} races the two events of each, the most telling first
+ * @property {[number, number][]} races the two events of each, the most useful first
  * @property {"all" | "touched"} holds which ordinary writes the script has
  * @property {string[]} [threads] of a program: each thread's file and where it was started; of the first one nothing
  * @property {number[]} [senders] of a program: which thread has sent each message

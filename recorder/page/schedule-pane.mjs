@@ -41,8 +41,8 @@ export class SchedulePane {
     this.editing = editing;
     this.host = host;
     this.words = host.words;
-    this.told = made("p", "told");
-    this.told.setAttribute("role", "status");
+    this.status = made("p", "status");
+    this.status.setAttribute("role", "status");
     this.result = made("div", "result");
     const buttons = made("div", "buttons");
     buttons.setAttribute("role", "toolbar");
@@ -52,7 +52,7 @@ export class SchedulePane {
     for (const { id, text } of EDITS) buttons.append(this.#button(id, text));
     buttons.append(this.#button("undo", "Undo"), this.#button("reset", `As ${host.words.was}`));
     buttons.append(this.#button("save", "Save script"));
-    const asked = made("div", "asked", made("h2", "", "Change the schedule"), buttons, this.told);
+    const asked = made("div", "asked", made("h2", "", "Change the schedule"), buttons, this.status);
     by("schedule").replaceChildren(asked, this.result);
     by("schedule").hidden = false;
   }
@@ -76,12 +76,12 @@ export class SchedulePane {
     const edit = EDITS.find((each) => each.id === id);
     if (edit !== undefined) this.#change(edit);
     else if (id === "save") this.#save();
-    else if (editing.before.length === 0) this.told.textContent = "Nothing is changed.";
+    else if (editing.before.length === 0) this.status.textContent = "Nothing is changed.";
     else {
       const at = id === "undo" ? editing.undo() : host.chosen();
       if (id === "reset") editing.reset();
       const isBack = !editing.isChanged;
-      this.told.textContent = isBack ? `The schedule is as ${this.words.was}.` : "The last change is taken back.";
+      this.status.textContent = isBack ? `The schedule is as ${this.words.was}.` : "The last change is taken back.";
       host.onChange(at);
     }
   }
@@ -90,7 +90,7 @@ export class SchedulePane {
   #change({ edit, done }) {
     const at = this.host.chosen();
     const changed = at === undefined ? { why: "no step of the schedule is chosen" } : this.editing.change(edit, at);
-    this.told.textContent = "why" in changed ? `Not changed: ${changed.why}.` : done;
+    this.status.textContent = "why" in changed ? `Not changed: ${changed.why}.` : done;
     if ("at" in changed) this.host.onChange(changed.at);
   }
 
@@ -100,7 +100,7 @@ export class SchedulePane {
     link.download = this.words.fileName;
     link.click();
     URL.revokeObjectURL(link.href);
-    this.told.textContent = `Saved as ${this.words.fileName}.`;
+    this.status.textContent = `Saved as ${this.words.fileName}.`;
   }
 
   /** Marks what can be done to the chosen step. */

@@ -62,10 +62,10 @@ class TryPage {
   /** @param {string} text */
   #take(text) {
     const { status, output, complaint } = this.simulate(["check"], new TextEncoder().encode(text));
-    const told = textOf(output) || textOf(complaint);
-    by("check").textContent = told.trimEnd();
+    const said = textOf(output) || textOf(complaint);
+    by("check").textContent = said.trimEnd();
     by("check").className = status === 0 ? "" : "refused";
-    this.place = status === 0 ? undefined : spanOfPlace(text, told.split(": ")[0]);
+    this.place = status === 0 ? undefined : spanOfPlace(text, said.split(": ")[0]);
     by("show-place").hidden = this.place === undefined;
     by("stale").hidden = status === 0;
     if (status !== 0) {

@@ -60,7 +60,7 @@ export class Viewer {
     this.index = index;
     const state = this.run.stateAt(index);
     // A long sentence takes room from the panes below it, so it stands there first.
-    this.#tell(steps[index]);
+    this.#describe(steps[index]);
     this.timeline.choose(index);
     this.code?.show(state, steps[index].agent);
     this.memory.show(state, index);
@@ -75,7 +75,7 @@ export class Viewer {
   }
 
   /** @param {Step} step */
-  #tell({ agent, entry, sentence, place }) {
+  #describe({ agent, entry, sentence, place }) {
     const who = agent === undefined ? [] : [badge(agent), spoken(` agent ${agent} `), " "];
     const number = entry === undefined ? [] : [made("span", "number", `${entry}`), " "];
     const where = place < 0 ? [] : [" ", made("span", "where", this.run.data.places[place])];

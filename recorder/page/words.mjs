@@ -22,15 +22,15 @@ export const callText = ([name, view, ...others]) => `${name}(${[view, ...others
 /** @param {(string | number)[]} does @returns {string} the element that a call names */
 export const elementText = ([, view, index]) => `${view}[${index}]`;
 
-// More changes of one step aren't told, but counted.
+// More changes of one step are only counted.
 const MOST_CHANGES = 8;
 
 /** @param {import("./elements.mjs").Change[]} changes @returns {string} what an ordinary write has changed */
 export function changesText(changes) {
   if (changes.length === 0) return "changes nothing";
-  const told = changes.slice(0, MOST_CHANGES).map(({ name, before, after }) => `${name} from ${before} to ${after}`);
-  const more = changes.length - told.length;
-  return `changes ${told.join(", ")}${more > 0 ? ` and ${more} more` : ""}`;
+  const shown = changes.slice(0, MOST_CHANGES).map(({ name, before, after }) => `${name} from ${before} to ${after}`);
+  const more = changes.length - shown.length;
+  return `changes ${shown.join(", ")}${more > 0 ? ` and ${more} more` : ""}`;
 }
 
 /** @param {number} count @param {string} one @param {string} several */

@@ -33,9 +33,9 @@ export function textWith(text) {
   const own = JSON.stringify(JSON.parse(text.slice(from, to)));
   return (moves) => {
     if (JSON.stringify(moves) === own) return text;
-    const told = moves.map((move) => {
+    const written = moves.map((move) => {
       return typeof move === "object" ? { agent: move.timeout, timeUp: true } : { agent: move, timeUp: false };
     });
-    return `${text.slice(0, from)}${scheduleText(told)}${text.slice(to)}`;
+    return `${text.slice(0, from)}${scheduleText(written)}${text.slice(to)}`;
   };
 }

@@ -91,7 +91,7 @@ test("a run in which nobody can move has finished, or is a deadlock where somebo
   const end = (phases, rules) => {
     const board = boardAt(phases, rules);
     board.pass(0);
-    return board.end.told().ending;
+    return board.end.result().ending;
   };
   assert.equal(end([PHASE.FINISHED, PHASE.FINISHED]), "finished");
   assert.equal(end([PHASE.FINISHED, PHASE.WAITS]), "deadlock");
@@ -129,7 +129,7 @@ test("an agent whose worker died ends the run when it has the turn, and only the
   assert.equal(turn.enter(1), true);
   turn.leave(1);
   turn.die(1, "two");
-  assert.deepEqual(end.told(), { ending: "failed", detail: "agent 1's worker died: two" });
+  assert.deepEqual(end.result(), { ending: "failed", detail: "agent 1's worker died: two" });
   assert.equal(turn.enter(1), false);
   assert.equal(turn.isBack(1, 0), false);
 });
@@ -138,7 +138,7 @@ test("an agent that died before it gets the turn is told of with what it died of
   const board = boardAt([PHASE.ASKS, PHASE.FINISHED]);
   board.turn.die(0, "out of memory");
   board.pass(1);
-  assert.deepEqual(board.end.told(), { ending: "failed", detail: "agent 0's worker died: out of memory" });
+  assert.deepEqual(board.end.result(), { ending: "failed", detail: "agent 0's worker died: out of memory" });
 });
 
 test("what is left of a run starts nobody: an agent begins once for each order", () => {

@@ -36,7 +36,7 @@ function boardAt(phases, { seed = 1, timeouts = 0, row = {}, strategy = "uniform
 /** Which agent gets the turn. */
 function next(board) {
   board.pass(board.words[WORD.LAST]);
-  return board.end.hasEnded() ? board.end.told().ending : board.words[WORD.LAST];
+  return board.end.hasEnded() ? board.end.result().ending : board.words[WORD.LAST];
 }
 
 /** Agents go on from their waits one after the other, and end. */

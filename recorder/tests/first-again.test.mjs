@@ -148,7 +148,8 @@ test("joined summaries tell that of the least seed", (context) => {
     summary.remembers = { seed, differs: "bytes", was: "finished", is: "finished", threw: false };
     const asked = { module: "m.mjs", digest: "", seeds: [{ first: 1, last: 9 }], shard: null, options };
     const file = join(folder, `${seed}.json`);
-    writeFileSync(file, JSON.stringify({ summary: 3, asked, seeds: [{ first: seed, last: seed + 1 }], ...summary.told() }));
+    const seeds = [{ first: seed, last: seed + 1 }];
+    writeFileSync(file, JSON.stringify({ summary: 3, asked, seeds, ...summary.data() }));
     return file;
   });
   assert.equal(merged(parts.flatMap(partsOf)).remembers.seed, 4);

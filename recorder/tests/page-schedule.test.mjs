@@ -136,7 +136,7 @@ for (const [name, { isThere, begin }] of Object.entries(BROWSERS)) {
       const rows = await page.value(ROWS);
       await choose(page, "step-2");
       await page.press("t");
-      const said = await page.value("document.querySelector('#schedule .told').textContent");
+      const said = await page.value("document.querySelector('#schedule .status').textContent");
       assert.equal(said, "Not changed: agent 1 doesn't begin to wait here.");
       assert.deepEqual(await page.value(ROWS), rows);
     });

@@ -28,7 +28,7 @@ async function runsOf(name, seeds) {
   try {
     const options = { ...defaultsOf("record"), isProgram: true, seconds: 20, checks: false, checkEvery: 1, module, args: [] };
     await job.open(options);
-    const wanted = seeds.map((seed) => ({ seed, whole: true, tellsTrace: true, isSilent: true }));
+    const wanted = seeds.map((seed) => ({ seed, whole: true, needsTrace: true, isSilent: true }));
     await job.run(wanted, ({ seed, ending, detail, moves, script, noScript, report, trace }) => {
       assert.ok(trace !== undefined && (script ?? noScript) !== undefined);
       runs.get(seed)?.push(JSON.stringify({ ending, detail, moves, script, noScript, report, trace }));

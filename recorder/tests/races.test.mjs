@@ -4,7 +4,7 @@
 import assert from "node:assert/strict";
 import { test } from "node:test";
 import { FLAG, Log, NO_CALL, READ, WRITE } from "../lib/memory/log.mjs";
-import { racesTold } from "../lib/run/findings.mjs";
+import { raceReports } from "../lib/run/findings.mjs";
 import { isRacy, racesOf } from "../lib/run/races.mjs";
 import { SourceNames } from "../lib/run/source-names.mjs";
 import { randomEvents } from "./helpers/events.mjs";
@@ -273,7 +273,7 @@ test("of the races of a run a thousand pairs of lines are told, and how many the
   const sources = [0, 1].map((agent) => ["", ...numbers.map((line) => `file:///a/agents.mjs:${line}:${agent + 1}`)]);
   const run = { log, records: [{}, {}], lengths: [4], canBlock: [true, true] };
   const sourceNames = new SourceNames("file:///a/agents.mjs");
-  const told = racesTold({ run, transcript: { calls: [[], []] }, sources, sourceNames });
+  const told = raceReports({ run, transcript: { calls: [[], []] }, sources, sourceNames });
   assert.equal(told.length, 1_000);
   assert.equal(new Set(told.map(({ lines }) => lines.join(" "))).size, 1_000);
   assert.ok(told.at(-1).text.endsWith("\nand 600 more"), told.at(-1).text);

@@ -26,7 +26,7 @@ function boardAt(phases, row) {
   const board = new Board(Board.memory(), {
     agents: phases.length, maxMoves: 100_000, timeouts: 1, ways: waysOf("uniform", true),
   });
-  board.row.begin({ tellsRow: true, ...row });
+  board.row.begin({ wantsRow: true, ...row });
   board.begin(1);
   for (let agent = 0; agent < phases.length - 1; agent += 1) board.pass(agent);
   phases.forEach((phase, agent) => board.line.become(agent, phase));
@@ -36,7 +36,7 @@ function boardAt(phases, row) {
 /** Who gets the turn, if it is passed on so many times. */
 function drawn(board, times) {
   for (let time = 0; time < times; time += 1) board.pass(board.words[WORD.LAST]);
-  return board.row.told();
+  return board.row.own();
 }
 
 test("a row is followed, entries of agents that can't move are left out, and a wait's time may be up", () => {
@@ -57,7 +57,7 @@ test("behind its end the agent goes on that moved last, then the next one in num
   assert.deepEqual(drawn(board, 1).slice(6), [1]);
   board.line.become(1, FINISHED);
   board.pass(1);
-  assert.equal(board.end.told().ending, "deadlock");
+  assert.equal(board.end.result().ending, "deadlock");
   assert.deepEqual(drawn(boardAt([ASKS, ASKS], { row: [] }), 2), [0, 0]);
 });
 
@@ -73,7 +73,7 @@ test("a row that can't be followed exactly ends the run, and it is told why", ()
   const strayed = (phases, row, times) => {
     const board = boardAt(phases, { row, isExact: true });
     drawn(board, times);
-    return [board.end.hasEnded() && board.end.told().ending, board.row.strayed()];
+    return [board.end.hasEnded() && board.end.result().ending, board.row.strayed()];
   };
   assert.deepEqual(strayed([ASKS, WAITS], [0, 1], 2), ["failed", { reason: "waits", agent: 1, draw: 1 }]);
   assert.deepEqual(strayed([ASKS, FINISHED], [0, 0, 1], 3), ["failed", { reason: "ended", agent: 1, draw: 2 }]);
@@ -88,7 +88,7 @@ test("time and chance come from the seed, whatever the row is", async (context) 
   const group = await groupOf(context, agentsPath("by-chance"));
   /** What the agents drew, and what time it was for each at its end. */
   const made = async (wanted) => {
-    const { outcome } = await group.one({ seed: 5, whole: true, tellsRow: true, ...wanted });
+    const { outcome } = await group.one({ seed: 5, whole: true, wantsRow: true, ...wanted });
     const words = new Int32Array(Uint8Array.from(Buffer.from(outcome.bytes[0], "hex")).buffer);
     return { outcome, numbers: words.slice(0, 6), times: words.slice(6, 9) };
   };
@@ -115,8 +115,8 @@ SHORTENED.push(new URL("mutex-naive.agents.mjs", EXAMPLES));
 
 /** The run of a program's seed is the same where it is made by its row. */
 async function demandSame(group) {
-  const { outcome: free } = await group.one({ seed: 1, whole: true, tellsRow: true });
-  const again = { seed: 1, whole: true, tellsRow: true, row: free.row, isExact: true };
+  const { outcome: free } = await group.one({ seed: 1, whole: true, wantsRow: true });
+  const again = { seed: 1, whole: true, wantsRow: true, row: free.row, isExact: true };
   const { outcome: forced, aside } = await group.one(again);
   assert.equal(aside.stray, undefined, forced.detail);
   assert.equal(forced.script, free.script);

@@ -255,9 +255,9 @@ test("GNU parallel runs the shards, as docs/RECORDER.md shows it", withParallel,
 test("what shards have covered is joined, and with it of how many accesses the line isn't known", () => {
   const told = (pairs, unplaced, covered) => ({ pairs, last: 3, row: 500, unplaced, covered });
   const one = Coverage.joined(undefined, told(["a > b"], 0, true));
-  assert.deepEqual(one.told(), { pairs: ["a > b"], last: null, row: null, unplaced: 0, covered: true });
+  assert.deepEqual(one.data(), { pairs: ["a > b"], last: null, row: null, unplaced: 0, covered: true });
   const both = Coverage.joined(one, told(["b > a", "a > b"], 7, false));
-  assert.deepEqual(both.told(), { pairs: ["a > b", "b > a"], last: null, row: null, unplaced: 7, covered: false });
+  assert.deepEqual(both.data(), { pairs: ["a > b", "b > a"], last: null, row: null, unplaced: 7, covered: false });
 });
 
 test("each part of a file is named by its line", (context) => {

@@ -71,7 +71,7 @@ async function shortestOf(context, name, agents) {
   const first = await firstFailing(group);
   const { shortest, shortened } = await shorten(group, first, { milliseconds: 60_000 });
   // Where the seed makes the shortest at once, that one stays.
-  const { outcome } = shortest ?? await group.one({ seed: first.seed, whole: true, tellsRow: true });
+  const { outcome } = shortest ?? await group.one({ seed: first.seed, whole: true, wantsRow: true });
   assert.deepEqual(shortened.changes.after, changesOf(outcome.row));
   return { outcome, shortened };
 }

@@ -99,7 +99,7 @@ test("the summary has that of the first failing run as JSON, and so has a joined
   assert.deepEqual(inOrder(summary.firstFailing.standing), WAITING);
   const joined = new Summary({ ordinary: "watch", races: "fail" });
   joined.join(summary);
-  assert.deepEqual(joined.told().firstFailing, summary.firstFailing);
+  assert.deepEqual(joined.data().firstFailing, summary.firstFailing);
   assert.match(summaryText(summary), /agent 0 waits at LOCK: its call 1, /);
 });
 

@@ -220,7 +220,7 @@ function known(pilots, calls) {
   const learnt = new Pilots(3);
   for (const events of pilots) learnt.add(logByWords(events));
   const places = new KnownPlaces(KnownPlaces.memory());
-  learnt.tell(places);
+  learnt.teach(places);
   return calls.map(([agent, does, word]) => {
     return places.isPrivate(agent, placeNumber(0, word * 4), placeNumber(0, word * 4) + 4, does === "write");
   });

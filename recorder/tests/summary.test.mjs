@@ -227,7 +227,7 @@ test("the object of a summary has all that its text has, and what the text leave
   }
   const kept = { folder: "found", path: "/tmp/found", files: ["seed-4.report"] };
   const stopped = { why: "stopped", wanted: 9 };
-  const told = summary.told({ stopped, kept, notKept: ["not kept: this"], problems: ["a job ended"] });
+  const told = summary.data({ stopped, kept, notKept: ["not kept: this"], problems: ["a job ended"] });
   assert.deepEqual(told, {
     stopped,
     missing: [],
@@ -322,7 +322,7 @@ test("races, failures and states that come only after an early end stand behind 
   const from = (lines) => lines.slice(lines.indexOf(expected[0]), lines.indexOf(expected[0]) + expected.length);
   assert.deepEqual(from(whole.text().split("\n")), expected);
   assert.deepEqual(from(linesOf(outcomes.toReversed())), expected);
-  const told = whole.told();
+  const told = whole.data();
   assert.deepEqual(told.races.pairs.listed.map(({ runs, early, first }) => [runs, early, first]), [
     [3, 2, 6], [1, 0, 5], [2, 2, 1],
   ]);
@@ -330,12 +330,12 @@ test("races, failures and states that come only after an early end stand behind 
   const parts = [[0, 3], [3, 5], [5, 10]].map(([begin, end]) => {
     const part = new Summary(SEEN);
     for (const each of outcomes.slice(begin, end)) part.add(each);
-    return part.told();
+    return part.data();
   });
   for (const order of [[0, 1, 2], [2, 1, 0], [1, 2, 0]]) {
     const joined = new Summary(SEEN);
     for (const at of order) joined.join(parts[at]);
-    assert.deepEqual(joined.told(), told);
+    assert.deepEqual(joined.data(), told);
   }
 });
 
@@ -407,7 +407,7 @@ test("any number of kinds of failures take a bounded room, and what is left out 
     summary.add(thrown(seed, { message: ["agent 0 threw Error"], sources: [`a.mjs:${seed}:1`] }));
     assert.ok(summary.failures.entries.size <= 2 * MOST_KEYS);
   }
-  const { listed, others } = summary.told().failures;
+  const { listed, others } = summary.data().failures;
   assert.deepEqual([listed.length, others], [MOST_KEYS, count - MOST_KEYS]);
   assert.ok(summary.text().includes("\nover 4,096 kinds of failure, by message and line of code\n"));
   assert.ok(summary.text().includes("\n  and those of 8,192 runs besides\n"));
@@ -437,8 +437,8 @@ test("summaries that are joined are the summary of all runs, in whatever order",
   }
   for (const order of [[0, 1, 2, 3, 4], [3, 0, 4, 2, 1]]) {
     const joined = new Summary(SEEN);
-    for (const at of order) joined.join(JSON.parse(JSON.stringify(parts[at].told())));
-    assert.deepEqual(joined.told(), whole.told());
+    for (const at of order) joined.join(JSON.parse(JSON.stringify(parts[at].data())));
+    assert.deepEqual(joined.data(), whole.data());
     assert.equal(joined.text(), whole.text());
   }
 });
@@ -448,12 +448,12 @@ test("the checks of summaries that are joined are told together, with each kind 
   const parts = kinds.map((checkedBy) => new Summary({ ...SEEN, checkedBy }));
   parts.forEach((summary, at) => summary.add(outcome(at, { checked: at < 2 })));
   const joined = new Summary({ ...SEEN, checkedBy: undefined });
-  for (const summary of parts.slice(0, 2)) joined.join(summary.told());
+  for (const summary of parts.slice(0, 2)) joined.join(summary.data());
   assert.ok(joined.text().includes("\nevery run was replayed and judged by sabsim (module and program)"));
-  joined.join(parts[2].told());
+  joined.join(parts[2].data());
   assert.ok(joined.text().includes("\n2 of 3 runs were replayed and judged by sabsim (module and program)"));
   const versions = ["module 123", "program sabsim 0.1.0"];
-  assert.deepEqual(joined.told().sabsim, { asked: true, versions, checked: 2, judges: true });
+  assert.deepEqual(joined.data().sabsim, { asked: true, versions, checked: 2, judges: true });
 });
 
 test("of runs whose ordinary accesses aren't watched it isn't said that they were judged", () => {
@@ -492,7 +492,7 @@ test("the states of any number of seeds take a bounded room, and what is left ou
     summary.add(outcome(seed, { shown: [createHash("sha256").update(String(seed)).digest("hex")] }));
     assert.ok(summary.states.passing.entries.size <= 2 * MOST_KEYS);
   }
-  const { listed, others } = summary.told().states.passing;
+  const { listed, others } = summary.data().states.passing;
   assert.deepEqual([listed.length, others], [MOST_KEYS, count - MOST_KEYS]);
   const lines = summary.text().split("\n");
   assert.equal(lines[1], "over 4,096 final states: how it ended, and the bytes");

@@ -144,7 +144,7 @@ describe("runs with timed waits", { concurrency: 2 }, () => {
       const group = await groupOf(context, agentsPath("timed"), { args: [name], timeouts });
       for (const outcome of found) {
         const { seed } = outcome;
-        const again = await group.one({ seed, whole: true, tellsRow: true });
+        const again = await group.one({ seed, whole: true, wantsRow: true });
         assert.deepEqual(told(again.outcome), told(outcome));
         const { row } = again.outcome;
         const forced = await group.one({ seed, whole: true, row, isExact: true });
@@ -216,10 +216,10 @@ describe("joined, kept and stopped", { concurrency: 2 }, () => {
     for (const from of [70, 0]) {
       const part = new Summary(rules);
       for (const outcome of outcomes.slice(from, from === 0 ? 70 : undefined)) part.add(outcome);
-      joined.join(JSON.parse(JSON.stringify(part.told())));
+      joined.join(JSON.parse(JSON.stringify(part.data())));
     }
-    assert.deepEqual(joined.told(), whole.told());
-    assert.ok(whole.told().early > 0 && whole.told().onlyByTime.listed.length > 0);
+    assert.deepEqual(joined.data(), whole.data());
+    assert.ok(whole.data().early > 0 && whole.data().onlyByTime.listed.length > 0);
   });
 
   it("the command line keeps the first one, by one job and by two", async () => {

@@ -22,7 +22,7 @@ const NOTHING = new Uint8Array();
 
 const decoder = new TextDecoder();
 
-/** What the module is told of the input that a command line names. */
+/** What the module gets of the input that a command line names. */
 const GIVEN = { nothing: 0, bytes: 1, unreadable: 2 };
 
 /**

@@ -7,8 +7,8 @@ import { FLAG, NO_CALL, READ, WRITE } from "../memory/log.mjs";
 import { numberHere } from "./frames.mjs";
 import { REPEATED, Repeats } from "./repeats.mjs";
 
-// Where sources are told, each access is; but of one that is repeated no more than so many in a row.
-const MOST_TOLD_AGAIN = 100;
+// If sources are noted, each access is; but of one that is repeated no more than so many in a row.
+const MOST_REPEATS = 100;
 
 /** @typedef {import("./ordinary/context.mjs").Place} Place */
 
@@ -56,24 +56,24 @@ export class Accesses {
   note(place, from, to, writes, made) {
     const { board, log, memory } = this.table;
     this.count += 1;
-    const tellsSources = board.words[WORD.TELLS_SOURCES] === 1;
+    const notesSources = board.words[WORD.NOTES_SOURCES] === 1;
     const repeats = this.repeats.note(place, from, to, writes);
     const isNew = repeats === REPEATED.NEW;
     if (!isNew) {
       if (repeats === REPEATED.SPINS) return NOTED.SPINS;
-      if (!tellsSources || this.repeats.again > MOST_TOLD_AGAIN) return NOTED.YES;
+      if (!notesSources || this.repeats.again > MOST_REPEATS) return NOTED.YES;
     }
     const what = writes ? WRITE : READ;
-    if (!tellsSources && log.extend(what, this.agent, place.block, from, to, place, this.since)) {
+    if (!notesSources && log.extend(what, this.agent, place.block, from, to, place, this.since)) {
       this.repeats.add(place, from, to, writes);
       return NOTED.YES;
     }
-    if (!log.hasRoom()) return tellsSources && !(writes && isNew) ? NOTED.YES : NOTED.FULL;
-    const source = tellsSources ? numberHere(this.table.sources) : 0;
+    if (!log.hasRoom()) return notesSources && !(writes && isNew) ? NOTED.YES : NOTED.FULL;
+    const source = notesSources ? numberHere(this.table.sources) : 0;
     const flags = (writes ? FLAG.WRITES : FLAG.READS) | (isNew ? 0 : FLAG.AGAIN);
     log.append(what, this.agent, NO_CALL, flags, made, place.block, from, to, place, source);
     // Nobody else moves until it is read.
-    if (tellsSources && !writes && isElement(place, from, to)) log.addValue(memory.real[place.block], from, to);
+    if (notesSources && !writes && isElement(place, from, to)) log.addValue(memory.real[place.block], from, to);
     this.repeats.add(place, from, to, writes);
     return NOTED.YES;
   }

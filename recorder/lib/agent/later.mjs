@@ -1,6 +1,6 @@
 // Whether an agent leaves something to be done later: a timer, a callback, what comes after a promise. Its worker never
 // gets there, so the agent would seem to have finished with its work undone. What an async function throws shows there
-// too: its promise is rejected, and nobody would be told.
+// too: its promise is rejected, and nobody would hear of it.
 
 import { createHook } from "node:async_hooks";
 import util from "node:util";
@@ -130,7 +130,7 @@ export class Later {
     this.settled = [];
     /** @type {unknown[]} what listeners of an EventTarget threw */
     this.thrown = [];
-    /** @type {any} the last job that was begun: one that is done later has somebody to tell */
+    /** @type {any} the last job that was begun: one that is done later has somebody that waits for it */
     this.job = undefined;
     /** @type {WeakMap<object, boolean>} the promises that something comes after, whenever that was said */
     this.awaited = new EngineWeakMap();
@@ -185,14 +185,14 @@ export class Later {
   }
 
   /** @returns {string | undefined} what goes on later, in words */
-  told() {
+  ongoing() {
     this.#lookAtJob();
     return this.found;
   }
 
   /** @returns {string | undefined} what goes on when the agent's code has ended, in words */
   left() {
-    const found = this.told();
+    const found = this.ongoing();
     // A timer that was cleared never comes to its time.
     for (let at = 0; found === undefined && at < this.timers.length; at += 1) {
       const { timer, word } = this.timers[at];
@@ -265,7 +265,7 @@ export class Later {
     this.job = resource;
   }
 
-  /** Who is to be told of a job is known only when it has been made. */
+  /** Who waits for a job is known only when it has been made. */
   #lookAtJob() {
     if (this.job !== undefined && typeof this.job.ondone === "function") this.found ??= "a callback";
   }

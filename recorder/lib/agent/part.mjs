@@ -70,7 +70,7 @@ export class Part {
     this.isInside = true;
     this.accesses.renew();
     this.take();
-    const goesOn = later.told();
+    const goesOn = later.ongoing();
     if (goesOn !== undefined) this.end("failed", `agent ${this.agent} ${laterText(goesOn, "an agent", later)}`);
   }
 

@@ -386,8 +386,8 @@ export class Player {
     else board.end.end("failed", `agent ${this.agent} ${why}`);
   }
 
-  /** @param {Function} called @returns {number} where the agent's code is, where sources are told */
+  /** @param {Function} called @returns {number} where the agent's code is, if sources are noted */
   #source(called) {
-    return this.table.board.words[WORD.TELLS_SOURCES] === 1 ? numberAbove(this.table.sources, called) : 0;
+    return this.table.board.words[WORD.NOTES_SOURCES] === 1 ? numberAbove(this.table.sources, called) : 0;
   }
 }

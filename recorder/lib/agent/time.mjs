@@ -18,7 +18,7 @@ const textOf = uncurried(EngineDate.prototype.toString);
 const EPOCH = 946_684_800_000;
 
 /**
- * Lets this realm's clocks tell a run's time.
+ * Gives a run's time to this realm's clocks.
  * @param {() => number} now in milliseconds from the run's beginning
  */
 export function simulateTime(now) {

@@ -16,7 +16,7 @@ export const laterText = (what, who, { place }) =>
 export const atText = (place) => (place === undefined ? "" : `\n    at ${place}`);
 
 /**
- * What code that has ended has left undone, or untold.
+ * What code that has ended has left undone.
  * @param {Later} later
  * @param {string} who
  * @returns {string | undefined}

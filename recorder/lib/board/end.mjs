@@ -19,7 +19,7 @@ const ENDED = 1;
 const ASKED = 2;
 
 export class End {
-  /** @param {Int32Array} words of the board @param {Buffer} text where the details are told */
+  /** @param {Int32Array} words of the board @param {Buffer} text for the details */
   constructor(words, text) {
     this.words = words;
     this.text = text;
@@ -72,7 +72,7 @@ export class End {
    */
   end(ending, detail) {
     // What may run out of stack comes first: else nobody would have the turn, in a run that hasn't ended.
-    this.#tell(ending, detail);
+    this.#note(ending, detail);
     store(this.words, WORD.TURN, NOBODY);
     store(this.words, WORD.ENDED, ENDED);
     notify(this.words, WORD.ENDED);
@@ -84,7 +84,7 @@ export class End {
    * @param {string} detail
    */
   close(ending, detail) {
-    this.#tell(ending, detail);
+    this.#note(ending, detail);
     store(this.words, WORD.ENDED, ENDED);
     notify(this.words, WORD.ENDED);
   }
@@ -93,13 +93,13 @@ export class End {
    * How the run ended. What a deadlock is made of is in the log alone.
    * @returns {{ ending: Ended, detail: string }}
    */
-  told() {
+  result() {
     const detail = this.text.toString("utf8", 0, this.words[WORD.TEXT_LENGTH]);
     return { ending: ENDINGS[this.words[WORD.ENDING]], detail };
   }
 
   /** @param {Ended} ending @param {string} detail */
-  #tell(ending, detail) {
+  #note(ending, detail) {
     this.words[WORD.TEXT_LENGTH] = encode(encoder, detail, this.text).written;
     this.words[WORD.ENDING] = positionIn(ENDINGS, ending);
   }

@@ -1,4 +1,4 @@
-// The row of a run: which agent moved with each draw. It is told where that is asked for; and a run can be forced to go
+// The row of a run: which agent moved with each draw. It is returned on request; and a run can be forced to go
 // by a row, where the seed draws nothing, and only clocks and random numbers come from it.
 //
 // Exactly: where the row names an agent that can't move, or has come to its end while an agent can, or an agent makes
@@ -31,7 +31,7 @@ const MOST_ALIKE = 200;
 const HOW = 0;
 const LENGTH = 1;
 const AT = 2;
-const TELLS = 3;
+const WANTS = 3;
 const DRAWN = 4;
 const LAST = 5;
 const ALIKE = 6;
@@ -67,7 +67,7 @@ const REASONS = Object.freeze(["call", "leaves", "waits", "ended", "goes on"]);
  * @property {boolean} [isExact] whether the run ends where it strays from the row
  * @property {Int32Array} [calls] for each draw the number of the call (see `callNumber`) that the agent is to make; 0
  * where it is to go on from a wait
- * @property {boolean} [tellsRow] whether the run's own row is told
+ * @property {boolean} [wantsRow] whether the run's own row is wanted
  */
 
 /**
@@ -122,11 +122,11 @@ export class Row {
    * A run begins. No agent may be busy.
    * @param {RowWanted} wanted
    */
-  begin({ row, isExact = false, calls, tellsRow = false }) {
+  begin({ row, isExact = false, calls, wantsRow = false }) {
     const { state } = this;
     state.fill(0);
     state[LAST] = NOBODY;
-    state[TELLS] = tellsRow ? 1 : 0;
+    state[WANTS] = wantsRow ? 1 : 0;
     if (row === undefined) return;
     state[HOW] = isExact ? EXACT : LENIENT;
     state[LENGTH] = row.length;
@@ -136,9 +136,9 @@ export class Row {
     this.calls.set(calls);
   }
 
-  /** @returns {number[] | undefined} the run's own row, where it is told */
-  told() {
-    return this.state[TELLS] === 0 ? undefined : Array.from(this.drawn.subarray(0, this.state[DRAWN]));
+  /** @returns {number[] | undefined} the run's own row, if it is wanted */
+  own() {
+    return this.state[WANTS] === 0 ? undefined : Array.from(this.drawn.subarray(0, this.state[DRAWN]));
   }
 
   /** @returns {Stray | undefined} */
@@ -166,10 +166,10 @@ export class Row {
    */
   note(agent) {
     const { state } = this;
-    if (state[HOW] === FREE && state[TELLS] === 0) return;
+    if (state[HOW] === FREE && state[WANTS] === 0) return;
     state[ALIKE] = agent === state[LAST] ? state[ALIKE] + 1 : 1;
     state[LAST] = agent;
-    if (state[TELLS] === 0) return;
+    if (state[WANTS] === 0) return;
     this.drawn[state[DRAWN]] = agent;
     state[DRAWN] += 1;
   }

@@ -1,10 +1,10 @@
-// A signal that ends the recorder: what was found until then is told first.
+// A signal that ends the recorder: what was found until then is reported first.
 
 import { setImmediate as turn } from "node:timers/promises";
 
 const SIGNALS = ["SIGINT", "SIGTERM"];
 
-/** The process was told to end. */
+/** The process was asked to end. */
 export class Interrupted extends Error {
   /** @param {NodeJS.Signals} by */
   constructor(by) {
@@ -35,7 +35,7 @@ export class Interruption {
    * @returns {Promise<void>} fails where one has come before
    */
   async end() {
-    // One that came while nothing else was done is told now.
+    // One that came while nothing else was done is reported now.
     await turn();
     this.#forget();
     if (this.signal.reason instanceof Interrupted) throw this.signal.reason;

@@ -9,7 +9,7 @@ import { RemoteJob } from "../seeds/remote-job.mjs";
 import { endBy, Interrupted } from "./interruption.mjs";
 import { optionsOf } from "./options.mjs";
 import { print } from "./print.mjs";
-import { toldOf } from "./problems.mjs";
+import { messageOf } from "./problems.mjs";
 import { Session } from "./session.mjs";
 import { STATUS } from "./status.mjs";
 
@@ -32,7 +32,7 @@ function existing({ module, isProgram }) {
 
 /** @param {unknown} problem */
 function complain(problem) {
-  process.stderr.write(`record: ${toldOf(problem)}\n`);
+  process.stderr.write(`record: ${messageOf(problem)}\n`);
 }
 
 /**

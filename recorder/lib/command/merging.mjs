@@ -76,9 +76,9 @@ export function merged(parts) {
   const seeds = united(summaries.flatMap((summary) => summary.seeds));
   const missing = without(askedSeeds, seeds);
   const problems = summaries.flatMap((summary) => summary.problems);
-  const told = joined.told({ stopped: stoppedOf(summaries), missing, problems });
+  const data = joined.data({ stopped: stoppedOf(summaries), missing, problems });
   const shard = null;
-  return { summary: FORM, asked: { ...asked, seeds: askedSeeds, shard }, seeds, ...told, ...keptOf(summaries, told) };
+  return { summary: FORM, asked: { ...asked, seeds: askedSeeds, shard }, seeds, ...data, ...keptOf(summaries, data) };
 }
 
 /** @param {WholeSummary} summary */
@@ -118,7 +118,7 @@ function stoppedOf(summaries) {
 /**
  * What the run of the first failing seed has left: its files, and what belongs to it alone.
  * @param {WholeSummary[]} summaries
- * @param {import("./summary-data.mjs").SummaryData} told the summary of all
+ * @param {import("./summary-data.mjs").SummaryData} data the summary of all
  * @returns {Pick<WholeSummary, "shortened" | "kept" | "notKept">}
  */
 function keptOf(summaries, { firstFailing }) {

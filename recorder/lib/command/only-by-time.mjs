@@ -9,7 +9,7 @@ import { Tally } from "./tally.mjs";
 /** @typedef {import("../run/timed-ends.mjs").Place} Place */
 
 /**
- * @typedef {object} OnlyByTimeTold as JSON
+ * @typedef {object} OnlyByTimeData as JSON
  * @property {(Wait & { runs: number, first: number })[]} listed waits that ended only since their time was up, sleeps
  * among them
  * @property {number} others how many runs are counted under what isn't listed
@@ -33,14 +33,14 @@ export class OnlyByTime {
     for (const place of served) this.served.set(placeKey(place), place);
   }
 
-  /** @param {OnlyByTimeTold} told of other runs */
+  /** @param {OnlyByTimeData} about other runs */
   join({ listed, others, served }) {
     this.waits.join(listed.map(({ runs, first, ...about }) => ({ key: keyOf(about), runs, first, about })), others);
     for (const place of served) this.served.set(placeKey(place), place);
   }
 
-  /** @returns {OnlyByTimeTold} */
-  told() {
+  /** @returns {OnlyByTimeData} */
+  data() {
     const listed = this.waits.sorted().map(({ about, runs, first }) => ({ ...about, runs, first }));
     const served = [...this.served.values()].sort((one, other) => one.block - other.block || one.byte - other.byte);
     return { listed, others: this.waits.others, served };
@@ -49,8 +49,8 @@ export class OnlyByTime {
 
 /**
  * The waits that are no sleeps.
- * @param {OnlyByTimeTold} told
- * @returns {OnlyByTimeTold["listed"]} those of most runs first
+ * @param {OnlyByTimeData} data
+ * @returns {OnlyByTimeData["listed"]} those of most runs first
  */
 export function hiddenWaits({ listed, served }) {
   const places = new Set(served.map(placeKey));
@@ -58,12 +58,12 @@ export function hiddenWaits({ listed, served }) {
 }
 
 /**
- * @param {OnlyByTimeTold} told
+ * @param {OnlyByTimeData} data
  * @param {number} runs how many there are
  * @returns {string[]} a line for each wait that is no sleep
  */
-export function onlyByTimeLines(told, runs) {
-  return hiddenWaits(told).map((wait) => {
+export function onlyByTimeLines(data, runs) {
+  return hiddenWaits(data).map((wait) => {
     const { agent, line, milliseconds, block, byte } = wait;
     const where = line ?? `byte ${byte} of block ${block}`;
     const since = `only since its ${durationText(milliseconds)} ${milliseconds === 1 ? "was" : "were"} over`;

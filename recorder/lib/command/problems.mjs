@@ -16,7 +16,7 @@ const EXPECTED = [Refused, Difference, NoSabsim, LostJob, KeepsGlobals, NoLonger
 export const isExpected = (problem) => EXPECTED.some((kind) => problem instanceof kind);
 
 /** @param {unknown} problem @returns {string} a sentence; of a defect all that is known */
-export function toldOf(problem) {
+export function messageOf(problem) {
   if (!(problem instanceof Error)) return String(problem);
   return isExpected(problem) ? problem.message : problem.stack ?? String(problem);
 }

@@ -34,7 +34,7 @@ export class ProgramReplay extends Replaying {
   /** @returns {Promise<Checked>} */
   made() {
     const { module, row, seed } = this;
-    return this.one(seed, { module, wanted: { row, isExact: true, tellsRow: true, isShown: true } });
+    return this.one(seed, { module, wanted: { row, isExact: true, wantsRow: true, isShown: true } });
   }
 
   /** @param {Checked} outcome @returns {string | undefined} */
@@ -58,6 +58,6 @@ export class ProgramReplay extends Replaying {
     keeper.keepFirst(outcome);
     const noRow = keepProgram(keeper, outcome, options);
     const pictures = keepPictures(keeper, outcome, { simulator: this.simulator, ...howMade(options) });
-    return { kept: keeper.told(notesOn(keeper, outcome)), notKept: [...noRow, ...pictures] };
+    return { kept: keeper.kept(notesOn(keeper, outcome)), notKept: [...noRow, ...pictures] };
   }
 }

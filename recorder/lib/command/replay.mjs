@@ -74,7 +74,7 @@ export class Replay extends Replaying {
     const { module, options, simulator } = this;
     keeper.keepFirst(outcome);
     const notKept = keepPictures(keeper, outcome, { simulator, ...howMade({ ...options, module }) });
-    return { kept: keeper.told(notesOn(keeper, outcome)), notKept };
+    return { kept: keeper.kept(notesOn(keeper, outcome)), notKept };
   }
 
   /** @returns {Promise<import("../seeds/job.mjs").Checked>} */

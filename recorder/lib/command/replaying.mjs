@@ -73,7 +73,7 @@ export class Replaying {
     summary.add(outcome);
     const lines = this.titles().map((line) => `${line}\n`).join("");
     const ending = this.keeper === undefined ? {} : this.kept(outcome, this.keeper);
-    await print(`${lines}${summaryText(summary.told(ending))}`);
+    await print(`${lines}${summaryText(summary.data(ending))}`);
     return { failed: outcome.fails, problems: [] };
   }
 
@@ -103,7 +103,7 @@ export class Replaying {
    */
   kept(outcome, keeper) {
     keeper.keepFirst(outcome);
-    return { kept: keeper.told([]) };
+    return { kept: keeper.kept([]) };
   }
 
   /**

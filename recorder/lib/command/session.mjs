@@ -14,7 +14,7 @@ import { askedOf } from "./asked.mjs";
 import { formatted } from "./formats.mjs";
 import { Interrupted, Interruption } from "./interruption.mjs";
 import { print } from "./print.mjs";
-import { toldOf } from "./problems.mjs";
+import { messageOf } from "./problems.mjs";
 import { Progress } from "./progress.mjs";
 import { FORM } from "./summary-form.mjs";
 import { Summary } from "./summary.mjs";
@@ -53,9 +53,9 @@ export class Session {
     this.interruption = new Interruption();
     /** @type {Promise<void> | undefined} settled when nothing is left of the jobs */
     this.closed = undefined;
-    const { asked: { first: origin }, untilCovered: tellsMeetings } = options;
+    const { asked: { first: origin }, untilCovered: wantsMeetings } = options;
     const shortens = options.shorten && this.keeper !== undefined;
-    const how = { isBrief: true, shortens, goesOn: true, origin, tellsMeetings };
+    const how = { isBrief: true, shortens, goesOn: true, origin, wantsMeetings };
     this.runs = new Runs({ ...this.options, ...how }, { signal: this.interruption.signal, job });
   }
 
@@ -78,7 +78,7 @@ export class Session {
     const [stopped] = problems;
     this.progress.clear();
     await attempt(() => this.#keepMore(stopped));
-    await attempt(() => this.#tell(stopped, problems));
+    await attempt(() => this.#print(stopped, problems));
     await attempt(() => this.closed);
     await attempt(() => this.interruption.end());
     return { failed: this.summary.failed > 0, problems };
@@ -177,12 +177,12 @@ export class Session {
   }
 
   /** @param {unknown} stopped why not all runs were made, if so @param {unknown[]} problems all that went wrong */
-  async #tell(stopped, problems) {
+  async #print(stopped, problems) {
     const interrupted = stopped instanceof Interrupted;
     if (stopped !== undefined && !interrupted && this.summary.runs === 0) return;
     const why = interrupted ? stopped.message : "stopped";
     const stop = stopped === undefined ? null : { why, wanted: this.wanted };
-    await print(formatted(this.#told(stop, problems), this.options.format));
+    await print(formatted(this.#data(stop, problems), this.options.format));
   }
 
   /**
@@ -190,15 +190,15 @@ export class Session {
    * @param {unknown[]} problems
    * @returns {import("./summary-form.mjs").WholeSummary}
    */
-  #told(stopped, problems) {
+  #data(stopped, problems) {
     const { keeper, notes, options: { first, last } } = this;
-    const kept = keeper?.told(notes) ?? null;
-    const told = this.summary.told({
+    const kept = keeper?.kept(notes) ?? null;
+    const data = this.summary.data({
       stopped,
       kept,
       notKept: this.leftOut,
-      problems: problems.filter((problem) => !(problem instanceof Interrupted)).map(toldOf),
+      problems: problems.filter((problem) => !(problem instanceof Interrupted)).map(messageOf),
     });
-    return { summary: FORM, asked: this.asked, seeds: [{ first, last }], ...told };
+    return { summary: FORM, asked: this.asked, seeds: [{ first, last }], ...data };
   }
 }

@@ -36,7 +36,7 @@
  * @property {{ seed: number, ending: string, detail: string[], onlyIf: string | null, noScript: string | null,
  *   standing: import("../run/standing.mjs").Standing[] } | null} firstFailing
  * @property {number} early how many of the failing runs fail only after the early end of a timed wait
- * @property {import("./only-by-time.mjs").OnlyByTimeTold} onlyByTime
+ * @property {import("./only-by-time.mjs").OnlyByTimeData} onlyByTime
  * @property {number} threw how many of the runs that ended as `failed` threw
  * @property {FailingListed<Failure>} failures those of all failing runs that have no ending `race`
  * @property {import("./shortened.mjs").Shortening | null} shortened what the shortening of that run came to
@@ -118,22 +118,22 @@ export const failingListOf = (tally, parts) => ({
 });
 
 /** @param {Tally<State>} tally */
-export const statesTold = (tally) =>
+export const statesData = (tally) =>
   failingListOf(tally, (hash, { ending, shown, named }) => ({ ending, hash, shown, named }));
 
 /** @param {string[]} order @param {Tally<unknown>} tally */
-export function endingsTold(order, tally) {
+export function endingsData(order, tally) {
   const entries = listedOf(tally, (ending) => ({ ending })).listed;
   return entries.sort((one, other) => order.indexOf(one.ending) - order.indexOf(other.ending));
 }
 
 /** @param {Failing} failing @returns {NonNullable<SummaryData["firstFailing"]>} */
-export function failingTold({ seed, ending, detail, onlyIf, noScript, standing = [] }) {
+export function failingData({ seed, ending, detail, onlyIf, noScript, standing = [] }) {
   const lines = detail === "" ? [] : detail.split("\n");
   return { seed, ending, detail: lines, onlyIf: onlyIf ?? null, noScript: noScript ?? null, standing };
 }
 
-/** @param {NonNullable<SummaryData["firstFailing"]>} told @returns {Failing} */
+/** @param {NonNullable<SummaryData["firstFailing"]>} data @returns {Failing} */
 export function failingOf({ seed, ending, detail, onlyIf, noScript, standing }) {
   const known = /** @type {import("../run/outcome.mjs").Ending} */ (ending);
   return {

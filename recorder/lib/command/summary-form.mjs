@@ -3,7 +3,7 @@
 /**
  * @typedef {import("./summary-data.mjs").SummaryData & {
  *   summary: number, asked: import("./asked.mjs").Asked, seeds: import("../seeds/ranges.mjs").Range[],
- * }} WholeSummary what is told of many runs, and what was asked for
+ * }} WholeSummary what is reported about many runs, and what was asked for
  */
 
 /** The number of this form: another one has another. */

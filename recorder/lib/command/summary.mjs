@@ -1,5 +1,6 @@
-// What is told of many runs. It doesn't depend on the order in which their outcomes come, nor on how they were shared
-// out. Of the runs little is kept, so that there can be any number of them; the first failing one alone is kept whole.
+// What is reported about many runs. It doesn't depend on the order in which their outcomes come, nor on how they were
+// shared out. Of the runs little is kept, so that there can be any number of them; only the first failing one is kept
+// whole.
 
 import { hasThrown } from "../../page/endings.mjs";
 import { comesBefore } from "../run/order.mjs";
@@ -7,7 +8,7 @@ import { Coverage } from "../seeds/coverage.mjs";
 import { OnlyByTime } from "./only-by-time.mjs";
 import { shorteningOf } from "./shortened.mjs";
 import {
-  endingsTold, failingListOf, failingOf, failingTold, failureKey, listedOf, of, pairKey, statesTold,
+  endingsData, failingListOf, failingOf, failingData, failureKey, listedOf, of, pairKey, statesData,
 } from "./summary-data.mjs";
 import { summaryText } from "./summary-text.mjs";
 import { Tally } from "./tally.mjs";
@@ -32,7 +33,7 @@ import { Tally } from "./tally.mjs";
  * is looked for
  */
 
-// In the order in which they are told.
+// In the order in which they are reported.
 const FAILING = ["deadlock", "stuck", "failed", "check", "race", "bound"];
 const PASSING = ["finished", ...FAILING];
 
@@ -116,45 +117,45 @@ export class Summary {
   }
 
   /**
-   * Adds all that is told of other runs.
-   * @param {SummaryData} told
+   * Adds all that is about other runs.
+   * @param {SummaryData} data
    */
-  join(told) {
-    const { runs, failed, calls, accesses, firstFailing } = told;
+  join(data) {
+    const { runs, failed, calls, accesses, firstFailing } = data;
     this.runs += runs;
     this.failed += failed;
     this.calls += calls;
     this.accesses += accesses ?? 0;
-    this.early += told.early;
-    this.onlyByTime.join(told.onlyByTime);
-    this.#joinChecks(told.sabsim);
+    this.early += data.early;
+    this.onlyByTime.join(data.onlyByTime);
+    this.#joinChecks(data.sabsim);
     for (const which of BOTH) {
-      this.endings[which].join(told.endings[which].map(({ ending, ...entry }) => ({ ...entry, ...of(ending) })));
-      const { listed, others } = told.states[which];
+      this.endings[which].join(data.endings[which].map(({ ending, ...entry }) => ({ ...entry, ...of(ending) })));
+      const { listed, others } = data.states[which];
       const entries = listed.map(({ hash, ending, shown, named, ...entry }) =>
         ({ ...entry, ...of(hash, { ending, shown, named }) }));
       this.states[which].join(entries, others);
     }
-    this.#joinFailures(told);
-    this.raced += told.races.runs;
-    const { listed, others } = told.races.pairs;
+    this.#joinFailures(data);
+    this.raced += data.races.runs;
+    const { listed, others } = data.races.pairs;
     this.pairs.join(listed.map(({ lines, ...entry }) => ({ ...entry, ...of(pairKey(lines), { lines }) })), others);
-    const { parts, none } = told.scripts;
+    const { parts, none } = data.scripts;
     this.parts += parts;
     this.scriptless.join(none.listed.map(({ why, ...entry }) => ({ ...entry, ...of(why) })), none.others);
-    this.unseenRuns += told.unrecorded.runs;
-    const { used } = told.unrecorded;
+    this.unseenRuns += data.unrecorded.runs;
+    const { used } = data.unrecorded;
     this.used.join(used.listed.map(({ what, ...entry }) => ({ ...entry, ...of(what) })), used.others);
-    if (told.remembers !== null) this.#addRemembering(told.remembers);
-    if (told.coverage !== null) this.coverage = Coverage.joined(this.coverage, told.coverage);
+    if (data.remembers !== null) this.#addRemembering(data.remembers);
+    if (data.coverage !== null) this.coverage = Coverage.joined(this.coverage, data.coverage);
     if (firstFailing !== null) this.#addFailing(failingOf(firstFailing));
   }
 
   /**
    * @param {Ending} [ending]
-   * @returns {SummaryData} all that is told, as an object of JSON: the plain text is made from it
+   * @returns {SummaryData} all that is reported, as an object of JSON: the plain text is made from it
    */
-  told(ending = {}) {
+  data(ending = {}) {
     const { stopped = null, missing = [], kept = null, notKept = [], problems = [] } = ending;
     return {
       stopped,
@@ -162,11 +163,11 @@ export class Summary {
       runs: this.runs,
       failed: this.failed,
       endings: {
-        failing: endingsTold(FAILING, this.endings.failing), passing: endingsTold(PASSING, this.endings.passing),
+        failing: endingsData(FAILING, this.endings.failing), passing: endingsData(PASSING, this.endings.passing),
       },
-      firstFailing: this.failing === undefined ? null : failingTold(this.failing),
+      firstFailing: this.failing === undefined ? null : failingData(this.failing),
       early: this.early,
-      onlyByTime: this.onlyByTime.told(),
+      onlyByTime: this.onlyByTime.data(),
       threw: this.threw,
       failures: failingListOf(this.failures, (_, { ending, message, sources }) => ({ ending, message, sources })),
       shortened: this.shortened === undefined ? null : shorteningOf(this.shortened, this.failing),
@@ -177,10 +178,10 @@ export class Summary {
         allowed: this.unrecorded === "allow", runs: this.unseenRuns, used: listedOf(this.used, (what) => ({ what })),
       },
       remembers: this.remembers ?? null,
-      states: { failing: statesTold(this.states.failing), passing: statesTold(this.states.passing) },
-      sabsim: this.#checksTold(),
+      states: { failing: statesData(this.states.failing), passing: statesData(this.states.passing) },
+      sabsim: this.#checksData(),
       scripts: { parts: this.parts, none: listedOf(this.scriptless, (why) => ({ why })) },
-      coverage: this.coverage?.told() ?? null,
+      coverage: this.coverage?.data() ?? null,
       calls: this.calls,
       accesses: this.ordinary === "watch" ? this.accesses : null,
       unseen: this.preloads ? [...UNSEEN[this.ordinary], UNSEEN_BEFORE] : UNSEEN[this.ordinary],
@@ -192,7 +193,7 @@ export class Summary {
 
   /** @param {Stop} [stopped] where not all runs were made @returns {string} lines, each with its end */
   text(stopped) {
-    return summaryText(this.told({ stopped }));
+    return summaryText(this.data({ stopped }));
   }
 
   /** @param {Outcome} outcome */
@@ -228,7 +229,7 @@ export class Summary {
     this.failures.add(failureKey(about), seed, about, onlyIf !== undefined);
   }
 
-  /** @param {SummaryData} told */
+  /** @param {SummaryData} data */
   #joinFailures({ threw, failures: { listed, others } }) {
     this.threw += threw;
     const entries = listed.map(({ runs, early, first, ...about }) =>
@@ -248,7 +249,7 @@ export class Summary {
   }
 
   /** @returns {CheckedBy} */
-  #checksTold() {
+  #checksData() {
     const { checked, versions, ordinary } = this;
     return { asked: versions.size > 0, versions: [...versions].sort(), checked, judges: ordinary === "watch" };
   }

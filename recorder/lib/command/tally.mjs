@@ -45,7 +45,7 @@ export class Tally {
    * @param {boolean} [isEarly] whether the run fails only after the early end of a timed wait
    */
   add(key, seed, about, isEarly = false) {
-    // Where nothing is told of the runs, T is undefined.
+    // If nothing is reported about the runs, T is undefined.
     this.#put({ key, runs: 1, early: isEarly ? 1 : 0, first: seed, about: /** @type {T} */ (about) });
   }
 

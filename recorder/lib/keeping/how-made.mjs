@@ -39,8 +39,8 @@ export function replayCommand(options) {
  */
 export function howMade(options) {
   const { module, init, check, isProgram = false } = options;
-  const told = { module, options: optionsText(options) };
-  if (isProgram) return { ...told, command: { options: programWords(), args: "", isOfRow: true } };
-  if (init !== undefined || check !== undefined) return { ...told, command: undefined };
-  return { ...told, command: replayCommand({ ...options, module: modulePath(module) }) };
+  const made = { module, options: optionsText(options) };
+  if (isProgram) return { ...made, command: { options: programWords(), args: "", isOfRow: true } };
+  if (init !== undefined || check !== undefined) return { ...made, command: undefined };
+  return { ...made, command: replayCommand({ ...options, module: modulePath(module) }) };
 }

@@ -112,7 +112,7 @@ export class Keeper {
   }
 
   /** @param {string[]} notes on the files @returns {Kept | null} where the files lie; null: there are none */
-  told(notes) {
+  kept(notes) {
     const { folder, names } = this;
     return names.length === 0 ? null : { folder, path: resolve(folder), files: names, notes };
   }

@@ -67,7 +67,7 @@ function shownEvents(events, racing) {
 /**
  * What the page of a run is made from.
  * @param {Outcome} outcome that has a script
- * @param {string} facts what `sabsim replay --format json` tells of it
+ * @param {string} facts what `sabsim replay --format json` writes about it
  * @param {string} module the URL of the agents' module
  * @returns {RunData}
  */
@@ -77,7 +77,7 @@ export function pageData(outcome, facts, module) {
   const { blocks, views } = JSON.parse(script);
   const { arrays, made } = outcome.accesses ?? { arrays: [], made: [] };
   const accesses = new Map(made.map(([event, array, value]) => [event, { array, value: value ?? undefined }]));
-  const told = objectsOf(facts);
+  const objects = objectsOf(facts);
   // The first line may say that accesses are missing.
   const all = objectsOf(trace).filter(({ event }) => event !== undefined);
   const racing = racingEvents(races, all);
@@ -85,7 +85,7 @@ export function pageData(outcome, facts, module) {
   const numbers = new Map(events.map((event, at) => [event, at]));
   const places = [...new Set(events.map(({ source }) => source))].filter((source) => source !== null);
   const placeNumbers = new Map(places.map((place, at) => [place, at]));
-  const entries = told.filter(({ what }) => what === "act" || what === "wait" || what === "leave");
+  const entries = objects.filter(({ what }) => what === "act" || what === "wait" || what === "leave");
   return {
     ...(outcome.threads === undefined ? {} : { threads: outcome.threads, senders: sendersIn(entries) }),
     seed, ending, detail, holds, blocks, views, arrays, places, files: sources, script,
@@ -93,7 +93,7 @@ export function pageData(outcome, facts, module) {
     agents: outcome.progress.length,
     isWhole: events.length === all.length,
     entries,
-    standings: told.filter(({ standing }) => standing !== undefined),
+    standings: objects.filter(({ standing }) => standing !== undefined),
     events: events.map(({ event, agent, call, does, block, byte, size, read, write, source }) => {
       const place = placeNumbers.get(source) ?? -1;
       return { agent, call, does, block, byte, size, read, write, place, ...accesses.get(event) };
@@ -116,7 +116,7 @@ export function pageOf(data, simulator) {
 /**
  * The page of a run.
  * @param {Outcome} outcome that has a script
- * @param {string} facts what `sabsim replay --format json` tells of it
+ * @param {string} facts what `sabsim replay --format json` writes about it
  * @param {string} module the URL of the agents' module
  * @param {Pick<RunData, "about" | "command">} made how the run was made
  * @throws {SyntaxError} where the facts are no JSON

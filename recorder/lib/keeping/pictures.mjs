@@ -15,7 +15,7 @@ import { wordsText } from "./words.mjs";
  * @typedef {object} Picture
  * @property {string} ending of its file's name
  * @property {"explained" | "svg" | "json"} format of the replay that it is made from
- * @property {(output: string, outcome: Outcome, module: string, told: Told) => string} made
+ * @property {(output: string, outcome: Outcome, module: string, about: About) => string} made
  * @property {boolean} [isOfPrograms] whether it is made of runs of programs alone
  */
 
@@ -27,7 +27,7 @@ import { wordsText } from "./words.mjs";
  * script or by its row; undefined: none does
  */
 
-/** @typedef {ReturnType<typeof aboutOf>} Told how a run was made, as its page says it */
+/** @typedef {ReturnType<typeof aboutOf>} About how a run was made, as its page says it */
 
 /** Why something isn't made of a script, in its message. */
 export class NotMade extends Error {}
@@ -40,10 +40,10 @@ export const PICTURES = Object.freeze([
   { ending: "html", format: "json", made: pageMade },
 ]);
 
-/** @param {string} facts @param {Outcome} outcome @param {string} module @param {Told} told */
-function pageMade(facts, outcome, module, told) {
+/** @param {string} facts @param {Outcome} outcome @param {string} module @param {About} about */
+function pageMade(facts, outcome, module, about) {
   try {
-    return pageText(outcome, facts, module, told);
+    return pageText(outcome, facts, module, about);
   } catch (problem) {
     if (problem instanceof SyntaxError) throw new NotMade("what sabsim says of the run is no JSON");
     throw problem;
@@ -56,14 +56,14 @@ function pageMade(facts, outcome, module, told) {
  * @param {Picture} picture what
  * @param {Outcome} outcome that has a script
  * @param {string} module the URL of the agents' module
- * @param {Told} told
+ * @param {About} about
  * @returns {string}
  * @throws {NotMade}
  */
-function pictureOf(simulator, { format, made }, outcome, module, told) {
+function pictureOf(simulator, { format, made }, outcome, module, about) {
   const { status, output, complaint } = replayed(simulator, format, outcome.script ?? "");
   if (status !== 0) throw new NotMade(`sabsim ended with status ${status}: ${complaint.trim()}`);
-  return made(output, outcome, module, told);
+  return made(output, outcome, module, about);
 }
 
 /** @param {Simulator} simulator @param {Picture["format"]} format @param {string} script */
@@ -86,12 +86,12 @@ export function keepPictures(keeper, outcome, { simulator, ...how }) {
   const { seed, script } = outcome;
   if (script === undefined) return [];
   const again = how.command?.isOfRow ? PROGRAM_ENDING : "json";
-  const told = aboutOf(how, join(keeper.folder, keeper.nameOf(seed, again)), simulator.version);
+  const about = aboutOf(how, join(keeper.folder, keeper.nameOf(seed, again)), simulator.version);
   const pictures = PICTURES.filter(({ isOfPrograms = false }) => !isOfPrograms || outcome.threads !== undefined);
   return pictures.flatMap((picture) => {
     const { ending } = picture;
     try {
-      keeper.keepAll(seed, { [ending]: pictureOf(simulator, picture, outcome, how.module, told) });
+      keeper.keepAll(seed, { [ending]: pictureOf(simulator, picture, outcome, how.module, about) });
       return [];
     } catch (problem) {
       if (problem instanceof NotMade) return [`not kept: ${keeper.nameOf(seed, ending)}: ${problem.message}`];

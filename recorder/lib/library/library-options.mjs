@@ -40,7 +40,7 @@ import { moduleUrlOf } from "./module-url.mjs";
  * @property {"watch" | "store" | "refuse"} [ordinary] what is done with ordinary reads and writes; else "watch"
  * @property {"fail" | "allow"} [unrecorded] whether a run fails in which agents use shared memory that isn't recorded;
  * else "fail"
- * @property {"run" | "real"} [clock] the time that clocks tell agents: the run's own or the machine's; else "run"
+ * @property {"run" | "real"} [clock] the time that clocks give agents: the run's own or the machine's; else "run"
  * @property {WithBuffers} [init] fills the buffers before the run
  * @property {WithBuffers} [check] is called after a run that finished; what it throws fails the run, as does `false`
  * or an error that it answers

@@ -12,7 +12,7 @@ import { folderOfCaller } from "./module-url.mjs";
 /** @typedef {import("./library-options.mjs").RecordOptions} RecordOptions */
 
 /**
- * @typedef {object} Shortening what is told besides of a failing run that was to be shortened
+ * @typedef {object} Shortening what a failing run that was to be shortened has besides
  * @property {import("../run/outcome.mjs").Outcome & Check} [original] the run as it was found by its seed, where the
  * outcome is that of a shorter one
  * @property {import("../shorter/shorten.mjs").Shortened} [shortened]
@@ -22,8 +22,8 @@ import { folderOfCaller } from "./module-url.mjs";
  * Runs the agents once, under the schedule of one seed. The simulator checks the run, unless the options say that it
  * isn't asked. A relative path of the module is taken from the file whose code calls this function.
  * @param {RecordOptions} options
- * @returns {Promise<Outcome>} told whole, that of the shortest run where it was to be shortened; fails with Refused for
- * options that can't be, with a Difference where the simulator says something else, and with NoSabsim if the native
+ * @returns {Promise<Outcome>} with all members; that of the shortest run if it was to be shortened; fails with Refused
+ * for options that can't be, with a Difference where the simulator says something else, and with NoSabsim if the native
  * program is chosen and isn't there
  */
 export async function record(options) {

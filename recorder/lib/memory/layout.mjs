@@ -20,7 +20,7 @@ export const WORD = Object.freeze({
   TEXT_LENGTH: 12,
   RUN: 13,
   ORDER: 14,
-  TELLS_SOURCES: 15,
+  NOTES_SOURCES: 15,
   RANDOM: 16,
   STORES: 20,
   IS_THINNED: 21,

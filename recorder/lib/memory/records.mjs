@@ -1,5 +1,5 @@
-// The calls of one agent in a run and their answers, in shared memory: the agent writes them as they are made, and who
-// tells of the run reads them at its end.
+// The calls of one agent in a run and their answers, in shared memory: the agent writes them as they are made, and the
+// referee reads them at the run's end.
 
 import { CALLS, CALL_NUMBERS } from "../../script/kinds.mjs";
 import { SCRIPT_LIMITS } from "../../script/limits.mjs";

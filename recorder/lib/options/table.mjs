@@ -87,7 +87,7 @@ export const OPTIONS = Object.freeze({
   programOutput: { kind: choice(["all", "none"]), of: ALL,
     help: ["HOW", "what a program prints is shown of all runs or of none (of the first seed's run and the kept one)"] },
   clock: word(["run", "real"],
-    ["WHICH", "the time that clocks tell agents: run (the run's own, which comes from the seed) or real (run)"]),
+    ["WHICH", "the time that clocks give agents: run (the run's own, which comes from the seed) or real (run)"]),
   maxMoves: rule(whole(1, SCRIPT_LIMITS.moves), SCRIPT_LIMITS.moves,
     ["M", `how many moves a run may have (${SCRIPT_LIMITS.moves})`]),
   seconds: rule(above0(MOST_SECONDS), DEFAULT_SECONDS,

@@ -13,7 +13,7 @@ const STOP_MILLISECONDS = 1_000;
  * @param {unknown} thrown
  * @returns {string}
  */
-function told(thrown) {
+function causeOf(thrown) {
   try {
     return thrown instanceof Error ? String(thrown) : `it threw ${String(thrown)}`;
   } catch {
@@ -56,7 +56,7 @@ export class Thread {
     this.port.on("message", (message) => this.#put({ message }));
     this.worker.on("error", (error) => {
       this.error = error;
-      died = told(error);
+      died = causeOf(error);
     });
     this.worker.on("exit", (code) => {
       if (port1 !== undefined) this.#drain(port1);

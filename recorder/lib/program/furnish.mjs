@@ -78,7 +78,7 @@ export function furnishCloning(buffers) {
  */
 
 /**
- * Tells the thread's code what it is, and by which classes it gets to others.
+ * Gives the thread's code what it is, and the classes by which it gets to others.
  * @param {Place} place
  * @param {Record<string, unknown>} classes of `worker_threads`
  */

@@ -90,17 +90,17 @@ export class ProgramGroup extends Group {
       this.#made += 1;
       const isFresh = wanted.isFresh || this.options.fresh || this.#made % MOST_RUNS === 0;
       // A script alone doesn't make a program's run again: that needs its row.
-      return { ...wanted, isFresh, isSilent: !this.#isShown(wanted), tellsRow: true };
+      return { ...wanted, isFresh, isSilent: !this.#isShown(wanted), wantsRow: true };
     });
     return super.run(all, onOutcome);
   }
 
   /** @param {Wanted} wanted @returns {boolean} whether it is shown what the run prints */
-  #isShown({ seed, row, tellsRow, isShown, isSilent }) {
+  #isShown({ seed, row, wantsRow, isShown, isSilent }) {
     const { programOutput } = this.options;
     if (programOutput === "none" || isSilent) return false;
     // Runs by which a shorter one is looked for are nobody's affair.
-    const isOfSeed = row === undefined && !tellsRow;
+    const isOfSeed = row === undefined && !wantsRow;
     return isShown || (isOfSeed && (programOutput === "all" || seed === this.#loud));
   }
 

@@ -51,7 +51,7 @@ export class PortEvents {
    * @returns {boolean} whether anybody listened
    */
   emit(port, type, data) {
-    return this.#tell(port, type, (isEvent) => {
+    return this.#deliver(port, type, (isEvent) => {
       if (isEvent) return [eventOf(port, type, data)];
       return type === "close" ? [] : [data];
     });
@@ -63,7 +63,7 @@ export class PortEvents {
    */
   dispatch(port, event) {
     for (const name of ["target", "currentTarget", "srcElement"]) defineProperty(event, name, { value: port });
-    this.#tell(port, event.type, () => [event]);
+    this.#deliver(port, event.type, () => [event]);
     return !event.defaultPrevented;
   }
 
@@ -72,7 +72,7 @@ export class PortEvents {
    * @param {string} type
    * @param {(isEvent: boolean) => unknown[]} given what a listener gets
    */
-  #tell(port, type, given) {
+  #deliver(port, type, given) {
     const meta = this.ports.metaOf(port);
     if (meta === undefined) return false;
     const all = meta.listeners.filter((each) => each.type === type);

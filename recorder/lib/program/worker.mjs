@@ -143,7 +143,7 @@ const atomicsOf = (moves, waits) => recordedAtomics(Atomics, {
 
 /** What the recorder notes of agents that are synchronous. */
 const NOTHING_LATER = /** @type {any} */ ({
-  begin: () => {}, end: () => {}, told: () => undefined, noteLeft: () => {}, write: () => {},
+  begin: () => {}, end: () => {}, ongoing: () => undefined, noteLeft: () => {}, write: () => {},
 });
 
 /** @param {number} agent @returns {{ player: Player, blocks: Blocks }} */

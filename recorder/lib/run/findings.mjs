@@ -1,4 +1,4 @@
-// The unordered accesses of a run, as they are told.
+// The unordered accesses of a run, as they are reported.
 
 import { FLAG } from "../memory/log.mjs";
 import { NO_NAMES } from "../options/names.mjs";
@@ -36,19 +36,19 @@ function accessOf(flags) {
 }
 
 /**
- * @typedef {object} Telling what is needed to tell of races
+ * @typedef {object} RaceContext what is needed to report races
  * @property {import("./transcript.mjs").Run} run
  * @property {import("../../script/text.mjs").Transcript} transcript
  * @property {string[][]} sources the positions of each agent's code by their numbers; empty where none were taken
  * @property {import("./source-names.mjs").SourceNames} sourceNames
  */
 
-// More aren't told of one run, but counted.
-const MOST_TOLD = 1_000;
+// More of one run aren't listed, but counted.
+const MOST_LISTED = 1_000;
 
-/** What is told of accesses; what is asked for again and again is made out once. */
-class Teller {
-  /** @param {Telling} telling */
+/** What is reported about accesses; what is asked for again and again is made out once. */
+class RaceTexts {
+  /** @param {RaceContext} context */
   constructor({ run, transcript, sources, sourceNames }) {
     this.run = run;
     this.transcript = transcript;
@@ -122,26 +122,26 @@ class Teller {
 /**
  * The races of a run: each pair of lines of code once, and at most a thousand of them; the last one's text says how
  * many there are besides.
- * @param {Telling} telling
+ * @param {RaceContext} context
  * @returns {RaceReport[]} in the order of their later accesses
  */
-export function racesTold(telling) {
-  const teller = new Teller(telling);
-  const { log, records } = telling.run;
+export function raceReports(context) {
+  const texts = new RaceTexts(context);
+  const { log, records } = context.run;
   /** @type {RaceReport[]} */
-  const told = [];
+  const listed = [];
   const pairs = new Set();
   for (const { one, other, byte } of racesOf(log, records.length)) {
-    const [first, second] = [teller.line(one, byte), teller.line(other, byte)].sort();
+    const [first, second] = [texts.line(one, byte), texts.line(other, byte)].sort();
     const key = `${first} ${second}`;
     if (pairs.has(key)) continue;
     pairs.add(key);
-    if (told.length === MOST_TOLD) continue;
-    const [side, otherSide] = [teller.side(one, byte), teller.side(other, byte)];
-    const text = `${teller.text(one, side)}; ${teller.text(other, otherSide)}`;
-    told.push({ lines: [first, second], text, sides: [side, otherSide] });
+    if (listed.length === MOST_LISTED) continue;
+    const [side, otherSide] = [texts.side(one, byte), texts.side(other, byte)];
+    const text = `${texts.text(one, side)}; ${texts.text(other, otherSide)}`;
+    listed.push({ lines: [first, second], text, sides: [side, otherSide] });
   }
-  const last = told.at(-1);
-  if (last !== undefined && pairs.size > told.length) last.text += `\nand ${pairs.size - told.length} more`;
-  return told;
+  const last = listed.at(-1);
+  if (last !== undefined && pairs.size > listed.length) last.text += `\nand ${pairs.size - listed.length} more`;
+  return listed;
 }

@@ -48,9 +48,9 @@ import { within } from "./within.mjs";
  * @property {"fail" | "allow"} [races] whether a run that finishes and has unordered accesses fails
  * @property {"fail" | "allow"} [bounds] whether a run that meets a bound fails
  * @property {"fail" | "allow"} [unrecorded] whether a run fails in which agents use shared memory that isn't recorded
- * @property {"run" | "real"} [clock] which time agents are told
- * @property {boolean} [trace] whether each run's trace is told
- * @property {boolean} [tellsMeetings] whether the lines are told that came one after the other at a place
+ * @property {"run" | "real"} [clock] which time agents get
+ * @property {boolean} [trace] whether each run has its trace
+ * @property {boolean} [wantsMeetings] whether the lines are wanted that came one after the other at a place
  * @property {boolean} [isBrief] whether outcomes of runs that pass have no bytes and answers
  * @property {OfBuffers} [init] fills the buffers before each run, in place of the module's
  * @property {OfBuffers} [check] throws where the buffers aren't right after a run that finished, in place of the
@@ -217,12 +217,12 @@ export class Group {
     this.referee = referee;
     // It evaluates it while the agents' module is loaded.
     referee.give(REFEREE_MODULE);
-    const told = await this.#load(0);
-    needsRightNames(told.names);
-    this.plan = planOf(this.options, told.setup);
+    const loaded = await this.#load(0);
+    needsRightNames(loaded.names);
+    this.plan = planOf(this.options, loaded.setup);
     const { strategy, everywhere, timeouts, maxMoves } = this.options;
     this.rules = { agents: this.plan.agents, ways: waysOf(strategy, everywhere), timeouts, maxMoves };
-    const options = this.refereeOptions(told);
+    const options = this.refereeOptions(loaded);
     if (options.init !== undefined && this.plan.agents === SCRIPT_LIMITS.agents) {
       throw new Refused(`with ${SCRIPT_LIMITS.agents} agents none is left for the stores of \`init\`: give one less`);
     }
@@ -282,7 +282,7 @@ export class Group {
    * @param {{ hasInit: boolean, hasCheck: boolean }} module
    */
   refereeOptions({ hasInit, hasCheck }) {
-    const { init, check, module, seconds, fresh, trace, tellsMeetings, isBrief, ordinary } = this.options;
+    const { init, check, module, seconds, fresh, trace, wantsMeetings, isBrief, ordinary } = this.options;
     const { races, bounds, unrecorded } = this.options;
     /** @type {(own: OfBuffers | undefined, isTheirs: boolean) => "library" | "module" | undefined} */
     const whose = (own, isTheirs) => {
@@ -290,7 +290,7 @@ export class Group {
       return isTheirs ? "module" : undefined;
     };
     const asked = { init: whose(init, hasInit), check: whose(check, hasCheck) };
-    return { module, seconds, fresh, trace, tellsMeetings, isBrief, ordinary, races, bounds, unrecorded, ...asked };
+    return { module, seconds, fresh, trace, wantsMeetings, isBrief, ordinary, races, bounds, unrecorded, ...asked };
   }
 
   /**
@@ -364,8 +364,8 @@ export class Group {
    */
   async inTime(promise) {
     const { loadSeconds: seconds } = this.options;
-    const told = await within(promise, seconds);
-    if (told === undefined) throw new Refused(`${this.options.module} wasn't loaded within ${seconds} s`);
-    return told;
+    const loaded = await within(promise, seconds);
+    if (loaded === undefined) throw new Refused(`${this.options.module} wasn't loaded within ${seconds} s`);
+    return loaded;
   }
 }

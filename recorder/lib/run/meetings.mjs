@@ -13,7 +13,7 @@ const POSITIONS = 2 ** 24;
 /** Where an access stands in the code, where that isn't known. */
 const UNKNOWN = "?";
 
-/** What the log has in place of the number of a position, where an agent could tell none. */
+/** What the log has in place of the number of a position, if an agent noted none. */
 const NO_SOURCE = 0;
 
 export class Meetings {
@@ -33,12 +33,12 @@ export class Meetings {
     this.own = [];
     /** @type {Set<number>} the pairs that were seen */
     this.pairs = new Set();
-    /** How many accesses of the run that was added last have told no position. */
+    /** Of how many accesses of the run that was added last the position isn't known. */
     this.unplaced = 0;
   }
 
   /**
-   * Takes note of a run whose accesses have told their positions.
+   * Takes note of a run whose accesses have noted their positions.
    * @param {Log} log
    * @param {Sources[]} sources of each agent
    * @returns {string[]} the pairs that no run before has shown, each as `earlier line > later line`
@@ -69,7 +69,7 @@ export class Meetings {
     let before = -1;
     for (let place = first; place < last; place += 1) {
       const isOther = this.runs[place] === this.run && this.agents[place] !== agent;
-      // Bytes of one element mostly tell the same pair.
+      // Bytes of one element mostly give the same pair.
       if (isOther && this.positions[place] !== before) {
         before = this.positions[place];
         this.#pair(before, position, found);

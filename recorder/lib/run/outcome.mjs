@@ -42,7 +42,7 @@
  * @typedef {object} Covering what an outcome has besides, where coverage is looked for
  * @property {string[]} [meetings] pairs of lines that came one after the other at a place, by different agents; those
  * that this group's runs before haven't shown
- * @property {number} [unplaced] how many accesses have told no line
+ * @property {number} [unplaced] of how many accesses the line isn't known
  */
 
 /**
@@ -50,9 +50,9 @@
  * @property {number} seed
  * @property {boolean} whole whether a run that finishes has answers, script and report too
  * @property {boolean} [isTrial] whether only its ending is wanted: it has no answers, script, report or trace
- * @property {boolean} [tellsLines] whether a trial has the lines of its races
- * @property {boolean} [tellsTrace] whether it has its trace in any case
- * @property {boolean} [tellsActs] whether the outcome has a digest of all that was done
+ * @property {boolean} [wantsLines] whether a trial has the lines of its races
+ * @property {boolean} [needsTrace] whether it has its trace in any case
+ * @property {boolean} [wantsActs] whether the outcome has a digest of all that was done
  * @property {boolean} [isSilent] whether nothing is printed of what the agents print
  * @property {boolean} [isShown] whether what a program prints is shown, though the run isn't the first one
  * @property {boolean} [isFresh] whether the agents' workers are started anew before
@@ -77,7 +77,7 @@
 
 /**
  * @typedef {object} Judgement whether the recorder has found unordered accesses in a run, and in which events it has
- * looked; told beside an outcome that has a script, where ordinary accesses are watched
+ * looked; beside an outcome that has a script, where ordinary accesses are watched
  * @property {boolean} racy whether it has found any
  * @property {Int32Array} events those of the run's log
  * @property {boolean} isInScript whether the script has all of them, and no others

@@ -57,8 +57,8 @@ export class Pilots {
     return log.length > MANY_EVENTS || accesses > MANY_ACCESSES;
   }
 
-  /** @param {KnownPlaces} known to which all is told */
-  tell(known) {
+  /** @param {KnownPlaces} known that learns all of it */
+  teach(known) {
     for (let place = 0; place < PLACES; place += 1) {
       const users = this.users[place];
       if (users === 0) continue;

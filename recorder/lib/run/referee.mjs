@@ -43,10 +43,10 @@ class Referee {
     this.options = options;
     this.maker = new RunMaker(given, sourceNames, ProgramState);
     this.reporter = new RunReporter(given, this.maker);
-    this.meetings = options.tellsMeetings ? new Meetings(sourceNames) : undefined;
-    this.tellsAlways = options.trace || this.meetings !== undefined;
+    this.meetings = options.wantsMeetings ? new Meetings(sourceNames) : undefined;
+    this.notesAlways = options.trace || this.meetings !== undefined;
     /** Whether the next run notes its lines of code at once. If the run before raced, the next one may race too. */
-    this.tellsNext = this.tellsAlways;
+    this.notesNext = this.notesAlways;
     /** The trace of a failing run is made if it may be the first one: others aren't kept. */
     this.firstFailing = new FirstFailing();
     /** How many runs were made since all threads were started anew. */
@@ -94,14 +94,14 @@ class Referee {
       isLong = Pilots.isLong(log, maker.accessCount());
     }
     board.words[WORD.IS_PILOT] = 0;
-    if (isSeen) pilots.tell(board.places);
+    if (isSeen) pilots.teach(board.places);
     await maker.replace(maker.agents);
   }
 
   /** @param {Wanted} wanted @returns {Promise<Sent>} the outcome of a seed */
   async #one(wanted) {
     const { maker, maker: { log }, reporter, meetings } = this;
-    let hasSources = this.tellsNext;
+    let hasSources = this.notesNext;
     let found = await maker.made(wanted, hasSources);
     /** @type {import("./outcome.mjs").Covering} */
     const covering = meetings === undefined
@@ -117,7 +117,7 @@ class Referee {
     const outcome = reporter.brief(wanted, found);
     const taken = wanted.whole ? reporter.taken(outcome, found) : undefined;
     if (taken === undefined && (wanted.whole || outcome.fails)) reporter.addScript(outcome, found);
-    if (wanted.tellsActs) Object.assign(outcome, { acts: reporter.acts(outcome, found) });
+    if (wanted.wantsActs) Object.assign(outcome, { acts: reporter.acts(outcome, found) });
     // Here the log has all events. The log of a run that is made once more, with lines of code, may lack some reads.
     const judgement = reporter.judgement(outcome, found, taken);
     const isFirst = !found.isUnseen && this.firstFailing.takes(outcome);
@@ -129,7 +129,7 @@ class Referee {
     Object.assign(outcome, covering);
     if (outcome.ending === "race") outcome.detail = outcome.races.map(({ text }) => text).join("\n");
     nameIn(outcome, found);
-    this.tellsNext = this.tellsAlways || (found.racy && !isCut);
+    this.notesNext = this.notesAlways || (found.racy && !isCut);
     return { outcome, judgement, taken, aside: { ...asideOf(found), ...(again === undefined ? {} : { again }) } };
   }
 
@@ -173,11 +173,11 @@ class Referee {
   /** @param {Wanted} wanted @returns {Promise<One>} a run that is made only to see how it ends */
   async #tried(wanted) {
     const { maker, reporter } = this;
-    const { tellsLines = false } = wanted;
-    const found = await maker.judged(await maker.made(wanted, tellsLines));
+    const { wantsLines = false } = wanted;
+    const found = await maker.judged(await maker.made(wanted, wantsLines));
     const outcome = reporter.brief(wanted, found);
     await this.#replace(found);
-    if (tellsLines) await this.#addSources(wanted, outcome, found, { hasSources: maker.log.hasRoom(), isFirst: false });
+    if (wantsLines) await this.#addSources(wanted, outcome, found, { hasSources: maker.log.hasRoom(), isFirst: false });
     nameIn(outcome, found);
     return { outcome, aside: asideOf(found) };
   }
@@ -221,8 +221,8 @@ class Referee {
   }
 
   /** @param {Wanted} wanted @param {boolean} isFirst as above @returns {boolean} whether a run's trace is made */
-  #isTraceWanted({ isTrial = false, tellsTrace = false }, isFirst) {
-    return !isTrial && (this.options.trace || tellsTrace || isFirst);
+  #isTraceWanted({ isTrial = false, needsTrace = false }, isFirst) {
+    return !isTrial && (this.options.trace || needsTrace || isFirst);
   }
 }
 

@@ -39,7 +39,7 @@ import { unseenText } from "./unseen.mjs";
  * @property {number} seconds for how long an agent may make no call
  * @property {boolean} fresh
  * @property {boolean} trace
- * @property {boolean} [tellsMeetings]
+ * @property {boolean} [wantsMeetings]
  * @property {boolean} [isBrief] whether outcomes of runs that pass have no bytes and answers
  * @property {"watch" | "store" | "refuse"} ordinary
  * @property {"fail" | "allow"} races
@@ -92,10 +92,10 @@ export class RunMaker {
   /**
    * One run, by a seed, or by a row.
    * @param {Wanted} wanted
-   * @param {boolean} tellsSources whether each access notes its line of code
+   * @param {boolean} notesSources whether each access notes its line of code
    * @returns {Promise<Made>}
    */
-  async made(wanted, tellsSources) {
+  async made(wanted, notesSources) {
     const { board, memory, plan, options, sourceNames } = this;
     this.#clear(wanted);
     board.words[WORD.IS_SILENT] = wanted.isSilent === true ? 1 : 0;
@@ -106,26 +106,27 @@ export class RunMaker {
       const nothing = { ...none, bytes: memory.hex(), initial };
       return { ending: "failed", detail: `init ${problem}`, ...nothing };
     }
-    board.words[WORD.TELLS_SOURCES] = tellsSources ? 1 : 0;
+    board.words[WORD.NOTES_SOURCES] = notesSources ? 1 : 0;
     board.begin(wanted.seed);
-    const told = await this.#ended();
+    const result = await this.#ended();
     if (this.program !== undefined) this.agents = this.program.learn();
     const stray = board.row.strayed();
     const bytes = memory.hex();
-    const isBound = told.ending === "bound";
-    const waiting = isBound || told.ending === "deadlock" ? board.line.waiting() : [];
+    const isBound = result.ending === "bound";
+    const waiting = isBound || result.ending === "deadlock" ? board.line.waiting() : [];
     const asking = isBound ? this.agents.filter((agent) => board.line.asks(agent)) : [];
     const gone = this.#sentHome();
     const endless = gone.filter((agent) => !board.turn.isParked(agent));
     const racy = options.ordinary === "watch" && isRacy(this.log, plan.agents);
     const isWhole = this.program !== undefined;
-    const named = isBound || isWhole ? sourceNames.withNames(told.detail) : this.#named(told.detail);
-    const idle = (this.program?.idle(told.ending) ?? []).map((line) => sourceNames.withNames(line));
+    const named = isBound || isWhole ? sourceNames.withNames(result.detail) : this.#named(result.detail);
+    const idle = (this.program?.idle(result.ending) ?? []).map((line) => sourceNames.withNames(line));
     const lines = [named, ...idle].filter((line) => line !== "");
     const detail = stray === undefined ? lines.join("\n") : strayText(stray, named);
     const unseen = this.agents.flatMap((agent) => this.notes[agent].read().map((note) => ({ ...note, agent })));
     const names = this.program?.names((text) => sourceNames.withNames(text));
-    return { ending: told.ending, detail, bytes, gone, endless, racy, initial, waiting, asking, unseen, stray, names };
+    const { ending } = result;
+    return { ending, detail, bytes, gone, endless, racy, initial, waiting, asking, unseen, stray, names };
   }
 
   /** @param {Made} found @returns {Promise<Made>} how a run ends, with what is known when its agents are home */
@@ -162,7 +163,7 @@ export class RunMaker {
     this.#clear({ seed, whole: false });
     board.words[WORD.IS_PILOT] = 1;
     if (options.init !== undefined && (await this.#asked("init")) !== "") return false;
-    board.words[WORD.TELLS_SOURCES] = 0;
+    board.words[WORD.NOTES_SOURCES] = 0;
     board.begin(seed, true);
     const isSilent = board.turn.awaitEnd(Math.min(options.seconds, PILOT_SECONDS));
     await this.replace(this.#sentHome());
@@ -240,15 +241,15 @@ export class RunMaker {
 
   /**
    * Waits for the end. Of an agent that made no call for too long the main thread finds out where it is.
-   * @returns {Promise<ReturnType<Board["end"]["told"]>>}
+   * @returns {Promise<ReturnType<Board["end"]["result"]>>}
    */
   async #ended() {
     const { end, turn } = this.board;
     turn.awaitEnd(this.options.seconds);
-    const told = end.told();
-    if (turn.silent === NOBODY) return told;
+    const result = end.result();
+    if (turn.silent === NOBODY) return result;
     const { place } = await this.#answered({ locate: turn.silent });
-    return place === undefined ? told : { ...told, detail: `${told.detail}: it is at ${place}` };
+    return place === undefined ? result : { ...result, detail: `${result.detail}: it is at ${place}` };
   }
 
   /** Sends the agents home. @returns {number[]} those that can't run again */

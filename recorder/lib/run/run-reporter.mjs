@@ -8,7 +8,7 @@ import { Names } from "../options/names.mjs";
 import { preloads } from "../processes/preloads.mjs";
 import { accessesIn } from "./accesses.mjs";
 import { standstillOf, thrownIn } from "./failure.mjs";
-import { racesTold } from "./findings.mjs";
+import { raceReports } from "./findings.mjs";
 import { FinalStates } from "./final-state.mjs";
 import { fitted } from "./fitting.mjs";
 import { addAnswers, addTexts } from "./script-texts.mjs";
@@ -42,7 +42,7 @@ export class RunReporter {
     const { maker, options } = this;
     const { ending, detail } = found;
     const { deadlines, journal, row } = maker.board;
-    const draws = row.told();
+    const draws = row.own();
     const unrecorded = unrecordedIn(found.unseen, this.sourceNames.placeName);
     const isAllowed = (ending === "bound" && options.bounds === "allow") || (ending === "stuck" && options.stuck === "allow");
     const fails = ending !== "finished" && !isAllowed;
@@ -128,9 +128,9 @@ export class RunReporter {
    * @returns {string}
    */
   acts(outcome, found) {
-    const told = { ...outcome };
-    if (told.script === undefined && told.noScript === undefined) this.addScript(told, found);
-    return createHash("sha256").update(`${told.script} ${told.report} ${told.noScript}`).digest("base64");
+    const copy = { ...outcome };
+    if (copy.script === undefined && copy.noScript === undefined) this.addScript(copy, found);
+    return createHash("sha256").update(`${copy.script} ${copy.report} ${copy.noScript}`).digest("base64");
   }
 
   /**
@@ -145,12 +145,12 @@ export class RunReporter {
 
   /**
    * The unordered accesses, with their lines of code if these are known.
-   * @param {boolean} tellsSources
+   * @param {boolean} notesSources
    */
-  races(tellsSources) {
+  races(notesSources) {
     const { run, sources, sourceNames } = this;
-    const lists = tellsSources ? sources.map((each) => each.list()) : [];
-    return racesTold({ run, transcript: transcriptOf(run, []), sources: lists, sourceNames });
+    const lists = notesSources ? sources.map((each) => each.list()) : [];
+    return raceReports({ run, transcript: transcriptOf(run, []), sources: lists, sourceNames });
   }
 
   /**
@@ -180,8 +180,8 @@ export class RunReporter {
    * @returns {import("./outcome.mjs").Judgement | undefined}
    */
   judgement({ script }, found, taken) {
-    const isTold = script !== undefined || taken !== undefined || this.maker.program !== undefined;
-    if (!isTold || found.isUnseen || this.options.ordinary !== "watch") return undefined;
+    const hasEvents = script !== undefined || taken !== undefined || this.maker.program !== undefined;
+    if (!hasEvents || found.isUnseen || this.options.ordinary !== "watch") return undefined;
     const { racy, initial } = found;
     // The stores of `init` are none of the run's accesses, and ordinary reads are in no script.
     const hasScript = script !== undefined || taken !== undefined;

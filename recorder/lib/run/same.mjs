@@ -4,12 +4,12 @@
 /** @typedef {Pick<Outcome, "seed" | "ending" | "detail" | "moves" | "calls" | "state" | "noScript">} RunSummary */
 
 /**
- * Whether two runs of a seed did the same, as far as is told of every run.
+ * Whether two runs of a seed did the same, as far as every run reports.
  * @param {RunSummary} one
  * @param {RunSummary} other
  */
 export function areSame(one, other) {
-  /** @param {RunSummary} told */
+  /** @param {RunSummary} summary */
   const parts = ({ ending, moves, calls, state }) => [ending, moves, calls, state.hash].join(" ");
   return parts(one) === parts(other);
 }

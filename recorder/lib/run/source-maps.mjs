@@ -100,7 +100,7 @@ export class SourceMaps {
 }
 
 /**
- * The map of a file. One that can't be read is none: places are told as they are then.
+ * The map of a file. One that can't be read is none: places are reported as they are then.
  * @param {string} file its URL
  * @returns {Mapped | undefined}
  */

@@ -61,7 +61,7 @@ const JOINED = 1_024;
 /**
  * The events of a run, a line each.
  * @param {import("../memory/log.mjs").Log} log
- * @param {string[][]} [sources] the positions of each agent's code, by their numbers; without, none is told
+ * @param {string[][]} [sources] the positions of each agent's code, by their numbers; without, none is reported
  * @returns {string}
  */
 export function traceText(log, sources = []) {

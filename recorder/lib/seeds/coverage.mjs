@@ -7,19 +7,19 @@
 const ENOUGH = 500;
 
 /**
- * @typedef {object} Covered what is told of it, as JSON
+ * @typedef {object} Covered what is reported about it, as JSON
  * @property {string[]} pairs of lines, in order
  * @property {number | null} last the last seed that has shown a new pair; null: none has, or nobody knows
  * @property {number | null} row how many seeds in a row have shown none since; null: nobody knows
  * @property {number} unplaced of how many accesses the line isn't known, so that pairs may be missing
- * @property {boolean} covered whether that is enough, and each access has told its line
+ * @property {boolean} covered whether that is enough, and the line of each access is known
  */
 
 export class Coverage {
   /**
    * What several machines have covered. Each has looked at seeds of its own, so nobody knows which pair came when.
    * @param {Coverage | undefined} before
-   * @param {Covered} told
+   * @param {Covered} data
    * @returns {Coverage}
    */
   static joined(before, { pairs, unplaced, covered }) {
@@ -37,14 +37,14 @@ export class Coverage {
     this.last = undefined;
     /** How many seeds in a row have shown none since. */
     this.row = 0;
-    /** How many accesses have told no line. */
+    /** Of how many accesses the line isn't known. */
     this.unplaced = 0;
     /** @type {{ covered: boolean } | undefined} of one that was joined, whether each part has enough */
     this.each = undefined;
   }
 
   /** @returns {Covered} */
-  told() {
+  data() {
     const { each, last = null, row, unplaced, isEnough } = this;
     const pairs = [...this.pairs].sort();
     if (each !== undefined) return { pairs, last: null, row: null, unplaced, ...each };

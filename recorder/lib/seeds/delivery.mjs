@@ -13,7 +13,7 @@ class Change {
   }
 
   /** It has changed. */
-  tell() {
+  signal() {
     for (const done of this.#waiting.splice(0)) done();
   }
 }
@@ -36,25 +36,25 @@ export class Delivery {
   /** @param {Outcome} outcome */
   add(outcome) {
     this.arrived.set(outcome.seed, outcome);
-    this.arrival.tell();
+    this.arrival.signal();
   }
 
   /** @param {number} seed whose outcome will never come */
   lose(seed) {
     this.arrived.set(seed, undefined);
-    this.arrival.tell();
+    this.arrival.signal();
   }
 
   /** @param {unknown} failure the first one is reported */
   fail(failure) {
     this.failed ??= { failure };
-    this.arrival.tell();
+    this.arrival.signal();
   }
 
   /** All have come. */
   finish() {
     this.isOver = true;
-    this.arrival.tell();
+    this.arrival.signal();
   }
 
   /**
@@ -82,7 +82,7 @@ export class Delivery {
     const outcome = this.arrived.get(this.next);
     this.arrived.delete(this.next);
     this.next += 1;
-    this.taking.tell();
+    this.taking.signal();
     return outcome;
   }
 }

@@ -106,13 +106,13 @@ export class Job {
 
   /**
    * Looks for the shortest run that fails as one that was found, and checks it.
-   * @param {import("../run/same.mjs").RunSummary} told the summary of that run
+   * @param {import("../run/same.mjs").RunSummary} summary the summary of that run
    * @param {(tried: import("../shorter/shorten.mjs").Tried) => void} onTry
    * @returns {Promise<ShortenedByJob>} fails if the check has failed
    */
-  async shorten(told, onTry) {
+  async shorten(summary, onTry) {
     const { shorten } = await import("../shorter/shorten.mjs");
-    const { shortest, shortened } = await shorten(await this.#opened(), told, { onTry, isFresh: true });
+    const { shortest, shortened } = await shorten(await this.#opened(), summary, { onTry, isFresh: true });
     return { shortest: shortest && checkedBy(this.#simulator, shortest), shortened };
   }
 

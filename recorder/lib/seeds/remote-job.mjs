@@ -94,13 +94,13 @@ export class RemoteJob {
   }
 
   /**
-   * @param {import("../run/same.mjs").RunSummary} told the summary of a run that was found
+   * @param {import("../run/same.mjs").RunSummary} summary the summary of a run that was found
    * @param {(tried: import("../shorter/shorten.mjs").Tried) => void} onTry
    * @returns {Promise<import("./job.mjs").ShortenedByJob>}
    */
-  shorten(told, onTry) {
+  shorten(summary, onTry) {
     this.onTry = onTry;
-    return this.#ask({ shorten: told });
+    return this.#ask({ shorten: summary });
   }
 
   /** Ends the process, and all that it has started. Nothing more is reported about it. */

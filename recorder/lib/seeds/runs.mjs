@@ -123,7 +123,7 @@ export class Runs {
     const first = this.#first;
     if (first === undefined || fresh || this.#made < 2 || isLost(first.job)) return undefined;
     const { job, outcome: { seed } } = first;
-    const compared = { ...wanted, seed, whole: false, tellsActs: true, isSilent: true };
+    const compared = { ...wanted, seed, whole: false, wantsActs: true, isSilent: true };
     /** @type {Outcome | undefined} */
     let again;
     try {
@@ -172,7 +172,7 @@ export class Runs {
   /** No job begins another run. */
   #stopTaking() {
     this.queue.stop();
-    this.delivery.taking.tell();
+    this.delivery.taking.signal();
   }
 
   /** Ends all at once, though nobody may ask for more. */
@@ -288,7 +288,7 @@ export class Runs {
       if (!(failure instanceof LostJob) || made === seeds.length) throw failure;
       const [from, to] = [seeds[made].seed, seeds[seeds.length - 1].seed];
       const missing = from === to ? `of seed ${from}` : `of the seeds ${from} to ${to}`;
-      throw new LostJob(`${failure.message}, and nothing is told ${missing}`);
+      throw new LostJob(`${failure.message}, and nothing is known ${missing}`);
     }
   }
 }

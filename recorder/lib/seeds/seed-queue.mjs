@@ -25,7 +25,7 @@ export class SeedQueue {
     const seeds = [];
     while (this.left > 0 && seeds.length < this.batch) {
       const whole = this.every > 0 && (this.next - this.origin) % this.every === 0;
-      const how = this.next === this.compared ? { ...this.wanted, tellsActs: true } : this.wanted;
+      const how = this.next === this.compared ? { ...this.wanted, wantsActs: true } : this.wanted;
       seeds.push({ ...how, seed: this.next, whole });
       this.next += 1;
     }

@@ -23,12 +23,12 @@ import { changesOf, joinedFrom, rowOf, shortenedAt, stretchesOf, without } from 
  * @property {Change} changes how often another agent moved than before: in the run as it was found, and in the shortest
  * @property {Change} calls of Atomics that were begun, in the same two runs
  * @property {string} [stopped] why it was ended before all was tried
- * @property {string} [unchanged] why the run is told as it was found
+ * @property {string} [unchanged] why the run is returned as it was found
  */
 
 /**
  * @typedef {object} Found
- * @property {One} [shortest] undefined: the run is told as it was found
+ * @property {One} [shortest] undefined: the run is returned as it was found
  * @property {Shortened} shortened
  */
 
@@ -67,7 +67,7 @@ function isShorter(one, other) {
 /**
  * Why a failing run isn't shortened, if so. How far a run gets that meets a limit says little; and where a worker dies
  * in each run that is tried, it takes too long.
- * @param {RunSummary} told
+ * @param {RunSummary} summary
  * @returns {string | undefined}
  */
 function whyNot({ ending, detail, calls, noScript }) {
@@ -192,7 +192,7 @@ class Search {
    */
   async #made(row) {
     const { seed, ending } = this.first.outcome;
-    const wanted = { seed, whole: false, row, tellsRow: true, isTrial: true, tellsLines: ending === "race" };
+    const wanted = { seed, whole: false, row, wantsRow: true, isTrial: true, wantsLines: ending === "race" };
     const run = await this.group.one(wanted);
     this.runs += 1;
     this.limits.onTry({ runs: this.runs, changes: Math.min(this.best.changes, this.current.changes) });
@@ -215,35 +215,35 @@ const droppedAt = (stretches, at) => [without(stretches, at, 1)];
 /**
  * Looks for the shortest run that fails in the same way as one that was found by its seed.
  * @param {import("../run/group.mjs").Group} group of the same agents
- * @param {RunSummary} told of the run that was found
+ * @param {RunSummary} summary of the run that was found
  * @param {Limits} [limits]
  * @returns {Promise<Found>}
  */
-export async function shorten(group, told, limits = {}) {
+export async function shorten(group, summary, limits = {}) {
   const begun = performance.now();
-  const why = whyNot(told);
-  if (why !== undefined) return asFound(told, { row: [] }, 0, why);
-  const { seed } = told;
+  const why = whyNot(summary);
+  if (why !== undefined) return asFound(summary, { row: [] }, 0, why);
+  const { seed } = summary;
   const all = { most: MOST_RUNS, milliseconds: MOST_MILLISECONDS, onTry: () => {}, isFresh: false, ...limits };
-  const first = await group.one({ seed, whole: true, tellsRow: true, isFresh: all.isFresh });
-  const isAgain = areSame(first.outcome, told) && failsAlike(first, first);
-  if (!isAgain) return asFound(told, first.outcome, 1, NOT_AGAIN);
+  const first = await group.one({ seed, whole: true, wantsRow: true, isFresh: all.isFresh });
+  const isAgain = areSame(first.outcome, summary) && failsAlike(first, first);
+  if (!isAgain) return asFound(summary, first.outcome, 1, NOT_AGAIN);
   const search = new Search(group, first, all, begun);
   await search.run();
   const { best, runs, stopped } = search;
   if (!isShorter(best, measured(first.outcome))) {
-    return asFound(told, first.outcome, runs - 1, "no shorter one was found", stopped);
+    return asFound(summary, first.outcome, runs - 1, "no shorter one was found", stopped);
   }
   const shortest = await remade(group, first, best);
-  if (shortest === undefined) return asFound(told, first.outcome, runs, NOT_AGAIN, stopped);
+  if (shortest === undefined) return asFound(summary, first.outcome, runs, NOT_AGAIN, stopped);
   const changes = { before: changesOf(first.outcome.row ?? []), after: best.changes };
-  const shortened = { runs, changes, calls: { before: told.calls, after: best.calls } };
+  const shortened = { runs, changes, calls: { before: summary.calls, after: best.calls } };
   return { shortest, shortened: stopped === undefined ? shortened : { ...shortened, stopped } };
 }
 
 /**
- * What is told of a run that stays as it was found.
- * @param {RunSummary} told
+ * What is reported about a run that stays as it was found.
+ * @param {RunSummary} summary
  * @param {Pick<Outcome, "row">} first
  * @param {number} runs
  * @param {string} unchanged why it stays so
@@ -257,7 +257,7 @@ function asFound({ calls }, { row = [] }, runs, unchanged, stopped) {
 }
 
 /**
- * Makes the shortest run once more, by workers that were started anew, as who replays it will; all of it is told.
+ * Makes the shortest run once more, by workers that were started anew, as a replay will; all of it is reported.
  * @param {import("../run/group.mjs").Group} group
  * @param {One} first
  * @param {Measured} best
@@ -266,7 +266,7 @@ function asFound({ calls }, { row = [] }, runs, unchanged, stopped) {
 async function remade(group, first, { row, calls }) {
   const { seed } = first.outcome;
   const run = await group.one({
-    seed, whole: true, row, isExact: true, tellsRow: true, tellsTrace: true, isFresh: true,
+    seed, whole: true, row, isExact: true, wantsRow: true, needsTrace: true, isFresh: true,
   });
   const isSame = run.outcome.calls === calls && run.outcome.row?.length === row.length;
   return isSame && failsAlike(run, first) ? run : undefined;

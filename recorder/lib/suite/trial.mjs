@@ -4,7 +4,7 @@
 import { AssertionError } from "node:assert";
 import { resolve } from "node:path";
 import { OnlyByTime, onlyByTimeLines } from "../command/only-by-time.mjs";
-import { isExpected, toldOf } from "../command/problems.mjs";
+import { isExpected, messageOf } from "../command/problems.mjs";
 import { howMade } from "../keeping/how-made.mjs";
 import { Keeper, missingFiles } from "../keeping/keep.mjs";
 import { keepProgram } from "../keeping/kept-program.mjs";
@@ -66,7 +66,7 @@ class Passed {
     const used = [...this.used].join(", ");
     const unseen = used === "" ? [] : [`agents used what isn't recorded, which is allowed: ${used}`];
     const line = [`${counted(this.count, "run")} passed, ${checks}`, ...unseen, ...besides].join("; ");
-    return [line, ...onlyByTimeLines(this.onlyByTime.told(), this.count)].join("\n");
+    return [line, ...onlyByTimeLines(this.onlyByTime.data(), this.count)].join("\n");
   }
 }
 
@@ -128,7 +128,7 @@ async function rememberingLines(runs) {
 }
 
 /**
- * What is told of a run that fails. What can't be kept or explained is told beside it.
+ * What is reported about a run that fails, and what can't be kept or explained.
  * @param {Runs} runs
  * @param {Outcome} failing
  * @param {number} passed how many runs of lower seeds passed
@@ -172,6 +172,6 @@ function keptLines({ failing, outcome }, options, folder, simulator) {
     const kept = keeper.names.length === 0 ? [] : [`kept in ${keeper.folder}: ${keeper.names.join(", ")}`];
     return [...kept, ...notesOn(keeper, outcome), ...notKept];
   } catch (problem) {
-    return [`not kept: ${toldOf(problem)}`];
+    return [`not kept: ${messageOf(problem)}`];
   }
 }

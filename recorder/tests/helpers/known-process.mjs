@@ -61,8 +61,8 @@ async function answerTo({ module, seeds, checkEvery, again }) {
     stopGrowth();
     const wanted = Array.from({ length: seeds }, (_, at) => ({ seed: at + 1, whole: at % checkEvery === 0 }));
     const made = await runsOf(job, wanted, madeOf);
-    const free = await runsOf(job, again.map((seed) => ({ seed, whole: true, tellsRow: true })), whole);
-    const byRow = free.map(({ seed, row }) => ({ seed, whole: true, tellsRow: true, row, isExact: true }));
+    const free = await runsOf(job, again.map((seed) => ({ seed, whole: true, wantsRow: true })), whole);
+    const byRow = free.map(({ seed, row }) => ({ seed, whole: true, wantsRow: true, row, isExact: true }));
     return { made, free, forced: await runsOf(job, byRow, whole) };
   } finally {
     await job.close();

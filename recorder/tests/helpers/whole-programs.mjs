@@ -41,7 +41,7 @@ export async function runsOf(context, files, { seeds = [1], args = [], options =
   try {
     const module = pathToFileURL(programOf(context, files)).href;
     await job.open(/** @type {any} */ ({ ...OPTIONS, module, args, ...options }));
-    const wanted = seeds.map((seed) => ({ seed, whole: true, tellsTrace: true, isSilent: true }));
+    const wanted = seeds.map((seed) => ({ seed, whole: true, needsTrace: true, isSilent: true }));
     await job.run(wanted, (outcome) => void outcomes.push(outcome));
   } finally {
     await job.close();

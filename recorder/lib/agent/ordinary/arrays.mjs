@@ -14,7 +14,7 @@ import { needsFunction } from "./numbers.mjs";
 import { forWatched, methodOf, replace, replaceGetter } from "./patch.mjs";
 import { READING } from "./reading.mjs";
 import { arrayBy, standIns } from "./species.mjs";
-import { ENGINE, tellAll, watchedOf } from "./watched.mjs";
+import { ENGINE, reportAll, watchedOf } from "./watched.mjs";
 import { WRITING, setFrom } from "./writing.mjs";
 
 const { TypeError: EngineTypeError } = globalThis;
@@ -44,7 +44,7 @@ function madeOf(kind, first, second, third, target) {
     const made = isOwn ? new Engine(first, second, third) : construct(Engine, [first, second, third], target);
     return wrapped(made, memoryNumber(first));
   }
-  if (source.big === BIG[kind]) tellAll(source, false);
+  if (source.big === BIG[kind]) reportAll(source, false);
   return construct(ENGINE[kind], [source.real], target);
 }
 

@@ -1,5 +1,5 @@
 // Node's Buffer. A Buffer on a recorded buffer is watched as other arrays are; its methods that node has in the engine
-// are told by what they read and write.
+// are reported by what they read and write.
 
 import { KINDS } from "../../../script/kinds.mjs";
 import { apply, bufferOf, lengthOf, offsetOf, put, setPrototypeOf, tagOf, uncurried } from "../../primordials.mjs";
@@ -10,7 +10,7 @@ import { wholeOf } from "./numbers.mjs";
 import { methodOf, replace, replaceEach } from "./patch.mjs";
 import { privateView } from "./reach.mjs";
 import { standIns } from "./species.mjs";
-import { ENGINE, tell, tellAll, unwrapped, watchedOf } from "./watched.mjs";
+import { ENGINE, report, reportAll, unwrapped, watchedOf } from "./watched.mjs";
 
 const EngineBytes = Uint8Array;
 const EngineBuffer = Buffer;
@@ -40,14 +40,14 @@ const zeros = (count) => apply(alloc, EngineBuffer, [count]);
 const bytesOf = (real, from, to) => new EngineBytes(bufferOf(real), offsetOf(real) + from, to - from);
 
 /**
- * A private Buffer with a stretch of a watched one, told as read.
+ * A private Buffer with a stretch of a watched one, reported as read.
  * @param {Watched} watched
  * @param {number} from
  * @param {number} to
  */
 function copied(watched, from, to) {
   const copy = zeros(to - from);
-  tell(watched, from, to, false);
+  report(watched, from, to, false);
   setBytes(copy, bytesOf(watched.real, from, to));
   return copy;
 }
@@ -76,7 +76,7 @@ const forBytes = (engine, method, otherwise = engine) => methodOf((self, given) 
 });
 
 /**
- * Writes a stretch of a private Buffer into a watched one, at the same place; told as written.
+ * Writes a stretch of a private Buffer into a watched one, at the same place; reported as written.
  * @param {Watched} watched
  * @param {Buffer} bytes
  * @param {number} from
@@ -84,7 +84,7 @@ const forBytes = (engine, method, otherwise = engine) => methodOf((self, given) 
  */
 function written(watched, bytes, from, to) {
   if (from >= to) return;
-  tell(watched, from, to, true);
+  report(watched, from, to, true);
   setBytes(watched.real, bytesOf(bytes, from, to), from);
 }
 
@@ -153,8 +153,8 @@ function copiedTo(engine, source, target, targetStart, sourceStart, sourceEnd) {
   const count = apply(engine, likeness(source), [likeness(target), to, from, end]);
   const read = watchedOf(source);
   const write = watchedOf(target);
-  if (read !== undefined) tell(read, from, from + count, false);
-  if (write !== undefined) tell(write, to, to + count, true);
+  if (read !== undefined) report(read, from, from + count, false);
+  if (write !== undefined) report(write, to, to + count, true);
   return apply(engine, unwrapped(source), [unwrapped(target), to, from, end]);
 }
 
@@ -178,8 +178,8 @@ const sharingSlice = (engine) => methodOf((self, given) => {
 /** @type {(size: number) => (engine: Function) => Function} */
 const swapping = (size) => (engine) => forBytes(engine, (_engine, watched, _given, self) => {
   if (watched.length % size !== 0) return apply(engine, zeros(watched.length), []);
-  tellAll(watched, false);
-  tellAll(watched, true);
+  reportAll(watched, false);
+  reportAll(watched, true);
   apply(engine, watched.real, []);
   return self;
 });

@@ -1,4 +1,4 @@
-// Who is asked and told in a watched realm: which buffers are recorded, who hears of accesses, and who ends a run.
+// What a watched realm asks and reports to: which buffers are recorded, who hears of accesses, and who ends a run.
 
 import { SCRIPT_LIMITS } from "../../../script/limits.mjs";
 import { weakGet, weakSet } from "../../primordials.mjs";
@@ -86,7 +86,7 @@ let hasOthers = false;
 export const anyOthers = () => hasOthers;
 
 /** Reports accesses to memory that isn't recorded from now on. Until then those to recorded memory cost no look. */
-export function tellOthers() {
+export function reportOthers() {
   if (hasOthers) return;
   hasOthers = true;
   const { seen } = watching;

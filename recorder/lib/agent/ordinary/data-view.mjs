@@ -8,7 +8,7 @@ import {
 import { memoryNumber, refused } from "./context.mjs";
 import { byteIndexOf, elementOf } from "./numbers.mjs";
 import { methodOf, replace, replaceGetter } from "./patch.mjs";
-import { registerView, tell, viewOn, watchedView } from "./watched.mjs";
+import { registerView, report, viewOn, watchedView } from "./watched.mjs";
 
 const { TypeError: EngineTypeError, RangeError: EngineRangeError } = globalThis;
 const EngineDataView = DataView;
@@ -54,7 +54,7 @@ const getterOf = (engine, size) => {
       const watched = watchedView(this);
       if (watched === undefined) return read(this, offset, isLittle);
       const at = placeOf(watched, byteIndexOf(offset, OUTSIDE), size);
-      tell(watched, at, at + size, false);
+      report(watched, at, at + size, false);
       return read(watched.real, at, isLittle);
     },
   }.method;
@@ -71,7 +71,7 @@ const setterOf = (engine, size, big) => {
       const index = byteIndexOf(offset, OUTSIDE);
       const element = elementOf(big, value);
       const at = placeOf(watched, index, size);
-      tell(watched, at, at + size, true);
+      report(watched, at, at + size, true);
       return write(watched.real, at, element, isLittle);
     },
   }.method;

@@ -55,14 +55,14 @@ class Elements extends Watched {
    * @param {number} index that the key is, or -1
    */
   setElsewhere(target, key, value, receiver, index) {
-    if (index >= 0) this.tellElement(index, false);
+    if (index >= 0) this.reportElement(index, false);
     return set(target, key, value, receiver);
   }
 
   /** @param {object} target @param {string | symbol} key */
   getOwnPropertyDescriptor(target, key) {
     const index = typeof key === "string" ? indexIn(key, this.length) : -1;
-    if (index >= 0) this.tellElement(index, false);
+    if (index >= 0) this.reportElement(index, false);
     return getOwnPropertyDescriptor(target, key);
   }
 
@@ -71,13 +71,13 @@ class Elements extends Watched {
     const index = typeof key === "string" ? indexIn(key, this.length) : -1;
     if (index >= 0 && hasOwn(descriptor, "value") && isOfElement(descriptor)) {
       descriptor.value = elementOf(this.big, descriptor.value);
-      this.tellElement(index, true);
+      this.reportElement(index, true);
     }
     return defineProperty(target, key, descriptor);
   }
 
   /** @param {number} index @param {boolean} writes */
-  tellElement(index, writes) {
+  reportElement(index, writes) {
     const from = this.offset + index * this.size;
     watching.seen(this.place, from, from + this.size, writes);
   }
@@ -142,7 +142,7 @@ class Listed {
     if (key === "length") return watched.length;
     const index = indexIn(key, watched.length);
     if (index < 0) return undefined;
-    watched.tellElement(index, false);
+    watched.reportElement(index, false);
     return target[index];
   }
 }

@@ -4,7 +4,7 @@ import { apply, construct, isArray, put, setPrototypeOf } from "../../primordial
 import { anyOthers, refused } from "./context.mjs";
 import { methodOf } from "./patch.mjs";
 import { REVEALING, SHALLOW, WHOLLY, isRecorded, mirrored, reaches } from "./reach.mjs";
-import { anyWatchedOf, tellAll, unwrapped } from "./watched.mjs";
+import { anyWatchedOf, reportAll, unwrapped } from "./watched.mjs";
 
 /** @typedef {import("./patch.mjs").Standing} Standing */
 
@@ -57,13 +57,13 @@ export const copying = (engine) => methodOf((self, given) => apply(engine, self,
 export const copyingGiven = (engine) => methodOf((self, given) => apply(engine, self, madePrivate(given, 0)));
 
 /**
- * What a function writes: the engine's own array, told as written. A list has several.
+ * What a function writes: the engine's own array, reported as written. A list has several.
  * @param {unknown} value
  */
 function writable(value) {
   const watched = anyWatchedOf(value);
   if (watched === undefined) return value;
-  tellAll(watched, true);
+  reportAll(watched, true);
   return watched.real;
 }
 

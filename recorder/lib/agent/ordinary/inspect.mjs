@@ -1,5 +1,5 @@
 // What node shows of values: its own way looks through watched arrays. By the way that a value may have of its own,
-// each is told as read, and looks like the engine's.
+// each is reported as read, and looks like the engine's.
 
 import util from "node:util";
 import { TypedArray, apply, getOwnPropertyDescriptor, put, uncurried } from "../../primordials.mjs";

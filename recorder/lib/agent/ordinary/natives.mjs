@@ -19,7 +19,7 @@ import {
 } from "./guards.mjs";
 import { methodOf, replace, replaceEach, replaceNeeded } from "./patch.mjs";
 import { WHOLLY } from "./reach.mjs";
-import { tell, unwrapped, watchedOf } from "./watched.mjs";
+import { report, unwrapped, watchedOf } from "./watched.mjs";
 
 /** @typedef {import("./patch.mjs").Standing} Standing */
 
@@ -141,7 +141,7 @@ const encodingInto = (engine) => methodOf((self, given) => {
   const bytes = new EngineBytes(watched.length);
   const answer = apply(engine, self, [text, bytes]);
   const { written } = answer;
-  tell(watched, 0, written, true);
+  report(watched, 0, written, true);
   setBytes(watched.real, subarray(bytes, 0, written), 0);
   return answer;
 });

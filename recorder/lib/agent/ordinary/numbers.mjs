@@ -60,7 +60,7 @@ export function positionOf(value, length, otherwise) {
  */
 export const elementOf = (big, value) => (big ? asIntN(64, value) : +value);
 
-/** @param {any} value @param {string} what is told where it is none @returns {number} an index of bytes */
+/** @param {any} value @param {string} what is said if it is none @returns {number} an index of bytes */
 export function byteIndexOf(value, what) {
   const index = wholeOf(value);
   if (index < 0 || index > MOST) throw new EngineRangeError(what);

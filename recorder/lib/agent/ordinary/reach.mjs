@@ -5,7 +5,7 @@ import {
   mapSet, ownKeys, setPrototypeOf, sharedLengthOf, tagOf, uncurried,
 } from "../../primordials.mjs";
 import { OTHER, blockNumber, watching } from "./context.mjs";
-import { DATA_VIEW, ENGINE, WHOLE_BUFFER, anyWatchedOf, tellAll } from "./watched.mjs";
+import { DATA_VIEW, ENGINE, WHOLE_BUFFER, anyWatchedOf, reportAll } from "./watched.mjs";
 
 const EngineMap = Map;
 const EngineSet = Set;
@@ -97,7 +97,7 @@ export function reaches(value, depth, suspicious = false, isIt = isWatched) {
  * @param {object} buffer
  * @param {number} block
  */
-export function tellBuffer(buffer, block) {
+export function reportBuffer(buffer, block) {
   const length = sharedLengthOf(buffer);
   if (length === 0) return;
   watching.seen({ block, kind: WHOLE_BUFFER, offset: 0, length }, 0, length, false);
@@ -120,7 +120,7 @@ function bytesOf(buffer, offset, length) {
  * @param {object} buffer
  */
 export function privateBuffer(buffer) {
-  tellBuffer(buffer, blockNumber(buffer));
+  reportBuffer(buffer, blockNumber(buffer));
   return bytesOf(buffer, 0, sharedLengthOf(buffer));
 }
 
@@ -132,7 +132,7 @@ export function privateBuffer(buffer) {
  */
 export function privateView(watched, buffer) {
   const { real, kind, offset, length, size, standIn } = watched;
-  if (buffer === undefined) tellAll(watched, false);
+  if (buffer === undefined) reportAll(watched, false);
   const bytes = buffer ?? bytesOf(watched.buffer, offset, length * size);
   const copy = kind === DATA_VIEW ? new EngineView(bytes, offset, length) : new ENGINE[kind](bytes, offset, length);
   setPrototypeOf(copy, getPrototypeOf(standIn));

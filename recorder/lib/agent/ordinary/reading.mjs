@@ -1,4 +1,4 @@
-// The methods of typed arrays that read, for watched ones: what the standard says, with each read told. A read that
+// The methods of typed arrays that read, for watched ones: what the standard says, with each read reported. A read that
 // agents' code can come between is reported by itself; else those of a stretch are reported together.
 
 import { TypedArray, uncurried } from "../../primordials.mjs";

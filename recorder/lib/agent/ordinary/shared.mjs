@@ -45,7 +45,7 @@ function answered(buffer, count) {
  * @param {number} to
  * @param {boolean} writes
  */
-function tellBytes(buffer, from, to, writes) {
+function reportBytes(buffer, from, to, writes) {
   const block = blockNumber(buffer);
   if (block < 0 || from >= to) return;
   watching.seen({ block, kind: WHOLE_BUFFER, offset: 0, length: sharedLengthOf(buffer) }, from, to, writes);
@@ -60,8 +60,8 @@ export function watchBuffers() {
     const count = from < to ? to - from : 0;
     const made = answered(self, count);
     watching.copied(made);
-    tellBytes(self, from, to, false);
-    tellBytes(made, 0, count, true);
+    reportBytes(self, from, to, false);
+    reportBytes(made, 0, count, true);
     setElements(new EngineBytes(made), new EngineBytes(self, from, count));
     return made;
   }));

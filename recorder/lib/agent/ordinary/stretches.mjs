@@ -1,7 +1,7 @@
-// Elements of watched arrays, one by one and in stretches: what is read and written is told.
+// Elements of watched arrays, one by one and in stretches: what is read and written is reported.
 
 import { bufferOf, lengthOf, TypedArray, uncurried } from "../../primordials.mjs";
-import { ENGINE, tell, unwrapped, watchedOf } from "./watched.mjs";
+import { ENGINE, report, unwrapped, watchedOf } from "./watched.mjs";
 
 /** @typedef {import("./watched.mjs").Watched} Watched */
 /** @typedef {import("./watched.mjs").WatchedArray} WatchedArray */
@@ -15,7 +15,7 @@ export const setElements = uncurried(TypedArray.prototype.set);
  * @param {number} index
  */
 export function read(watched, index) {
-  watched.tellElement(index, false);
+  watched.reportElement(index, false);
   return watched.real[index];
 }
 
@@ -26,7 +26,7 @@ export function read(watched, index) {
  * @param {number} to behind the last
  */
 export function copied(watched, from, to) {
-  tell(watched, from, to, false);
+  report(watched, from, to, false);
   const { kind, real, size, offset } = watched;
   const copy = new ENGINE[kind](to - from);
   setElements(copy, new ENGINE[kind](bufferOf(real), offset + from * size, to - from));
@@ -40,6 +40,6 @@ export function copied(watched, from, to) {
  */
 export function written(array, values) {
   const watched = watchedOf(array);
-  if (watched !== undefined) tell(watched, 0, lengthOf(values), true);
+  if (watched !== undefined) report(watched, 0, lengthOf(values), true);
   setElements(unwrapped(array), values, 0);
 }

@@ -1,4 +1,4 @@
-// Watches a realm: typed arrays and DataViews on recorded buffers tell each ordinary read and write, in code that knows
+// Watches a realm: typed arrays and DataViews on recorded buffers report each ordinary read and write. The code knows
 // nothing of it. What would pass unseen ends the run.
 
 import buffer from "node:buffer";

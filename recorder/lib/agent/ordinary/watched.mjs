@@ -5,7 +5,7 @@ import {
   bufferOf, create, getPrototypeOf, lengthOf, offsetOf, setPrototypeOf, tagOf, viewBufferOf, viewLengthOf, viewOffsetOf,
   weakGet, weakSet,
 } from "../../primordials.mjs";
-import { OTHER, originalOf, refused, tellOthers, watching } from "./context.mjs";
+import { OTHER, originalOf, refused, reportOthers, watching } from "./context.mjs";
 
 /** The numbers of places that are no typed array. */
 export const DATA_VIEW = KINDS.length;
@@ -78,7 +78,9 @@ export class Watched {
   }
 }
 
-/** @typedef {Watched & { tellElement(index: number, writes: boolean): void }} WatchedArray that reports each element */
+/**
+ * @typedef {Watched & { reportElement(index: number, writes: boolean): void }} WatchedArray that reports each element
+ */
 
 /**
  * A view on a recorded buffer itself, in place of one on another object that has its memory.
@@ -103,7 +105,7 @@ function onOriginal(real, buffer, Engine, offset, length) {
  */
 function placed(place, buffer) {
   if (place.block !== OTHER) return place;
-  tellOthers();
+  reportOthers();
   return { ...place, memory: originalOf(buffer) };
 }
 
@@ -177,7 +179,7 @@ export function unwrapped(value) {
  * @param {number} to behind the last
  * @param {boolean} writes
  */
-export function tell(watched, from, to, writes) {
+export function report(watched, from, to, writes) {
   if (from >= to) return;
   const { place, offset, size } = watched;
   watching.seen(place, offset + from * size, offset + to * size, writes);
@@ -188,6 +190,6 @@ export function tell(watched, from, to, writes) {
  * @param {Watched} watched
  * @param {boolean} writes
  */
-export function tellAll(watched, writes) {
-  tell(watched, 0, watched.length, writes);
+export function reportAll(watched, writes) {
+  report(watched, 0, watched.length, writes);
 }

@@ -1,11 +1,11 @@
 // The methods of typed arrays that write, for watched ones: all that can throw or call agents' code comes first, then
-// what is accessed is told, and then it is.
+// what is accessed is reported first.
 
 import { lengthOf, tagOf, TypedArray, uncurried } from "../../primordials.mjs";
 import { elementOf, lengthFrom, needsComparator, needsObject, positionOf, wholeOf } from "./numbers.mjs";
 import { hasBigs } from "./species.mjs";
 import { copied, setElements } from "./stretches.mjs";
-import { tell, tellAll, unwrapped, watchedOf } from "./watched.mjs";
+import { report, reportAll, unwrapped, watchedOf } from "./watched.mjs";
 
 const { TypeError: EngineTypeError, RangeError: EngineRangeError, Object: toObject } = globalThis;
 const { min } = Math;
@@ -23,7 +23,7 @@ export const WRITING = {
     const element = elementOf(big, value);
     const from = positionOf(begin, length, 0);
     const to = positionOf(end, length, length);
-    tell(watched, from, to, true);
+    report(watched, from, to, true);
     fillElements(real, element, from, to);
     return self;
   },
@@ -31,10 +31,10 @@ export const WRITING = {
     const { length, real } = watched;
     const half = (length - (length % 2)) / 2;
     // The one in the middle stays where it is.
-    tell(watched, 0, half, false);
-    tell(watched, length - half, length, false);
-    tell(watched, 0, half, true);
-    tell(watched, length - half, length, true);
+    report(watched, 0, half, false);
+    report(watched, length - half, length, false);
+    report(watched, 0, half, true);
+    report(watched, length - half, length, true);
     reverseElements(real);
     return self;
   },
@@ -45,8 +45,8 @@ export const WRITING = {
     const last = positionOf(end, length, length);
     const count = min(last - from, length - to);
     if (count > 0) {
-      tell(watched, from, from + count, false);
-      tell(watched, to, to + count, true);
+      report(watched, from, from + count, false);
+      report(watched, to, to + count, true);
       moveElements(real, to, from, from + count);
     }
     return self;
@@ -54,7 +54,7 @@ export const WRITING = {
   sort(watched, self, comparator) {
     needsComparator(comparator);
     const sorted = sortElements(copied(watched, 0, watched.length), comparator);
-    tellAll(watched, true);
+    reportAll(watched, true);
     setElements(watched.real, sorted, 0);
     return self;
   },
@@ -76,8 +76,8 @@ export function setFrom(target, source, offset) {
   if (count + at > lengthOf(unwrapped(target))) throw new EngineRangeError("offset is out of bounds");
   const from = watchedOf(source);
   const to = watchedOf(target);
-  if (from !== undefined) tellAll(from, false);
-  if (to !== undefined) tell(to, at, at + count, true);
+  if (from !== undefined) reportAll(from, false);
+  if (to !== undefined) report(to, at, at + count, true);
   setElements(unwrapped(target), real, at);
   return undefined;
 }

@@ -1,4 +1,4 @@
-// What agents ask for, before it is done: which bytes a call will touch, and how. So a strategy can tell which calls
+// What agents ask for, before it is done: which bytes a call will touch, and how. So a strategy knows which calls
 // conflict and which are private.
 
 import { AGENT_WORD, LOOP, PHASE, wordOf } from "../../memory/layout.mjs";
