@@ -80,10 +80,11 @@ test("a run without a script is made again, too, and options of the command line
     "main.mjs": `import { Worker } from "node:worker_threads";
       const words = new Int32Array(new SharedArrayBuffer(8));
       const worker = new Worker(new URL("./worker.mjs", import.meta.url), { workerData: words });
-      worker.on("message", async () => { await worker.terminate(); process.exitCode = 3; });`,
-    "worker.mjs": `import { parentPort, workerData } from "node:worker_threads";
-      parentPort.postMessage("waits");
-      Atomics.wait(workerData, 0, 0);`,
+      // A script can't have such a wait.
+      await Atomics.waitAsync(words, 0, 0).value;
+      process.exitCode = 3;`,
+    "worker.mjs": `import { workerData } from "node:worker_threads";
+      while (Atomics.notify(workerData, 0) === 0) Atomics.wait(workerData, 1, 0, 1);`,
   }, []);
   assert.ok(!readdirSync(folder).some((name) => /^seed-\d+\.json$/.test(name)));
   const { status, stdout } = recorded(["--replay", file, "--races", "allow"]);

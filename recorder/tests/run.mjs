@@ -20,11 +20,14 @@ const BUILT = fileURLToPath(new URL("../../crates/sabsim/out/sabsim", import.met
 
 // The files that take the most processor time begin first, so that none of them is left alone at the end.
 const SLOWEST = [
-  "page-schedule", "known", "realm", "programs-known", "race-programs", "program", "jobs", "examples", "seeds",
+  "programs-known", "page-schedule", "known", "realm", "race-programs", "program", "jobs", "examples", "seeds",
   "known-judged", "program-ends", "runs", "pilots", "explore", "shards", "library", "programs-in-node", "wrong",
   "program-runs", "bench", "first-again", "judged", "rows", "checks", "shorter", "replay", "judge", "conversions",
   "catches-all", "unseen", "testing",
 ].map((name) => `${name}.test.mjs`);
+
+/** A file that takes longer is ended, and has failed. */
+const MOST_MILLISECONDS = 20 * 60_000;
 
 /** @typedef {import("./helpers/results.mjs").Result & { name: string, seconds: number }} FileResult */
 
@@ -45,7 +48,8 @@ function resultOf(name, env) {
   // Without --test the file's own process writes the report, and no further process starts it.
   const words = ["--test-reporter=tap", join(FOLDER, name)];
   return new Promise((done) => {
-    execFile(process.execPath, words, { env, maxBuffer: 2 ** 30 }, (error, stdout, stderr) => {
+    const limits = /** @type {const} */ ({ maxBuffer: 2 ** 30, timeout: MOST_MILLISECONDS, killSignal: "SIGKILL" });
+    execFile(process.execPath, words, { env, ...limits }, (error, stdout, stderr) => {
       const seconds = (performance.now() - begun) / 1_000;
       done({ name, seconds, ...readReport(stdout + stderr, error === null) });
     });

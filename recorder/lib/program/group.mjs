@@ -132,8 +132,7 @@ export class ProgramGroup extends Group {
     const { ordinary } = this.options;
     const { memory, plan, rules } = this;
     while (this.#spare.length < this.#ahead) {
-      const thread = begunWith(FLAGS);
-      this.threads.add(thread);
+      const thread = this.begin(begunWith(FLAGS));
       thread.give(PROGRAM_MODULE, { origin: this.#origin, ordinary, memory, plan, rules });
       this.#spare.push(thread.next().then(() => thread));
     }

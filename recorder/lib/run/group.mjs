@@ -119,6 +119,8 @@ export class Group {
     this.options = { .../** @type {any} */ (defaultsOf("record")), loadSeconds: DEFAULT_LOAD_SECONDS, ...options };
     /** @type {Set<Thread>} all that were started, and weren't ended */
     this.threads = new Set();
+    /** Whether they were all ended: one that begins later, for a run that was under way, is ended at once. */
+    this.isClosed = false;
     /** @type {Thread[]} */
     this.agents = [];
     /** @type {Promise<Thread>[]} agents' workers that don't know yet which agent's they are, as they come */
@@ -150,6 +152,7 @@ export class Group {
 
   /** Ends all workers. */
   async close() {
+    this.isClosed = true;
     await Promise.all([...this.threads].map((thread) => thread.stop()));
   }
 
@@ -259,8 +262,13 @@ export class Group {
 
   /** @param {URL} root the module that a worker will be given, which begins */
   thread(root) {
-    const thread = begunThread(root);
+    return this.begin(begunThread(root));
+  }
+
+  /** @param {Thread} thread that has begun, and that this group is to end @returns {Thread} */
+  begin(thread) {
     this.threads.add(thread);
+    if (this.isClosed) void thread.stop();
     return thread;
   }
 

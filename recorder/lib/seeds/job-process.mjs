@@ -14,7 +14,7 @@ function send(message) {
 const job = new Job();
 
 /** @param {import("./job.mjs").Checked} outcome */
-function send(outcome) {
+function sendOutcome(outcome) {
   send({ outcome });
   onceMore();
 }
@@ -24,7 +24,7 @@ async function answerTo(request) {
   if (request.open !== undefined) await job.open(request.open);
   // Its first workers have begun.
   stopGrowth();
-  if (request.run !== undefined) await job.run(request.run, send);
+  if (request.run !== undefined) await job.run(request.run, sendOutcome);
   return request.shorten && job.shorten(request.shorten, (tried) => send({ tried }));
 }
 
