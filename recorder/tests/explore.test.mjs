@@ -173,7 +173,7 @@ test("a difference ends it, and so does a job's process that ends", async (conte
   const runs = explore({ module, agents: 1, buffers: [4], sabsim: false, seeds: 100_000, jobs: 2 });
   await assert.rejects(allOf(runs), (error) => {
     assert.ok(error instanceof LostJob, error.stack);
-    return /^a job's process ended by itself \(SIGKILL\), and nothing is told of /.test(error.message);
+    return /^a job's process ended by itself \(SIGKILL\), and nothing is known of /.test(error.message);
   });
 });
 

@@ -212,7 +212,7 @@ test("a job's process that dies is told of, with status 3, and the summary of th
   // Of the fifth run nothing is told.
   assert.match(stdout, /^stopped after 4 of 10 runs\n4 runs: 4 finished\n/);
   assert.equal(
-    stderr, "record: a job's process ended by itself (SIGKILL), and nothing is told of the seeds 5 to 10\n",
+    stderr, "record: a job's process ended by itself (SIGKILL), and nothing is known of the seeds 5 to 10\n",
   );
 });
 
@@ -255,7 +255,7 @@ test("where one job of several is killed, the others go on", onLinux, async (con
   const made = Number(runs.replaceAll(",", ""));
   // A job is given 16 seeds at a time at most.
   assert.ok(made >= 1_500 - 16 && made < 1_500, runs);
-  assert.match(told.stderr, /^record: a job's process ended by itself \(SIGKILL\), and nothing is told of /m);
+  assert.match(told.stderr, /^record: a job's process ended by itself \(SIGKILL\), and nothing is known of /m);
   assert.deepEqual(processesWith(mark), []);
 });
 

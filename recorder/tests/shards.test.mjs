@@ -231,7 +231,7 @@ test("what went wrong is a member of the summary too", async (context) => {
   const words = [module, "--agents", "1", "--buffers", "4", "--seeds", "1..9", "--check", "0", "--format", "json"];
   const { status, stdout, stderr } = await ran([RECORD, ...words]);
   const { problems: [problem], stopped, runs } = JSON.parse(stdout);
-  assert.match(problem, /^a job's process ended by itself \(SIGKILL\), and nothing is told of (the seeds|seed) \d/);
+  assert.match(problem, /^a job's process ended by itself \(SIGKILL\), and nothing is known of (the seeds|seed) \d/);
   assert.deepEqual([status, stderr], [3, `record: ${problem}\n`]);
   assert.deepEqual(stopped, { why: "stopped", wanted: 9 });
   assert.ok(runs < 9, stdout);
