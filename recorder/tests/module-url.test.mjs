@@ -102,10 +102,10 @@ test("code that is typed in is taken to be in the working directory", (context) 
   }
 });
 
-test("where it can't be told which file asks, a URL is asked for", async () => {
+test("if it isn't known which file asks, a URL is asked for", async () => {
   const asks = `export const ask = (record) => record({ module: "./agents.mjs", sabsim: false });`;
   const { ask } = await import(`data:text/javascript,${encodeURIComponent(asks)}`);
-  const told = '`module` is "./agents.mjs", and it can\'t be told which file asks for that: ' +
+  const told = '`module` is "./agents.mjs", and it isn\'t known which file asks for that: ' +
     'give a URL, as new URL("./agents.mjs", import.meta.url)';
   await assert.rejects(ask(record), (error) => error instanceof Refused && error.message === told);
 });

@@ -87,14 +87,14 @@ function pathOf(url) {
  * @param {string | URL} module a URL; an absolute path; or a path from the folder of that code
  * @param {() => string | undefined} folderOf that folder, where it is known
  * @returns {string}
- * @throws {Refused} where there is no such file, or nobody knows which is meant
+ * @throws {Refused} where there is no such file, or it isn't known which is meant
  */
 export function moduleUrlOf(name, module, folderOf) {
   const isRelative = typeof module === "string" && !module.startsWith("file:") && !isAbsolute(module);
   const folder = isRelative ? folderOf() : undefined;
   if (isRelative && folder === undefined) {
     const instead = `give a URL, as new URL("${module}", import.meta.url)`;
-    throw new Refused(`\`${name}\` is "${module}", and nobody knows which file asks for that: ${instead}`);
+    throw new Refused(`\`${name}\` is "${module}", and it isn't known which file asks for that: ${instead}`);
   }
   const url = moduleUrl(module, folder);
   if (!url.startsWith("file:")) return url;
