@@ -27,7 +27,7 @@ const SLOWEST = [
 ].map((name) => `${name}.test.mjs`);
 
 /** A file that takes longer is ended, and has failed. */
-const MOST_MILLISECONDS = 20 * 60_000;
+const MOST_MILLISECONDS = 40 * 60_000;
 
 /** @typedef {import("./helpers/results.mjs").Result & { name: string, seconds: number }} FileResult */
 
