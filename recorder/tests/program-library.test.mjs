@@ -85,15 +85,15 @@ test("just one of module and program is given, and each has its own options", as
   for (const program of [5, "", null]) await assert.rejects(record({ program }), refused(/^`program` must be a path or a URL/));
   const ofAgents = { agents: 2, buffers: [4], noBlock: [0], everywhere: true, unrecorded: "allow", init() {}, check() {} };
   for (const [name, value] of Object.entries(ofAgents)) {
-    const why = new RegExp(`^\`${name}\` can't stand beside \`program\`: it says something of a module of agents, `);
+    const why = new RegExp(`^\`${name}\` doesn't go with \`program\`: it says something of a module of agents, `);
     await assert.rejects(record({ program: TOO_SOON, [name]: value }), refused(why));
   }
   for (const [name, value] of Object.entries({ ordinary: "store", clock: "real" })) {
-    const why = new RegExp(`^\`${name}\` can't stand beside \`program\`: it isn't there for programs yet$`);
+    const why = new RegExp(`^\`${name}\` doesn't go with \`program\`: it isn't there for programs yet$`);
     await assert.rejects(record({ program: TOO_SOON, [name]: value }), refused(why));
   }
-  await assert.rejects(record({ program: TOO_SOON, timeouts: "never" }), refused(/^`timeouts` never can't stand beside `program`/));
-  await assert.rejects(record({ module, stuck: "allow" }), refused(/^`stuck` stands beside `program`: only programs can be stuck$/));
+  await assert.rejects(record({ program: TOO_SOON, timeouts: "never" }), refused(/^`timeouts` never doesn't go with `program`/));
+  await assert.rejects(record({ module, stuck: "allow" }), refused(/^`stuck` needs `program`: only programs can be stuck$/));
   const missing = { program: pathToFileURL(join(dirname(TOO_SOON), "none.mjs")) };
   await assert.rejects(record(missing), refused(/^there is no file .*none\.mjs$/));
 });

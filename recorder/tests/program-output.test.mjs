@@ -59,5 +59,5 @@ test("what a program prints is shown for the first seed and the kept run, for al
   assert.deepEqual(shown(main, "--seeds", "1..8", "--out", out, "--program-output", "none").lines, []);
   const agents = spawnSync(process.execPath, [RECORD, main, "--program-output", "all"], { encoding: "utf8" });
   assert.deepEqual([agents.status, agents.stderr], [2,
-    "record: --program-output stands beside --program: what agents print is always shown\n"]);
+    "record: --program-output needs --program: what agents print is always shown\n"]);
 });

@@ -128,7 +128,7 @@ describe("findings", () => {
     }
   });
 
-  it("code that tries again when its time is up comes to its end", async (context) => {
+  it("code that tries again when its time is up ends", async (context) => {
     const seeds = Array.from({ length: 12 }, (_, at) => at + 1);
     const main = fileOf("deadline/race-of-promises.mjs");
     const outcomes = await runsOf(context, { "main.mjs": main }, { seeds });

@@ -176,7 +176,7 @@ describe("a patched language", () => {
   ];
 
   /**
-   * What is told of a run under a patch. Sabsim checks the run where it is given.
+   * What is reported about a run under a patch. Sabsim checks the run if it is given.
    * @param {[what: string, when: string, how: string]} patch
    * @param {string} end of the run
    * @param {object} [others] options; with pilots twice as many workers are needed
@@ -199,7 +199,7 @@ describe("a patched language", () => {
     later: "goes on later, by setImmediate",
   };
 
-  /** A run comes to the same under each of some patches as under none. */
+  /** Under each of some patches a run ends as it does without any. */
   async function demandSame(patches, end, others) {
     const expected = await patched(NOTHING, end, others);
     const outcomes = await madeOfEach(patches, (patch) => patched(patch, end, others));

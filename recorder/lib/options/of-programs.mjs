@@ -26,11 +26,11 @@ export function needFitting(given, spelled) {
   const { program, timeouts } = given;
   if (program === undefined) {
     for (const [name, why] of Object.entries(OF_PROGRAMS)) {
-      if (given[name] !== undefined) throw new Refused(`${spelled(name)} stands beside ${spelled("program")}: ${why}`);
+      if (given[name] !== undefined) throw new Refused(`${spelled(name)} needs ${spelled("program")}: ${why}`);
     }
     return;
   }
-  const without = `can't stand beside ${spelled("program")}`;
+  const without = `doesn't go with ${spelled("program")}`;
   for (const [name, why] of Object.entries(WITHOUT)) {
     if (given[name] !== undefined) throw new Refused(`${spelled(name)} ${without}: ${why}`);
   }

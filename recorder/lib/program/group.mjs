@@ -99,7 +99,7 @@ export class ProgramGroup extends Group {
   #isShown({ seed, row, wantsRow, isShown, isSilent }) {
     const { programOutput } = this.options;
     if (programOutput === "none" || isSilent) return false;
-    // Runs by which a shorter one is looked for are nobody's affair.
+    // Runs by which a shorter one is looked for aren't shown.
     const isOfSeed = row === undefined && !wantsRow;
     return isShown || (isOfSeed && (programOutput === "all" || seed === this.#loud));
   }

@@ -11,7 +11,7 @@ import { CHECKER } from "./needs.mjs";
  * @typedef {object} Question
  * @property {string} module the URL of the program
  * @property {number} seeds how many seeds are run, from 1 on
- * @property {number} checkEvery one in so many runs is told whole and checked
+ * @property {number} checkEvery one in so many runs has all members and is checked
  * @property {number[]} again the seeds whose runs are made once more by their rows
  */
 
@@ -20,7 +20,7 @@ import { CHECKER } from "./needs.mjs";
  * @property {number} seed
  * @property {string} ending
  * @property {string[][]} races for each race its two lines of code
- * @property {boolean} isWhole whether it was told whole
+ * @property {boolean} isWhole whether it has all members
  * @property {boolean} checked
  * @property {string | undefined} scriptHolds
  * @property {string | undefined} noScript
@@ -48,7 +48,7 @@ async function runsOf(job, wanted, keep) {
 }
 
 /**
- * What the runs of a program come to, and a few of them where they are made once more by their rows.
+ * How the runs of a program end, and a few runs that are made once more by their rows.
  * @param {Question} question
  * @returns {Promise<{ made: Made[], free: Checked[], forced: Checked[] }>}
  */
