@@ -16,8 +16,8 @@ import { SIMULATOR_WORDS } from "./helpers/simulate.mjs";
 
 const RACE_STATUS = 5;
 
-/** A simulator that says about each script what it was told, and counts how often it is asked. */
-class Told {
+/** A simulator that gives the answer that it was made with, and counts how often it is asked. */
+class Answering {
   asked = 0;
   replay = { status: 0, output: "report\n", complaint: "" };
   judge = { status: 0, output: "no data race\n", complaint: "" };
@@ -55,7 +55,7 @@ const runOf = (outcome = {}, judgement = {}) => ({
 
 describe("runs that repeat", () => {
   it("one that is the same byte for byte isn't replayed again, whatever its seed is", () => {
-    const [simulator, repeats] = [new Told(), new Repeats()];
+    const [simulator, repeats] = [new Answering(), new Repeats()];
     for (let seed = 1; seed <= 5; seed += 1) {
       const checked = checkedBy(simulator, runOf({ seed }), 1, repeats);
       assert.deepEqual([checked.seed, checked.checked, simulator.asked], [seed, true, 2]);
@@ -63,7 +63,7 @@ describe("runs that repeat", () => {
   });
 
   it("without a list of them each run is replayed and judged", () => {
-    const simulator = new Told();
+    const simulator = new Answering();
     for (let seed = 1; seed <= 3; seed += 1) checkedBy(simulator, runOf({ seed }));
     assert.equal(simulator.asked, 6);
   });
@@ -76,7 +76,7 @@ describe("runs that repeat", () => {
       none: { ...runOf(), judgement: undefined },
     };
     for (const [what, other] of Object.entries(others)) {
-      const [simulator, repeats] = [new Told(), new Repeats()];
+      const [simulator, repeats] = [new Answering(), new Repeats()];
       checkedBy(simulator, runOf(), 1, repeats);
       checkedBy(simulator, other, 1, repeats);
       assert.equal(simulator.asked, what === "none" ? 3 : 4, what);
@@ -87,25 +87,25 @@ describe("runs that repeat", () => {
     const others = { report: runOf({ report: "other\n" }), verdict: runOf({}, { racy: true }) };
     for (const [what, other] of Object.entries(others)) {
       const repeats = new Repeats();
-      checkedBy(new Told(), runOf(), 1, repeats);
+      checkedBy(new Answering(), runOf(), 1, repeats);
       for (let again = 0; again < 2; again += 1) {
-        assert.throws(() => checkedBy(new Told(), other, 1, repeats), Difference, what);
+        assert.throws(() => checkedBy(new Answering(), other, 1, repeats), Difference, what);
       }
     }
   });
 
   it("a run that didn't pass isn't remembered", () => {
     const repeats = new Repeats();
-    const wrong = { ...new Told(), run: () => ({ status: RACE_STATUS, output: "", complaint: "" }) };
+    const wrong = { ...new Answering(), run: () => ({ status: RACE_STATUS, output: "", complaint: "" }) };
     assert.throws(() => checkedBy(wrong, runOf(), 1, repeats), Difference);
-    const simulator = new Told();
+    const simulator = new Answering();
     checkedBy(simulator, runOf(), 1, repeats);
     assert.equal(simulator.asked, 2);
   });
 
   it("when runs hardly repeat, none is remembered any more; else those that are stay", () => {
     for (const times of [1, 3]) {
-      const [simulator, repeats] = [new Told(), new Repeats()];
+      const [simulator, repeats] = [new Answering(), new Repeats()];
       const each = (report) => {
         simulator.replay = { status: 0, output: report, complaint: "" };
         return checkedBy(simulator, runOf({ report }), 1, repeats);
@@ -123,7 +123,7 @@ describe("runs that repeat", () => {
   });
 
   it("a long run isn't remembered", () => {
-    const [simulator, repeats] = [new Told(), new Repeats()];
+    const [simulator, repeats] = [new Answering(), new Repeats()];
     const script = "x".repeat(20_000);
     for (let time = 0; time < 2; time += 1) checkedBy(simulator, runOf({ script }), 1, repeats);
     assert.equal(simulator.asked, 4);

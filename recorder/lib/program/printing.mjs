@@ -1,6 +1,6 @@
-// What a program prints goes to standard error at once, where it is shown: standard output is the recorder's. Each line
-// begins with the thread that prints it. A text that ends amid a line is shown as a whole line, since another thread
-// may print the next one.
+// If what a program prints is shown, it goes to standard error at once: standard output is the recorder's. Each line
+// begins with the thread that prints it. A text without a line feed at its end is shown as a whole line, since another
+// thread may print next.
 
 import fs from "node:fs";
 import process from "node:process";
