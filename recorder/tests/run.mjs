@@ -26,6 +26,12 @@ const SLOWEST = [
   "catches-all", "unseen", "testing",
 ].map((name) => `${name}.test.mjs`);
 
+/**
+ * The variable that names further certificates. Each node process that finds it set reads them when it starts, and
+ * takes a tenth of a second for that. No test needs them.
+ */
+const CERTIFICATES = "NODE_EXTRA_CA_CERTS";
+
 /** A file that takes longer is ended, and has failed. */
 const MOST_MILLISECONDS = 40 * 60_000;
 
@@ -104,7 +110,11 @@ function tellAlone() {
 /** @param {string | undefined} sabsim */
 async function main(sabsim) {
   const isGiven = sabsim !== undefined;
-  const results = await finalResults({ ...process.env, SABSIM: isGiven ? resolve(sabsim) : undefined });
+  const results = await finalResults({
+    ...process.env,
+    [CERTIFICATES]: undefined,
+    SABSIM: isGiven ? resolve(sabsim) : undefined,
+  });
   const { passed, failed, reasons, unwanted } = sumOf(results, isGiven);
   if (!isGiven) tellAlone();
   if (unwanted > 0) console.log(`${unwanted} failed since they were skipped for lack of sabsim, though it is given`);
