@@ -159,7 +159,8 @@ export interface Summary {
   states: { failing: FailingListed<FinalState>; passing: FailingListed<FinalState> };
   /**
    * Whether runs were to be checked by the simulator; by which ones: "module" with the first 12 digits of its file's
-   * SHA-256, or "program" with its version; about how many runs it says the same; and whether it judged these too.
+   * SHA-256, or "program" with its version; about how many runs it says the same, with exact repeats, which the module
+   * isn't asked about again; and whether it judged these too.
    */
   sabsim: { asked: boolean; versions: string[]; checked: number; judges: boolean };
   /** How many scripts have only the ordinary writes of bytes that calls touch, and why runs have none. */

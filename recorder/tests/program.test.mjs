@@ -13,7 +13,7 @@ import { CHECKING, NOWHERE, hasSabsim, onLinux } from "./helpers/needs.mjs";
 import { simulated } from "./helpers/simulate.mjs";
 
 /** Which simulator checks the runs of these tests. */
-const KIND = hasSabsim ? "program" : "module";
+const KIND = hasSabsim ? "(program)" : "(module), except exact repeats";
 
 /**
  * Runs the command line to its end.
@@ -34,7 +34,7 @@ test("where no run fails, the status is 0", () => {
       "20 runs: 20 finished",
       "1 final state: how it ended, and the bytes",
       "  20 runs finished, seed 1 the first: 030000000300000000000000",
-      `every run was replayed and judged by sabsim (${KIND}): it says the same`,
+      `every run was replayed and judged by sabsim ${KIND}: it says the same`,
       // Two agents add three times each.
       "20 runs made 120 calls of Atomics, and no ordinary read or write",
       "",
@@ -281,7 +281,7 @@ test("with nothing built every run is checked, and explanation, picture and page
   const endings = ["explained", "html", "json", "report", "svg", "trace.jsonl"];
   const files = readdirSync(out).filter((name) => !name.includes("original"));
   assert.deepEqual(files.sort(), endings.map((ending) => `seed-3.${ending}`));
-  const checked = "every run was replayed and judged by sabsim (module): it says the same";
+  const checked = "every run was replayed and judged by sabsim (module), except exact repeats: it says the same";
   assert.ok(stdout.split("\n").includes(checked), stdout);
 });
 

@@ -11,7 +11,9 @@ import { counted, digits } from "../lib/run/words.mjs";
 
 const SEEN = { ordinary: "watch", races: "fail", checkedBy: "module 123" };
 /** What it says about checks of so many runs. */
-const checkedLine = (which) => `${which} replayed and judged by sabsim (module): it says the same`;
+/** What is said of the runs that the module has checked; one alone is no repeat. */
+const checkedLine = (which, repeats = ", except exact repeats") =>
+  `${which} replayed and judged by sabsim (module)${repeats}: it says the same`;
 
 /**
  * An outcome, of which a test says what matters to it.
@@ -149,7 +151,7 @@ test("scripts that hold a part, and runs that have none, are told", () => {
   assert.deepEqual(lines.slice(1, 4), [
     "first failing seed: 4, limit met", "  it is too long", "  it has no script: it would have 2,000 calls",
   ]);
-  const checked = lines.indexOf(checkedLine("1 of 4 runs was"));
+  const checked = lines.indexOf(checkedLine("1 of 4 runs was", ""));
   assert.deepEqual(lines.slice(checked + 1, checked + 3), [
     "2 scripts hold only the ordinary writes of bytes that calls touch, since all don't fit; their other bytes " +
       "weren't compared",
@@ -449,16 +451,29 @@ test("the checks of summaries that are joined are told together, with each kind 
   parts.forEach((summary, at) => summary.add(outcome(at, { checked: at < 2 })));
   const joined = new Summary({ ...SEEN, checkedBy: undefined });
   for (const summary of parts.slice(0, 2)) joined.join(summary.data());
-  assert.ok(joined.text().includes("\nevery run was replayed and judged by sabsim (module and program)"));
+  const how = "replayed and judged by sabsim (module and program), except exact repeats: it says the same";
+  assert.ok(joined.text().split("\n").includes(`every run was ${how}`));
   joined.join(parts[2].data());
-  assert.ok(joined.text().includes("\n2 of 3 runs were replayed and judged by sabsim (module and program)"));
+  assert.ok(joined.text().split("\n").includes(`2 of 3 runs were ${how}`));
   const versions = ["module 123", "program sabsim 0.1.0"];
   assert.deepEqual(joined.data().sabsim, { asked: true, versions, checked: 2, judges: true });
 });
 
+test("only the module isn't asked about runs that are the same again, and one run is no repeat", () => {
+  const saying = (checkedBy, count) => {
+    const summary = new Summary({ ...SEEN, checkedBy });
+    for (let seed = 1; seed <= count; seed += 1) summary.add(outcome(seed, { checked: true }));
+    return summary.text().split("\n").find((line) => line.startsWith("every run was"));
+  };
+  const judged = "every run was replayed and judged by sabsim";
+  assert.equal(saying("module 123", 2), `${judged} (module), except exact repeats: it says the same`);
+  assert.equal(saying("module 123", 1), `${judged} (module): it says the same`);
+  assert.equal(saying("program sabsim 0.1.0", 2), `${judged} (program): it says the same`);
+});
+
 test("of runs whose ordinary accesses aren't watched it isn't said that they were judged", () => {
   const lines = linesOf(seeds(1, 2), { ordinary: "store", checked: 2 });
-  assert.ok(lines.includes("every run was replayed by sabsim (module): it says the same"));
+  assert.ok(lines.includes("every run was replayed by sabsim (module), except exact repeats: it says the same"));
 });
 
 /** A tally of keys, with three seeds for each. @param {number[]} keys @param {number} most */

@@ -28,7 +28,7 @@ const hasCompiler = spawnSync("tsc", ["--version"]).status === 0;
 const withCompiler = { skip: hasCompiler ? false : "there is no tsc on this machine" };
 
 /** What a summary says of runs that the module has checked. */
-const CHECKED = /^every run was replayed and judged by sabsim \(module\): it says the same$/m;
+const CHECKED = /^every run was replayed and judged by sabsim \(module\), except exact repeats: it says the same$/m;
 
 const room = mkdtempSync(join(tmpdir(), "sabsim-package-"));
 after(() => rmSync(room, { recursive: true, force: true }));

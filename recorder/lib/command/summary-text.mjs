@@ -144,8 +144,11 @@ function checkLines({ runs, sabsim: { checked, judges, versions } }) {
   if (checked === 0) return ["no run was checked"];
   const some = `${digits(checked)} of ${counted(runs, "run")} ${checked === 1 ? "was" : "were"}`;
   const which = checked === runs ? "every run was" : some;
-  const kinds = [...new Set(versions.map((version) => version.split(" ", 1)[0]))].join(" and ");
-  return [`${which} replayed ${judges ? "and judged " : ""}by sabsim (${kinds}): it says the same`];
+  const kinds = [...new Set(versions.map((version) => version.split(" ", 1)[0]))];
+  // How many runs are repeats of one that the module was asked about depends on the jobs, so there is no number.
+  const repeats = checked > 1 && kinds.includes("module") ? ", except exact repeats" : "";
+  const how = `replayed ${judges ? "and judged " : ""}by sabsim (${kinds.join(" and ")})`;
+  return [`${which} ${how}${repeats}: it says the same`];
 }
 
 /** @param {SummaryData} summary */

@@ -6,6 +6,7 @@ import { WORD } from "../memory/layout.mjs";
 import { Log } from "../memory/log.mjs";
 import { onceMore } from "../processes/garbage.mjs";
 import { firstDifferent } from "./differing-events.mjs";
+import { FirstThread } from "./first-thread.mjs";
 import { Meetings } from "./meetings.mjs";
 import { FirstFailing } from "./order.mjs";
 import { PILOTS, Pilots } from "./pilots.mjs";
@@ -36,9 +37,9 @@ class Referee {
    * @param {typeof import("./program-state.mjs").ProgramState} [ProgramState] for the runs of a program
    */
   constructor(given, ProgramState) {
-    const { port, plan, options } = given;
+    const { firstThread, plan, options } = given;
     const sourceNames = new SourceNames(options.module);
-    this.port = port;
+    this.firstThread = firstThread;
     this.plan = plan;
     this.options = options;
     this.maker = new RunMaker(given, sourceNames, ProgramState);
@@ -53,9 +54,16 @@ class Referee {
     this.sinceFresh = 0;
   }
 
-  /** @param {{ seeds?: Wanted[], learns?: boolean }} work */
-  async record({ seeds = [], learns = false }) {
-    const { port } = this;
+  /** Does what it is given, one after the other. */
+  async work() {
+    for (;;) {
+      await this.#record(await this.firstThread.work());
+      this.firstThread.send({ finished: true });
+    }
+  }
+
+  /** @param {import("./first-thread.mjs").Work} work */
+  async #record({ seeds = [], learns = false }) {
     if (learns) await this.#learn();
     for (const wanted of seeds) {
       if (wanted.isFresh) await this.#startAnew();
@@ -63,8 +71,6 @@ class Referee {
       this.sinceFresh += 1;
       onceMore();
     }
-    this.awaitWork();
-    port.postMessage({ finished: true });
   }
 
   /**
@@ -72,14 +78,8 @@ class Referee {
    * @param {Sent} run
    */
   async #send(run) {
-    const { port } = this;
-    const taken = run.outcome.fails ? new Promise((done) => port.once("message", done)) : undefined;
-    port.postMessage(run);
-    await taken;
-  }
-
-  awaitWork() {
-    this.port.once("message", (work) => this.record(work));
+    if (run.outcome.fails) await this.firstThread.ask(run);
+    else this.firstThread.send(run);
   }
 
   /** Learns by pilots where agents meet. The agents have other workers afterwards, so no module remembers pilots. */
@@ -237,10 +237,10 @@ function nameIn(outcome, { names }) {
 const asideOf = ({ waiting, stray }) => ({ waiting, stray });
 
 /** Awaits what it goes by, and then its work. */
-export function main() {
-  const { port } = workerData;
-  port.once("message", async (/** @type {Omit<import("./run-maker.mjs").Given, "port">} */ given) => {
-    const State = given.options.isProgram ? (await import("./program-state.mjs")).ProgramState : undefined;
-    new Referee({ port, ...given }, State).awaitWork();
-  });
+export async function main() {
+  const firstThread = new FirstThread(workerData.port);
+  /** @type {Omit<import("./run-maker.mjs").Given, "firstThread">} */
+  const given = await firstThread.message();
+  const State = given.options.isProgram ? (await import("./program-state.mjs")).ProgramState : undefined;
+  await new Referee({ firstThread, ...given }, State).work();
 }

@@ -25,6 +25,13 @@ import { KeepsGlobals } from "./first-again.mjs";
  */
 
 /**
+ * @typedef {object} Asked a request under way
+ * @property {(outcome: Checked) => void} onOutcome
+ * @property {(answer: any) => void} done
+ * @property {(failure: unknown) => void} fail
+ */
+
+/**
  * @typedef {object} Packed an error as a message
  * @property {string} [kind] undefined: it is a defect
  * @property {string} message
@@ -66,8 +73,8 @@ export class RemoteJob {
     this.child = child;
     /** @type {(tried: import("../shorter/shorten.mjs").Tried) => void} */
     this.onTry = () => {};
-    /** @type {((message: Message) => void) | undefined} what is done with messages while a request is under way */
-    this.onMessage = undefined;
+    /** @type {Asked[]} requests under way, in their order */
+    this.asked = [];
     /** @type {string | undefined} why its process is no more */
     this.lost = undefined;
     /** @type {Promise<void>} */
@@ -105,7 +112,7 @@ export class RemoteJob {
 
   /** Ends the process, and all that it has started. Nothing more is reported about it. */
   async close() {
-    this.onMessage = undefined;
+    this.asked = [];
     this.onTry = () => {};
     if (this.lost === undefined) endGroup(this.child.pid);
     await this.gone;
@@ -116,7 +123,7 @@ export class RemoteJob {
     /** @param {string} message */
     const lose = (message) => {
       this.lost = message;
-      this.onMessage?.({ failed: { kind: "LostJob", message } });
+      for (const { fail } of this.asked.splice(0)) fail(new LostJob(message));
       done();
     };
     this.child.on("exit", (code, signal) => {
@@ -132,10 +139,12 @@ export class RemoteJob {
     });
   }
 
-  /** @param {Message} message */
-  #take(message) {
-    if (message.tried !== undefined) this.onTry(message.tried);
-    else this.onMessage?.(message);
+  /** @param {Message} message about the first request under way, or about a shortening */
+  #take({ tried, outcome, failed, done }) {
+    if (tried !== undefined) this.onTry(tried);
+    else if (outcome !== undefined) this.asked[0]?.onOutcome(outcome);
+    else if (failed !== undefined) this.asked.shift()?.fail(unpacked(failed));
+    else this.asked.shift()?.done(done);
   }
 
   /**
@@ -143,27 +152,12 @@ export class RemoteJob {
    * @param {(outcome: Checked) => void} [onOutcome]
    * @returns {Promise<any>}
    */
-  #ask(request, onOutcome) {
+  #ask(request, onOutcome = () => {}) {
+    if (this.lost !== undefined) return Promise.reject(new LostJob(this.lost));
     return new Promise((done, fail) => {
-      /** @type {(settle: (value: unknown) => void, value: unknown) => void} */
-      const end = (settle, value) => {
-        this.onMessage = undefined;
-        settle(value);
-      };
-      /** @param {Message} message */
-      const onMessage = (message) => {
-        try {
-          if (message.outcome !== undefined) onOutcome?.(message.outcome);
-          else if (message.failed !== undefined) throw unpacked(message.failed);
-          else end(done, message.done);
-        } catch (problem) {
-          end(fail, problem);
-        }
-      };
-      this.onMessage = onMessage;
+      this.asked.push({ onOutcome, done, fail });
       // Where it can't be sent, the process is about to end, and its exit reports it.
-      if (this.lost === undefined) this.child.send(request, () => {});
-      else onMessage({ failed: { kind: "LostJob", message: this.lost } });
+      this.child.send(request, () => {});
     });
   }
 }
