@@ -4,14 +4,14 @@
 
 import { learn } from "../agent/ordinary/context.mjs";
 import { WHOLE_BUFFER } from "../agent/ordinary/watched.mjs";
-import { MOST_BLOCKS, MOST_BYTES } from "../memory/blocks.mjs";
+import { FIRST_MORE } from "../memory/more-blocks.mjs";
 import { sharedLengthOf, slotOf, weakGet, weakSet } from "../primordials.mjs";
 
 const { SharedArrayBuffer: EngineShared, Uint8Array, WeakMap: EngineWeakMap } = globalThis;
 const { load, store } = Atomics;
 
 /** From here on are the numbers of buffers that are no blocks yet. */
-const FIRST_OWN = 16;
+const FIRST_OWN = 2 ** 24;
 
 const NO_BLOCK = -1;
 
@@ -115,20 +115,15 @@ export class Buffers {
     if (known === undefined || known.block >= 0 || sharedLengthOf(buffer) === 0) return;
     const { blocks, mesh, shown } = this;
     const length = sharedLengthOf(buffer);
-    const where = known.place === undefined ? "" : ` made at ${known.place}`;
-    if (length > MOST_BYTES) {
-      shown.refuse(`gave another thread a SharedArrayBuffer of ${length} bytes${where}: a run of a program has `
-        + `blocks of ${MOST_BYTES} bytes at most`);
-    }
-    if (blocks.count === MOST_BLOCKS) {
-      shown.refuse(`gave another thread a SharedArrayBuffer${where}: a run of a program has ${MOST_BLOCKS} that `
-        + "several threads reach, and this would be one more");
-    }
-    known.block = blocks.add(buffer);
-    shown.named(known.block, known.place ?? "");
-    mesh.handAll({ kind: "block", block: known.block, buffer });
-    if (hasBytes(buffer)) {
-      shown.seen({ block: known.block, kind: WHOLE_BUFFER, offset: 0, length }, 0, length, true);
+    const place = known.place ?? "";
+    const block = blocks.add(buffer, place);
+    if (block < 0) this.#refuseMore(length, place);
+    known.block = block;
+    if (block < FIRST_MORE) shown.named(block, place);
+    mesh.handAll({ kind: "block", block, buffer });
+    if (block >= FIRST_MORE) blocks.memory.takeAll(block);
+    else if (hasBytes(buffer)) {
+      shown.seen({ block, kind: WHOLE_BUFFER, offset: 0, length }, 0, length, true);
     }
     this.onBlock(known.own, known.block);
   }
@@ -149,9 +144,7 @@ export class Buffers {
   handTo(agent) {
     const { blocks, mesh } = this;
     mesh.take();
-    for (let block = 0; block < blocks.count; block += 1) {
-      mesh.hand(agent, { kind: "block", block, buffer: blocks.buffers[block] });
-    }
+    for (const block of blocks.numbers()) mesh.hand(agent, { kind: "block", block, buffer: blocks.buffers[block] });
   }
 
   /**
@@ -162,7 +155,7 @@ export class Buffers {
     if (weakGet(this.#known, buffer) !== undefined || sharedLengthOf(buffer) === 0 || isGrowable(buffer)) return;
     this.mesh.take();
     const { blocks } = this;
-    for (let block = 0; block < blocks.count; block += 1) {
+    for (const block of blocks.numbers()) {
       const other = blocks.buffers[block];
       if (other === undefined || sharedLengthOf(other) !== sharedLengthOf(buffer) || !areSame(buffer, other)) continue;
       learn(buffer, other);
@@ -183,6 +176,13 @@ export class Buffers {
   /** @param {unknown} value @returns {value is SharedArrayBuffer} */
   static isShared(value) {
     return value instanceof EngineShared;
+  }
+
+  /** @param {number} length of a buffer that another thread could reach @param {string} place where it was made */
+  #refuseMore(length, place) {
+    const where = place === "" ? "" : ` made at ${place}`;
+    this.shown.refuse(`gave another thread a SharedArrayBuffer of ${length} bytes${where}: a run has no room for more memory `
+      + "that several threads reach");
   }
 
   /** @param {SharedArrayBuffer} buffer that another thread could reach */

@@ -121,6 +121,16 @@ const ALL = [
   right("buffers/right.mjs"),
   rare("buffers/laps-reader.mjs", failed(/a torn pair/, ["threads.mjs", THROWS])),
 
+  // More memory than a script can have: many blocks, and a large one.
+  right("shards/right.mjs"),
+  wrong("shards/wrong-lock.mjs",
+    race(["threads.mjs", "shards[at][COUNT] += 1"], ["threads.mjs", "shards[at][COUNT] += 1"]),
+    failed(/counted (?:[12]\d|3[01])$/m, ["threads.mjs", THROWS])),
+  right("image/right.mjs"),
+  wrong("image/overlaps.mjs",
+    race(["threads.mjs", "pixels.fill("], ["threads.mjs", "pixels.fill("]),
+    failed(/the colours are 1 and 1/, ["threads.mjs", THROWS])),
+
   // Timers and deadlines.
   right("deadline/right.mjs"),
   right("deadline/interval.mjs"),

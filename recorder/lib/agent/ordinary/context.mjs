@@ -1,10 +1,9 @@
 // What a watched realm asks and reports to: which buffers are recorded, who hears of accesses, and who ends a run.
 
-import { SCRIPT_LIMITS } from "../../../script/limits.mjs";
 import { weakGet, weakSet } from "../../primordials.mjs";
 
-/** The number that shared memory has as its block where it isn't recorded. */
-export const OTHER = SCRIPT_LIMITS.blocks;
+/** The number that shared memory has as its block where it isn't recorded. No block has it. */
+export const OTHER = 2 ** 30 - 1;
 
 /**
  * @typedef {object} Place what a watched array stands on; one object for each watched array, made once
