@@ -48,6 +48,12 @@ export class Loop {
   /** Whether the loop has just turned: then timers come first. */
   #isTurning = true;
 
+  /** Whether what waits in ports is looked at anew: it comes before the immediates. In a module the loop has begun. */
+  #looks = false;
+
+  /** @type {Map<object, number>} how many messages of each port come before the next immediate */
+  #before = new Map();
+
   /** @param {Served} served */
   constructor(served) {
     this.served = served;
@@ -64,6 +70,8 @@ export class Loop {
   clear() {
     this.#tasks = [];
     this.#isTurning = true;
+    this.#looks = false;
+    this.#before = new Map();
   }
 
   /** Begins when the real loop turns. */
@@ -175,8 +183,9 @@ export class Loop {
 
   /**
    * What may be taken up now. In node the timers that are due come first in each turn of the loop, then messages and
-   * the like, then the immediates: a timer isn't between those, but may be between two messages. What waitAsync has
-   * promised by now is settled before the immediates.
+   * the like, then the immediates: a timer isn't between those, but may be between two messages. A message that is there
+   * when the loop looks comes before the immediates; one that comes later may. What waitAsync has promised by now is
+   * settled before the immediates.
    * @returns {(() => void)[]}
    */
   #choices() {
@@ -186,7 +195,12 @@ export class Loop {
     const isDue = this.#deadline() <= this.#now();
     if (isDue && this.#isTurning) return [() => this.#runDue()];
     this.#isTurning = false;
-    const acts = ports.ready().map((port) => () => events.deliver(port));
+    const ready = ports.ready();
+    const isFirst = this.#areFirst(ready);
+    const acts = ready.map((port) => () => {
+      this.#before.set(port, (this.#before.get(port) ?? 0) - 1);
+      events.deliver(port);
+    });
     const [task] = this.#tasks;
     if (task !== undefined) {
       acts.push(() => {
@@ -195,14 +209,24 @@ export class Loop {
       });
     }
     if (waits.isWoken) acts.push(() => waits.settle());
-    else if (armed.immediates > 0) acts.push(() => this.#runImmediate());
-    else if (isDue) acts.push(() => this.#runDue());
+    else if (armed.immediates > 0) {
+      if (!isFirst) acts.push(() => this.#runImmediate());
+    } else if (isDue) acts.push(() => this.#runDue());
     return acts;
+  }
+
+  /** @param {any[]} ready the ports that have messages @returns {boolean} whether some come before the immediates */
+  #areFirst(ready) {
+    const { ports } = this.served;
+    if (this.#looks) this.#before = new Map(ready.map((port) => [port, ports.waiting(port)]));
+    this.#looks = false;
+    return ready.some((port) => (this.#before.get(port) ?? 0) > 0);
   }
 
   /** Runs the first timer that is due, or ends the first waitAsync whose time is up. */
   #runDue() {
     const { timers: armed, waits } = this.served;
+    this.#looks = true;
     if (waits.deadline < armed.deadline) waits.timeOut();
     else armed.runTimer();
   }
@@ -214,6 +238,7 @@ export class Loop {
       armed.runImmediate();
     } finally {
       this.#isTurning = armed.inRound === 0;
+      this.#looks = true;
     }
   }
 
@@ -232,4 +257,3 @@ function keeperText({ kind, milliseconds, repeats, where }) {
   const what = kind === "immediate" ? "an immediate" : `${repeats ? "an interval" : "a timer"} of ${milliseconds} ms`;
   return where === undefined ? what : `${what} from ${where}`;
 }
-
