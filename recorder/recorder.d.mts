@@ -205,6 +205,11 @@ export interface Outcome {
   noTrace?: string;
   /** The code of each file that the trace names; null where it can't be read, or is longer than 2^20 characters. */
   sources?: { file: string; text: string | null }[];
+  /**
+   * Of a program's run that has its trace: the timers, immediates and other tasks that event loops have taken up, besides
+   * messages. `event` says how many events of the trace come before.
+   */
+  tasks?: { event: number; agent: number; text: string; source: string | null }[];
   /** Of a program's run: each thread's file and where it was started; of the first one nothing. */
   threads?: string[];
   /** Which agent moved with each draw, in order; of the shortest run alone, and of a program. */

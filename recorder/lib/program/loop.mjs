@@ -4,6 +4,7 @@
 
 import process from "node:process";
 import timers from "node:timers";
+import { WORD } from "../memory/layout.mjs";
 import { Random } from "../memory/random.mjs";
 import { foreignWork } from "./refusals.mjs";
 
@@ -39,10 +40,12 @@ const HASTY = 0.5;
  * @property {(why: string) => never} refuse ends the run
  * @property {() => void} goHome is called when the thread's part in the run is over, and none of its code goes on
  * @property {Set<{ refed: boolean, where: string }>} children workers that this thread has started
+ * @property {import("../memory/task-notes.mjs").TaskNotes} notes of tasks that are taken up
+ * @property {() => string | undefined} here where the program's code is
  */
 
 export class Loop {
-  /** @type {{ name: string, act: () => void }[]} */
+  /** @type {{ text: string, place: string | undefined, act: () => void }[]} */
   #tasks = [];
 
   /** Whether the loop has just turned: then timers come first. */
@@ -61,9 +64,20 @@ export class Loop {
     this.random = new Random(new Int32Array(4));
   }
 
-  /** @param {string} name of a task of the thread's own @param {() => void} act */
-  later(name, act) {
-    this.#tasks.push({ name, act });
+  /** @param {string} text what a task of the thread's own does, in words @param {() => void} act */
+  later(text, act) {
+    this.#tasks.push({ text, act, place: this.#notes ? this.served.here() : undefined });
+  }
+
+  /** Whether it is noted what the loop takes up. */
+  get #notes() {
+    return this.served.moves.board.words[WORD.NOTES_SOURCES] === 1;
+  }
+
+  /** @param {string} text what is taken up now @param {string} [place] where it was made */
+  #note(text, place = "") {
+    const { notes, moves: { agent, player } } = this.served;
+    if (this.#notes) notes.note({ event: player.table.log.length, agent, text, place });
   }
 
   /** Nothing of an earlier run is left. */
@@ -205,6 +219,7 @@ export class Loop {
     if (task !== undefined) {
       acts.push(() => {
         this.#tasks.shift();
+        this.#note(task.text, task.place);
         task.act();
       });
     }
@@ -228,12 +243,18 @@ export class Loop {
     const { timers: armed, waits } = this.served;
     this.#looks = true;
     if (waits.deadline < armed.deadline) waits.timeOut();
-    else armed.runTimer();
+    else {
+      const timer = armed.nextTimer();
+      if (timer !== undefined) this.#note(`runs ${taskText(timer)}`, timer.where);
+      armed.runTimer();
+    }
   }
 
   /** Behind the last immediate of a round the loop turns. */
   #runImmediate() {
     const { timers: armed } = this.served;
+    const immediate = armed.nextImmediate();
+    if (immediate !== undefined) this.#note(`runs ${taskText(immediate)}`, immediate.where);
     try {
       armed.runImmediate();
     } finally {
@@ -253,7 +274,12 @@ export class Loop {
 }
 
 /** @param {import("./timers.mjs").Described} timer @returns {string} */
-function keeperText({ kind, milliseconds, repeats, where }) {
-  const what = kind === "immediate" ? "an immediate" : `${repeats ? "an interval" : "a timer"} of ${milliseconds} ms`;
-  return where === undefined ? what : `${what} from ${where}`;
+function taskText({ kind, milliseconds, repeats }) {
+  return kind === "immediate" ? "an immediate" : `${repeats ? "an interval" : "a timer"} of ${milliseconds} ms`;
 }
+
+/** @param {import("./timers.mjs").Described} timer @returns {string} */
+function keeperText(timer) {
+  return timer.where === undefined ? taskText(timer) : `${taskText(timer)} from ${timer.where}`;
+}
+

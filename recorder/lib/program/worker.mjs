@@ -23,6 +23,7 @@ import { Memory } from "../memory/memory.mjs";
 import { Records } from "../memory/records.mjs";
 import { Sources } from "../memory/sources.mjs";
 import { Stores } from "../memory/stores.mjs";
+import { TaskNotes } from "../memory/task-notes.mjs";
 import { onceMore } from "../processes/garbage.mjs";
 import { SourceNames } from "../run/source-names.mjs";
 import { broadcastClass } from "./broadcast.mjs";
@@ -202,6 +203,7 @@ function partsOf(player, blocks, mesh) {
   const waits = new WaitAsync({ moves, buffers, isPlaying, refuse });
   const loop = new Loop({
     moves, ports, events, timers, waits, ends, keepers, children, refuse, goHome: () => after.goHome(),
+    notes: new TaskNotes(shared.tasks), here: sourceHere,
   });
   late.loop = loop;
   return { moves, waits, buffers, ports, ends, events, timers, loop, children, threads: all, mesh, later, after, keepers };

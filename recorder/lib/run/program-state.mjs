@@ -5,6 +5,7 @@ import { PortTable } from "../board/port-table.mjs";
 import { Blocks, MESSAGES, MOST_BLOCKS, MOST_BYTES } from "../memory/blocks.mjs";
 import { Keepers } from "../memory/keepers.mjs";
 import { WORD } from "../memory/layout.mjs";
+import { TaskNotes } from "../memory/task-notes.mjs";
 import { moreBytesOf } from "./final-state.mjs";
 import { blockNames } from "./program-names.mjs";
 
@@ -22,6 +23,7 @@ const MORE_MEMORY = `its threads share more than ${MOST_BLOCKS} buffers, or one 
  * @property {ReturnType<typeof Blocks.memory>} blocks
  * @property {SharedArrayBuffer[]} copies
  * @property {SharedArrayBuffer} ports
+ * @property {SharedArrayBuffer} tasks
  * @property {SharedArrayBuffer[]} keepers
  * @property {SharedArrayBuffer[]} madeAt where the memory of each block was made
  */
@@ -40,6 +42,7 @@ export class ProgramState {
     this.keepers = shared.keepers.map((each) => new Keepers(each));
     this.madeAt = shared.madeAt.map((each) => new Keepers(each));
     this.ports = new PortTable(shared.ports);
+    this.tasks = new TaskNotes(shared.tasks);
   }
 
   /** A run begins. */
@@ -47,6 +50,7 @@ export class ProgramState {
     this.blocks.begin();
     for (const texts of [...this.keepers, ...this.madeAt]) texts.clear();
     this.ports.begin();
+    this.tasks.begin();
   }
 
   /** A run has ended: its plan is known. @returns {number[]} the threads that took part */

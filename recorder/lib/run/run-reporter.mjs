@@ -173,7 +173,15 @@ export class RunReporter {
     const mayLookClean = !(this.seesAll && log.hasRoom()) && outcome.races.length === 0;
     outcome.trace = (mayLookClean ? UNSEEN_LINE : "") + traceText(log, names);
     outcome.accesses = accessesIn(log, lengths);
-    outcome.sources = sourceNames.textsOf(placesIn(log, names));
+    const tasks = this.#tasks();
+    outcome.sources = sourceNames.textsOf([...placesIn(log, names), ...tasks.flatMap(({ source }) => source ?? [])]);
+    if (this.maker.program !== undefined) outcome.tasks = tasks;
+  }
+
+  /** @returns {import("./outcome.mjs").Task[]} those that a program's event loops have taken up */
+  #tasks() {
+    const tasks = this.maker.program?.tasks.list() ?? [];
+    return tasks.map(({ place, ...task }) => ({ ...task, source: place === "" ? null : this.sourceNames.nameOf(place) }));
   }
 
   /**
