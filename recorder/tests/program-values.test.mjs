@@ -49,6 +49,52 @@ structuredClone([words])[0][1] = 5;`,
   });
 });
 
+describe("a getter in what is sent or cloned", () => {
+  const ENDS = `const list = [];
+      Object.defineProperty(list, 0, { enumerable: true, get: () => words.buffer });
+      const given = {
+        get words() { calls += 1; delete given.gone; return words; }, gone: 1, list, at: new Date(7), get [Symbol.iterator]() { return calls; },
+      };
+      given.self = given;
+      Object.defineProperty(given, "hidden", { get: () => { throw new Error("hidden"); } });`;
+
+  it("is called once, as in node, and the memory that it returns is found", async (context) => {
+    const outcomes = await runsOf(context, {
+      "main.mjs": `${MAIN}const words = new Int32Array(new SharedArrayBuffer(8));
+      let calls = 0;
+      ${ENDS}
+      const copy = structuredClone(given);
+      if (copy.words.buffer !== copy.list[0] || "gone" in copy || copy.at.getTime() !== 7) throw new Error("no clone");
+      new Worker(new URL("./worker.mjs", import.meta.url), { workerData: given });
+      if (calls !== 2) throw new Error("it was called " + calls + " times");
+      Atomics.wait(words, 0, 0);
+      if (copy.words[1] !== 7) throw new Error("it is " + copy.words[1]);`,
+      "worker.mjs": `import { workerData } from "node:worker_threads";
+      const { words, self, list } = workerData;
+      if (self !== workerData || words.buffer !== list[0] || Object.keys(self).join() !== "words,list,at,self") throw new Error("no");
+      new Int32Array(list[0])[1] = 7;
+      Atomics.store(words, 0, 1);
+      Atomics.notify(words, 0);`,
+    }, { seeds: [1, 2, 3] });
+    assert.deepEqual(endingsOf(outcomes), ["finished: "]);
+    for (const { ordinary, checked } of outcomes) assert.deepEqual([ordinary > 0, checked], [true, true]);
+  });
+
+  it("ends the call by what it throws", async (context) => {
+    const outcomes = await runsOf(context, {
+      "main.mjs": `${MAIN}const { port1 } = new MessageChannel();
+        try {
+          port1.postMessage({ get words() { throw new RangeError("no words"); } });
+        } catch (error) {
+          if (!(error instanceof RangeError) || error.message !== "no words") throw error;
+          process.exit(0);
+        }
+        process.exit(3);`,
+    });
+    assert.deepEqual(endingsOf(outcomes), ["finished: "]);
+  });
+});
+
 describe("memory that grows", () => {
   it("is as in node where one thread has it alone", async (context) => {
     const outcomes = await runsOf(context, {
