@@ -18,8 +18,8 @@ export function record(options: RecordOptions): Promise<Outcome>;
  * seed. The outcomes come in the order of the seeds. Runs that fail, and one in `checkEvery` of the others, have all
  * members, and are checked by the simulator. Runs are made only so far ahead of the loop; and when no more is asked
  * for, as after a `break`, all workers and processes are ended. Throws `Refused` for options that can't be, and
- * `NoSabsim`; fails with `Refused` for a module that can't be, with a `Difference`, with `LostJob`, and with its
- * signal's reason.
+ * `NoSabsim`; fails with `Refused` for a module that can't be, with a `Difference`, with `LostJob`, with `KeepsGlobals`
+ * for a program alone, and with its signal's reason.
  */
 export function explore(options: ExploreOptions): AsyncGenerator<Outcome, void, void>;
 
@@ -28,6 +28,12 @@ export class Refused extends Error {}
 
 /** The native program isn't there, or can't be run. */
 export class NoSabsim extends Error {}
+
+/**
+ * The first failing run of a program was made once more in fresh threads, and isn't the same there: the program keeps
+ * something in globals. The message says what differs.
+ */
+export class KeepsGlobals extends Error {}
 
 /** The process of a job has ended by itself, or by others. */
 export class LostJob extends Error {}
