@@ -55,8 +55,8 @@ describe("more than 1,000 calls of a thread", { concurrency: 3 }, () => {
   });
 });
 
-const MEMORY = "its threads share more than 3 buffers, or one of more than 65536 bytes, which neither a script nor a trace "
-  + "can have; such a run the recorder alone judges";
+const MEMORY = "its threads share more than 3 buffers, one of more than 65536 bytes, or one that grows, which neither a script "
+  + "nor a trace can have; such a run the recorder alone judges";
 
 const MANY = 40;
 const LARGE = 2 ** 24;

@@ -3,6 +3,7 @@
 // So what was done before it was sent happens before what is done after it is received.
 
 import { SCRIPT_LIMITS } from "../../script/limits.mjs";
+import { isGrowable, mostLengthOf, sharedLengthOf } from "../primordials.mjs";
 import { placeNumber } from "./known-places.mjs";
 import { FIRST_MORE, MoreBlocks } from "./more-blocks.mjs";
 
@@ -90,11 +91,12 @@ export class Blocks {
    */
   add(buffer, place) {
     const { words } = this;
-    const isMore = words[COUNT] === MOST_BLOCKS || buffer.byteLength > MOST_BYTES;
-    const block = isMore ? this.more.add(buffer.byteLength, place) : words[COUNT];
+    const length = sharedLengthOf(buffer);
+    const isMore = words[COUNT] === MOST_BLOCKS || length > MOST_BYTES || isGrowable(buffer);
+    const block = isMore ? this.more.add(length, mostLengthOf(buffer), place) : words[COUNT];
     if (block < 0) return block;
     if (!isMore) {
-      words[LENGTHS + block] = buffer.byteLength;
+      words[LENGTHS + block] = length;
       words[COUNT] += 1;
     }
     this.adopt(block, buffer);
@@ -116,7 +118,14 @@ export class Blocks {
     }
     this.buffers[block] = buffer;
     memory.real[block] = new Uint8Array(buffer);
-    this.#learn(block, buffer.byteLength);
+    this.#learn(block, sharedLengthOf(buffer));
+  }
+
+  /** @param {number} block that this thread has made longer */
+  grew(block) {
+    const { length } = this.memory.real[block];
+    this.more.grew(block, length);
+    this.lengths[block] = length;
   }
 
   /** The referee gets to know all blocks that were made. */
@@ -131,7 +140,7 @@ export class Blocks {
   /** @param {number} block @param {number} length */
   #learn(block, length) {
     const isMore = block >= FIRST_MORE;
-    this.memory.known[block] = isMore ? this.more.known(block) : new Uint8Array(this.copies[block], 0, length);
+    this.memory.known[block] = isMore ? this.more.whole(block) : new Uint8Array(this.copies[block], 0, length);
     this.lengths[block] = length;
   }
 

@@ -59,12 +59,13 @@ export class Memory {
 
   /**
    * Whether a byte of the block isn't as it is known. To compare a block that is longer than a script's would take long
-   * each time, so there only what is seen is known.
+   * each time, and one that grows is as long as what is known at its end alone. There only what is seen is known.
    * @param {number} block
    */
   hasChanged(block) {
     const real = this.real[block];
-    return real.length <= SCRIPT_LIMITS.bytes && !areEqual(real, this.known[block]);
+    const known = this.known[block];
+    return real.length <= SCRIPT_LIMITS.bytes && real.length === known.length && !areEqual(real, known);
   }
 
   /** @returns {Change | undefined} the first byte that isn't as it is known */

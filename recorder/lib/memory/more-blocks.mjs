@@ -1,6 +1,6 @@
-// The blocks of a program that no script can have: those behind the third one, and those of more bytes than a block of
-// a script. Their number has no small limit. What is known of their bytes, and where their memory was made, stands in
-// memory that grows as they come.
+// The blocks of a program that no script can have: those behind the third one, those of more bytes than a block of a
+// script, and those that grow. Their number has no small limit. What is known of their bytes, and where their memory was
+// made, stands in memory that grows as they come.
 
 import { SCRIPT_LIMITS } from "../../script/limits.mjs";
 import { uncurried } from "../primordials.mjs";
@@ -29,11 +29,12 @@ const PAGE = 2 ** 16;
 const COUNT = 0;
 const USED = 1;
 const HEAD = 2;
-const EACH = 4;
+const EACH = 5;
 const FIRST = 0;
 const LENGTH = 1;
-const NAME = 2;
-const NAME_LENGTH = 3;
+const MOST_LENGTH = 2;
+const NAME = 3;
+const NAME_LENGTH = 4;
 
 /** @param {number} bytes @param {number} to a power of two @returns {number} */
 const rounded = (bytes, to) => ceil(bytes / to) * to;
@@ -67,8 +68,8 @@ export class MoreBlocks {
 
   /** A run begins, in which there are none. */
   begin() {
-    const { words, memory } = this;
-    new Uint8Array(memory.bytes, 0, words[USED]).fill(0);
+    const { words } = this;
+    for (const block of this.numbers()) this.known(block).fill(0);
     words[COUNT] = 0;
     words[USED] = 0;
   }
@@ -76,18 +77,20 @@ export class MoreBlocks {
   /**
    * Adds a block, of which nothing is known to be written.
    * @param {number} length in bytes
+   * @param {number} mostLength how long it can get
    * @param {string} place where its memory was made; empty: it isn't known
    * @returns {number} its number; -1: there is no room for it
    */
-  add(length, place) {
+  add(length, mostLength, place) {
     const { words, memory } = this;
     const at = HEAD + words[COUNT] * EACH;
     const first = words[USED];
-    const name = first + rounded(length, 8);
+    const name = first + rounded(mostLength, 8);
     const end = name + rounded(min(place.length * 3, NAME_BYTES), 8);
     if (words[COUNT] === MOST || end > MOST_BYTES || !isReserved(memory, (at + EACH) * 4, end)) return -1;
     words[at + FIRST] = first;
     words[at + LENGTH] = length;
+    words[at + MOST_LENGTH] = mostLength;
     words[at + NAME] = name;
     words[at + NAME_LENGTH] = encode(encoder, place, new Uint8Array(memory.bytes, name, end - name)).written;
     words[USED] = end;
@@ -99,6 +102,17 @@ export class MoreBlocks {
   known(block) {
     const at = this.#at(block);
     return new Uint8Array(this.memory.bytes, this.words[at + FIRST], this.words[at + LENGTH]);
+  }
+
+  /** @param {number} block its number @returns {Uint8Array} the same, with all bytes that it can get */
+  whole(block) {
+    const at = this.#at(block);
+    return new Uint8Array(this.memory.bytes, this.words[at + FIRST], this.words[at + MOST_LENGTH]);
+  }
+
+  /** @param {number} block that has grown @param {number} length */
+  grew(block, length) {
+    this.words[this.#at(block) + LENGTH] = length;
   }
 
   /** @param {number} block its number @returns {string} where its memory was made; empty: it isn't known */

@@ -15,8 +15,8 @@ const CUT = "a thread was terminated while it waited, which no script can have; 
 const WAITS_ASYNC = "it has waited by Atomics.waitAsync, which no script can have yet; of such a run sabsim judges the "
   + "trace alone";
 
-const MORE_MEMORY = `its threads share more than ${MOST_BLOCKS} buffers, or one of more than ${MOST_BYTES} bytes, which `
-  + "neither a script nor a trace can have; such a run the recorder alone judges";
+const MORE_MEMORY = `its threads share more than ${MOST_BLOCKS} buffers, one of more than ${MOST_BYTES} bytes, or one that `
+  + "grows, which neither a script nor a trace can have; such a run the recorder alone judges";
 
 /**
  * @typedef {object} ProgramMemory

@@ -182,10 +182,8 @@ const ALL = [
   right("iterator/right.mjs"),
 
   // Memory that grows, and WebAssembly's.
-  ...notYet("a SharedArrayBuffer that grows", [
-    right("growable/right.mjs"),
-    wrong("growable/published-first.mjs", failed(/RangeError/, ["published-first.mjs", "const last"])),
-  ]),
+  right("growable/right.mjs"),
+  wrong("growable/published-first.mjs", failed(/RangeError/, ["published-first.mjs", "const last"])),
   ...notYet("a shared WebAssembly.Memory", [
     right("wasm-memory/right.mjs"),
     wrong("wasm-memory/lost-update.mjs", failed(/counted [1-5]/, ["lost-update.mjs", THROWS])),
