@@ -18,8 +18,8 @@ export function record(options: RecordOptions): Promise<Outcome>;
  * seed. The outcomes come in the order of the seeds. Runs that fail, and one in `checkEvery` of the others, have all
  * members, and are checked by the simulator. Runs are made only so far ahead of the loop; and when no more is asked
  * for, as after a `break`, all workers and processes are ended. Throws `Refused` for options that can't be, and
- * `NoSabsim`; fails with `Refused` for a module that can't be, with a `Difference`, with `LostJob`, and with its
- * signal's reason.
+ * `NoSabsim`; fails with `Refused` for a module that can't be, with a `Difference`, with `LostJob`, with `KeepsGlobals`
+ * for a program alone, and with its signal's reason.
  */
 export function explore(options: ExploreOptions): AsyncGenerator<Outcome, void, void>;
 
@@ -28,6 +28,12 @@ export class Refused extends Error {}
 
 /** The native program isn't there, or can't be run. */
 export class NoSabsim extends Error {}
+
+/**
+ * The first failing run of a program was made once more in fresh threads, and isn't the same there: the program keeps
+ * something in globals. The message says what differs.
+ */
+export class KeepsGlobals extends Error {}
 
 /** The process of a job has ended by itself, or by others. */
 export class LostJob extends Error {}
@@ -205,6 +211,11 @@ export interface Outcome {
   noTrace?: string;
   /** The code of each file that the trace names; null where it can't be read, or is longer than 2^20 characters. */
   sources?: { file: string; text: string | null }[];
+  /**
+   * Of a program's run that has its trace: the timers, immediates and other tasks that event loops have taken up, besides
+   * messages. `event` says how many events of the trace come before.
+   */
+  tasks?: { event: number; agent: number; text: string; source: string | null }[];
   /** Of a program's run: each thread's file and where it was started; of the first one nothing. */
   threads?: string[];
   /** Which agent moved with each draw, in order; of the shortest run alone, and of a program. */

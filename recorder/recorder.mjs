@@ -4,5 +4,6 @@ export { Difference } from "./lib/check/check.mjs";
 export { explore } from "./lib/library/explore.mjs";
 export { record } from "./lib/library/recorder.mjs";
 export { Refused } from "./lib/options/refused.mjs";
+export { KeepsGlobals } from "./lib/seeds/first-again.mjs";
 export { LostJob } from "./lib/seeds/remote-job.mjs";
 export { NoSabsim } from "./lib/simulator/native.mjs";

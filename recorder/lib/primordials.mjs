@@ -50,6 +50,10 @@ export const viewOffsetOf = slotOf(DataView.prototype, "byteOffset");
 export const viewLengthOf = slotOf(DataView.prototype, "byteLength");
 export const sharedLengthOf = slotOf(SharedArrayBuffer.prototype, "byteLength");
 
+/** Whether a shared buffer can grow, and how long it can get. @type {(buffer: object) => any} */
+export const isGrowable = slotOf(SharedArrayBuffer.prototype, "growable");
+export const mostLengthOf = slotOf(SharedArrayBuffer.prototype, "maxByteLength");
+
 export const mapGet = uncurried(Map.prototype.get);
 export const mapSet = uncurried(Map.prototype.set);
 export const mapHas = uncurried(Map.prototype.has);

@@ -38,9 +38,18 @@
  * @property {"all" | "touched"} holds which ordinary writes the script has
  * @property {string[]} [threads] of a program: each thread's file and where it was started; of the first one nothing
  * @property {number[]} [senders] of a program: which thread has sent each message
+ * @property {Task[]} [tasks] of a program: what its event loops have taken up besides messages
  * @property {string} [script] its text, in a page that can change the schedule
  * @property {About} [about] how the run was made
  * @property {Command} [command] that makes the run again; undefined: none does
+ */
+
+/**
+ * @typedef {object} Task
+ * @property {number} before how many of the events come before it
+ * @property {number} agent
+ * @property {string} text what it is, in words
+ * @property {number} place of the code where it was made, or -1
  */
 
 /**

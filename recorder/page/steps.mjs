@@ -26,7 +26,7 @@ import { callText, changesText, entryText, standingText, valueText } from "./wor
 
 /**
  * @typedef {object} Step
- * @property {"start" | "call" | "wait" | "leave" | "stuck" | "ordinary" | "store" | "end"} what
+ * @property {"start" | "call" | "wait" | "leave" | "stuck" | "ordinary" | "store" | "task" | "end"} what
  * @property {number} [agent]
  * @property {number} [entry] its position in the report
  * @property {number} [event] its position in the trace
@@ -66,7 +66,12 @@ export class Stepper {
   all() {
     this.#start();
     const events = this.#isTraced() ? this.data.events : [];
-    events.forEach((event, position) => this.#event(event, position));
+    const tasks = this.#isTraced() ? this.data.tasks ?? [] : [];
+    events.forEach((event, position) => {
+      this.#tasks(tasks, position);
+      this.#event(event, position);
+    });
+    this.#tasks(tasks, events.length);
     while (this.next < this.entries.length) this.#entry(-1, undefined);
     this.#end();
     const blocks = this.data.blocks.map((length) => new Uint8Array(length));
@@ -118,6 +123,13 @@ export class Stepper {
     const ending = endingText(this.data.ending, detail);
     const stands = standings.map(({ agent, standing }) => `Agent ${agent} ${standingText(standing)}.`);
     this.#add({ what: "end", text: `the end: ${ending}`, sentence: [`The run ends: ${ending}.`, ...stands].join(" ") });
+  }
+
+  /** @param {import("./run-data.mjs").Task[]} tasks @param {number} before how many events come before those that are added */
+  #tasks(tasks, before) {
+    for (const { before: own, agent, text, place } of tasks) {
+      if (own === before) this.#add({ what: "task", agent, text, sentence: text, place });
+    }
   }
 
   /** @param {Event} event @param {number} position */
@@ -186,7 +198,8 @@ export class Stepper {
     if (what === "wait") this.waits[agent] = number;
     const [name] = does;
     const message = this.#messageText(entry);
-    const touches = at !== undefined && what !== "leave";
+    // The place of a message is nothing of the program's.
+    const touches = at !== undefined && what !== "leave" && message === undefined;
     const access = touches ? [this.#accessOf(entry, !["load", "wait", "notify"].includes(`${name}`))] : [];
     this.#add({
       what: what === "act" ? "call" : /** @type {"wait" | "leave"} */ (what),

@@ -11,6 +11,9 @@ const ROW_HEIGHT = 24;
 const ROWS_NEAR = 20;
 const ROWS_AROUND = 120;
 
+/** Steps that are no calls of Atomics. */
+const PLAIN = new Set(["ordinary", "store", "task"]);
+
 /** The rows of steps, with a lane for each agent. Of many steps only those near the ones that are seen are there. */
 export class Timeline {
   /** @param {Run} run @param {(index: number) => void} onChosen */
@@ -140,7 +143,7 @@ export class Timeline {
       else if (isThere && what !== "end") lane.classList.add("runs");
       if (woken.length > 0) lane.classList.add(...acrossAt(each, Math.min(...ends), Math.max(...ends)));
       if (woken.includes(each)) lane.append(badge(each, "woken"));
-      if (each === agent) lane.append(badge(each, what === "ordinary" || what === "store" ? "plain" : ""));
+      if (each === agent) lane.append(badge(each, PLAIN.has(what) ? "plain" : ""));
       lanes.append(lane);
     }
     return lanes;

@@ -8,8 +8,8 @@ import { pathToFileURL } from "node:url";
 import { Log, READ } from "../lib/memory/log.mjs";
 import { defaultsOf } from "../lib/options/table.mjs";
 import { firstDifferent } from "../lib/run/differing-events.mjs";
-import { KeepsGlobals } from "../lib/seeds/first-again.mjs";
 import { Job } from "../lib/seeds/job.mjs";
+import { KeepsGlobals } from "../recorder.mjs";
 import { RECORD } from "./helpers/common.mjs";
 import { programOf } from "./helpers/whole-programs.mjs";
 

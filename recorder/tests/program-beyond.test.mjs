@@ -3,6 +3,8 @@
 
 import assert from "node:assert/strict";
 import { execFile } from "node:child_process";
+import { readdirSync, readFileSync } from "node:fs";
+import { dirname, join } from "node:path";
 import { describe, it } from "node:test";
 import { RECORD } from "./helpers/common.mjs";
 import { programOf, runsOf } from "./helpers/whole-programs.mjs";
@@ -48,10 +50,100 @@ describe("more than 1,000 calls of a thread", { concurrency: 3 }, () => {
   });
 
   it("are counted in the summary", async (context) => {
-    const main = programOf(context, filesOf(ADDS, LOOKS));
-    const stdout = await new Promise((done, fail) => {
-      execFile(process.execPath, [RECORD, "--program", main, "--seeds", "1..3"], (error, text) => (error ? fail(error) : done(text)));
-    });
+    const { stdout } = await recorded(programOf(context, filesOf(ADDS, LOOKS)), "1..3");
     assert.ok(stdout.split("\n").includes(`3 runs have no script, and weren't checked: ${BEYOND}`), stdout);
   });
+});
+
+const MEMORY = "its threads share more than 3 buffers, one of more than 65536 bytes, or one that grows, which neither a script "
+  + "nor a trace can have; such a run the recorder alone judges";
+
+const MANY = 40;
+const LARGE = 2 ** 24;
+
+/** @param {string} act of the worker @param {string} last what main does at the end */
+const sharing = (act, last) => ({
+  "main.mjs": `import { Worker } from "node:worker_threads";
+const many = Array.from({ length: ${MANY} }, () => new Int32Array(new SharedArrayBuffer(8)));
+const large = new Uint8Array(new SharedArrayBuffer(${LARGE}));
+large[${LARGE} - 2] = 3;
+new Worker(new URL("./worker.mjs", import.meta.url), { workerData: { many, large } });
+const woken = Atomics.wait(many[${MANY} - 1], 0, 0);
+${last}`,
+  "worker.mjs": `import { workerData } from "node:worker_threads";
+const { many, large } = workerData;
+${act}`,
+});
+
+const WAKES = `Atomics.store(many[${MANY} - 1], 0, 1);\nAtomics.notify(many[${MANY} - 1], 0);`;
+const WRITES = `for (const words of many) words[1] = 9;\nlarge[${LARGE} - 1] = large[${LARGE} - 2];`;
+const FINDS = `if (many[17][1] + large[${LARGE} - 1] !== 12) throw new Error("it isn't there");`;
+
+describe("more buffers than a script can have, and a larger one", { concurrency: 3 }, () => {
+  it("end no run: it has neither a script nor a trace, and it isn't checked", async (context) => {
+    const outcomes = await runsOf(context, sharing(`${WRITES}\n${WAKES}`, FINDS), { seeds: [1, 2, 3, 4, 5] });
+    for (const { ending, detail, script, noScript, trace, noTrace, checked } of outcomes) {
+      assert.deepEqual([ending, detail, script, trace], ["finished", "", undefined, undefined]);
+      assert.deepEqual([noScript, noTrace, checked], [MEMORY, MEMORY, false]);
+    }
+    const [{ state }, ...others] = outcomes;
+    assert.deepEqual(others.map(({ state: { hash } }) => hash), others.map(() => state.hash));
+  });
+
+  it("show a byte that differs at the end, however far behind it is", async (context) => {
+    const act = `large[${LARGE} - 1] = process.argv[2];\n${WAKES}`;
+    const files = { ...sharing(act, "") };
+    files["main.mjs"] = files["main.mjs"].replace("workerData:", "argv: process.argv.slice(2), workerData:");
+    const [[one], [other]] = await Promise.all([runsOf(context, files, { args: ["1"] }), runsOf(context, files, { args: ["2"] })]);
+    assert.notEqual(one.state.hash, other.state.hash);
+  });
+
+  it("don't hide unordered accesses, each by its line and by where its memory was made", async (context) => {
+    const outcomes = await runsOf(context, sharing(`${WAKES}\n${WRITES}`, FINDS), { seeds: [1, 2, 3, 4, 5, 6, 7, 8] });
+    const raced = outcomes.filter(({ ending }) => ending === "race");
+    assert.ok(raced.length > 0 && outcomes.every(({ fails }) => fails));
+    const found = new Set(raced.flatMap(({ races }) => races.map(({ lines }) => [...lines].sort().join(" "))));
+    assert.deepEqual([...found].sort(), ["main.mjs:7:13 worker.mjs:5:36", "main.mjs:7:24 worker.mjs:6:21"]);
+    assert.match(raced[0].detail, /Uint8_b\d+\[16777215\] \(main\.mjs:3\)/);
+    assert.match(raced[0].detail, /Int32_b\d+\[1\] \(main\.mjs:2, number 18\)/);
+  });
+
+  it("have a deadlock with its place", async (context) => {
+    const [{ ending, detail }] = await runsOf(context, sharing("", FINDS));
+    assert.equal(ending, "deadlock");
+    assert.match(detail, /waits at byte 0 of block \d+ \(main\.mjs:2, number 40\): its call 1, \["wait", "Int32_b\d+", 0, 0\], at main/);
+  });
+
+  it("are a spin if the same is read again and again", async (context) => {
+    const files = sharing("", `for (;;) if (large[${LARGE} - 1] === 9) break;`);
+    files["main.mjs"] = files["main.mjs"].replace(/^const woken.*$/m, "");
+    const [{ ending, detail }] = await runsOf(context, files);
+    assert.equal(ending, "bound");
+    assert.match(detail, /spins at main\.mjs:7:19: it reads the same bytes again and again/);
+  });
+
+  it("are counted in the summary, and a failing run is kept and made again by its row", async (context) => {
+    const main = programOf(context, sharing(`${WAKES}\n${WRITES}`, FINDS));
+    const folder = join(dirname(main), "kept");
+    const { status, stdout } = await recorded(main, "1..8", "--out", folder, "--no-shorten");
+    const lines = stdout.split("\n");
+    assert.equal(status, 1);
+    assert.ok(lines.includes(`8 runs have no script, and weren't checked: ${MEMORY}`), stdout);
+    const [name] = readdirSync(folder);
+    assert.deepEqual(readdirSync(folder), [name]);
+    assert.match(name, /^seed-\d+\.program\.json$/);
+    const seed = JSON.parse(readFileSync(join(folder, name), "utf8")).seed;
+    for (const ending of ["json", "trace.jsonl"]) assert.ok(lines.includes(`not kept: seed-${seed}.${ending}: ${MEMORY}`));
+    const again = await ran("--replay", join(folder, name));
+    assert.deepEqual([again.status, again.stdout.split("\n")[1].replace(/:.*/, "")], [1, "1 of 1 run failed"]);
+    assert.equal(again.stdout.split("\n")[3], lines[2]);
+  });
+});
+
+/** @param {string} main @param {string} seeds @param {string[]} more */
+const recorded = (main, seeds, ...more) => ran("--program", main, "--seeds", seeds, ...more);
+
+/** @param {string[]} words @returns {Promise<{ status: number, stdout: string }>} */
+const ran = (...words) => new Promise((done) => {
+  execFile(process.execPath, [RECORD, ...words], (error, stdout) => done({ status: Number(error?.code ?? 0), stdout }));
 });

@@ -1,5 +1,5 @@
-// Values that whole programs clone and share: structuredClone keeps shared memory, memory that grows is one thread's
-// own, and a thread that is kept has no port of an earlier run.
+// Values that whole programs clone and share: structuredClone keeps shared memory, memory grows in several threads, and a
+// thread that is kept has no port of an earlier run.
 
 import assert from "node:assert/strict";
 import { describe, it } from "node:test";
@@ -49,6 +49,52 @@ structuredClone([words])[0][1] = 5;`,
   });
 });
 
+describe("a getter in what is sent or cloned", () => {
+  const ENDS = `const list = [];
+      Object.defineProperty(list, 0, { enumerable: true, get: () => words.buffer });
+      const given = {
+        get words() { calls += 1; delete given.gone; return words; }, gone: 1, list, at: new Date(7), get [Symbol.iterator]() { return calls; },
+      };
+      given.self = given;
+      Object.defineProperty(given, "hidden", { get: () => { throw new Error("hidden"); } });`;
+
+  it("is called once, as in node, and the memory that it returns is found", async (context) => {
+    const outcomes = await runsOf(context, {
+      "main.mjs": `${MAIN}const words = new Int32Array(new SharedArrayBuffer(8));
+      let calls = 0;
+      ${ENDS}
+      const copy = structuredClone(given);
+      if (copy.words.buffer !== copy.list[0] || "gone" in copy || copy.at.getTime() !== 7) throw new Error("no clone");
+      new Worker(new URL("./worker.mjs", import.meta.url), { workerData: given });
+      if (calls !== 2) throw new Error("it was called " + calls + " times");
+      Atomics.wait(words, 0, 0);
+      if (copy.words[1] !== 7) throw new Error("it is " + copy.words[1]);`,
+      "worker.mjs": `import { workerData } from "node:worker_threads";
+      const { words, self, list } = workerData;
+      if (self !== workerData || words.buffer !== list[0] || Object.keys(self).join() !== "words,list,at,self") throw new Error("no");
+      new Int32Array(list[0])[1] = 7;
+      Atomics.store(words, 0, 1);
+      Atomics.notify(words, 0);`,
+    }, { seeds: [1, 2, 3] });
+    assert.deepEqual(endingsOf(outcomes), ["finished: "]);
+    for (const { ordinary, checked } of outcomes) assert.deepEqual([ordinary > 0, checked], [true, true]);
+  });
+
+  it("ends the call by what it throws", async (context) => {
+    const outcomes = await runsOf(context, {
+      "main.mjs": `${MAIN}const { port1 } = new MessageChannel();
+        try {
+          port1.postMessage({ get words() { throw new RangeError("no words"); } });
+        } catch (error) {
+          if (!(error instanceof RangeError) || error.message !== "no words") throw error;
+          process.exit(0);
+        }
+        process.exit(3);`,
+    });
+    assert.deepEqual(endingsOf(outcomes), ["finished: "]);
+  });
+});
+
 describe("memory that grows", () => {
   it("is as in node where one thread has it alone", async (context) => {
     const outcomes = await runsOf(context, {
@@ -63,19 +109,88 @@ describe("memory that grows", () => {
     assert.deepEqual(endingsOf(outcomes), ["finished: "]);
   });
 
-  const refused = "agent 0 gave another thread a SharedArrayBuffer that grows, made at main.mjs:2:15, "
-    + "which isn't simulated yet, at main.mjs:3:";
-  for (const sent of ["grows", "[new Int32Array(grows)]", "{ clone: structuredClone(new DataView(grows)) }"]) {
-    it(`ends the run by both lines where another thread could get ${sent}`, async (context) => {
-      const [{ ending, detail }] = await runsOf(context, {
-        "main.mjs": `${MAIN}const grows = new SharedArrayBuffer(4, { maxByteLength: 64 });
-new MessageChannel().port1.postMessage(${sent});`,
-      });
-      assert.equal(ending, "failed");
-      const where = sent.includes("clone") ? refused.replace(", made at main.mjs:2:15", "") : refused;
-      assert.ok(detail.startsWith(where), detail);
+  for (const sent of ["grows", "new Int32Array(grows)", "structuredClone(new DataView(grows))", "new Uint8Array(grows, 4)"]) {
+    it(`grows in two threads, of which one got ${sent}`, async (context) => {
+      const outcomes = await runsOf(context, {
+        "main.mjs": `${MAIN}const grows = new SharedArrayBuffer(8, { maxByteLength: 64 });
+        const [words, fixed, view] = [new Int32Array(grows), new Int32Array(grows, 0, 2), new DataView(grows, 4)];
+        new Worker(new URL("./worker.mjs", import.meta.url), { workerData: ${sent} });
+        while (Atomics.load(words, 0) === 0) Atomics.wait(words, 0, 0);
+        const lengths = [grows.byteLength, words.length, words.byteLength, fixed.length, view.byteLength];
+        if (lengths.join() !== "32,8,32,2,28" || grows.maxByteLength !== 64) throw new Error("the lengths are " + lengths);
+        if (words[7] !== 70 || words.at(-1) !== 70 || view.getInt32(24, true) !== 70) throw new Error("it is " + words[7]);
+        if (words[8] !== undefined || [...words].join() !== "1,0,0,0,0,0,0,70") throw new Error("it has " + words);
+        grows.grow(64);
+        if (words.length !== 16 || fixed.length !== 2) throw new Error("it has " + words.length);`,
+        "worker.mjs": `import { workerData } from "node:worker_threads";
+        const grows = workerData instanceof SharedArrayBuffer ? workerData : workerData.buffer;
+        if (!grows.growable || grows.byteLength !== 8) throw new Error("it has " + grows.byteLength + " bytes");
+        grows.grow(32);
+        const words = new Int32Array(grows);
+        words[7] = 70;
+        if (workerData !== grows && workerData.byteLength + workerData.byteOffset !== 32) throw new Error("it didn't follow");
+        Atomics.store(words, 0, 1);
+        Atomics.notify(words, 0);`,
+      }, { seeds: [1, 2, 3] });
+      assert.deepEqual(endingsOf(outcomes), ["finished: "]);
+      for (const { noScript, ordinary } of outcomes) assert.ok(/one that grows/.test(noScript ?? "") && ordinary > 0);
     });
   }
+
+  /** @param {string} before what the worker does before it grows @param {string} behind and then @param {number[]} seeds */
+  const grown = (context, before, behind, seeds) => runsOf(context, {
+    "main.mjs": `${MAIN}const grows = new SharedArrayBuffer(8, { maxByteLength: 16 });
+const words = new Int32Array(grows);
+new Worker(new URL("./worker.mjs", import.meta.url), { workerData: grows });
+while (grows.byteLength < 16);
+if (words.length !== 4) throw new Error("it has " + words.length);
+const found = words[1];`,
+    "worker.mjs": `import { workerData as grows } from "node:worker_threads";
+const words = new Int32Array(grows);
+${before}
+grows.grow(16);
+${behind}`,
+  }, { seeds });
+  const SEEDS = [1, 2, 3, 4, 5, 6];
+
+  it("orders what was done before it grew and what is done by who finds it longer", async (context) => {
+    assert.deepEqual(endingsOf(await grown(context, "words[1] = 5;", "", SEEDS)), ["finished: "]);
+  });
+
+  it("doesn't order what is done behind that", async (context) => {
+    const outcomes = await grown(context, "", "words[1] = 5;", SEEDS);
+    assert.deepEqual([...new Set(outcomes.map(({ ending }) => ending))], ["race"]);
+    for (const { races } of outcomes) assert.deepEqual(races.map(({ lines }) => lines), [["main.mjs:7:20", "worker.mjs:5:10"]]);
+  });
+
+  it("is a spin if its length is asked for again and again, and nobody grows it", async (context) => {
+    const [{ ending, detail }] = await runsOf(context, {
+      "main.mjs": `${MAIN}const grows = new SharedArrayBuffer(8, { maxByteLength: 16 });
+new Worker(new URL("./worker.mjs", import.meta.url), { workerData: grows });
+while (grows.byteLength < 16);`,
+      "worker.mjs": 'import { workerData } from "node:worker_threads";\nAtomics.load(new Int32Array(workerData), 0);',
+    });
+    assert.equal(ending, "bound");
+    assert.match(detail, /spins at main\.mjs:4:14/);
+  });
+
+  it("is refused as too long by the engine, in the thread that does it alone", async (context) => {
+    const outcomes = await runsOf(context, {
+      "main.mjs": `${MAIN}const grows = new SharedArrayBuffer(8, { maxByteLength: 16 });
+        new Worker(new URL("./worker.mjs", import.meta.url), { workerData: grows });
+        for (const wrong of [17, 4, -1]) {
+          try {
+            grows.grow(wrong);
+          } catch (error) {
+            if (error instanceof RangeError) continue;
+          }
+          throw new Error(wrong + " was taken");
+        }
+        if (grows.byteLength !== 8) throw new Error("it has grown");`,
+      "worker.mjs": "",
+    });
+    assert.deepEqual(endingsOf(outcomes), ["finished: "]);
+  });
 });
 
 describe("what node does by itself", () => {

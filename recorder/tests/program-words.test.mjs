@@ -7,9 +7,11 @@ import { sendersIn } from "../lib/keeping/messages.mjs";
 import { pageData } from "../lib/keeping/page.mjs";
 import { wordsText } from "../lib/keeping/words.mjs";
 import { Views } from "../page/elements.mjs";
+import { Run } from "../page/model.mjs";
 import { Stepper } from "../page/steps.mjs";
 import { explore, record } from "../recorder.mjs";
 import { simulated } from "./helpers/simulate.mjs";
+import { runsOf } from "./helpers/whole-programs.mjs";
 
 /** An entry of a notify that wakes nobody. @param {number} agent @param {number} block @param {number} byte */
 const notified = (agent, block, byte) =>
@@ -47,6 +49,53 @@ test("a program's run in words has its threads, its messages with their lines, a
   assert.deepEqual([data.threads, data.senders?.[0]], [["", started], 0]);
   const texts = new Stepper(data, new Views(data)).all().map(({ text, answer }) => `${text}${answer}`);
   assert.ok(texts.includes("sends message 0") && texts.includes("receives message 0"));
+});
+
+/** A main thread and a worker whose event loops have tasks of each kind. */
+const TASKS = {
+  "main.mjs": `import { Worker, MessageChannel } from "node:worker_threads";
+import { readFile } from "node:fs";
+const words = new Int32Array(new SharedArrayBuffer(4));
+const interval = setInterval(() => clearInterval(interval), 3);
+new Worker(new URL("./worker.mjs", import.meta.url), { workerData: words }).on("exit", () => {
+  readFile(new URL(import.meta.url), () => setImmediate(() => new MessageChannel().port1.close()));
+});`,
+  "worker.mjs": `import { workerData as words } from "node:worker_threads";
+setTimeout(() => Atomics.add(words, 0, 1), 4);
+Atomics.add(words, 0, 2);`,
+};
+
+test("tasks stand in the words, on the page and beside the trace, each with its line, and in no script or trace", async (context) => {
+  const [outcome] = await runsOf(context, TASKS);
+  const { tasks = [], trace = "", script = "" } = outcome;
+  const texts = tasks.map(({ agent, text, source }) => `${agent} ${text}, at ${source}`);
+  assert.deepEqual([...texts].sort(), [
+    "0 has closed a port, at main.mjs:6:90", "0 has the result of readFile, at main.mjs:6:3", "0 runs an immediate, at main.mjs:6:44",
+    "0 runs an interval of 3 ms, at main.mjs:4:18", "1 runs a timer of 4 ms, at worker.mjs:2:1",
+  ]);
+  assert.doesNotMatch(trace + script, /timer|interval|readFile|immediate|task/);
+  const { output } = simulated(["replay", "--format", "json"], script);
+  const lines = wordsText(output, outcome, "file:///main.mjs").split("\n");
+  for (const text of texts) assert.equal(lines.filter((line) => line === `- ${text}`).length, 1, text);
+  const timer = lines.indexOf("- 1 runs a timer of 4 ms, at worker.mjs:2:1");
+  const adds = lines.flatMap((line, at) => (/ 1 add\(/.test(line) ? [at] : []));
+  assert.deepEqual([adds.length, adds[0] < timer && timer < adds[1]], [2, true]);
+  const run = new Run(pageData(outcome, output, "file:///main.mjs"));
+  const shown = run.steps.filter(({ what }) => what === "task");
+  assert.deepEqual(shown.map(({ agent, text, place }) => `${agent} ${text}, at ${run.data.places[place]}`), texts);
+  assert.deepEqual(run.data.files.map(({ file }) => file), ["main.mjs", "worker.mjs"]);
+  // The block of messages isn't the program's memory.
+  assert.deepEqual(run.rows.map(({ name }) => name), ["Int32_b0"]);
+});
+
+test("a task stands before the events behind it, also if some of these aren't shown", () => {
+  const event = (number) => ({ event: number, agent: 0, call: 0, does: "read", block: 0, byte: 0, size: 4, read: true, write: false, source: null });
+  const trace = [0, 3, 7].map((number) => `${JSON.stringify(event(number))}\n`).join("");
+  const tasks = [0, 1, 4, 8].map((before) => ({ event: before, agent: 0, text: `task ${before}`, source: null }));
+  const outcome = { seed: 1, ending: "finished", detail: "", races: [], progress: [{ returned: 0, calls: 0 }], script: '{"blocks":[4],"views":[]}' };
+  const data = pageData(/** @type {any} */ ({ ...outcome, trace, tasks }), "", "file:///main.mjs");
+  const what = new Stepper(data, new Views(data)).all().map(({ what: each, text }) => (each === "task" ? text : each));
+  assert.deepEqual(what, ["start", "task 0", "ordinary", "task 1", "ordinary", "task 4", "ordinary", "task 8", "end"]);
 });
 
 test("a thread that sends to itself sends first, and a module of agents has no messages", async () => {

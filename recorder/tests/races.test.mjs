@@ -37,12 +37,17 @@ const notify = (agent, byte, size = 4, block = 0) => event("notify", { waiters: 
 /** A wait ends, by a wake-up or since its time is up: it passes the critical section again. */
 const leave = (agent, byte, size = 4, block = 0) => event("leave", { waiters: true }, agent, byte, size, block);
 
+const MORE_BLOCKS = 5;
+
 /** What a judgement by clocks says, as pairs of indices. */
 function pairsByClocks(events) {
   const agents = 1 + Math.max(...events.map(({ agent }) => agent));
   const log = logOf(events.map((one, index) => ({ call: 0, ...one, source: index + 1 })));
   const told = racesOf(log, agents);
   assert.equal(isRacy(log, agents), told.length > 0);
+  // The same comes of ranges of bytes, by which runs are judged that have more blocks than a script.
+  assert.deepEqual(racesOf(log, agents, MORE_BLOCKS), told);
+  assert.equal(isRacy(log, agents, MORE_BLOCKS), told.length > 0);
   for (const { one, other, block, byte } of told) {
     for (const index of [one, other]) {
       assert.equal(events[index].block, block);
@@ -196,11 +201,20 @@ test("clocks and the search agree on 2,000 random lists of events", () => {
   assert.ok(racy > 500 && racy < 1_500, `${racy} of them are racy`);
 });
 
+test("bytes far behind those that a script can have race like others, in whatever block they are", () => {
+  const [block, far] = [70_000, 2 ** 31 - 16];
+  const flag = (agent) => [write(agent, far, 8, block), store(agent, far + 8, 4, block)];
+  const events = [...flag(0), load(1, far + 8, 4, block), read(1, far, 8, block), write(0, far + 4, 4, block)];
+  const found = racesOf(logOf(events.map((one, index) => ({ ...one, source: index + 1 }))), 2, block + 1);
+  assert.deepEqual(found, [{ one: 3, other: 4, block, byte: far + 4 }]);
+});
+
 test("what one line of code does again and again is told once, and no pair of lines is left out", () => {
   for (let seed = 1; seed <= 500; seed += 1) {
     const events = randomEvents(seed).map((one, index) => ({ ...one, source: 1 + index % 3 }));
     const agents = 1 + Math.max(...events.map(({ agent }) => agent));
     const told = racesOf(logOf(events), agents).map(({ one, other }) => [one, other]);
+    assert.deepEqual(racesOf(logOf(events), agents, MORE_BLOCKS).map(({ one, other }) => [one, other]), told);
     const racing = slowRaces(events);
     const racingPairs = new Set(racing.map(String));
     for (const pair of told) assert.ok(racingPairs.has(String(pair)), `seed ${seed}: ${pair} don't race`);

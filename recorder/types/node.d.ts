@@ -361,6 +361,8 @@ declare module "node:util" {
   }
   const util: { inspect(value: unknown, options?: object): string; types: object; promisify: Promisify };
   export default util;
+  /** Each says whether a value is of a kind. */
+  export const types: Record<string, (value: unknown) => boolean>;
 }
 
 declare module "node:zlib" {

@@ -6,6 +6,7 @@ import * as exploring from "../lib/library/explore.mjs";
 import * as recording from "../lib/library/recorder.mjs";
 import * as refused from "../lib/options/refused.mjs";
 import * as remote from "../lib/seeds/remote-job.mjs";
+import * as again from "../lib/seeds/first-again.mjs";
 import * as native from "../lib/simulator/native.mjs";
 import * as declaredTesting from "../testing.mjs";
 import * as writtenTesting from "../lib/suite/tests.mjs";
@@ -42,7 +43,8 @@ export type Held = [
   Holds<Same<keyof declared.Difference, keyof check.Difference>>,
   Holds<Same<keyof declared.NoSabsim, keyof native.NoSabsim>>,
   Holds<Same<ConstructorParameters<typeof declared.LostJob>, ConstructorParameters<typeof remote.LostJob>>>,
-  Holds<Same<keyof typeof declared, "Difference" | "LostJob" | "NoSabsim" | "Refused" | "explore" | "record">>,
+  Holds<Same<ConstructorParameters<typeof declared.KeepsGlobals>, ConstructorParameters<typeof again.KeepsGlobals>>>,
+  Holds<Same<keyof typeof declared, "Difference" | "KeepsGlobals" | "LostJob" | "NoSabsim" | "Refused" | "explore" | "record">>,
 ];
 
 export const record: typeof declared.record = recording.record;

@@ -4,6 +4,7 @@
 import { SIZES } from "../../script/kinds.mjs";
 import { WORD } from "../memory/layout.mjs";
 import { FLAG, NO_CALL, READ, WRITE } from "../memory/log.mjs";
+import { FIRST_MORE } from "../memory/more-blocks.mjs";
 import { numberHere } from "./frames.mjs";
 import { REPEATED, Repeats } from "./repeats.mjs";
 
@@ -84,13 +85,25 @@ export class Accesses {
    */
   take() {
     const { board, memory, ordinary, stores, log } = this.table;
-    for (let block = 0; block < memory.real.length; block += 1) {
+    const { length } = memory.real;
+    for (let block = 0; block < length && block < FIRST_MORE; block += 1) {
       if (!memory.hasChanged(block)) continue;
       board.spins.news();
       if (ordinary === "watch") this.#takeSeen(block);
       if (ordinary === "store") stores.takeChanged(this.agent, log.length, block);
     }
+    if (length > FIRST_MORE) this.#takeMore();
     return memory.changed();
+  }
+
+  /** Takes what the writes that were seen have changed in the blocks that no script can have. */
+  #takeMore() {
+    const { board, log, memory } = this.table;
+    for (let event = this.since; event < log.length; event += 1) {
+      const block = log.blockAt(event);
+      if (block < FIRST_MORE || log.whatAt(event) !== WRITE) continue;
+      if (memory.takeOver(block, log.fromAt(event), log.toAt(event))) board.spins.news();
+    }
   }
 
   /**

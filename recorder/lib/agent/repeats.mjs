@@ -1,10 +1,16 @@
 // Which ordinary accesses an agent has made since its last call, so that the same one is noted once, and a spin is
 // found. Nobody else moves between two calls of an agent: what it repeats there shows nothing new.
 
-import { uncurried } from "../primordials.mjs";
+import { FIRST_MORE } from "../memory/more-blocks.mjs";
+import { mapGet, mapSet, slotOf, uncurried } from "../primordials.mjs";
 
-const { Int32Array } = globalThis;
+const { Int32Array, Map: EngineMap } = globalThis;
 const fill = uncurried(Int32Array.prototype.fill);
+const clearMap = uncurried(EngineMap.prototype.clear);
+const sizeOf = slotOf(EngineMap.prototype, "size");
+
+/** More than any byte of a block has as its position. */
+const MOST_BYTES = 2 ** 31;
 
 // So often is one access repeated before it is a spin: nothing that it reads can change meanwhile.
 const SPIN = 1_000_000;
@@ -24,6 +30,8 @@ export class Repeats {
       this.reads[block] = new Int32Array(lengths[block]);
       this.writes[block] = new Int32Array(lengths[block]);
     }
+    /** @type {Map<number, number>} of blocks that no script can have: how long the accesses since the last call were */
+    this.more = new EngineMap();
     this.epoch = 1;
     this.again = 0;
     this.last = -1;
@@ -46,6 +54,7 @@ export class Repeats {
     this.epoch += 1;
     this.again = 0;
     this.last = -1;
+    if (sizeOf(this.more) > 0) clearMap(this.more);
   }
 
   /**
@@ -60,8 +69,7 @@ export class Repeats {
   note(place, from, to, writes) {
     const size = to - from;
     if (size > 8) return REPEATED.NEW;
-    const stamps = writes ? this.writes[place.block] : this.reads[place.block];
-    if (stamps[from] !== ((this.epoch << 4) | size)) return REPEATED.NEW;
+    if (!this.#isKnown(place.block, from, size, writes)) return REPEATED.NEW;
     if (writes || this.last !== from) {
       this.last = writes ? -1 : from;
       this.again = 0;
@@ -81,7 +89,21 @@ export class Repeats {
   add(place, from, to, writes) {
     const size = to - from;
     if (size > 8) return;
+    if (place.block >= FIRST_MORE) {
+      mapSet(this.more, keyOf(place.block, from, writes), size);
+      return;
+    }
     const stamps = writes ? this.writes[place.block] : this.reads[place.block];
     stamps[from] = (this.epoch << 4) | size;
   }
+
+  /** @param {number} block @param {number} from @param {number} size @param {boolean} writes */
+  #isKnown(block, from, size, writes) {
+    if (block >= FIRST_MORE) return mapGet(this.more, keyOf(block, from, writes)) === size;
+    const stamps = writes ? this.writes[block] : this.reads[block];
+    return stamps[from] === ((this.epoch << 4) | size);
+  }
 }
+
+/** @param {number} block @param {number} from @param {boolean} writes */
+const keyOf = (block, from, writes) => (block * 2 + (writes ? 1 : 0)) * MOST_BYTES + from;

@@ -78,9 +78,10 @@ export class Keeper {
    * that comes behind it go when all those of this one are there.
    * @param {import("../run/outcome.mjs").Outcome} outcome
    */
-  keepFirst({ seed, onlyIf, script, report, trace }) {
+  keepFirst({ seed, onlyIf, script, report, trace, threads }) {
     const texts = { json: script, report, "trace.jsonl": trace };
-    const isEmpty = Object.values(texts).every((text) => text === undefined);
+    // Of a program's run what makes it again is kept later.
+    const isEmpty = threads === undefined && Object.values(texts).every((text) => text === undefined);
     const own = { seed, onlyIf };
     if (isEmpty || (this.first !== undefined && comesBefore(this.first, own))) return;
     const before = this.names;

@@ -65,6 +65,16 @@ function shownEvents(events, racing) {
 }
 
 /**
+ * @param {{ event: number }[]} events in their order
+ * @param {number} event
+ * @returns {number} how many of them come before an event
+ */
+function countBefore(events, event) {
+  const at = events.findIndex((other) => other.event >= event);
+  return at < 0 ? events.length : at;
+}
+
+/**
  * What the page of a run is made from.
  * @param {Outcome} outcome that has a script
  * @param {string} facts what `sabsim replay --format json` writes about it
@@ -83,7 +93,8 @@ export function pageData(outcome, facts, module) {
   const racing = racingEvents(races, all);
   const events = shownEvents(all, racing);
   const numbers = new Map(events.map((event, at) => [event, at]));
-  const places = [...new Set(events.map(({ source }) => source))].filter((source) => source !== null);
+  const tasks = (outcome.tasks ?? []).map((task) => ({ ...task, before: countBefore(events, task.event) }));
+  const places = [...new Set([...events, ...tasks].map(({ source }) => source))].filter((source) => source !== null);
   const placeNumbers = new Map(places.map((place, at) => [place, at]));
   const entries = objects.filter(({ what }) => what === "act" || what === "wait" || what === "leave");
   return {
@@ -98,6 +109,8 @@ export function pageData(outcome, facts, module) {
       const place = placeNumbers.get(source) ?? -1;
       return { agent, call, does, block, byte, size, read, write, place, ...accesses.get(event) };
     }),
+    ...(tasks.length === 0 ? {} : { tasks: tasks.map(({ before, agent, text, source }) =>
+      ({ before, agent, text, place: placeNumbers.get(source) ?? -1 })) }),
     races: /** @type {[number, number][]} */ (racing.map((pair) => pair.map((event) => numbers.get(event)))),
   };
 }

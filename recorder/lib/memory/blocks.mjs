@@ -3,7 +3,9 @@
 // So what was done before it was sent happens before what is done after it is received.
 
 import { SCRIPT_LIMITS } from "../../script/limits.mjs";
+import { isGrowable, mostLengthOf, sharedLengthOf } from "../primordials.mjs";
 import { placeNumber } from "./known-places.mjs";
+import { FIRST_MORE, MoreBlocks } from "./more-blocks.mjs";
 
 const { Int32Array, Uint8Array, SharedArrayBuffer } = globalThis;
 
@@ -24,28 +26,30 @@ export const PORT_PLACES = CHANNEL_PLACE + 1;
 /** @param {number} agent @returns {number} the place of its event loop, as strategies know it */
 export const loopPlace = (agent) => placeNumber(MESSAGES, 4 * (LOOP_PLACES + agent));
 
-/** How many blocks a program can have for its memory, and how long each can be. */
+/** How many blocks for a program's memory a script can have, and how long each can be. Others have greater numbers. */
 export const MOST_BLOCKS = MESSAGES;
 export const MOST_BYTES = SCRIPT_LIMITS.bytes;
+
+const NO_BYTES = new Uint8Array(0);
 
 const COUNT = 0;
 const LENGTHS = 1;
 const WORDS = LENGTHS + SCRIPT_LIMITS.blocks;
 
 export class Blocks {
-  /** @returns {SharedArrayBuffer} */
   static memory() {
-    return new SharedArrayBuffer(WORDS * 4);
+    return { words: new SharedArrayBuffer(WORDS * 4), more: MoreBlocks.memory() };
   }
 
   /**
-   * @param {SharedArrayBuffer} shared what `memory` has made
-   * @param {SharedArrayBuffer[]} copies for each block, as long as it can be
+   * @param {ReturnType<typeof Blocks.memory>} shared
+   * @param {SharedArrayBuffer[]} copies for each block that a script can have, as long as it can be
    * @param {import("./memory.mjs").Memory} memory whose blocks these are
    * @param {number[]} lengths of the blocks, which are kept as they are
    */
   constructor(shared, copies, memory, lengths) {
-    this.words = new Int32Array(shared);
+    this.words = new Int32Array(shared.words);
+    this.more = new MoreBlocks(shared.more);
     this.copies = copies;
     this.memory = memory;
     this.lengths = lengths;
@@ -54,9 +58,19 @@ export class Blocks {
     this.clear();
   }
 
-  /** @returns {number} how many blocks there are */
+  /** @returns {number} how many blocks there are that a script can have */
   get count() {
     return this.words[COUNT];
+  }
+
+  /** @returns {boolean} whether there are blocks that no script can have */
+  get goBeyond() {
+    return this.more.count > 0;
+  }
+
+  /** @returns {number[]} the numbers of all blocks, in their order */
+  numbers() {
+    return [...Array.from({ length: this.count }, (_, block) => block), ...this.more.numbers()];
   }
 
   /** A run begins, in which nothing was made yet. The referee calls it. */
@@ -65,19 +79,26 @@ export class Blocks {
     for (let block = 0; block < words[COUNT]; block += 1) memory.known[block] = new Uint8Array(copies[block]);
     for (let block = 0; block < words[COUNT]; block += 1) memory.known[block].fill(0);
     words[COUNT] = 0;
+    this.more.begin();
     this.clear();
   }
 
   /**
-   * A buffer of this thread becomes a block. There must be room for it.
+   * A buffer of this thread becomes a block.
    * @param {SharedArrayBuffer} buffer
-   * @returns {number} its number
+   * @param {string} place where it was made; empty: it isn't known
+   * @returns {number} its number; -1: there is no room for it
    */
-  add(buffer) {
+  add(buffer, place) {
     const { words } = this;
-    const block = words[COUNT];
-    words[LENGTHS + block] = buffer.byteLength;
-    words[COUNT] += 1;
+    const length = sharedLengthOf(buffer);
+    const isMore = words[COUNT] === MOST_BLOCKS || length > MOST_BYTES || isGrowable(buffer);
+    const block = isMore ? this.more.add(length, mostLengthOf(buffer), place) : words[COUNT];
+    if (block < 0) return block;
+    if (!isMore) {
+      words[LENGTHS + block] = length;
+      words[COUNT] += 1;
+    }
     this.adopt(block, buffer);
     return block;
   }
@@ -88,22 +109,38 @@ export class Blocks {
    * @param {SharedArrayBuffer} buffer
    */
   adopt(block, buffer) {
+    const { memory, lengths } = this;
+    // Others may come later that have smaller numbers.
+    for (let other = memory.real.length; other < block; other += 1) {
+      memory.real[other] = NO_BYTES;
+      memory.known[other] = NO_BYTES;
+      lengths[other] = 0;
+    }
     this.buffers[block] = buffer;
-    this.memory.real[block] = new Uint8Array(buffer);
-    this.#learn(block, buffer.byteLength);
+    memory.real[block] = new Uint8Array(buffer);
+    this.#learn(block, sharedLengthOf(buffer));
+  }
+
+  /** @param {number} block that this thread has made longer */
+  grew(block) {
+    const { length } = this.memory.real[block];
+    this.more.grew(block, length);
+    this.lengths[block] = length;
   }
 
   /** The referee gets to know all blocks that were made. */
   refresh() {
-    const { words } = this;
+    const { words, more } = this;
     for (let block = 0; block < words[COUNT]; block += 1) this.#learn(block, words[LENGTHS + block]);
+    for (const block of more.numbers()) this.#learn(block, more.known(block).length);
     // Nobody writes there.
     this.memory.known[MESSAGES] = new Uint8Array(this.copies[MESSAGES]);
   }
 
   /** @param {number} block @param {number} length */
   #learn(block, length) {
-    this.memory.known[block] = new Uint8Array(this.copies[block], 0, length);
+    const isMore = block >= FIRST_MORE;
+    this.memory.known[block] = isMore ? this.more.whole(block) : new Uint8Array(this.copies[block], 0, length);
     this.lengths[block] = length;
   }
 
@@ -112,9 +149,10 @@ export class Blocks {
     const { memory, lengths } = this;
     this.buffers = [];
     for (let block = 0; block < SCRIPT_LIMITS.blocks; block += 1) {
-      memory.real[block] = new Uint8Array(0);
-      memory.known[block] = new Uint8Array(0);
+      memory.real[block] = NO_BYTES;
+      memory.known[block] = NO_BYTES;
       lengths[block] = block === MESSAGES ? MESSAGE_BYTES : 0;
     }
+    for (const list of [memory.real, memory.known, lengths]) list.length = SCRIPT_LIMITS.blocks;
   }
 }

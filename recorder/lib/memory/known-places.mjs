@@ -9,15 +9,22 @@ const { Uint8Array, SharedArrayBuffer } = globalThis;
 const READ_ALONE = 254;
 const SHARED = 255;
 
+/** How many bytes all blocks of a script can have. */
+export const PLACES = SCRIPT_LIMITS.blocks * SCRIPT_LIMITS.bytes;
+
+/** A power of two. */
+const MORE_PLACES = 2 ** 30;
+
 /**
  * @param {number} block
  * @param {number} byte
- * @returns {number} the number of a place: no other byte of any block has it
+ * @returns {number} the number of a place: no other byte has it, except of blocks that no script can have, of which few
+ * bytes have the same one
  */
-export const placeNumber = (block, byte) => block * SCRIPT_LIMITS.bytes + byte;
-
-/** How many bytes all blocks can have. */
-export const PLACES = SCRIPT_LIMITS.blocks * SCRIPT_LIMITS.bytes;
+export const placeNumber = (block, byte) => {
+  const place = block * SCRIPT_LIMITS.bytes + byte;
+  return place < PLACES ? place : PLACES + (place & (MORE_PLACES - 1));
+};
 
 export class KnownPlaces {
   /** @returns {SharedArrayBuffer} */

@@ -2,10 +2,12 @@
 // that changed otherwise. Both are shared memory, so that each thread sees what the others did.
 
 import { SIZES } from "../../script/kinds.mjs";
+import { SCRIPT_LIMITS } from "../../script/limits.mjs";
 import { uncurried } from "../primordials.mjs";
 
 const { Uint8Array } = globalThis;
 const areEqual = uncurried(Buffer.prototype.equals);
+const setBytes = uncurried(Uint8Array.prototype.set);
 
 /** @typedef {{ block: number, byte: number, was: number, is: number }} Change */
 
@@ -25,9 +27,10 @@ export class Memory {
     for (const bytes of [...this.real, ...this.known]) bytes.fill(0);
   }
 
-  /** @returns {string[]} the known bytes of each block, two hexadecimal digits for each */
+  /** @returns {string[]} the known bytes of each block that a script can have, two hexadecimal digits for each */
   hex() {
-    return this.known.map(({ buffer, byteOffset, length }) => Buffer.from(buffer, byteOffset, length).toString("hex"));
+    const known = this.known.slice(0, SCRIPT_LIMITS.blocks);
+    return known.map(({ buffer, byteOffset, length }) => Buffer.from(buffer, byteOffset, length).toString("hex"));
   }
 
   /**
@@ -49,9 +52,20 @@ export class Memory {
     return isChanged;
   }
 
-  /** @param {number} block @returns {boolean} whether a byte of the block isn't as it is known */
+  /** @param {number} block whose bytes are known from now on as they are */
+  takeAll(block) {
+    setBytes(this.known[block], this.real[block]);
+  }
+
+  /**
+   * Whether a byte of the block isn't as it is known. To compare a block that is longer than a script's would take long
+   * each time, and one that grows is as long as what is known at its end alone. There only what is seen is known.
+   * @param {number} block
+   */
   hasChanged(block) {
-    return !areEqual(this.real[block], this.known[block]);
+    const real = this.real[block];
+    const known = this.known[block];
+    return real.length <= SCRIPT_LIMITS.bytes && real.length === known.length && !areEqual(real, known);
   }
 
   /** @returns {Change | undefined} the first byte that isn't as it is known */

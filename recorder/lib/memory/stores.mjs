@@ -139,6 +139,8 @@ export class Stores {
    */
   touch(block, from, to) {
     const { touched, dropped, words } = this;
+    // No script has more blocks.
+    if (block >= this.firsts.length) return;
     for (let byte = from; byte < to; byte += 1) {
       const place = this.firsts[block] + byte;
       if (touched[place] === this.run) continue;

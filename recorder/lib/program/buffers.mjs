@@ -4,21 +4,18 @@
 
 import { learn } from "../agent/ordinary/context.mjs";
 import { WHOLE_BUFFER } from "../agent/ordinary/watched.mjs";
-import { MOST_BLOCKS, MOST_BYTES } from "../memory/blocks.mjs";
-import { sharedLengthOf, slotOf, weakGet, weakSet } from "../primordials.mjs";
+import { FIRST_MORE } from "../memory/more-blocks.mjs";
+import { isGrowable, sharedLengthOf, weakGet, weakSet } from "../primordials.mjs";
 
 const { SharedArrayBuffer: EngineShared, Uint8Array, WeakMap: EngineWeakMap } = globalThis;
 const { load, store } = Atomics;
 
 /** From here on are the numbers of buffers that are no blocks yet. */
-const FIRST_OWN = 16;
+const FIRST_OWN = 2 ** 24;
 
 const NO_BLOCK = -1;
 
 /** @typedef {{ block: number, own: number, place: string | undefined }} Known a buffer: its block, or its own number */
-
-/** @type {(buffer: object) => boolean} whether a shared buffer can grow */
-const isGrowable = slotOf(EngineShared.prototype, "growable");
 
 /**
  * Whether two buffers have the same memory. Nobody else writes meanwhile.
@@ -57,9 +54,6 @@ export class Buffers {
   /** @type {WeakMap<object, Known>} */
   #known = new EngineWeakMap();
 
-  /** @type {WeakMap<object, string | undefined>} where those were made that grow: their arrays aren't watched */
-  #growing = new EngineWeakMap();
-
   /** @type {Known[]} those that were made here, by their own numbers less the first one */
   #own = [];
 
@@ -84,10 +78,6 @@ export class Buffers {
    * @param {string | undefined} place where
    */
   made(buffer, place) {
-    if (isGrowable(buffer)) {
-      weakSet(this.#growing, buffer, place);
-      return;
-    }
     const known = { block: NO_BLOCK, own: FIRST_OWN + this.#own.length, place };
     this.#own[this.#own.length] = known;
     weakSet(this.#known, buffer, known);
@@ -110,27 +100,29 @@ export class Buffers {
    * @param {SharedArrayBuffer} buffer
    */
   share(buffer) {
-    if (isGrowable(buffer)) this.#refuseGrowing(buffer);
     const known = weakGet(this.#known, buffer);
-    if (known === undefined || known.block >= 0 || sharedLengthOf(buffer) === 0) return;
+    if (known === undefined || known.block >= 0) return;
     const { blocks, mesh, shown } = this;
     const length = sharedLengthOf(buffer);
-    const where = known.place === undefined ? "" : ` made at ${known.place}`;
-    if (length > MOST_BYTES) {
-      shown.refuse(`gave another thread a SharedArrayBuffer of ${length} bytes${where}: a run of a program has `
-        + `blocks of ${MOST_BYTES} bytes at most`);
-    }
-    if (blocks.count === MOST_BLOCKS) {
-      shown.refuse(`gave another thread a SharedArrayBuffer${where}: a run of a program has ${MOST_BLOCKS} that `
-        + "several threads reach, and this would be one more");
-    }
-    known.block = blocks.add(buffer);
-    shown.named(known.block, known.place ?? "");
-    mesh.handAll({ kind: "block", block: known.block, buffer });
-    if (hasBytes(buffer)) {
-      shown.seen({ block: known.block, kind: WHOLE_BUFFER, offset: 0, length }, 0, length, true);
+    const place = known.place ?? "";
+    if (length === 0 && isGrowable(buffer)) this.#refuseEmpty(place);
+    if (length === 0) return;
+    const block = blocks.add(buffer, place);
+    if (block < 0) this.#refuseMore(length, place);
+    known.block = block;
+    if (block < FIRST_MORE) shown.named(block, place);
+    mesh.handAll({ kind: "block", block, buffer });
+    if (block >= FIRST_MORE) blocks.memory.takeAll(block);
+    else if (hasBytes(buffer)) {
+      shown.seen({ block, kind: WHOLE_BUFFER, offset: 0, length }, 0, length, true);
     }
     this.onBlock(known.own, known.block);
+  }
+
+  /** @param {unknown} buffer @returns {number} its block, if it is one that grows; else -1 */
+  growingBlock(buffer) {
+    const number = this.numberOf(buffer);
+    return number < 0 || !isGrowable(/** @type {object} */ (buffer)) ? NO_BLOCK : this.blockOf(number);
   }
 
   /**
@@ -149,9 +141,7 @@ export class Buffers {
   handTo(agent) {
     const { blocks, mesh } = this;
     mesh.take();
-    for (let block = 0; block < blocks.count; block += 1) {
-      mesh.hand(agent, { kind: "block", block, buffer: blocks.buffers[block] });
-    }
+    for (const block of blocks.numbers()) mesh.hand(agent, { kind: "block", block, buffer: blocks.buffers[block] });
   }
 
   /**
@@ -159,10 +149,10 @@ export class Buffers {
    * @param {SharedArrayBuffer} buffer
    */
   received(buffer) {
-    if (weakGet(this.#known, buffer) !== undefined || sharedLengthOf(buffer) === 0 || isGrowable(buffer)) return;
+    if (weakGet(this.#known, buffer) !== undefined || sharedLengthOf(buffer) === 0) return;
     this.mesh.take();
     const { blocks } = this;
-    for (let block = 0; block < blocks.count; block += 1) {
+    for (const block of blocks.numbers()) {
       const other = blocks.buffers[block];
       if (other === undefined || sharedLengthOf(other) !== sharedLengthOf(buffer) || !areSame(buffer, other)) continue;
       learn(buffer, other);
@@ -175,7 +165,6 @@ export class Buffers {
   /** Nothing of an earlier run is left. */
   clear() {
     this.#known = new EngineWeakMap();
-    this.#growing = new EngineWeakMap();
     this.#own = [];
     this.blocks.clear();
   }
@@ -185,10 +174,17 @@ export class Buffers {
     return value instanceof EngineShared;
   }
 
-  /** @param {SharedArrayBuffer} buffer that another thread could reach */
-  #refuseGrowing(buffer) {
-    const place = weakGet(this.#growing, buffer);
-    this.shown.refuse(`gave another thread a SharedArrayBuffer that grows${place === undefined ? "" : `, made at ${place}`}, `
+  /** @param {number} length of a buffer that another thread could reach @param {string} place where it was made */
+  #refuseMore(length, place) {
+    const where = place === "" ? "" : ` made at ${place}`;
+    this.shown.refuse(`gave another thread a SharedArrayBuffer of ${length} bytes${where}: a run has no room for more memory `
+      + "that several threads reach");
+  }
+
+  /** @param {string} place where a buffer was made that grows, has no byte, and that another thread could reach */
+  #refuseEmpty(place) {
+    // Which memory a received buffer has is found by its first byte.
+    this.shown.refuse(`gave another thread a SharedArrayBuffer that grows and has no byte yet${place === "" ? "" : `, made at ${place}`}, `
       + "which isn't simulated yet");
   }
 

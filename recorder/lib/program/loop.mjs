@@ -4,6 +4,7 @@
 
 import process from "node:process";
 import timers from "node:timers";
+import { WORD } from "../memory/layout.mjs";
 import { Random } from "../memory/random.mjs";
 import { foreignWork } from "./refusals.mjs";
 
@@ -39,14 +40,22 @@ const HASTY = 0.5;
  * @property {(why: string) => never} refuse ends the run
  * @property {() => void} goHome is called when the thread's part in the run is over, and none of its code goes on
  * @property {Set<{ refed: boolean, where: string }>} children workers that this thread has started
+ * @property {import("../memory/task-notes.mjs").TaskNotes} notes of tasks that are taken up
+ * @property {() => string | undefined} here where the program's code is
  */
 
 export class Loop {
-  /** @type {{ name: string, act: () => void }[]} */
+  /** @type {{ text: string, place: string | undefined, act: () => void }[]} */
   #tasks = [];
 
   /** Whether the loop has just turned: then timers come first. */
   #isTurning = true;
+
+  /** Whether what waits in ports is looked at anew: it comes before the immediates. In a module the loop has begun. */
+  #looks = false;
+
+  /** @type {Map<object, number>} how many messages of each port come before the next immediate */
+  #before = new Map();
 
   /** @param {Served} served */
   constructor(served) {
@@ -55,15 +64,28 @@ export class Loop {
     this.random = new Random(new Int32Array(4));
   }
 
-  /** @param {string} name of a task of the thread's own @param {() => void} act */
-  later(name, act) {
-    this.#tasks.push({ name, act });
+  /** @param {string} text what a task of the thread's own does, in words @param {() => void} act */
+  later(text, act) {
+    this.#tasks.push({ text, act, place: this.#notes ? this.served.here() : undefined });
+  }
+
+  /** Whether it is noted what the loop takes up. */
+  get #notes() {
+    return this.served.moves.board.words[WORD.NOTES_SOURCES] === 1;
+  }
+
+  /** @param {string} text what is taken up now @param {string} [place] where it was made */
+  #note(text, place = "") {
+    const { notes, moves: { agent, player } } = this.served;
+    if (this.#notes) notes.note({ event: player.table.log.length, agent, text, place });
   }
 
   /** Nothing of an earlier run is left. */
   clear() {
     this.#tasks = [];
     this.#isTurning = true;
+    this.#looks = false;
+    this.#before = new Map();
   }
 
   /** Begins when the real loop turns. */
@@ -175,8 +197,9 @@ export class Loop {
 
   /**
    * What may be taken up now. In node the timers that are due come first in each turn of the loop, then messages and
-   * the like, then the immediates: a timer isn't between those, but may be between two messages. What waitAsync has
-   * promised by now is settled before the immediates.
+   * the like, then the immediates: a timer isn't between those, but may be between two messages. A message that is there
+   * when the loop looks comes before the immediates; one that comes later may. What waitAsync has promised by now is
+   * settled before the immediates.
    * @returns {(() => void)[]}
    */
   #choices() {
@@ -186,34 +209,57 @@ export class Loop {
     const isDue = this.#deadline() <= this.#now();
     if (isDue && this.#isTurning) return [() => this.#runDue()];
     this.#isTurning = false;
-    const acts = ports.ready().map((port) => () => events.deliver(port));
+    const ready = ports.ready();
+    const isFirst = this.#areFirst(ready);
+    const acts = ready.map((port) => () => {
+      this.#before.set(port, (this.#before.get(port) ?? 0) - 1);
+      events.deliver(port);
+    });
     const [task] = this.#tasks;
     if (task !== undefined) {
       acts.push(() => {
         this.#tasks.shift();
+        this.#note(task.text, task.place);
         task.act();
       });
     }
     if (waits.isWoken) acts.push(() => waits.settle());
-    else if (armed.immediates > 0) acts.push(() => this.#runImmediate());
-    else if (isDue) acts.push(() => this.#runDue());
+    else if (armed.immediates > 0) {
+      if (!isFirst) acts.push(() => this.#runImmediate());
+    } else if (isDue) acts.push(() => this.#runDue());
     return acts;
+  }
+
+  /** @param {any[]} ready the ports that have messages @returns {boolean} whether some come before the immediates */
+  #areFirst(ready) {
+    const { ports } = this.served;
+    if (this.#looks) this.#before = new Map(ready.map((port) => [port, ports.waiting(port)]));
+    this.#looks = false;
+    return ready.some((port) => (this.#before.get(port) ?? 0) > 0);
   }
 
   /** Runs the first timer that is due, or ends the first waitAsync whose time is up. */
   #runDue() {
     const { timers: armed, waits } = this.served;
+    this.#looks = true;
     if (waits.deadline < armed.deadline) waits.timeOut();
-    else armed.runTimer();
+    else {
+      const timer = armed.nextTimer();
+      if (timer !== undefined) this.#note(`runs ${taskText(timer)}`, timer.where);
+      armed.runTimer();
+    }
   }
 
   /** Behind the last immediate of a round the loop turns. */
   #runImmediate() {
     const { timers: armed } = this.served;
+    const immediate = armed.nextImmediate();
+    if (immediate !== undefined) this.#note(`runs ${taskText(immediate)}`, immediate.where);
     try {
       armed.runImmediate();
     } finally {
       this.#isTurning = armed.inRound === 0;
+      this.#looks = true;
     }
   }
 
@@ -228,8 +274,12 @@ export class Loop {
 }
 
 /** @param {import("./timers.mjs").Described} timer @returns {string} */
-function keeperText({ kind, milliseconds, repeats, where }) {
-  const what = kind === "immediate" ? "an immediate" : `${repeats ? "an interval" : "a timer"} of ${milliseconds} ms`;
-  return where === undefined ? what : `${what} from ${where}`;
+function taskText({ kind, milliseconds, repeats }) {
+  return kind === "immediate" ? "an immediate" : `${repeats ? "an interval" : "a timer"} of ${milliseconds} ms`;
+}
+
+/** @param {import("./timers.mjs").Described} timer @returns {string} */
+function keeperText(timer) {
+  return timer.where === undefined ? taskText(timer) : `${taskText(timer)} from ${timer.where}`;
 }
 

@@ -64,6 +64,22 @@ export class Moves {
     return words[WORD.MESSAGES] - 1;
   }
 
+  /**
+   * Asks for the turn to read the length of a block that grows, or to change it. Each block has a word for its length,
+   * which is read or changed by Atomics.
+   * @param {number} block
+   * @param {boolean} writes
+   * @param {Function} called the function that the program's code has called
+   */
+  touchLength(block, writes, called) {
+    this.count();
+    this.player.make({
+      call: writes ? CALL_NUMBERS.add : CALL_NUMBERS.load, kind: INT32, block: MESSAGES, offset: 0, length: MESSAGE_PLACES,
+      index: block % MESSAGE_PLACES, operands: writes ? [0] : [], limit: undefined,
+    }, this.view, called);
+    if (writes) this.board.spins.news();
+  }
+
   /** @param {number} message that is received now */
   receive(message) {
     this.player.note(this.#edge(message), this.view);

@@ -137,7 +137,7 @@ export class PortEvents {
     const { ports } = this;
     if (ports.known(port).closed) return;
     ports.close(port);
-    ports.world.later("close", () => void this.emit(port, "close", undefined));
+    ports.world.later("has closed a port", () => void this.emit(port, "close", undefined));
   }
 
   /** @param {any} port whose other side was closed */

@@ -215,6 +215,11 @@ export class Ports {
     return ready.map((id) => this.mine.get(id));
   }
 
+  /** @param {any} port of this thread @returns {number} how many messages wait there */
+  waiting(port) {
+    return this.world.table.waiting(this.known(port).id);
+  }
+
   /** @returns {string[]} what keeps this thread alive, in words */
   keepers() {
     const texts = [];

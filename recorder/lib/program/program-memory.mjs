@@ -7,6 +7,7 @@ import { MAKE, MOVES } from "../board/journal.mjs";
 import { Blocks, MESSAGE_BYTES, MOST_BLOCKS, MOST_BYTES } from "../memory/blocks.mjs";
 import { Keepers } from "../memory/keepers.mjs";
 import { Records } from "../memory/records.mjs";
+import { TaskNotes } from "../memory/task-notes.mjs";
 import { PortTable } from "../board/port-table.mjs";
 
 /** How many calls a thread can make: more than a script can have, and no more than a run has moves for. */
@@ -34,6 +35,7 @@ export function programMemory(plan, logEvents) {
     records: Array.from({ length: plan.agents }, () => Records.memory(MOST_CALLS)),
     blocks: Blocks.memory(),
     ports: PortTable.memory(),
+    tasks: TaskNotes.memory(),
     keepers: Array.from({ length: plan.agents }, () => Keepers.memory()),
     madeAt: Array.from({ length: MOST_BLOCKS }, () => Keepers.memory()),
   };

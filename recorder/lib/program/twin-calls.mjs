@@ -40,6 +40,9 @@ export function replaceCall(owner, name, stand) {
   defineProperty(owner, name, { value: stand, writable: true, enumerable: true, configurable: true });
 }
 
+/** @param {string} name of a function @returns {string} what the task does that has its result, in words */
+const resultOf = (name) => `has the result of ${name}`;
+
 /**
  * Has a callback run later, in the surroundings (AsyncLocalStorage) of now.
  * @param {Given} given
@@ -49,7 +52,7 @@ export function replaceCall(owner, name, stand) {
  */
 export function callLater({ later }, name, done, values) {
   const resource = construct(/** @type {any} */ (AsyncResource), ["FSREQCALLBACK"]);
-  later(name, () => resource.runInAsyncScope(done, undefined, ...values));
+  later(resultOf(name), () => resource.runInAsyncScope(done, undefined, ...values));
 }
 
 /**
@@ -63,7 +66,7 @@ export function callLater({ later }, name, done, values) {
 export function promiseLater({ later }, name, act, signal) {
   const { value, problem } = outcomeOf(act);
   return new Promise((resolve, reject) => {
-    later(name, () => {
+    later(resultOf(name), () => {
       if (signal?.aborted) reject(abortError(signal));
       else if (problem === undefined) resolve(value);
       else reject(problem);

@@ -1,15 +1,19 @@
 // Values in messages. What is sent has the engine's own arrays in place of those that are watched, and the shared buffers
-// in it can be reached by others from then on. What is received gets watched arrays.
+// in it can be reached by others from then on. What is received gets watched arrays. Getters are called first, once, as
+// structured clone calls them: so memory is found that one of them returns.
 
+import { types } from "node:util";
 import { memoryNumber } from "../agent/ordinary/context.mjs";
 import { wrappedView } from "../agent/ordinary/data-view.mjs";
 import { wrapped } from "../agent/ordinary/elements.mjs";
-import { mirrored } from "../agent/ordinary/reach.mjs";
+import { WHOLLY, mirrored, reaches } from "../agent/ordinary/reach.mjs";
 import { anyWatchedOf } from "../agent/ordinary/watched.mjs";
-import { bufferOf, tagOf, viewBufferOf } from "../primordials.mjs";
+import {
+  bufferOf, create, defineProperty, getOwnPropertyDescriptor, getPrototypeOf, isArray, mapSet, ownKeys, tagOf, viewBufferOf,
+} from "../primordials.mjs";
 import { Buffers } from "./buffers.mjs";
 
-const { Map: EngineMap } = globalThis;
+const { Array: EngineArray, Map: EngineMap } = globalThis;
 /** @type {(value: unknown, options: unknown) => any} */
 const engineClone = /** @type {any} */ (globalThis).structuredClone;
 const { isView } = ArrayBuffer;
@@ -20,15 +24,60 @@ const bufferBehind = (view) => (tagOf(view) === undefined ? viewBufferOf(view) :
 /** @param {unknown} inner @returns {boolean} whether a value is shared memory, or a view of the engine's own on it */
 const isSharedMemory = (inner) => Buffers.isShared(inner) || (isView(inner) && Buffers.isShared(bufferBehind(inner)));
 
+/** @param {unknown} inner @returns {boolean} */
+const isMemory = (inner) => anyWatchedOf(inner) !== undefined || isSharedMemory(inner);
+
+/** Objects of which structured clone takes more than their properties. @type {((value: any) => boolean)[]} */
+const OTHERS = [
+  types.isProxy, types.isMap, types.isSet, types.isNativeError, types.isDate, types.isRegExp, types.isBoxedPrimitive,
+  types.isAnyArrayBuffer, isView,
+];
+
+/** @param {any} object @param {string | symbol} key @returns {boolean} whether structured clone takes a property */
+const isTaken = (object, key) => typeof key === "string" && getOwnPropertyDescriptor(object, key)?.enumerable === true;
+
+/** @param {any} inner @returns {boolean} whether a value is an object of which structured clone calls a getter */
+function hasGetter(inner) {
+  if (typeof inner !== "object" || inner === null || OTHERS.some((isIt) => isIt(inner))) return false;
+  return ownKeys(inner).some((key) => {
+    const found = getOwnPropertyDescriptor(inner, key);
+    return found?.get !== undefined && found.enumerable && typeof key === "string";
+  });
+}
+
+/**
+ * A value in which each getter has been called: in its place stands what it has returned.
+ * @param {unknown} value
+ * @param {Map<object, object>} made the copies of objects, so that each has one
+ * @returns {unknown}
+ */
+const settled = (value, made) => mirrored(value, made, {
+  isIt: hasGetter,
+  copyOf: (object) => {
+    const copy = isArray(object) ? new EngineArray(object.length) : create(getPrototypeOf(object));
+    // An object may stand in itself.
+    mapSet(made, object, copy);
+    for (const key of ownKeys(object)) {
+      // A getter may have taken away another property.
+      if (!isTaken(object, key)) continue;
+      const inner = settled(object[key], made);
+      defineProperty(copy, key, { value: inner, writable: true, enumerable: true, configurable: true });
+    }
+    return copy;
+  },
+});
+
 /**
  * A value with the engine's own arrays.
- * @param {unknown} value
+ * @param {unknown} given
  * @param {(buffer: SharedArrayBuffer) => void} met gets each shared buffer in it
  * @returns {unknown}
  */
-function bare(value, met) {
+function bare(given, met) {
+  if (!reaches(given, WHOLLY, false, (inner) => isMemory(inner) || hasGetter(inner))) return given;
+  const value = settled(given, new EngineMap());
   return mirrored(value, new EngineMap(), {
-    isIt: (inner) => anyWatchedOf(inner) !== undefined || isSharedMemory(inner),
+    isIt: isMemory,
     copyOf: (inner) => {
       const real = anyWatchedOf(inner)?.real ?? inner;
       met(isView(real) ? bufferBehind(real) : real);

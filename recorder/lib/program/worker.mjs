@@ -23,11 +23,13 @@ import { Memory } from "../memory/memory.mjs";
 import { Records } from "../memory/records.mjs";
 import { Sources } from "../memory/sources.mjs";
 import { Stores } from "../memory/stores.mjs";
+import { TaskNotes } from "../memory/task-notes.mjs";
 import { onceMore } from "../processes/garbage.mjs";
 import { SourceNames } from "../run/source-names.mjs";
 import { broadcastClass } from "./broadcast.mjs";
 import { Buffers } from "./buffers.mjs";
 import { Ends } from "./ends.mjs";
+import { furnishGrowing } from "./growing.mjs";
 import {
   furnishCloning, furnishMemory, furnishProcess, furnishThreads, furnishTimers, keepProcess, restoreProcess,
 } from "./furnish.mjs";
@@ -74,9 +76,9 @@ const placeNames = new SourceNames(origin);
 
 /**
  * What the thread is; nothing before it knows which one.
- * @type {{ player: Player | undefined, buffers: Buffers | undefined, start: Start | undefined }}
+ * @type {{ player: Player | undefined, buffers: Buffers | undefined, moves: Moves | undefined, start: Start | undefined }}
  */
-const self = { player: undefined, buffers: undefined, start: undefined };
+const self = { player: undefined, buffers: undefined, moves: undefined, start: undefined };
 
 const isPlaying = () => self.player !== undefined && self.player.isPlaying;
 
@@ -114,6 +116,10 @@ const watching = {
     if (block < 0) return;
     place.block = block;
     player.seen(place, from, to, writes);
+  },
+  lengthAsked: ({ block }) => {
+    const number = self.buffers?.blockOf(block) ?? -1;
+    if (number >= 0 && isPlaying()) self.moves?.touchLength(number, false, isPlaying);
   },
   isCalledByAgents,
   // There is no other way to watch a program.
@@ -202,6 +208,7 @@ function partsOf(player, blocks, mesh) {
   const waits = new WaitAsync({ moves, buffers, isPlaying, refuse });
   const loop = new Loop({
     moves, ports, events, timers, waits, ends, keepers, children, refuse, goHome: () => after.goHome(),
+    notes: new TaskNotes(shared.tasks), here: sourceHere,
   });
   late.loop = loop;
   return { moves, waits, buffers, ports, ends, events, timers, loop, children, threads: all, mesh, later, after, keepers };
@@ -225,6 +232,7 @@ function furnish({ moves, buffers, waits, ends, events, timers, later }, putTwin
   putTwins({ later, isPlaying });
   furnishMemory((buffer) => buffers.made(buffer, sourceHere()), refuse);
   furnishCloning(buffers);
+  furnishGrowing(buffers, moves, isPlaying);
   globalThis.Atomics = atomicsOf(moves, waits);
   waits.furnish(Atomics);
   furnishTimers(timers);
@@ -379,6 +387,7 @@ export async function main(load) {
   const parts = partsOf(player, blocks, new Mesh(agent, given, port, board.words));
   self.player = player;
   self.buffers = parts.buffers;
+  self.moves = parts.moves;
   furnish(parts, putTwins);
   refuseRest({ refuse: (/** @type {string} */ name) => refuse(`called ${name}, which isn't simulated`), isPlaying });
   parts.after.goHome = () => {

@@ -166,7 +166,7 @@ class Worker extends EventEmitter {
     const ended = new Promise((done) => this.#awaiting.push(done));
     // If it has ended by itself, that comes by its port.
     const code = all.hasBegun(this.#agent) ? 1 : 0;
-    if (all.end(this.#agent)) later("exit", () => this.#leave(code));
+    if (all.end(this.#agent)) later("has terminated a worker", () => this.#leave(code));
     return ended;
   }
 

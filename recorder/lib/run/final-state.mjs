@@ -6,6 +6,8 @@ import { elementText } from "../../script/values.mjs";
 
 /** @typedef {import("../options/names.mjs").Name} Name */
 
+/** @typedef {{ digest: string, shown: string[] }} MoreBytes those of blocks that no script can have */
+
 /**
  * @typedef {object} FinalState
  * @property {string} hash of how the run ended and of all bytes
@@ -15,6 +17,9 @@ import { elementText } from "../../script/values.mjs";
  */
 
 const SHOWN_DIGITS = 48;
+
+// So many blocks are shown beside those that a script can have.
+const MOST_MORE = 5;
 
 // So many elements of an array are named, and so many characters of all.
 const MOST_ELEMENTS = 8;
@@ -62,6 +67,21 @@ function hasMore(bytes, names) {
   });
 }
 
+/**
+ * The bytes of blocks that no script can have.
+ * @param {Uint8Array[]} blocks
+ * @returns {MoreBytes}
+ */
+export function moreBytesOf(blocks) {
+  const hash = createHash("sha256");
+  for (const bytes of blocks) hash.update(`${bytes.length} `).update(bytes);
+  const shown = blocks.slice(0, MOST_MORE).map((bytes) => {
+    const hex = Buffer.from(bytes.subarray(0, SHOWN_DIGITS)).toString("hex");
+    return cut(hex, SHOWN_DIGITS);
+  });
+  return { digest: hash.digest("base64"), shown: blocks.length > MOST_MORE ? [...shown, "…"] : shown };
+}
+
 export class FinalStates {
   /** @param {Name[]} names of words and arrays */
   constructor(names) {
@@ -73,13 +93,15 @@ export class FinalStates {
   /**
    * @param {string} ending
    * @param {string[]} bytes of each buffer, in hexadecimal digits
+   * @param {MoreBytes} [more]
    * @returns {FinalState}
    */
-  of(ending, bytes) {
-    const hash = createHash("sha256").update(`${ending} ${bytes.join(" ")}`).digest("base64");
+  of(ending, bytes, more) {
+    const all = more === undefined ? bytes : [...bytes, more.digest];
+    const hash = createHash("sha256").update(`${ending} ${all.join(" ")}`).digest("base64");
     const known = this.known.get(hash);
     if (known !== undefined) return known;
-    const shown = bytes.map((hex) => cut(hex, SHOWN_DIGITS));
+    const shown = [...bytes.map((hex) => cut(hex, SHOWN_DIGITS)), ...(more?.shown ?? [])];
     const state = { hash, shown, named: this.#named(bytes, shown) };
     if (this.known.size === MOST_REMEMBERED) this.known.clear();
     this.known.set(hash, state);

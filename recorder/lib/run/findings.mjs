@@ -127,11 +127,11 @@ class RaceTexts {
  */
 export function raceReports(context) {
   const texts = new RaceTexts(context);
-  const { log, records } = context.run;
+  const { log, records, lengths } = context.run;
   /** @type {RaceReport[]} */
   const listed = [];
   const pairs = new Set();
-  for (const { one, other, byte } of racesOf(log, records.length)) {
+  for (const { one, other, byte } of racesOf(log, records.length, lengths.length)) {
     const [first, second] = [texts.line(one, byte), texts.line(other, byte)].sort();
     const key = `${first} ${second}`;
     if (pairs.has(key)) continue;

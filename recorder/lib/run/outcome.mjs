@@ -29,6 +29,7 @@
  * what they read
  * @property {string} [noTrace] why there is no trace, though it was wanted
  * @property {import("./source-names.mjs").SourceText[]} [sources] the code of each file that the trace names
+ * @property {Task[]} [tasks] of a program that has its trace: what its event loops have taken up besides messages
  * @property {string[]} [threads] of a program: what each thread is, its file and where it was started; empty: the first
  * @property {number[]} [row] which agent moved with each draw, in order, where that is asked for
  * @property {string} [onlyIf] of a failing run in which a timed wait has ended early: what time must pass for that
@@ -36,6 +37,14 @@
  * @property {import("./timed-ends.mjs").Place[]} [served] places at which agents of the run wait, and which other
  * agents have notified or written; only runs with timed waits have it
  * @property {string[]} [unrecorded] which shared memory and which threads agents used that aren't recorded, if any
+ */
+
+/**
+ * @typedef {object} Task a timer, an immediate, or what comes of a function that node does later
+ * @property {number} event how many events of the trace come before it
+ * @property {number} agent
+ * @property {string} text what its event loop takes up, in words
+ * @property {string | null} source where that was made: file, line and column
  */
 
 /**

@@ -14,15 +14,18 @@
  */
 export function blockNames(places) {
   const lines = places.map((place) => place.replace(/:\d+$/, ""));
-  return lines.map((line, block) => {
-    const all = lines.filter((each) => each === line).length;
-    const number = lines.slice(0, block + 1).filter((each) => each === line).length;
-    return line === "" || all === 1 ? line : `${line}, number ${number}`;
+  /** @type {Map<string, number>} */
+  const counts = new Map();
+  const numbers = lines.map((line) => {
+    const number = (counts.get(line) ?? 0) + 1;
+    counts.set(line, number);
+    return number;
   });
+  return lines.map((line, block) => (line === "" || counts.get(line) === 1 ? line : `${line}, number ${numbers[block]}`));
 }
 
 /** A mention of a thread; of a block; and of an element by its view's name, which has the block's number. */
-const MENTION = /\bagent (\d+)(?= )|\bblock (\d+)\b|\b[A-Z]\w*_b(\d)(?:_\w+)?\[\d+\]/g;
+const MENTION = /\bagent (\d+)(?= )|\bblock (\d+)\b|\b[A-Z]\w*_b(\d+)(?:_\w+)?\[\d+\]/g;
 
 /**
  * A text in which the first mention of each thread and block has its name.

@@ -2,9 +2,11 @@
 // what keeps those alive that have nothing to do.
 
 import { PortTable } from "../board/port-table.mjs";
-import { Blocks } from "../memory/blocks.mjs";
+import { Blocks, MESSAGES, MOST_BLOCKS, MOST_BYTES } from "../memory/blocks.mjs";
 import { Keepers } from "../memory/keepers.mjs";
 import { WORD } from "../memory/layout.mjs";
+import { TaskNotes } from "../memory/task-notes.mjs";
+import { moreBytesOf } from "./final-state.mjs";
 import { blockNames } from "./program-names.mjs";
 
 const CUT = "a thread was terminated while it waited, which no script can have; of such a run sabsim judges the trace "
@@ -13,11 +15,15 @@ const CUT = "a thread was terminated while it waited, which no script can have; 
 const WAITS_ASYNC = "it has waited by Atomics.waitAsync, which no script can have yet; of such a run sabsim judges the "
   + "trace alone";
 
+const MORE_MEMORY = `its threads share more than ${MOST_BLOCKS} buffers, one of more than ${MOST_BYTES} bytes, or one that `
+  + "grows, which neither a script nor a trace can have; such a run the recorder alone judges";
+
 /**
  * @typedef {object} ProgramMemory
- * @property {SharedArrayBuffer} blocks
+ * @property {ReturnType<typeof Blocks.memory>} blocks
  * @property {SharedArrayBuffer[]} copies
  * @property {SharedArrayBuffer} ports
+ * @property {SharedArrayBuffer} tasks
  * @property {SharedArrayBuffer[]} keepers
  * @property {SharedArrayBuffer[]} madeAt where the memory of each block was made
  */
@@ -36,6 +42,7 @@ export class ProgramState {
     this.keepers = shared.keepers.map((each) => new Keepers(each));
     this.madeAt = shared.madeAt.map((each) => new Keepers(each));
     this.ports = new PortTable(shared.ports);
+    this.tasks = new TaskNotes(shared.tasks);
   }
 
   /** A run begins. */
@@ -43,6 +50,7 @@ export class ProgramState {
     this.blocks.begin();
     for (const texts of [...this.keepers, ...this.madeAt]) texts.clear();
     this.ports.begin();
+    this.tasks.begin();
   }
 
   /** A run has ended: its plan is known. @returns {number[]} the threads that took part */
@@ -57,8 +65,20 @@ export class ProgramState {
 
   /** @returns {string | undefined} why the run can't have a script, if so */
   whyNoScript() {
+    if (this.goesBeyondTraces) return MORE_MEMORY;
     if (this.ports.isCut()) return CUT;
     return (this.board.waiters?.joined ?? 0) > 0 ? WAITS_ASYNC : undefined;
+  }
+
+  /** @returns {boolean} whether the run has memory that neither a script nor a trace can have */
+  get goesBeyondTraces() {
+    return this.blocks.goBeyond;
+  }
+
+  /** @returns {import("./final-state.mjs").MoreBytes | undefined} of the blocks that no script can have, if there are any */
+  moreBytes() {
+    const { more } = this.blocks;
+    return more.count === 0 ? undefined : moreBytesOf(more.numbers().map((block) => more.known(block)));
   }
 
   /** @returns {number[]} all threads that there are, also those that took no part */
@@ -87,7 +107,10 @@ export class ProgramState {
    * @returns {import("./program-names.mjs").ProgramNames} what the threads and the blocks of the run are called
    */
   names(withNames) {
-    const blocks = this.madeAt.slice(0, this.blocks.count).map((each) => withNames(each.name()));
-    return { threads: this.threads.map((agent) => withNames(this.keepers[agent].name())), blocks: blockNames(blocks) };
+    const { more, count } = this.blocks;
+    const own = this.madeAt.slice(0, count).map((each) => withNames(each.name()));
+    const places = more.count === 0 ? own : [...own, ...Array.from({ length: MESSAGES + 1 - count }, () => "")];
+    const blocks = blockNames([...places, ...more.numbers().map((block) => withNames(more.place(block)))]);
+    return { threads: this.threads.map((agent) => withNames(this.keepers[agent].name())), blocks };
   }
 }

@@ -12,7 +12,9 @@
 
 import { SCRIPT_LIMITS } from "../../script/limits.mjs";
 import { FLAG } from "../memory/log.mjs";
-import { viewKey } from "../memory/spelling.mjs";
+import { FIRST_MORE } from "../memory/more-blocks.mjs";
+import { ByteRanges } from "./byte-ranges.mjs";
+import { Numbers } from "./numbers.mjs";
 
 /** @typedef {import("../memory/log.mjs").Log} Log */
 
@@ -21,7 +23,8 @@ import { viewKey } from "../memory/spelling.mjs";
  * @callback OnRace
  * @param {number} one the position of an event in the log
  * @param {number} other that of a later one
- * @param {number} place the byte: its block times the most bytes of one, and its position there
+ * @param {number} place the byte: its block times the most bytes of one, and its position there; or the number of the
+ * range of bytes, if blocks are judged that no script can have
  * @returns {boolean} whether to go on
  */
 
@@ -61,31 +64,6 @@ const sortOf = (flags, size) => {
   return (flags & FLAG.ATOMIC ? size << 2 : 0) | does;
 };
 
-/** A list of whole numbers that grows. */
-class Numbers {
-  constructor() {
-    this.items = new Int32Array(1_024);
-    this.length = 0;
-  }
-
-  /** @param {number} count for how many more there is to be room */
-  reserve(count) {
-    const needed = this.length + count;
-    if (needed <= this.items.length) return;
-    const more = new Int32Array(needed * 2);
-    more.set(this.items);
-    this.items = more;
-  }
-
-  /** @param {number} count how many more there will be @returns {number} where they begin */
-  take(count) {
-    this.reserve(count);
-    const at = this.length;
-    this.length += count;
-    return at;
-  }
-}
-
 export class Judge {
   constructor() {
     /** For each byte, in which run it was accessed last, and the accesses that are remembered. */
@@ -98,6 +76,8 @@ export class Judge {
     this.left = new Numbers();
     this.run = 0;
     this.agents = 0;
+    /** @type {ByteRanges | undefined} what stands for bytes, if there are blocks that no script can have */
+    this.ranges = undefined;
     this.clocks = new Int32Array(0);
     /** @type {Map<number, number>} for each place of waiters, the clock that the last one left */
     this.lines = new Map();
@@ -108,10 +88,13 @@ export class Judge {
    * @param {Log} log
    * @param {number} agents how many
    * @param {OnRace} onRace
+   * @param {ByteRanges} [ranges] those of the log, if there are blocks that no script can have
    */
-  judge(log, agents, onRace) {
+  judge(log, agents, onRace, ranges) {
     this.run += 1;
     this.agents = agents;
+    this.ranges = ranges;
+    this.#reserve(ranges?.count ?? PLACES);
     this.accesses.length = 0;
     this.left.length = 0;
     this.clocks = new Int32Array(agents * agents);
@@ -122,20 +105,35 @@ export class Judge {
     }
   }
 
+  /** @param {number} places for how many there is to be room */
+  #reserve(places) {
+    if (places <= this.runs.length) return;
+    this.runs = new Int32Array(places);
+    this.heads = new Int32Array(places);
+    this.written = new Int32Array(places);
+    this.sizes = new Uint8Array(places);
+  }
+
   /** @param {Log} log @param {number} event @param {OnRace} onRace @returns {boolean} whether to go on */
   #step(log, event, onRace) {
     const flags = log.flagsAt(event);
     const agent = log.agentAt(event);
-    const first = log.blockAt(event) * SCRIPT_LIMITS.bytes + log.fromAt(event);
-    const last = first + log.toAt(event) - log.fromAt(event);
+    const size = log.toAt(event) - log.fromAt(event);
+    const first = this.#placeOf(log.blockAt(event), log.fromAt(event));
+    const last = this.ranges === undefined ? first + size : this.#placeOf(log.blockAt(event), log.toAt(event));
     if (flags & FLAG.WAITERS) this.#merge(agent, this.lines.get(first));
-    if ((flags & FLAG.READS) && (flags & FLAG.ATOMIC)) this.#learn(agent, first, last);
+    if ((flags & FLAG.READS) && (flags & FLAG.ATOMIC)) this.#learn(agent, first, last, size);
     if ((flags & (FLAG.READS | FLAG.WRITES)) && !this.#access(log, event, agent, flags, first, last, onRace)) {
       return false;
     }
-    if (flags & FLAG.WRITES) this.#write(agent, flags, first, last);
+    if (flags & FLAG.WRITES) this.#write(agent, flags, first, last, size);
     if (flags & FLAG.WAITERS) this.lines.set(first, this.#leave(agent));
     return true;
+  }
+
+  /** @param {number} block @param {number} byte @returns {number} */
+  #placeOf(block, byte) {
+    return this.ranges === undefined ? block * SCRIPT_LIMITS.bytes + byte : this.ranges.at(block, byte);
   }
 
   /**
@@ -167,24 +165,25 @@ export class Judge {
    * @param {number} agent
    * @param {number} first
    * @param {number} last
+   * @param {number} size in bytes
    */
-  #learn(agent, first, last) {
+  #learn(agent, first, last, size) {
     let before = -1;
     for (let byte = first; byte < last; byte += 1) {
       if (this.runs[byte] !== this.run) continue;
       const clock = this.written[byte];
-      if (clock >= 0 && clock !== before && this.sizes[byte] === last - first) this.#merge(agent, clock);
+      if (clock >= 0 && clock !== before && this.sizes[byte] === size) this.#merge(agent, clock);
       before = clock;
     }
   }
 
-  /** @param {number} agent @param {number} flags @param {number} first @param {number} last */
-  #write(agent, flags, first, last) {
+  /** @param {number} agent @param {number} flags @param {number} first @param {number} last @param {number} size */
+  #write(agent, flags, first, last, size) {
     const { written, sizes } = this;
     const clock = flags & FLAG.ATOMIC ? this.#leave(agent) : NONE;
     for (let byte = first; byte < last; byte += 1) {
       written[byte] = clock;
-      sizes[byte] = last - first;
+      sizes[byte] = size;
     }
   }
 
@@ -200,7 +199,7 @@ export class Judge {
    */
   #access(log, event, agent, flags, first, last, onRace) {
     const { runs, heads, written, run, accesses } = this;
-    const sort = sortOf(flags, last - first);
+    const sort = sortOf(flags, log.toAt(event) - log.fromAt(event));
     const source = log.sourceAt(event);
     const time = this.clocks[agent * this.agents + agent];
     accesses.reserve((last - first) * EACH);
@@ -285,14 +284,27 @@ function areAlike(log) {
   return true;
 }
 
-/** @param {Log} log @param {number} agents how many @returns {boolean} whether any two accesses of a run race */
-export function isRacy(log, agents) {
+/**
+ * @param {Log} log
+ * @param {number} blocks how many numbers of blocks there are
+ * @returns {ByteRanges | undefined} what stands for bytes, if there are blocks that no script can have
+ */
+const rangesOf = (log, blocks) => (blocks > FIRST_MORE ? new ByteRanges(log) : undefined);
+
+/**
+ * Whether any two accesses of a run race.
+ * @param {Log} log
+ * @param {number} agents how many
+ * @param {number} [blocks] how many numbers of blocks there are
+ * @returns {boolean}
+ */
+export function isRacy(log, agents, blocks = FIRST_MORE) {
   if (areAlike(log)) return false;
   let found = false;
   judge.judge(log, agents, () => {
     found = true;
     return false;
-  });
+  }, rangesOf(log, blocks));
   return found;
 }
 
@@ -306,7 +318,7 @@ class Lines {
   /** @param {Log} log */
   constructor(log) {
     this.log = log;
-    /** @type {Map<number, number>} */
+    /** @type {Map<string, number>} */
     this.views = new Map();
   }
 
@@ -320,7 +332,8 @@ class Lines {
 
   /** @param {number} event */
   #viewOf(event) {
-    const key = viewKey(this.log.at(event));
+    const { kind, block, offset, length } = this.log.at(event);
+    const key = [kind, block, offset, length].join(" ");
     const known = this.views.get(key);
     if (known !== undefined) return known;
     this.views.set(key, this.views.size);
@@ -345,18 +358,23 @@ class Pairs {
   }
 }
 
+/** @param {number} place the number of a byte @returns {{ block: number, byte: number }} */
+const placeAt = (place) => ({ block: Math.floor(place / SCRIPT_LIMITS.bytes), byte: place % SCRIPT_LIMITS.bytes });
+
 /**
  * The races of a run: of each two accesses that are alike in agent, line of code and what they do, one. Of an access
  * whose line isn't known those of the same view are alike.
  * @param {Log} log
  * @param {number} agents how many
+ * @param {number} [blocks] how many numbers of blocks there are
  * @returns {Race[]} in the order of their later accesses
  */
-export function racesOf(log, agents) {
+export function racesOf(log, agents, blocks = FIRST_MORE) {
   /** @type {Race[]} */
   const races = [];
   const lines = new Lines(log);
   const pairs = new Pairs();
+  const ranges = rangesOf(log, blocks);
   let lastOne = NONE;
   let lastOther = NONE;
   judge.judge(log, agents, (one, other, place) => {
@@ -365,9 +383,9 @@ export function racesOf(log, agents) {
     lastOne = one;
     lastOther = other;
     if (pairs.add(lines.of(one), lines.of(other))) {
-      races.push({ one, other, block: Math.floor(place / SCRIPT_LIMITS.bytes), byte: place % SCRIPT_LIMITS.bytes });
+      races.push({ one, other, ...(ranges?.placeOf(place) ?? placeAt(place)) });
     }
     return true;
-  });
+  }, ranges);
   return races;
 }

@@ -31,6 +31,7 @@ import { unseenText } from "./unseen.mjs";
  * @property {boolean} [isUnseen] whether it fails for that
  * @property {import("../board/row.mjs").Stray} [stray] how it has strayed from the row that it was to go by
  * @property {import("./program-names.mjs").ProgramNames} [names] of a program's threads and blocks
+ * @property {import("./final-state.mjs").MoreBytes} [more] of a program, in blocks that no script can have
  */
 
 /**
@@ -117,7 +118,7 @@ export class RunMaker {
     const asking = isBound ? this.agents.filter((agent) => board.line.asks(agent)) : [];
     const gone = this.#sentHome();
     const endless = gone.filter((agent) => !board.turn.isParked(agent));
-    const racy = options.ordinary === "watch" && isRacy(this.log, plan.agents);
+    const racy = options.ordinary === "watch" && isRacy(this.log, plan.agents, plan.buffers.length);
     const isWhole = this.program !== undefined;
     const named = isBound || isWhole ? sourceNames.withNames(result.detail) : this.#named(result.detail);
     const idle = (this.program?.idle(result.ending) ?? []).map((line) => sourceNames.withNames(line));
@@ -125,8 +126,9 @@ export class RunMaker {
     const detail = stray === undefined ? lines.join("\n") : strayText(stray, named);
     const unseen = this.agents.flatMap((agent) => this.notes[agent].read().map((note) => ({ ...note, agent })));
     const names = this.program?.names((text) => sourceNames.withNames(text));
+    const more = this.program?.moreBytes();
     const { ending } = result;
-    return { ending, detail, bytes, gone, endless, racy, initial, waiting, asking, unseen, stray, names };
+    return { ending, detail, bytes, gone, endless, racy, initial, waiting, asking, unseen, stray, names, more };
   }
 
   /** @param {Made} found @returns {Promise<Made>} how a run ends, with what is known when its agents are home */

@@ -56,7 +56,7 @@ export class RunReporter {
       calls: maker.callCount(),
       ordinary: maker.accessCount(),
       progress: maker.agents.map((agent) => journal.progress(agent)),
-      state: this.states.of(ending, maker.ownBytes(found.bytes)),
+      state: this.states.of(ending, maker.ownBytes(found.bytes), found.more),
       races: [],
       ...(draws === undefined || (options.isBrief && !fails) ? {} : { row: draws }),
       ...(unrecorded.length === 0 ? {} : { unrecorded }),
@@ -162,6 +162,10 @@ export class RunReporter {
     const { run: { log, lengths }, sourceNames } = this;
     outcome.races = this.options.ordinary === "watch" ? this.races(true) : [];
     if (!wantsTrace) return;
+    if (this.maker.program?.goesBeyondTraces) {
+      outcome.noTrace = outcome.noScript;
+      return;
+    }
     const names = this.sources.map((each) => each.list().map((/** @type {string} */ place) => {
       return place === "" ? "" : sourceNames.nameOf(place);
     }));
@@ -169,7 +173,15 @@ export class RunReporter {
     const mayLookClean = !(this.seesAll && log.hasRoom()) && outcome.races.length === 0;
     outcome.trace = (mayLookClean ? UNSEEN_LINE : "") + traceText(log, names);
     outcome.accesses = accessesIn(log, lengths);
-    outcome.sources = sourceNames.textsOf(placesIn(log, names));
+    const tasks = this.#tasks();
+    outcome.sources = sourceNames.textsOf([...placesIn(log, names), ...tasks.flatMap(({ source }) => source ?? [])]);
+    if (this.maker.program !== undefined) outcome.tasks = tasks;
+  }
+
+  /** @returns {import("./outcome.mjs").Task[]} those that a program's event loops have taken up */
+  #tasks() {
+    const tasks = this.maker.program?.tasks.list() ?? [];
+    return tasks.map(({ place, ...task }) => ({ ...task, source: place === "" ? null : this.sourceNames.nameOf(place) }));
   }
 
   /**
@@ -180,7 +192,8 @@ export class RunReporter {
    * @returns {import("./outcome.mjs").Judgement | undefined}
    */
   judgement({ script }, found, taken) {
-    const hasEvents = script !== undefined || taken !== undefined || this.maker.program !== undefined;
+    const { program } = this.maker;
+    const hasEvents = script !== undefined || taken !== undefined || (program !== undefined && !program.goesBeyondTraces);
     if (!hasEvents || found.isUnseen || this.options.ordinary !== "watch") return undefined;
     const { racy, initial } = found;
     // The stores of `init` are none of the run's accesses, and ordinary reads are in no script.

@@ -35,7 +35,7 @@ import { KeepsGlobals, keepsGlobals } from "./first-again.mjs";
  * @param {Checked} outcome
  * @returns {Checked}
  */
-function lightened({ script, report, trace, accesses, sources, bytes, answers, row, ...rest }) {
+function lightened({ script, report, trace, accesses, sources, tasks, bytes, answers, row, ...rest }) {
   return rest;
 }
 

@@ -121,6 +121,16 @@ const ALL = [
   right("buffers/right.mjs"),
   rare("buffers/laps-reader.mjs", failed(/a torn pair/, ["threads.mjs", THROWS])),
 
+  // More memory than a script can have: many blocks, and a large one.
+  right("shards/right.mjs"),
+  wrong("shards/wrong-lock.mjs",
+    race(["threads.mjs", "shards[at][COUNT] += 1"], ["threads.mjs", "shards[at][COUNT] += 1"]),
+    failed(/counted (?:[12]\d|3[01])$/m, ["threads.mjs", THROWS])),
+  right("image/right.mjs"),
+  wrong("image/overlaps.mjs",
+    race(["threads.mjs", "pixels.fill("], ["threads.mjs", "pixels.fill("]),
+    failed(/the colours are 1 and 1/, ["threads.mjs", THROWS])),
+
   // Timers and deadlines.
   right("deadline/right.mjs"),
   right("deadline/interval.mjs"),
@@ -172,10 +182,8 @@ const ALL = [
   right("iterator/right.mjs"),
 
   // Memory that grows, and WebAssembly's.
-  ...notYet("a SharedArrayBuffer that grows", [
-    right("growable/right.mjs"),
-    wrong("growable/published-first.mjs", failed(/RangeError/, ["published-first.mjs", "const last"])),
-  ]),
+  right("growable/right.mjs"),
+  wrong("growable/published-first.mjs", failed(/RangeError/, ["published-first.mjs", "const last"])),
   ...notYet("a shared WebAssembly.Memory", [
     right("wasm-memory/right.mjs"),
     wrong("wasm-memory/lost-update.mjs", failed(/counted [1-5]/, ["lost-update.mjs", THROWS])),

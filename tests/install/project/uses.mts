@@ -1,6 +1,6 @@
 // Uses every name that the package exports, as TypeScript of a project of one's own.
 
-import { explore, record, Difference, LostJob, NoSabsim, Refused } from "sabsim";
+import { explore, record, Difference, KeepsGlobals, LostJob, NoSabsim, Refused } from "sabsim";
 import type { Accesses, Agent, AgentRun, Ending, ExploreOptions, Outcome, Race, RaceSide } from "sabsim";
 import type { Kind, NamedPart, NamedPlace, OnlyByTime, RecordOptions, Setup, Shortened, Standing } from "sabsim";
 import type { ManyRuns, OfModule, OfProgram, OneRun, RunOptions, Summary, WithBuffers } from "sabsim";
@@ -82,8 +82,9 @@ function summary(outcome: Outcome): string {
   const timed = [accesses, onlyIf, ...onlyByTime.map(waitText), ...served.map(({ block, byte }) => `${block} ${byte}`)];
   const answered = [...timed, ...answers.flat().map((answer) => answer ?? "waits")];
   const stands = standing.map(standingText);
+  const tasks = (outcome.tasks ?? []).map(({ event, agent, text, source }) => `${event} ${agent} ${text} ${source ?? "unknown"}`);
   return [...numbers, ...texts, ...bytes, ...answered, ...stands, script?.length, scriptHolds, noScript, report, trace,
-    ...unrecorded, ...(outcome.threads ?? []), remembers?.seed, remembers?.differs, remembers?.was, remembers?.is, remembers?.threw].join(" ");
+    ...unrecorded, ...tasks, ...(outcome.threads ?? []), remembers?.seed, remembers?.differs, remembers?.was, remembers?.is, remembers?.threw].join(" ");
 }
 
 export async function told(): Promise<string> {
@@ -102,7 +103,7 @@ export async function lowest(): Promise<number | undefined> {
   try {
     for await (const { seed, fails } of explore(seeds)) if (fails) return seed;
   } catch (problem) {
-    if (!(problem instanceof LostJob)) throw problem;
+    if (!(problem instanceof LostJob || problem instanceof KeepsGlobals)) throw problem;
   }
   return undefined;
 }

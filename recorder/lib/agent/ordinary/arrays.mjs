@@ -14,7 +14,7 @@ import { needsFunction } from "./numbers.mjs";
 import { forWatched, methodOf, replace, replaceGetter } from "./patch.mjs";
 import { READING } from "./reading.mjs";
 import { arrayBy, standIns } from "./species.mjs";
-import { ENGINE, reportAll, watchedOf } from "./watched.mjs";
+import { ENGINE, askedLength, reportAll, watchedOf } from "./watched.mjs";
 import { WRITING, setFrom } from "./writing.mjs";
 
 const { TypeError: EngineTypeError } = globalThis;
@@ -142,13 +142,13 @@ const getterOf = (slot, known) => () => ({
 const lengthGetter = () => ({
   get asked() {
     const last = lastAsked(this);
-    if (last !== undefined) return last.length;
+    if (last !== undefined) return last.follows ? askedLength(last) : last.length;
     try {
       return lengthOf(this);
     } catch (error) {
       const watched = watchedOf(this);
       if (watched === undefined) throw error;
-      return watched.length;
+      return askedLength(watched);
     }
   },
 });
@@ -156,7 +156,7 @@ const lengthGetter = () => ({
 function replaceGetters() {
   replaceGetter(typedArrays, "buffer", getterOf(bufferOf, (watched) => watched.buffer));
   replaceGetter(typedArrays, "byteOffset", getterOf(offsetOf, (watched) => watched.offset));
-  replaceGetter(typedArrays, "byteLength", getterOf(byteLengthOf, (watched) => watched.length * watched.size));
+  replaceGetter(typedArrays, "byteLength", getterOf(byteLengthOf, (watched) => askedLength(watched) * watched.size));
   replaceGetter(typedArrays, "length", lengthGetter);
   replaceGetter(typedArrays, toStringTag, () => ({
     get asked() {

@@ -1,10 +1,9 @@
 // What a watched realm asks and reports to: which buffers are recorded, who hears of accesses, and who ends a run.
 
-import { SCRIPT_LIMITS } from "../../../script/limits.mjs";
 import { weakGet, weakSet } from "../../primordials.mjs";
 
-/** The number that shared memory has as its block where it isn't recorded. */
-export const OTHER = SCRIPT_LIMITS.blocks;
+/** The number that shared memory has as its block where it isn't recorded. No block has it. */
+export const OTHER = 2 ** 30 - 1;
 
 /**
  * @typedef {object} Place what a watched array stands on; one object for each watched array, made once
@@ -20,6 +19,7 @@ export const OTHER = SCRIPT_LIMITS.blocks;
  * @property {(buffer: unknown) => number} blockOf position among the recorded buffers, or -1
  * @property {(place: Place, from: number, to: number, writes: boolean) => void} seen gets bytes of the block before
  *   they are read or written; it may throw, and then nothing was done
+ * @property {(place: Place) => void} [lengthAsked] gets an array on a buffer that grows before its length is asked for
  * @property {(buffer: unknown) => boolean} [isOther] whether a buffer is shared memory that isn't recorded
  * @property {(memory: object) => void} [seenOther] gets such memory before it is read or written
  * @property {(memory: object) => void} [copied] gets new memory with a copy of bytes, which is no memory of the program's
@@ -32,6 +32,7 @@ export const OTHER = SCRIPT_LIMITS.blocks;
 export const watching = {
   blockOf: () => -1,
   seen: () => {},
+  lengthAsked: () => {},
   isOther: () => false,
   seenOther: () => {},
   copied: () => {},

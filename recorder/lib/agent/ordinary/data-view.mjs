@@ -8,7 +8,7 @@ import {
 import { memoryNumber, refused } from "./context.mjs";
 import { byteIndexOf, elementOf } from "./numbers.mjs";
 import { methodOf, replace, replaceGetter } from "./patch.mjs";
-import { registerView, report, viewOn, watchedView } from "./watched.mjs";
+import { askedLength, registerView, report, viewOn, watchedView } from "./watched.mjs";
 
 const { TypeError: EngineTypeError, RangeError: EngineRangeError } = globalThis;
 const EngineDataView = DataView;
@@ -92,7 +92,8 @@ function replaceAccessors() {
 const slotGetter = (slot, member) => () => ({
   get asked() {
     const watched = watchedView(this);
-    return watched === undefined ? slot(this) : watched[member];
+    if (watched === undefined) return slot(this);
+    return member === "length" ? askedLength(watched) : watched[member];
   },
 });
 

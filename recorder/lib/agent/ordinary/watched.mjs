@@ -2,8 +2,8 @@
 
 import { CONSTRUCTORS, KINDS } from "../../../script/kinds.mjs";
 import {
-  bufferOf, create, getPrototypeOf, lengthOf, offsetOf, setPrototypeOf, tagOf, viewBufferOf, viewLengthOf, viewOffsetOf,
-  weakGet, weakSet,
+  bufferOf, create, defineProperty, getPrototypeOf, isGrowable, lengthOf, offsetOf, setPrototypeOf, tagOf, viewBufferOf,
+  viewLengthOf, viewOffsetOf, weakGet, weakSet,
 } from "../../primordials.mjs";
 import { OTHER, originalOf, refused, reportOthers, watching } from "./context.mjs";
 
@@ -69,6 +69,8 @@ export class Watched {
     this.length = place.length;
     this.kind = place.kind;
     this.big = place.kind === FIRST_BIG || place.kind === FIRST_BIG + 1;
+    /** Whether its length may follow that of its buffer. */
+    this.follows = false;
     /** @type {any} what agents see as its buffer */
     this.buffer = undefined;
     /** @type {any} what agents hold */
@@ -92,10 +94,28 @@ export class Watched {
  */
 function onOriginal(real, buffer, Engine, offset, length) {
   const original = originalOf(buffer);
-  if (original === buffer) return real;
+  // The engine's own array alone knows whether its length follows that of its buffer.
+  if (original === buffer || isGrowable(buffer)) return real;
   const view = new Engine(original, offset, length);
   setPrototypeOf(view, getPrototypeOf(real));
   return view;
+}
+
+/**
+ * Has the length of an array on a buffer that grows be what the engine's own array has.
+ * @param {Watched} watched
+ * @param {(real: object) => number} slot its length
+ */
+function follow(watched, slot) {
+  const { real } = watched;
+  watched.follows = true;
+  defineProperty(watched, "length", { get: () => slot(real) });
+}
+
+/** @param {Watched} watched whose length the agents' code asks for @returns {number} */
+export function askedLength(watched) {
+  if (watched.follows) watching.lengthAsked(watched.place);
+  return watched.length;
 }
 
 /**
@@ -122,6 +142,7 @@ export function arrayOn(real, block, Kind) {
   const place = placed({ block, kind, offset: offsetOf(real), length: lengthOf(real) }, buffer);
   const watched = new Kind(onOriginal(real, buffer, ENGINE[kind], place.offset, place.length), place, sizes[kind]);
   watched.buffer = buffer;
+  if (isGrowable(buffer)) follow(watched, lengthOf);
   return watched;
 }
 
@@ -131,6 +152,7 @@ export function viewOn(real, block) {
   const place = placed({ block, kind: DATA_VIEW, offset: viewOffsetOf(real), length: viewLengthOf(real) }, buffer);
   const watched = new Watched(onOriginal(real, buffer, EngineView, place.offset, place.length), place, 1);
   watched.buffer = buffer;
+  if (isGrowable(buffer)) follow(watched, viewLengthOf);
   return watched;
 }
 

@@ -1,0 +1,149 @@
+// The blocks of a program that no script can have: those behind the third one, those of more bytes than a block of a
+// script, and those that grow. Their number has no small limit. What is known of their bytes, and where their memory was
+// made, stands in memory that grows as they come.
+
+import { SCRIPT_LIMITS } from "../../script/limits.mjs";
+import { uncurried } from "../primordials.mjs";
+
+const { Int32Array, SharedArrayBuffer, Uint8Array } = globalThis;
+/** @type {{ new (bytes: number, options: { maxByteLength: number }): Growing }} */
+const EngineShared = /** @type {any} */ (SharedArrayBuffer);
+const encode = uncurried(TextEncoder.prototype.encodeInto);
+const encoder = new TextEncoder();
+const bufferFrom = Buffer.from;
+const { ceil, max, min } = Math;
+
+/** @typedef {SharedArrayBuffer & { grow(bytes: number): void, maxByteLength: number }} Growing */
+
+/** The number of the first one. */
+export const FIRST_MORE = SCRIPT_LIMITS.blocks;
+
+/** How many there can be, and how many bytes all of them can have together. */
+const MOST = 2 ** 20;
+const MOST_BYTES = 2 ** 31 - 2 ** 16;
+
+const NAME_BYTES = 1_024;
+const PAGE = 2 ** 16;
+
+// The words of all, and those of each block behind them.
+const COUNT = 0;
+const USED = 1;
+const HEAD = 2;
+const EACH = 5;
+const FIRST = 0;
+const LENGTH = 1;
+const MOST_LENGTH = 2;
+const NAME = 3;
+const NAME_LENGTH = 4;
+
+/** @param {number} bytes @param {number} to a power of two @returns {number} */
+const rounded = (bytes, to) => ceil(bytes / to) * to;
+
+/** @param {Growing} memory @param {number} bytes that it is to have at least */
+function reserve(memory, bytes) {
+  if (memory.byteLength >= bytes) return;
+  memory.grow(min(max(rounded(bytes, PAGE), 2 * memory.byteLength), memory.maxByteLength));
+}
+
+export class MoreBlocks {
+  /** @returns {{ words: Growing, bytes: Growing }} */
+  static memory() {
+    return {
+      words: new EngineShared(PAGE, { maxByteLength: (HEAD + MOST * EACH) * 4 }),
+      bytes: new EngineShared(0, { maxByteLength: MOST_BYTES }),
+    };
+  }
+
+  /** @param {ReturnType<typeof MoreBlocks.memory>} memory */
+  constructor(memory) {
+    this.memory = memory;
+    // It grows with its memory.
+    this.words = new Int32Array(memory.words);
+  }
+
+  /** @returns {number} how many there are */
+  get count() {
+    return this.words[COUNT];
+  }
+
+  /** A run begins, in which there are none. */
+  begin() {
+    const { words } = this;
+    for (const block of this.numbers()) this.known(block).fill(0);
+    words[COUNT] = 0;
+    words[USED] = 0;
+  }
+
+  /**
+   * Adds a block, of which nothing is known to be written.
+   * @param {number} length in bytes
+   * @param {number} mostLength how long it can get
+   * @param {string} place where its memory was made; empty: it isn't known
+   * @returns {number} its number; -1: there is no room for it
+   */
+  add(length, mostLength, place) {
+    const { words, memory } = this;
+    const at = HEAD + words[COUNT] * EACH;
+    const first = words[USED];
+    const name = first + rounded(mostLength, 8);
+    const end = name + rounded(min(place.length * 3, NAME_BYTES), 8);
+    if (words[COUNT] === MOST || end > MOST_BYTES || !isReserved(memory, (at + EACH) * 4, end)) return -1;
+    words[at + FIRST] = first;
+    words[at + LENGTH] = length;
+    words[at + MOST_LENGTH] = mostLength;
+    words[at + NAME] = name;
+    words[at + NAME_LENGTH] = encode(encoder, place, new Uint8Array(memory.bytes, name, end - name)).written;
+    words[USED] = end;
+    words[COUNT] += 1;
+    return FIRST_MORE + words[COUNT] - 1;
+  }
+
+  /** @param {number} block its number @returns {Uint8Array} what is known of its bytes */
+  known(block) {
+    const at = this.#at(block);
+    return new Uint8Array(this.memory.bytes, this.words[at + FIRST], this.words[at + LENGTH]);
+  }
+
+  /** @param {number} block its number @returns {Uint8Array} the same, with all bytes that it can get */
+  whole(block) {
+    const at = this.#at(block);
+    return new Uint8Array(this.memory.bytes, this.words[at + FIRST], this.words[at + MOST_LENGTH]);
+  }
+
+  /** @param {number} block that has grown @param {number} length */
+  grew(block, length) {
+    this.words[this.#at(block) + LENGTH] = length;
+  }
+
+  /** @param {number} block its number @returns {string} where its memory was made; empty: it isn't known */
+  place(block) {
+    const at = this.#at(block);
+    return bufferFrom(this.memory.bytes, this.words[at + NAME], this.words[at + NAME_LENGTH]).toString("utf8");
+  }
+
+  /** @returns {number[]} the numbers of all */
+  numbers() {
+    return Array.from({ length: this.count }, (_, at) => FIRST_MORE + at);
+  }
+
+  /** @param {number} block */
+  #at(block) {
+    return HEAD + (block - FIRST_MORE) * EACH;
+  }
+}
+
+/**
+ * @param {ReturnType<typeof MoreBlocks.memory>} memory
+ * @param {number} words how many bytes these are to have
+ * @param {number} bytes how many the rest
+ * @returns {boolean} false if the machine hasn't got so much
+ */
+function isReserved(memory, words, bytes) {
+  try {
+    reserve(memory.words, words);
+    reserve(memory.bytes, bytes);
+    return true;
+  } catch {
+    return false;
+  }
+}

@@ -1,0 +1,4 @@
+// Wrong: the first worker paints one row of the other half, too.
+import { run } from "./threads.mjs";
+
+await run(1);
