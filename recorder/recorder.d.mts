@@ -223,7 +223,7 @@ export interface Outcome {
   /** Of a failing run in which a timed wait has ended early: what time must pass for that, and before what. */
   onlyIf?: string;
   /**
-   * Of a run that finished and has timed waits: those that ended only since their time was up. Nothing else could move,
+   * Of a run that finished and has timed waits: those that ended only because their time was up. Nothing else could move,
    * and their word had changed, or no other agent could ever go on. At a place that no run serves it is a sleep.
    */
   onlyByTime?: OnlyByTime[];
@@ -272,7 +272,7 @@ export interface Accesses {
   made: [event: number, array: number, value: string | null][];
 }
 
-/** A wait that ended only since its time was up. */
+/** A wait that ended only because its time was up. */
 export interface OnlyByTime {
   agent: number;
   /** File, line and column. */

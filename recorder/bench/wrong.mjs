@@ -35,7 +35,7 @@ const NOTES = new Map([[RIGHT, "right"], [HIDDEN, "hidden by a time"], [STARVES,
  * @property {number} failed how many of them failed
  * @property {number | undefined} first the least seed of those that failed
  * @property {Map<string, number>} endings how often each ending failed
- * @property {number} hidden in how many runs that finished one wait ended only since its time was up
+ * @property {number} hidden in how many runs that finished one wait ended only because its time was up
  */
 
 /**

@@ -276,10 +276,10 @@ test("the object of a summary has all that its text has, and what the text leave
   const lines = summaryText(told).split("\n");
   assert.equal(lines[0], "stopped after 4 of 9 runs");
   assert.equal(lines[2], "1 failing run fails only after the early end of a timed wait (--timeouts)");
-  const hidden = "agent 0 went on at ring.mjs:12:7 only since its 500 ms were over, in 1 of 4 runs";
+  const hidden = "agent 0 went on at ring.mjs:12:7 only because its 500 ms were over, in 1 of 4 runs";
   assert.ok(lines.includes(hidden), lines.join("\n"));
   const asleep = { ...told, onlyByTime: { ...told.onlyByTime, served: [{ block: 1, byte: 8 }] } };
-  assert.ok(!summaryText(asleep).includes("only since"));
+  assert.ok(!summaryText(asleep).includes("only because"));
   assert.deepEqual(lines.slice(-3), ["kept in found: seed-4.report", "not kept: this", ""]);
   const options = { ...SEEN, unrecorded: "fail", args: [], preloads: false };
   const asked = { module: "m.mjs", digest: "", seeds: [], shard: null, options };

@@ -32,8 +32,8 @@ function placeOf(text) {
 
 const endingsOf = (outcomes) => [...new Set(outcomes.map(({ ending }) => ending))].sort();
 
-/** What is reported of waits that ended only since their time was up. */
-const hiddenOf = (outcomes) => summaryLines(outcomes).filter((line) => line.includes("only since"));
+/** What is reported of waits that ended only because their time was up. */
+const hiddenOf = (outcomes) => summaryLines(outcomes).filter((line) => line.includes("only because"));
 
 describe("runs with timed waits", { concurrency: 2 }, () => {
   it("the earliest deadline ends first, and of two with as long a time the one that began first", async () => {
@@ -127,7 +127,7 @@ describe("runs with timed waits", { concurrency: 2 }, () => {
       assert.deepEqual(endingsOf(outcomes), ["finished"]);
       const count = outcomes.filter(({ onlyByTime = [] }) => onlyByTime.length > 0).length;
       assert.ok(count > 0 && count < 50, `${count} runs`);
-      const line = `agent ${agent} went on at ${placeOf(text)} only since its 500 ms were over, in ${count} of 50 runs`;
+      const line = `agent ${agent} went on at ${placeOf(text)} only because its 500 ms were over, in ${count} of 50 runs`;
       assert.deepEqual(hiddenOf(outcomes), [line]);
     }
     const asleep = await outcomesOf("sleeps", 10);

@@ -1,4 +1,4 @@
-// Lost wake-ups that a time hides: waits that ended only since their time was up, of all runs that finished. A wait at
+// Lost wake-ups that a time hides: waits that ended only because their time was up, of all runs that finished. A wait at
 // a place that nobody else notifies or writes in any run is a sleep, and isn't reported.
 
 import { durationText, placeKey } from "../run/timed-ends.mjs";
@@ -10,7 +10,7 @@ import { Tally } from "./tally.mjs";
 
 /**
  * @typedef {object} OnlyByTimeData as JSON
- * @property {(Wait & { runs: number, first: number })[]} listed waits that ended only since their time was up, sleeps
+ * @property {(Wait & { runs: number, first: number })[]} listed waits that ended only because their time was up, sleeps
  * among them
  * @property {number} others how many runs are counted under what isn't listed
  * @property {Place[]} served the places at which agents wait, and that others notify or write in some run
@@ -66,7 +66,7 @@ export function onlyByTimeLines(data, runs) {
   return hiddenWaits(data).map((wait) => {
     const { agent, line, milliseconds, block, byte } = wait;
     const where = line ?? `byte ${byte} of block ${block}`;
-    const since = `only since its ${durationText(milliseconds)} ${milliseconds === 1 ? "was" : "were"} over`;
+    const since = `only because its ${durationText(milliseconds)} ${milliseconds === 1 ? "was" : "were"} over`;
     return `agent ${agent} went on at ${where} ${since}, in ${digits(wait.runs)} of ${counted(runs, "run")}`;
   });
 }

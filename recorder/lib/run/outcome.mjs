@@ -33,7 +33,7 @@
  * @property {string[]} [threads] of a program: what each thread is, its file and where it was started; empty: the first
  * @property {number[]} [row] which agent moved with each draw, in order, where that is asked for
  * @property {string} [onlyIf] of a failing run in which a timed wait has ended early: what time must pass for that
- * @property {import("./timed-ends.mjs").OnlyByTime[]} [onlyByTime] waits that have ended only since their time was up
+ * @property {import("./timed-ends.mjs").OnlyByTime[]} [onlyByTime] waits that have ended only because their time was up
  * @property {import("./timed-ends.mjs").Place[]} [served] places at which agents of the run wait, and which other
  * agents have notified or written; only runs with timed waits have it
  * @property {string[]} [unrecorded] which shared memory and which threads agents used that aren't recorded, if any

@@ -1,5 +1,5 @@
 // What is reported of the ends of timed waits: that a run fails only after an early one; and which waits of a run ended
-// only since their time was up, as one does whose wake-up is lost.
+// only because their time was up, as one does whose wake-up is lost.
 
 import { CALL_NUMBERS } from "../../script/kinds.mjs";
 import { FLAG } from "../memory/log.mjs";
@@ -8,7 +8,7 @@ import { FLAG } from "../memory/log.mjs";
 /** @typedef {{ block: number, byte: number }} Place at which agents wait: a byte, at which an element begins */
 
 /**
- * @typedef {object} OnlyByTime a wait that ended only since its time was up: nothing else could move, and its word had
+ * @typedef {object} OnlyByTime a wait that ended only because its time was up: nothing else could move, and its word had
  * changed, or no other agent could ever go on
  * @property {number} agent
  * @property {string | null} line of its code: file, line and column; null: it isn't known
@@ -40,7 +40,7 @@ export function earlyText({ milliseconds, other, isCall, more }) {
 export const placeKey = ({ block, byte }) => `${block} ${byte}`;
 
 /**
- * The waits of a run that ended only since their time was up, those of one line once.
+ * The waits of a run that ended only because their time was up, those of one line once.
  * @param {Log} log
  * @param {import("../memory/records.mjs").Records[]} records of each agent
  * @param {(agent: number, source: number) => string | null} lineOf an agent's line of code, by its number
