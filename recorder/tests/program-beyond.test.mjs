@@ -98,6 +98,26 @@ describe("more buffers than a script can have, and a larger one", { concurrency:
     assert.notEqual(one.state.hash, other.state.hash);
   });
 
+  it("have nothing of an earlier run at the end, also where they have grown", async (context) => {
+    const outcomes = await runsOf(context, {
+      "main.mjs": `import { Worker } from "node:worker_threads";
+const grows = new SharedArrayBuffer(4, { maxByteLength: 16 });
+new Worker(new URL("./worker.mjs", import.meta.url), { workerData: grows });`,
+      "worker.mjs": `import { workerData as grows } from "node:worker_threads";
+const words = new Int32Array(grows);
+grows.grow(16);
+if (Math.random() < 0.5) {
+  words[3] = 5;
+  Atomics.load(words, 0);
+}`,
+    }, { seeds: [1, 2, 3, 4, 5, 6, 7, 8] });
+    assert.deepEqual(outcomes.map(({ detail }) => detail), outcomes.map(() => ""));
+    const hashes = new Map(outcomes.map(({ progress }) => [progress[1].calls, new Set()]));
+    for (const { progress, state } of outcomes) hashes.get(progress[1].calls)?.add(state.hash);
+    assert.deepEqual([...hashes.values()].map(({ size }) => size), [1, 1]);
+    assert.equal(new Set([...hashes.values()].flatMap((each) => [...each])).size, 2);
+  });
+
   it("don't hide unordered accesses, each by its line and by where its memory was made", async (context) => {
     const outcomes = await runsOf(context, sharing(`${WAKES}\n${WRITES}`, FINDS), { seeds: [1, 2, 3, 4, 5, 6, 7, 8] });
     const raced = outcomes.filter(({ ending }) => ending === "race");

@@ -69,13 +69,12 @@ export class MoreBlocks {
   /** A run begins, in which there are none. */
   begin() {
     const { words } = this;
-    for (const block of this.numbers()) this.known(block).fill(0);
     words[COUNT] = 0;
     words[USED] = 0;
   }
 
   /**
-   * Adds a block, of which nothing is known to be written.
+   * Adds a block. Its known bytes may be those of an earlier run: they are to be taken over.
    * @param {number} length in bytes
    * @param {number} mostLength how long it can get
    * @param {string} place where its memory was made; empty: it isn't known
@@ -110,9 +109,11 @@ export class MoreBlocks {
     return new Uint8Array(this.memory.bytes, this.words[at + FIRST], this.words[at + MOST_LENGTH]);
   }
 
-  /** @param {number} block that has grown @param {number} length */
+  /** @param {number} block that has grown, by bytes that are zero @param {number} length */
   grew(block, length) {
-    this.words[this.#at(block) + LENGTH] = length;
+    const at = this.#at(block) + LENGTH;
+    this.whole(block).fill(0, this.words[at], length);
+    this.words[at] = length;
   }
 
   /** @param {number} block its number @returns {string} where its memory was made; empty: it isn't known */
