@@ -1,8 +1,10 @@
-// The benchmark of strategies: it runs, and its programs are wrong.
+// The benchmarks of strategies and of checks: they run, and the programs of the first are wrong.
 
 import assert from "node:assert/strict";
 import { readFileSync } from "node:fs";
 import { test } from "node:test";
+import { fileURLToPath } from "node:url";
+import { printTable } from "../bench/checks.mjs";
 import { COLUMNS, PROGRAMS, measured, tables } from "../bench/strategies.mjs";
 
 const README = readFileSync(new URL("../bench/README.md", import.meta.url), "utf8");
@@ -37,5 +39,17 @@ test("each program says in its first line what is wrong", () => {
   for (const name of PROGRAMS) {
     const [first] = readFileSync(new URL(`../bench/programs/${name}.mjs`, import.meta.url), "utf8").split("\n");
     assert.match(first, /^\/\/ Wrong: .{20,}$/, name);
+  }
+});
+
+test("the cost of the checks has a row for each program and number of jobs", async () => {
+  /** @type {string[]} */
+  const lines = [];
+  const module = fileURLToPath(new URL("known/ring.mjs", import.meta.url));
+  await printTable([module], [1, 2], { turns: 1, each: 8, warm: 8 }, (line) => lines.push(line));
+  assert.equal(lines.length, 4);
+  for (const jobs of [1, 2]) {
+    const row = new RegExp(String.raw`^\| \`tests/known/ring\.mjs\` \| ${jobs} \| [\d,]+ \| [\d,]+ \| \d+\.\d\d \|$`);
+    assert.match(lines[jobs + 1], row);
   }
 });
