@@ -14,10 +14,14 @@ const AGENTS = fileURLToPath(new URL("examples/mutex-naive.agents.mjs", RECORDER
 const BARE = `const { Worker } = require("node:worker_threads");
   for (const _ of "123") new Worker("", { eval: true });`;
 
+// Each node process takes 60 ms or more to read such certificates. That would flatter the command line, which starts two
+// processes beside one.
+const { NODE_EXTRA_CA_CERTS: _, ...env } = process.env;
+
 /** @param {string[]} words @returns {number} how many milliseconds node takes with these words */
 function millisecondsOf(words) {
   const begun = performance.now();
-  const { status, stderr } = spawnSync(process.execPath, words, { stdio: ["ignore", "ignore", "pipe"] });
+  const { status, stderr } = spawnSync(process.execPath, words, { stdio: ["ignore", "ignore", "pipe"], env });
   if (status !== 0) throw new Error(`node ${words[0]} ended with status ${status}: ${stderr}`);
   return performance.now() - begun;
 }
