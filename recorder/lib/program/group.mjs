@@ -30,8 +30,11 @@ const { store, notify } = Atomics;
 /** What a thread needs that makes modules anew, besides the words of this process: see `graph.mjs`. */
 const FLAGS = [...process.execArgv, ...GRAPH_FLAGS];
 
-/** After so many runs threads are started anew: what a run leaves is little, but it grows. */
-const MOST_RUNS = 500;
+/**
+ * After so many runs threads are started anew: what a run leaves is little, but it grows. In a thread that has just begun
+ * a run takes twice as long as in one that has made hundreds.
+ */
+export const MOST_RUNS = 2_000;
 
 /** @type {() => { port1: any, port2: any }} */
 const channel = () => new MessageChannel();
