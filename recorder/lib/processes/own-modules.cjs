@@ -118,7 +118,8 @@ function compiledModules(url) {
   return ownModules(url).map((module) => {
     if (!made.has(module.url)) {
       const options = { filename: module.url, produceCachedData: true };
-      made.set(module.url, compileFunction(module.code, PARAMETERS, options).cachedData);
+      const compiled = /** @type {any} */ (compileFunction(module.code, PARAMETERS, options));
+      made.set(module.url, compiled.cachedData);
     }
     return { ...module, compiled: made.get(module.url) };
   });
