@@ -6,7 +6,8 @@ import { readFileSync, writeFileSync } from "node:fs";
 import { join } from "node:path";
 import { test } from "node:test";
 import { fileURLToPath, pathToFileURL } from "node:url";
-import { evaluated, ownModules } from "../lib/processes/own-modules.cjs";
+import { compileFunction } from "node:vm";
+import { compiledModules, evaluated, ownModules } from "../lib/processes/own-modules.cjs";
 import { RECORD, agentsPath, temporaryFolder } from "./helpers/common.mjs";
 
 const ROOTS = ["agent/worker.mjs", "run/referee.mjs"].map((path) => new URL(`../lib/${path}`, import.meta.url));
@@ -70,6 +71,20 @@ test("a module is evaluated once, behind those that it imports, in strict mode, 
   assert.deepEqual(Object.keys(exported), ["Told", "later", "told", "self", "url"]);
   const { told, self, url: itsUrl } = exported;
   assert.deepEqual([told, self, itsUrl], [["function", "function", 1, 2, 1, "function"], undefined, url.href]);
+});
+
+test("a thread takes what the engine has made of modules in another one", () => {
+  const parameters = ["modules", "require", "loaded"];
+  const { cachedData } = compileFunction("return { a: 2 };", parameters, { filename: "a:", produceCachedData: true });
+  // The engine knows the code of what it has made by its length alone.
+  assert.deepEqual(evaluated([{ url: "a:", code: "return { a: 1 };", compiled: cachedData }]), { a: 2 });
+  const root = new URL("../lib/program/worker.mjs", import.meta.url);
+  const all = compiledModules(root);
+  assert.deepEqual(all.map(({ url, code }) => ({ url, code })), ownModules(root));
+  for (const { url, code, compiled } of all) {
+    const made = compileFunction(code, parameters, { filename: url, cachedData: Buffer.from(compiled) });
+    assert.equal(made.cachedDataRejected, false, url);
+  }
 });
 
 test("a module of CommonJS is required as it is, once", (context) => {

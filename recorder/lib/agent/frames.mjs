@@ -81,21 +81,28 @@ function firstOfAgents(frames) {
 }
 
 /**
- * The innermost frame of the agents' code. `watching.seen` gets an ordinary access, and its own frame is near.
+ * The innermost frame of the agents' code, however far it is.
  * @param {Function} from a function whose frame, with those above it, is left out
  */
-function agentsFrame(from) {
-  const near = firstOfAgents(framesHere(watching.seen, FEW_FRAMES));
-  if (near !== undefined) return near;
+function farFrame(from) {
   const some = framesHere(from, SOME_FRAMES);
   return firstOfAgents(some) ?? (some.length < SOME_FRAMES ? undefined : firstOfAgents(framesHere(from)));
 }
 
+/**
+ * The innermost frame of the agents' code. `watching.seen` gets an ordinary access, and its own frame is near.
+ * @param {Function} from a function whose frame, with those above it, is left out
+ */
+const agentsFrame = (from) => firstOfAgents(framesHere(watching.seen, FEW_FRAMES)) ?? farFrame(from);
+
+/** @param {NodeJS.CallSite} [frame] @returns {string | undefined} its file, line and column */
+const placeOf = (frame) => frame && `${frame.getFileName()}:${frame.getLineNumber()}:${frame.getColumnNumber()}`;
+
 /** @returns {string | undefined} file, line and column of the agent's own code */
-export function sourceHere() {
-  const frame = agentsFrame(sourceHere);
-  return frame && `${frame.getFileName()}:${frame.getLineNumber()}:${frame.getColumnNumber()}`;
-}
+export const sourceHere = () => placeOf(agentsFrame(sourceHere));
+
+/** @returns {string | undefined} the same, of code that makes no ordinary access now: that takes half the time */
+export const sourceOfCall = () => placeOf(farFrame(sourceOfCall));
 
 /**
  * Whether the agents' code has called a function, perhaps by functions of the recorder, and not node.

@@ -30,6 +30,7 @@ const OWN = /^\..*\.mjs$/;
  * @property {string} url
  * @property {string} code the body of a function of PARAMETERS; it has the lines of the file, and returns what the
  * module exports
+ * @property {Uint8Array} [compiled] what the engine has made of it, for another thread
  */
 
 /**
@@ -104,6 +105,26 @@ function ownModules(url) {
   return [...bodies].map(([href, code]) => ({ url: href, code }));
 }
 
+/** @type {Map<string, Uint8Array | undefined>} what the engine has made of modules, by their URLs */
+const made = new Map();
+
+/**
+ * The same as `ownModules`, compiled here: in a thread that gets them the engine needn't do so. It does if a flag of the
+ * engine differs by then.
+ * @param {URL} url
+ * @returns {OwnModule[]}
+ */
+function compiledModules(url) {
+  return ownModules(url).map((module) => {
+    if (!made.has(module.url)) {
+      const options = { filename: module.url, produceCachedData: true };
+      const compiled = /** @type {any} */ (compileFunction(module.code, PARAMETERS, options));
+      made.set(module.url, compiled.cachedData);
+    }
+    return { ...module, compiled: made.get(module.url) };
+  });
+}
+
 /**
  * Evaluates modules in their order. One that is behind an `await import(..)` is read when that is evaluated.
  * @param {OwnModule[]} list
@@ -112,10 +133,11 @@ function ownModules(url) {
  */
 function evaluated(list, modules = {}) {
   const loaded = async (/** @type {string} */ url) => evaluated(ownModules(new URL(url)), modules);
-  for (const { url, code } of list) {
-    modules[url] ??= compileFunction(code, PARAMETERS, { filename: url })(modules, require, loaded);
+  for (const { url, code, compiled } of list) {
+    const options = { filename: url, cachedData: /** @type {Buffer | undefined} */ (compiled) };
+    modules[url] ??= compileFunction(code, PARAMETERS, options)(modules, require, loaded);
   }
   return list.length === 0 ? {} : modules[list[list.length - 1].url];
 }
 
-module.exports = { evaluated, ownModules };
+module.exports = { compiledModules, evaluated, ownModules };

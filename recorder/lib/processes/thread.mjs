@@ -85,9 +85,11 @@ export class Thread {
    * Gives a worker that awaits its data a module of the recorder, and what else this needs. It calls its `main`.
    * @param {URL} root
    * @param {object} [data]
+   * @param {(root: URL) => import("./own-modules.cjs").OwnModule[]} [modulesOf] that are compiled already, if many
+   * workers get them
    */
-  give(root, data) {
-    this.post({ modules: ownModules(root).filter(({ url }) => !this.given.has(url)), ...data });
+  give(root, data, modulesOf = ownModules) {
+    this.post({ modules: modulesOf(root).filter(({ url }) => !this.given.has(url)), ...data });
   }
 
   /**

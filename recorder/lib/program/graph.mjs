@@ -3,13 +3,11 @@
 
 import Module, { createRequire } from "node:module";
 import path from "node:path";
-import v8 from "node:v8";
-import vm from "node:vm";
 import { fileURLToPath } from "node:url";
 import { CommonJS } from "./commonjs.mjs";
+import { SourceTextModule, SyntheticModule, compiledOnce } from "./compiled-once.mjs";
 import { formatOf, nodeError, resolved, textOf, urlOf } from "./module-urls.mjs";
 
-const { SourceTextModule, SyntheticModule } = /** @type {any} */ (vm);
 const Modules = /** @type {any} */ (Module);
 const require = createRequire(import.meta.url);
 // Only node has it, and only with the flag, so its name is no literal for the checker of types.
@@ -69,6 +67,8 @@ export class Graph {
   /** @type {Set<Promise<unknown>>} */
   #evaluating = new Set();
   #commonJS;
+  /** Whether the thread has loaded a builtin by which a program can have node's own loader load modules. */
+  #reachesLoader = false;
 
   /**
    * One for each thread: it replaces how the thread compiles CommonJS, and `syncBuiltinESMExports`.
@@ -76,9 +76,6 @@ export class Graph {
    * @param {(name: string) => void} given.refuse called with what a program does that isn't simulated
    */
   constructor({ refuse }) {
-    // V8 keeps each compiled module for a later one with the same text, and never finds it, since each has callbacks of
-    // its own. Without this, 4,000 runs take 30 times as long for a module as the first, and memory grows.
-    /** @type {any} */ (v8).setFlagsFromString("--no-compilation-cache");
     makeWithoutWarning();
     /** @type {import("./commonjs.mjs").Import} */
     const importModule = (specifier, parent, attributes) => this.#dynamic(specifier, parent, attributes);
@@ -99,7 +96,14 @@ export class Graph {
     this.#linking = Promise.resolve();
     this.#evaluating = new Set();
     this.#commonJS.begin();
-    this.syncBuiltins();
+    if (this.#reachesLoader) engineSync();
+  }
+
+  /** @param {string} id of a builtin that a program loads first in this thread */
+  loads(id) {
+    if (id !== "vm") return;
+    this.#reachesLoader = true;
+    engineSync();
   }
 
   /** Gives ES modules what the builtins' objects have now: node's own and the run's. */
@@ -178,12 +182,14 @@ export class Graph {
 
   /** @param {string} url of an ES module */
   #source(url) {
-    return new SourceTextModule(textOf(url), {
+    const text = textOf(url);
+    const options = {
       identifier: url,
       initializeImportMeta: (/** @type {any} */ meta) => describe(meta, url),
       importModuleDynamically: (/** @type {string} */ specifier, /** @type {any} */ _, /** @type {any} */ attributes) =>
         this.#dynamic(specifier, url, attributes),
-    });
+    };
+    return compiledOnce(text, options) ?? new SourceTextModule(text, options);
   }
 
   /** @param {string} url of a CommonJS module that an ES module imports. It runs when the ES module needs it */

@@ -7,6 +7,7 @@ import { Board } from "../board/board.mjs";
 import { waysOf } from "../board/strategy/ways.mjs";
 import { WORD } from "../memory/layout.mjs";
 import { Refused } from "../options/refused.mjs";
+import { compiledModules } from "../processes/own-modules.cjs";
 import { begunWith } from "../processes/thread.mjs";
 import { Group } from "../run/group.mjs";
 import { GRAPH_FLAGS } from "./graph-flags.mjs";
@@ -30,8 +31,11 @@ const { store, notify } = Atomics;
 /** What a thread needs that makes modules anew, besides the words of this process: see `graph.mjs`. */
 const FLAGS = [...process.execArgv, ...GRAPH_FLAGS];
 
-/** After so many runs threads are started anew: what a run leaves is little, but it grows. */
-const MOST_RUNS = 500;
+/**
+ * After so many runs threads are started anew: what a run leaves is little, but it grows. In a thread that has just begun
+ * a run takes twice as long as in one that has made hundreds.
+ */
+export const MOST_RUNS = 2_000;
 
 /** @type {() => { port1: any, port2: any }} */
 const channel = () => new MessageChannel();
@@ -133,7 +137,7 @@ export class ProgramGroup extends Group {
     const { memory, plan, rules } = this;
     while (this.#spare.length < this.#ahead) {
       const thread = this.begin(begunWith(FLAGS));
-      thread.give(PROGRAM_MODULE, { origin: this.#origin, ordinary, memory, plan, rules });
+      thread.give(PROGRAM_MODULE, { origin: this.#origin, ordinary, memory, plan, rules }, compiledModules);
       this.#spare.push(thread.next().then(() => thread));
     }
   }

@@ -7,7 +7,7 @@ import { apply, construct, defineProperty, getOwnPropertyDescriptor, ownKeys } f
 
 /** @typedef {import("./surface-table.mjs").Kind} Kind */
 /** @typedef {import("./surface-table.mjs").Row} Row */
-/** @typedef {{ refuse: (name: string) => void, isPlaying?: () => boolean }} Given */
+/** @typedef {{ refuse: (name: string) => void, isPlaying?: () => boolean, loads?: (id: string) => void }} Given */
 
 const Modules = /** @type {any} */ (Module);
 const require = createRequire(import.meta.url);
@@ -159,7 +159,8 @@ function refuseOfProcess({ refuse, isPlaying = () => true }) {
  * Replaces what the tables refuse: of globals and `process` now, of each other module as a program loads it, since
  * some do something when they are loaded. Call it once in a thread. Ask for `process.stdout` and so on before, if they
  * aren't replaced: node makes them of sockets in a first thread.
- * @param {Given} given `refuse` gets names as `net.connect` and doesn't return; until `isPlaying`, nothing is refused
+ * @param {Given} given `refuse` gets names as `net.connect` and doesn't return; until `isPlaying`, nothing is refused;
+ * `loads` gets each module that a program loads, the first time
  */
 export function refuseRest(given) {
   for (const name of words(GLOBALS.refused)) replaceGlobal(name, given);
@@ -175,6 +176,7 @@ export function refuseRest(given) {
     if (AS_LOADED.includes(id) && (given.isPlaying?.() ?? true)) given.refuse(id);
     if (done.has(id)) return;
     done.add(id);
+    given.loads?.(id);
     if (MEMBERS[id] !== undefined) refuseOf(MEMBERS[id]);
     const exports = engineLoad(request, undefined, false);
     for (const name of namesIn(exports)) {

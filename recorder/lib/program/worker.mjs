@@ -10,7 +10,7 @@ import util from "node:util";
 import threads from "node:worker_threads";
 import { recordedAtomics } from "../agent/atomics.mjs";
 import { described } from "../agent/described.mjs";
-import { isCalledByAgents, sourceHere } from "../agent/frames.mjs";
+import { isCalledByAgents, sourceHere, sourceOfCall } from "../agent/frames.mjs";
 import { watchRealm } from "../agent/ordinary/watch.mjs";
 import { Player } from "../agent/player.mjs";
 import { Chance, simulateChance, simulateTime } from "../agent/time.mjs";
@@ -88,12 +88,14 @@ function playing() {
   return self.player;
 }
 
-/** @returns {string} where the program's code is */
-const here = () => sourceHere() ?? "a place that isn't known";
+const UNKNOWN_PLACE = "a place that isn't known";
+
+/** @returns {string} where the program's code is that has called one of the functions that stand for node's */
+const here = () => sourceOfCall() ?? UNKNOWN_PLACE;
 
 /** @param {string} why @returns {never} */
 function refuse(why) {
-  return playing().refuse(`${why}, at ${here()}`);
+  return playing().refuse(`${why}, at ${sourceHere() ?? UNKNOWN_PLACE}`);
 }
 
 /** @param {unknown} buffer */
@@ -200,7 +202,7 @@ function partsOf(player, blocks, mesh) {
   const ports = new Ports({ agent, table, moves, buffers, mesh, here, refuse, later });
   const ends = new Ends({ agent, player, ports, threads: all, here });
   const events = new PortEvents({ ports, uncaught: (thrown) => ends.uncaught(thrown) });
-  const timers = new Timers({ now: () => board.clock.now(), changed: () => {}, here: () => sourceHere() });
+  const timers = new Timers({ now: () => board.clock.now(), changed: () => {}, here: sourceOfCall });
   const children = new Set();
   const keepers = new Keepers(shared.keepers[agent]);
   /** @type {{ goHome: () => void }} */
@@ -230,7 +232,7 @@ function furnish({ moves, buffers, waits, ends, events, timers, later }, putTwin
   new (/** @type {any} */ (globalThis).ReadableStream)().getReader().releaseLock();
   watchRealm(watching);
   putTwins({ later, isPlaying });
-  furnishMemory((buffer) => buffers.made(buffer, sourceHere()), refuse);
+  furnishMemory((buffer) => buffers.made(buffer, sourceOfCall()), refuse);
   furnishCloning(buffers);
   furnishGrowing(buffers, moves, isPlaying);
   globalThis.Atomics = atomicsOf(moves, waits);
@@ -389,7 +391,10 @@ export async function main(load) {
   self.buffers = parts.buffers;
   self.moves = parts.moves;
   furnish(parts, putTwins);
-  refuseRest({ refuse: (/** @type {string} */ name) => refuse(`called ${name}, which isn't simulated`), isPlaying });
+  refuseRest({
+    refuse: (/** @type {string} */ name) => refuse(`called ${name}, which isn't simulated`), isPlaying,
+    loads: (/** @type {string} */ id) => graph.loads(id),
+  });
   parts.after.goHome = () => {
     clear(parts);
     board.turn.goHome(agent);

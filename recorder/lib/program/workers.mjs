@@ -80,7 +80,7 @@ function needsSimulated(options, refuse) {
  * @param {unknown} file
  * @param {any} options
  * @param {Function} called the function that the program's code has called
- * @returns {{ agent: number, port: any }} its number, and the port to it
+ * @returns {{ agent: number, port: any, where: string }} its number, the port to it, and where it was started
  */
 function started({ ports, moves, mesh, buffers, threads: all, refuse, environment, here }, file, options, called) {
   needsSimulated(options, refuse);
@@ -97,14 +97,14 @@ function started({ ports, moves, mesh, buffers, threads: all, refuse, environmen
   const moved = [...list.filter((each) => ports.metaOf(each) !== undefined), port2];
   const ids = moved.map((each) => ports.known(each).id);
   const env = { ...(options.env ?? process.env) };
+  const where = here();
   const start = {
-    url, isCode: options.eval === true, workerData, argv: [...options.argv ?? []].map(String), env, environment,
-    where: here(),
+    url, isCode: options.eval === true, workerData, argv: [...options.argv ?? []].map(String), env, environment, where,
   };
   mesh.hand(agent, { kind: "start", start, number, ports: moved, ids }, [...list, port2]);
   for (const each of moved) ports.leave(each);
   all.start(agent);
-  return { agent, port: port1 };
+  return { agent, port: port1, where };
 }
 
 /** @type {Starting | undefined} a thread has one part in a run */
@@ -128,10 +128,10 @@ class Worker extends EventEmitter {
   /** @param {unknown} file @param {any} [options] */
   constructor(file, options = {}) {
     super();
-    const { agent, port } = started(world(), file, options ?? {}, new.target);
+    const { agent, port, where } = started(world(), file, options ?? {}, new.target);
     this.#agent = agent;
     this.#port = port;
-    this.#own = { refed: true, where: world().here() };
+    this.#own = { refed: true, where };
     this.threadId = agent;
     // Nobody reads or writes them: what asks for them is refused.
     for (const name of REFUSED) /** @type {any} */ (this)[name] = null;
