@@ -10,7 +10,7 @@ import { parseArgs } from "node:util";
 import { fileURLToPath } from "node:url";
 import { checkedOptions } from "../lib/library/library-options.mjs";
 import { Runs } from "../lib/seeds/runs.mjs";
-import { MOST_SEEDS } from "../lib/seeds/seed-queue.mjs";
+import { BATCH } from "../lib/seeds/seed-queue.mjs";
 
 const RECORDER = new URL("../", import.meta.url);
 
@@ -39,7 +39,7 @@ class Course {
   /** @param {string} module its path @param {number} checkEvery @param {number} jobs */
   constructor(module, checkEvery, jobs) {
     const options = { ...checkedOptions({ module, bounds: "allow" }, () => undefined), fresh: false, isBrief: true };
-    this.ahead = jobs * MOST_SEEDS;
+    this.ahead = jobs * BATCH;
     const many = { first: 1, last: Number.MAX_SAFE_INTEGER, jobs, checkEvery, ahead: this.ahead };
     this.runs = new Runs({ ...options, ...many });
     this.outcomes = this.runs.outcomes();

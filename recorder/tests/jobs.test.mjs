@@ -11,9 +11,8 @@ import { test } from "node:test";
 import { setTimeout as sleep } from "node:timers/promises";
 import { pathToFileURL } from "node:url";
 import { Delivery } from "../lib/seeds/delivery.mjs";
-import { isWorthIt } from "../lib/seeds/more-jobs.mjs";
-import { LostJob } from "../lib/seeds/remote-job.mjs";
 import { Runs, outcomesOf } from "../lib/seeds/runs.mjs";
+import { isWorthIt } from "../lib/seeds/more-jobs.mjs";
 import { jobWords } from "../lib/seeds/start-job.mjs";
 import { RECORD, agentsOf, agentsPath, temporaryFolder } from "./helpers/common.mjs";
 import { CHECKING, onLinux } from "./helpers/needs.mjs";
@@ -194,59 +193,6 @@ test("outcomes that come in any order are taken in the order of their seeds, up 
   // If seed 2 is lost, the others are taken at once; if nothing comes of it, they are left.
   assert.deepEqual(await takenOf([1, 3, "2", 4]), [1, 3, 4]);
   assert.deepEqual(await takenOf([5, 1, -4, 3]), [1, 3, 4]);
-});
-
-/** A job that makes no run by itself, and the batches of seeds that it has. */
-function idleJob() {
-  const batches = [];
-  const run = (seeds, onOutcome) => new Promise((done, fail) => {
-    const make = (count) => seeds.slice(0, count).forEach(({ seed }) => onOutcome({ seed, checked: true }));
-    batches.push({ seeds: seeds.map(({ seed }) => seed), make, done, fail });
-  });
-  return { batches, job: { open: async () => {}, run, close: async () => {} } };
-}
-
-/** The seeds that a job has at first, and when it has made the first of them. @param {object} options */
-async function givenTo(options) {
-  const { batches, job } = idleJob();
-  const runs = new Runs({ first: 1, checkEvery: 1, jobs: 1, ...options }, { job });
-  const taking = runs.outcomes().next();
-  await sleep(1);
-  const given = batches.map(({ seeds }) => seeds.length);
-  batches[0].make(Infinity);
-  batches[0].done();
-  await taking;
-  await sleep(1);
-  return [given, batches.map(({ seeds }) => seeds.length)];
-}
-
-test("a job has the next seeds before it has made the first ones, and 16 at a time at most", async () => {
-  assert.deepEqual(await givenTo({ last: 1_000 }), [[8, 8], [8, 8, 8]]);
-  assert.deepEqual(await givenTo({ last: 3 }), [[2, 1], [2, 1]]);
-  // No run may be made behind the first failing one.
-  assert.deepEqual(await givenTo({ last: 1_000, failFast: true }), [[1], [1, 1]]);
-  // Who takes the outcomes one by one has none made that are further ahead.
-  assert.deepEqual(await givenTo({ last: 1_000, ahead: 8 }), [[8], [8, 8]]);
-});
-
-test("of a job that is lost nothing is known of the seeds that it had, and it gets no others", async () => {
-  const cases = [[{ goesOn: true }, 4, 16], [{ goesOn: false }, 4, 16], [{ goesOn: false, ahead: 8 }, 0, 8]];
-  for (const [options, made, last] of cases) {
-    const { batches, job } = idleJob();
-    const runs = new Runs({ first: 1, last: 1_000, checkEvery: 1, jobs: 1, ...options }, { job });
-    const taken = [];
-    const taking = (async () => {
-      for await (const { seed } of runs.outcomes()) taken.push(seed);
-    })();
-    await sleep(1);
-    batches[0].make(made);
-    for (const { fail } of batches) fail(new LostJob("it ended"));
-    const message = `it ended, and nothing is known of the seeds ${made + 1} to ${last}`;
-    await assert.rejects(taking, (error) => error instanceof LostJob && error.message === message);
-    assert.equal(batches.length, last / 8);
-    // Only if the others go on the outcomes that have come are handed out before the failure.
-    if (options.goesOn) assert.deepEqual(taken, [1, 2, 3, 4]);
-  }
 });
 
 test("a job's process that dies is told of, with status 3, and the summary of the others", (context) => {

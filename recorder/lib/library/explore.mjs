@@ -2,7 +2,7 @@
 
 import { Job } from "../seeds/job.mjs";
 import { Runs, outcomesOf } from "../seeds/runs.mjs";
-import { MOST_SEEDS } from "../seeds/seed-queue.mjs";
+import { BATCH } from "../seeds/seed-queue.mjs";
 import { chosenProgram } from "../simulator/chosen.mjs";
 import { exploreOptions } from "./library-options.mjs";
 import { folderOfCaller } from "./module-url.mjs";
@@ -34,8 +34,8 @@ export function explore(options) {
 export function runsOf(options, callersFolder) {
   const { signal, seeds, sabsim, ...rest } = exploreOptions(options, callersFolder);
   const checking = areChecked({ sabsim, ...rest }) ? { sabsim: chosenProgram(sabsim) } : { checkEvery: 0 };
-  // Each job makes runs while those before are taken.
-  const ahead = rest.jobs * MOST_SEEDS;
+  // Each job makes a batch while the one before is taken.
+  const ahead = rest.jobs * BATCH;
   const job = rest.jobs === 1 ? new Job() : undefined;
   return new Runs({ ...rest, ...seeds, ...checking, ahead }, { signal, job });
 }

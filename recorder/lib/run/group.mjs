@@ -96,9 +96,6 @@ function started(part) {
 }
 
 export class Group {
-  /** Settled when the referee has done all that it was given. */
-  #before = Promise.resolve();
-
   /**
    * Starts the workers, and waits until the agents' module is loaded in each.
    * @param {GroupOptions} options
@@ -160,24 +157,13 @@ export class Group {
   }
 
   /**
-   * Has the referee do something, when it has done what it was given before.
+   * Has the referee do something, and does what it asks for meanwhile.
    * @param {{ seeds: Wanted[] } | { learns: true }} work
    * @param {(outcome: Outcome, judgement: Judgement | undefined, aside: Aside) => void} onOutcome
    */
   async #work(work, onOutcome) {
     const referee = started(this.referee);
     referee.post(work);
-    const done = this.#before.then(() => this.#done(referee, onOutcome));
-    this.#before = done.catch(() => {});
-    return done;
-  }
-
-  /**
-   * Does what the referee asks for, until it has done the first work that it was given.
-   * @param {Thread} referee
-   * @param {(outcome: Outcome, judgement: Judgement | undefined, aside: Aside) => void} onOutcome
-   */
-  async #done(referee, onOutcome) {
     for (;;) {
       const { message, ended } = await referee.next();
       if (ended !== undefined) throw new Error(`the referee's worker failed: ${ended}`);

@@ -6,7 +6,6 @@ import { WORD } from "../memory/layout.mjs";
 import { Log } from "../memory/log.mjs";
 import { onceMore } from "../processes/garbage.mjs";
 import { firstDifferent } from "./differing-events.mjs";
-import { FirstThread } from "./first-thread.mjs";
 import { Meetings } from "./meetings.mjs";
 import { FirstFailing } from "./order.mjs";
 import { PILOTS, Pilots } from "./pilots.mjs";
@@ -37,9 +36,9 @@ class Referee {
    * @param {typeof import("./program-state.mjs").ProgramState} [ProgramState] for the runs of a program
    */
   constructor(given, ProgramState) {
-    const { firstThread, plan, options } = given;
+    const { port, plan, options } = given;
     const sourceNames = new SourceNames(options.module);
-    this.firstThread = firstThread;
+    this.port = port;
     this.plan = plan;
     this.options = options;
     this.maker = new RunMaker(given, sourceNames, ProgramState);
@@ -54,16 +53,9 @@ class Referee {
     this.sinceFresh = 0;
   }
 
-  /** Does what it is given, one after the other. */
-  async work() {
-    for (;;) {
-      await this.#record(await this.firstThread.work());
-      this.firstThread.send({ finished: true });
-    }
-  }
-
-  /** @param {import("./first-thread.mjs").Work} work */
-  async #record({ seeds = [], learns = false }) {
+  /** @param {{ seeds?: Wanted[], learns?: boolean }} work */
+  async record({ seeds = [], learns = false }) {
+    const { port } = this;
     if (learns) await this.#learn();
     for (const wanted of seeds) {
       if (wanted.isFresh) await this.#startAnew();
@@ -71,6 +63,8 @@ class Referee {
       this.sinceFresh += 1;
       onceMore();
     }
+    this.awaitWork();
+    port.postMessage({ finished: true });
   }
 
   /**
@@ -78,8 +72,14 @@ class Referee {
    * @param {Sent} run
    */
   async #send(run) {
-    if (run.outcome.fails) await this.firstThread.ask(run);
-    else this.firstThread.send(run);
+    const { port } = this;
+    const taken = run.outcome.fails ? new Promise((done) => port.once("message", done)) : undefined;
+    port.postMessage(run);
+    await taken;
+  }
+
+  awaitWork() {
+    this.port.once("message", (work) => this.record(work));
   }
 
   /** Learns by pilots where agents meet. The agents have other workers afterwards, so no module remembers pilots. */
@@ -237,10 +237,10 @@ function nameIn(outcome, { names }) {
 const asideOf = ({ waiting, stray }) => ({ waiting, stray });
 
 /** Awaits what it goes by, and then its work. */
-export async function main() {
-  const firstThread = new FirstThread(workerData.port);
-  /** @type {Omit<import("./run-maker.mjs").Given, "firstThread">} */
-  const given = await firstThread.message();
-  const State = given.options.isProgram ? (await import("./program-state.mjs")).ProgramState : undefined;
-  await new Referee({ firstThread, ...given }, State).work();
+export function main() {
+  const { port } = workerData;
+  port.once("message", async (/** @type {Omit<import("./run-maker.mjs").Given, "port">} */ given) => {
+    const State = given.options.isProgram ? (await import("./program-state.mjs")).ProgramState : undefined;
+    new Referee({ port, ...given }, State).awaitWork();
+  });
 }

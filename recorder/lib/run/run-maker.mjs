@@ -54,7 +54,7 @@ import { unseenText } from "./unseen.mjs";
 
 /**
  * @typedef {object} Given what the referee's thread is started with
- * @property {import("./first-thread.mjs").FirstThread} firstThread
+ * @property {import("node:worker_threads").MessagePort} port
  * @property {ReturnType<typeof import("../board/group-memory.mjs").memoryOf>} memory
  * @property {import("../options/plan.mjs").Plan} plan
  * @property {import("../board/strategy.mjs").Rules} rules
@@ -76,8 +76,8 @@ export class RunMaker {
    * @param {import("./source-names.mjs").SourceNames} sourceNames
    * @param {typeof import("./program-state.mjs").ProgramState} [ProgramState] for the runs of a program
    */
-  constructor({ firstThread, memory, plan, rules, options }, sourceNames, ProgramState) {
-    this.firstThread = firstThread;
+  constructor({ port, memory, plan, rules, options }, sourceNames, ProgramState) {
+    this.port = port;
     this.plan = plan;
     this.options = options;
     this.sourceNames = sourceNames;
@@ -179,7 +179,7 @@ export class RunMaker {
    * @param {number[]} gone
    */
   async replace(gone) {
-    if (gone.length > 0) await this.firstThread.ask({ replace: gone });
+    if (gone.length > 0) await this.#answered({ replace: gone });
   }
 
   /** Whether agents made no call and no access, as far as it is seen, on recorded memory. */
@@ -229,7 +229,7 @@ export class RunMaker {
    */
   async #asked(name) {
     const { board, options } = this;
-    if (options[name] === "library") return (await this.firstThread.ask({ ask: name })).problem;
+    if (options[name] === "library") return (await this.#answered({ ask: name })).problem;
     board.order(name === "init" ? ORDER.INIT : ORDER.CHECK);
     const { ending, detail } = await this.#ended();
     if (!board.turn.isBack(0, GRACE_MILLISECONDS)) await this.replace([0]);
@@ -250,7 +250,7 @@ export class RunMaker {
     turn.awaitEnd(this.options.seconds);
     const result = end.result();
     if (turn.silent === NOBODY) return result;
-    const { place } = await this.firstThread.ask({ locate: turn.silent });
+    const { place } = await this.#answered({ locate: turn.silent });
     return place === undefined ? result : { ...result, detail: `${result.detail}: it is at ${place}` };
   }
 
@@ -258,6 +258,14 @@ export class RunMaker {
   #sentHome() {
     this.board.dismiss();
     return this.agents.filter((agent) => !this.board.turn.isBack(agent, GRACE_MILLISECONDS));
+  }
+
+  /** @param {object} message @returns {Promise<any>} what another thread answers to a message */
+  #answered(message) {
+    return new Promise((done) => {
+      this.port.once("message", done);
+      this.port.postMessage(message);
+    });
   }
 }
 

@@ -25,13 +25,6 @@ import { KeepsGlobals } from "./first-again.mjs";
  */
 
 /**
- * @typedef {object} Asked a request under way
- * @property {(outcome: Checked) => void} onOutcome
- * @property {(answer: any) => void} done
- * @property {(failure: unknown) => void} fail
- */
-
-/**
  * @typedef {object} Packed an error as a message
  * @property {string} [kind] undefined: it is a defect
  * @property {string} message
@@ -73,8 +66,8 @@ export class RemoteJob {
     this.child = child;
     /** @type {(tried: import("../shorter/shorten.mjs").Tried) => void} */
     this.onTry = () => {};
-    /** @type {Asked[]} requests under way, in their order */
-    this.asked = [];
+    /** @type {((message: Message) => void) | undefined} what is done with messages while a request is under way */
+    this.onMessage = undefined;
     /** @type {string | undefined} why its process is no more */
     this.lost = undefined;
     /** @type {Promise<void>} */
@@ -112,7 +105,7 @@ export class RemoteJob {
 
   /** Ends the process, and all that it has started. Nothing more is reported about it. */
   async close() {
-    this.asked = [];
+    this.onMessage = undefined;
     this.onTry = () => {};
     if (this.lost === undefined) endGroup(this.child.pid);
     await this.gone;
@@ -123,7 +116,7 @@ export class RemoteJob {
     /** @param {string} message */
     const lose = (message) => {
       this.lost = message;
-      for (const { fail } of this.asked.splice(0)) fail(new LostJob(message));
+      this.onMessage?.({ failed: { kind: "LostJob", message } });
       done();
     };
     this.child.on("exit", (code, signal) => {
@@ -139,12 +132,10 @@ export class RemoteJob {
     });
   }
 
-  /** @param {Message} message about the first request under way, or about a shortening */
-  #take({ tried, outcome, failed, done }) {
-    if (tried !== undefined) this.onTry(tried);
-    else if (outcome !== undefined) this.asked[0]?.onOutcome(outcome);
-    else if (failed !== undefined) this.asked.shift()?.fail(unpacked(failed));
-    else this.asked.shift()?.done(done);
+  /** @param {Message} message */
+  #take(message) {
+    if (message.tried !== undefined) this.onTry(message.tried);
+    else this.onMessage?.(message);
   }
 
   /**
@@ -152,12 +143,27 @@ export class RemoteJob {
    * @param {(outcome: Checked) => void} [onOutcome]
    * @returns {Promise<any>}
    */
-  #ask(request, onOutcome = () => {}) {
-    if (this.lost !== undefined) return Promise.reject(new LostJob(this.lost));
+  #ask(request, onOutcome) {
     return new Promise((done, fail) => {
-      this.asked.push({ onOutcome, done, fail });
+      /** @type {(settle: (value: unknown) => void, value: unknown) => void} */
+      const end = (settle, value) => {
+        this.onMessage = undefined;
+        settle(value);
+      };
+      /** @param {Message} message */
+      const onMessage = (message) => {
+        try {
+          if (message.outcome !== undefined) onOutcome?.(message.outcome);
+          else if (message.failed !== undefined) throw unpacked(message.failed);
+          else end(done, message.done);
+        } catch (problem) {
+          end(fail, problem);
+        }
+      };
+      this.onMessage = onMessage;
       // Where it can't be sent, the process is about to end, and its exit reports it.
-      this.child.send(request, () => {});
+      if (this.lost === undefined) this.child.send(request, () => {});
+      else onMessage({ failed: { kind: "LostJob", message: this.lost } });
     });
   }
 }

@@ -6,7 +6,6 @@ import { isFirstOfAll } from "../run/order.mjs";
 import { Delivery } from "./delivery.mjs";
 import { differenceBetween } from "./first-again.mjs";
 import { moreJobs } from "./more-jobs.mjs";
-import { rangeText, united } from "./ranges.mjs";
 import { LostJob, RemoteJob } from "./remote-job.mjs";
 import { SeedQueue } from "./seed-queue.mjs";
 import { startJob } from "./start-job.mjs";
@@ -37,13 +36,6 @@ import { startJob } from "./start-job.mjs";
  */
 
 /** @typedef {import("../run/group.mjs").GroupOptions & OfRuns} RunsOptions */
-
-/**
- * @typedef {object} UnderWay what a job has to do
- * @property {Promise<void>[]} batches of seeds whose runs it makes, in their order
- * @property {boolean} hasFailed whether one of them has
- * @property {import("./ranges.mjs").Range[]} missing seeds of which nothing is known since that
- */
 
 /** @param {Outcome} outcome @returns {import("../run/same.mjs").RunSummary} */
 const briefly = ({ seed, ending, detail, moves, calls, state, noScript }) =>
@@ -251,49 +243,29 @@ export class Runs {
    * @param {Promise<unknown>} [opened] settled when it can begin
    */
   async #work(job, opened) {
-    const { delivery, options: { goesOn }, queue } = this;
-    /** @type {UnderWay} */
-    const underWay = { batches: [], hasFailed: false, missing: [] };
+    const { delivery, options: { ahead = Infinity, goesOn }, queue } = this;
     try {
       await opened;
-      for (let seeds = await this.#next(underWay); seeds.length > 0; seeds = await this.#next(underWay)) {
-        const batch = this.#run(job, seeds, underWay);
-        underWay.batches.push(batch);
-        batch.catch(() => {
-          underWay.hasFailed = true;
-          delivery.taking.signal();
-        });
+      for (;;) {
+        while (queue.left > 0 && queue.next - delivery.next >= ahead) await delivery.taking.next();
+        const seeds = queue.take();
+        if (seeds.length === 0) return;
+        await this.#run(job, seeds);
       }
-      await Promise.all(underWay.batches);
     } catch (failure) {
-      const isLost = failure instanceof LostJob;
-      if (!isLost) delivery.fail(failure);
-      if (!isLost || !goesOn) queue.stop();
-      await Promise.allSettled(underWay.batches);
-      const whole = isLost ? lostWith(failure, underWay.missing) : failure;
-      if (!goesOn) delivery.fail(whole);
-      throw whole;
+      if (!goesOn || !(failure instanceof LostJob)) {
+        queue.stop();
+        delivery.fail(failure);
+      }
+      throw failure;
     }
-  }
-
-  /**
-   * The next seeds for a job, as soon as it may have them.
-   * @param {UnderWay} underWay
-   * @returns {Promise<import("../run/outcome.mjs").Wanted[]>} none if there are none, or if the job has failed
-   */
-  async #next(underWay) {
-    const { delivery, options: { ahead = Infinity }, queue } = this;
-    if (underWay.batches.length === queue.batches) await underWay.batches.shift();
-    while (!underWay.hasFailed && queue.left > 0 && queue.next - delivery.next >= ahead) await delivery.taking.next();
-    return underWay.hasFailed ? [] : queue.take();
   }
 
   /**
    * @param {AnyJob} job
    * @param {import("../run/outcome.mjs").Wanted[]} seeds in their order
-   * @param {UnderWay} underWay
    */
-  async #run(job, seeds, { missing }) {
+  async #run(job, seeds) {
     let made = 0;
     /** @type {Outcome[]} the run whose check has failed: the failure comes before it */
     const differing = [];
@@ -312,23 +284,13 @@ export class Runs {
     } catch (failure) {
       if (differing.length > 0) this.delivery.fail(failure);
       for (const outcome of differing) this.delivery.add(outcome);
-      const lost = seeds.slice(made).map(({ seed }) => seed);
-      for (const seed of lost) this.delivery.lose(seed);
-      if (lost.length > 0) missing.push({ first: lost[0], last: lost[lost.length - 1] });
-      throw failure;
+      for (const { seed } of seeds.slice(made)) this.delivery.lose(seed);
+      if (!(failure instanceof LostJob) || made === seeds.length) throw failure;
+      const [from, to] = [seeds[made].seed, seeds[seeds.length - 1].seed];
+      const missing = from === to ? `of seed ${from}` : `of the seeds ${from} to ${to}`;
+      throw new LostJob(`${failure.message}, and nothing is known ${missing}`);
     }
   }
-}
-
-/**
- * @param {LostJob} failure of a job
- * @param {import("./ranges.mjs").Range[]} missing seeds whose runs it was to make
- * @returns {LostJob} which names them
- */
-function lostWith(failure, missing) {
-  if (missing.length === 0) return failure;
-  const named = united(missing).map((range) => (range.first === range.last ? "" : "the ") + rangeText(range));
-  return new LostJob(`${failure.message}, and nothing is known of ${named.join(" and ")}`);
 }
 
 /** @param {AnyJob} job @returns {boolean} whether its process is no more */

@@ -2,11 +2,8 @@
 
 /** @typedef {import("../run/outcome.mjs").Wanted} Wanted */
 
-/** The most seeds that a job has at a time. */
-export const MOST_SEEDS = 16;
-
-/** In how many batches: while it ends one, it has the next. */
-const BATCHES = 2;
+/** The most seeds that a job is given at a time. */
+export const BATCH = 16;
 
 export class SeedQueue {
   /** @param {import("./runs.mjs").RunsOptions} options */
@@ -19,11 +16,8 @@ export class SeedQueue {
     this.origin = origin;
     /** What is wanted of each run. */
     this.wanted = { isTrial: trials, ...wanted };
-    /** How many batches a job has at a time. Who wants no run behind the first failing one has each alone. */
-    this.batches = failFast ? 1 : BATCHES;
-    const share = Math.ceil((last - first + 1) / (jobs * BATCHES));
-    /** How many seeds a batch has. */
-    this.batch = failFast ? 1 : Math.max(1, Math.min(MOST_SEEDS / BATCHES, share));
+    /** How many seeds a job is given at a time. */
+    this.batch = failFast ? 1 : Math.max(1, Math.min(BATCH, Math.ceil((last - first + 1) / jobs)));
   }
 
   /** @returns {Wanted[]} the next few; none if all were taken */
