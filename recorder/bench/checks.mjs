@@ -5,6 +5,7 @@
 //     node recorder/bench/checks.mjs [--turns N] [--each N] [--jobs N,..] [--modules FILE,..]
 
 import { availableParallelism } from "node:os";
+import { resolve } from "node:path";
 import { setTimeout as pause } from "node:timers/promises";
 import { parseArgs } from "node:util";
 import { fileURLToPath } from "node:url";
@@ -112,5 +113,6 @@ if (process.argv[1] === fileURLToPath(import.meta.url)) {
     },
   }).values;
   const amount = { turns: Number(turns), each: Number(each) };
-  await printTable(modules.split(","), jobs.split(",").map(Number), amount, (line) => process.stdout.write(`${line}\n`));
+  const paths = modules.split(",").map((path) => resolve(path));
+  await printTable(paths, jobs.split(",").map(Number), amount, (line) => process.stdout.write(`${line}\n`));
 }

@@ -41,6 +41,7 @@ import { PortEvents, servePorts } from "./port-events.mjs";
 import { PortTable } from "../board/port-table.mjs";
 import { KIND, Ports, channelClass } from "./ports.mjs";
 import { printAtOnce } from "./printing.mjs";
+import { receiverOf } from "./receiving.mjs";
 import { furnishRefusals } from "./refusals.mjs";
 import { argvOf, evaluated } from "./start.mjs";
 import { Threads } from "./threads.mjs";
@@ -63,7 +64,6 @@ const { Error: EngineError } = globalThis;
 /** @typedef {{ start: import("./workers.mjs").Start, number: number, ports: any[], ids: number[] }} Handed */
 
 const { port, origin, memory: shared, plan, rules } = /** @type {Given} */ (threads.workerData);
-const receive = threads.receiveMessageOnPort;
 const { setImmediate: turnLater } = nodeTimers;
 const firstEnv = { ...process.env };
 const GRAPH_MODULE = new URL("./graph.mjs", import.meta.url);
@@ -359,19 +359,6 @@ function serve(parts, graph) {
     board.turn.park(agent);
   }
 }
-
-/** @param {Ports} ports @param {Moves} moves */
-const receiverOf = (ports, moves) => (/** @type {any} */ given) => {
-  if (ports.metaOf(given) === undefined) return receive(given);
-  moves.yield();
-  const envelope = ports.take(given);
-  if (envelope === undefined) return undefined;
-  if (envelope.kind === KIND.CLOSE) {
-    ports.close(given);
-    return undefined;
-  }
-  return { message: envelope.value };
-};
 
 /** @param {(url: string) => Promise<any>} load imports a module */
 export async function main(load) {
