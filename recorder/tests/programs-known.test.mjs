@@ -9,9 +9,6 @@ import { PROGRAMS, urlOf } from "./programs/table.mjs";
 
 const SEEDS = 200;
 
-/** A run that loses a thread takes twenty times as long as others, so such programs have fewer seeds. */
-const FEW_SEEDS = 40;
-
 /** Of a rare program at most one run in so many fails, if each thread that can go on is as likely. */
 const RARE = 50;
 
@@ -23,9 +20,6 @@ function demandKnown(program, outcomes) {
   const strange = outcomes.filter((outcome) => outcome.fails && findingOf(program, outcome) === undefined);
   assert.deepEqual(strange.map(({ seed, ending, detail }) => `seed ${seed}: ${ending}: ${detail}`), []);
 }
-
-/** @param {Program} program @returns {number} under how many seeds it is to pass */
-const seedsOf = ({ losesThreads }) => (losesThreads ? FEW_SEEDS : SEEDS);
 
 /** @param {Program} program @param {Outcome[]} outcomes */
 function demandRight({ isEndless }, outcomes) {
@@ -44,9 +38,9 @@ describe("programs with known answers in the recorder", () => {
   after(() => runs.close());
 
   for (const program of programs(({ right, notYet }) => right && notYet === undefined)) {
-    it(`${program.name} passes under ${seedsOf(program)} seeds`, async () => {
-      const outcomes = await runs.runs(program, { last: seedsOf(program) });
-      assert.equal(outcomes.length, seedsOf(program));
+    it(`${program.name} passes under ${SEEDS} seeds`, async () => {
+      const outcomes = await runs.runs(program, { last: SEEDS });
+      assert.equal(outcomes.length, SEEDS);
       demandRight(program, outcomes);
       assert.ok(outcomes[0].checked || outcomes[0].noScript !== undefined);
     });

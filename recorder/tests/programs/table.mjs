@@ -22,7 +22,6 @@ import { readFileSync } from "node:fs";
  * @property {boolean} [isOfTime] whether it fails only if a time is up while other threads can go on
  * @property {string[]} [options] that the recorder needs for it
  * @property {boolean} [isEndless] whether it prints "ready" and ends only by Ctrl-C
- * @property {boolean} [losesThreads] whether in each run a thread ends amid its code, so that the next run needs another
  * @property {string} [notYet] what it needs that the recorder doesn't simulate yet, as the recorder names it
  */
 
@@ -142,15 +141,15 @@ const ALL = [
   rare("deadline/turns.mjs", failed(/no answer after eight turns/, ["turns.mjs", THROWS])),
 
   // How threads end: terminate, rejections, errors, exit codes, unref.
-  right("terminate/right.mjs", { losesThreads: true }),
+  right("terminate/right.mjs"),
   wrong("terminate/in-the-middle.mjs", deadlock(["lock.mjs", "Atomics.wait("])),
   wrong("terminate/last-answer.mjs", failed(/1 answers have come/, ["last-answer.mjs", THROWS])),
   right("rejection/handled.mjs"),
   wrong("rejection/unhandled.mjs", failed(/wrong/, ["ask.mjs", "reject(new Error(refused))"])),
   wrong("rejection/in-worker.mjs", failed(/no ticket is left/, ["in-worker.mjs", "throw new RangeError"])),
-  right("errors/listened.mjs", { losesThreads: true }),
+  right("errors/listened.mjs"),
   wrong("errors/no-listener.mjs", failed(/the word isn't set/, ["needs-word.mjs", THROWS])),
-  right("exits/right.mjs", { losesThreads: true }),
+  right("exits/right.mjs"),
   wrong("exits/first-exits.mjs", failed(/\b5\b/)),
   right("unref/right.mjs"),
   wrong("unref/too-soon.mjs", failed(/\b1\b/)),
