@@ -34,7 +34,7 @@ test("where no run fails, the status is 0", () => {
       "20 runs: 20 finished",
       "1 final state: how it ended, and the bytes",
       "  20 runs finished, seed 1 the first: 030000000300000000000000",
-      `every run was replayed and judged by sabsim ${KIND}: it says the same`,
+      `every run was replayed and judged by sabsim ${KIND}: it agrees with the recorder`,
       // Two agents add three times each.
       "20 runs made 120 calls of Atomics, and no ordinary read or write",
       "",
@@ -281,7 +281,8 @@ test("with nothing built every run is checked, and explanation, picture and page
   const endings = ["explained", "html", "json", "report", "svg", "trace.jsonl"];
   const files = readdirSync(out).filter((name) => !name.includes("original"));
   assert.deepEqual(files.sort(), endings.map((ending) => `seed-3.${ending}`));
-  const checked = "every run was replayed and judged by sabsim (module), except exact repeats: it says the same";
+  const checked = "every run was replayed and judged by sabsim (module), except exact repeats: "
+    + "it agrees with the recorder";
   assert.ok(stdout.split("\n").includes(checked), stdout);
 });
 
@@ -297,7 +298,7 @@ test("a picture that sabsim doesn't make is told of", (context) => {
   assert.equal(run(cases("waitsForEver", ...unchecked, "--check", "0")).status, 1);
   const { status, stdout } = run(cases("waitsForEver", ...unchecked, "--sabsim", half));
   assert.equal(status, 1, stdout);
-  assert.match(stdout, /^every run was replayed and judged by sabsim \(program\): it says the same$/m);
+  assert.match(stdout, /^every run was replayed and judged by sabsim \(program\): it agrees with the recorder$/m);
   const left = "\nnot kept: seed-1.svg: sabsim ended with status 4: no pictures\n" +
     "not kept: seed-1.html: what sabsim says of the run is no JSON\n";
   assert.ok(stdout.endsWith(left), stdout);

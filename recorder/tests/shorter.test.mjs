@@ -185,7 +185,7 @@ test("the shortest run is kept with the original beside it, whatever the jobs; -
   async (context) => {
     const { stdout, files } = keptBy(context, "--jobs", "2");
     const [, seed] = /^first failing seed: (\d+), deadlock$/m.exec(stdout);
-    const same = "12 calls to 12, in \\d+ runs; sabsim says the same of it";
+    const same = "12 calls to 12, in \\d+ runs; sabsim agrees with the recorder";
     assert.match(stdout, new RegExp(`^shortened: \\d+ changes of agents to 2, ${same}$`, "m"));
     const first = ["json", "report", "trace.jsonl"];
     const endings = [...first, ...first.map((ending) => `original.${ending}`), "explained", "svg", "html"];
@@ -216,7 +216,7 @@ test("what a summary says of it", () => {
   const linesOf = (found, onlyIf = null) => shortenedLines(shorteningOf(found, failing), onlyIf);
   const start = "shortened: 1,031 changes of agents to 4, 60 calls to 22, in";
   assert.deepEqual(linesOf({ shortest, shortened: about }),
-    [`${start} 84 runs; sabsim says the same of it`, "  one", "  two"]);
+    [`${start} 84 runs; sabsim agrees with the recorder`, "  one", "  two"]);
   const stopped = { ...about, runs: 400, stopped: "the most that are made" };
   assert.deepEqual(linesOf({ shortest: failing, shortened: stopped }),
     [`${start} 400 runs, the most that are made`]);

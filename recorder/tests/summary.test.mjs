@@ -13,7 +13,7 @@ const SEEN = { ordinary: "watch", races: "fail", checkedBy: "module 123" };
 /** What it says about checks of so many runs. */
 /** What is said of the runs that the module has checked; one alone is no repeat. */
 const checkedLine = (which, repeats = ", except exact repeats") =>
-  `${which} replayed and judged by sabsim (module)${repeats}: it says the same`;
+  `${which} replayed and judged by sabsim (module)${repeats}: it agrees with the recorder`;
 
 /**
  * An outcome, of which a test says what matters to it.
@@ -451,7 +451,7 @@ test("the checks of summaries that are joined are told together, with each kind 
   parts.forEach((summary, at) => summary.add(outcome(at, { checked: at < 2 })));
   const joined = new Summary({ ...SEEN, checkedBy: undefined });
   for (const summary of parts.slice(0, 2)) joined.join(summary.data());
-  const how = "replayed and judged by sabsim (module and program), except exact repeats: it says the same";
+  const how = "replayed and judged by sabsim (module and program), except exact repeats: it agrees with the recorder";
   assert.ok(joined.text().split("\n").includes(`every run was ${how}`));
   joined.join(parts[2].data());
   assert.ok(joined.text().split("\n").includes(`2 of 3 runs were ${how}`));
@@ -466,14 +466,15 @@ test("only the module isn't asked about runs that are the same again, and one ru
     return summary.text().split("\n").find((line) => line.startsWith("every run was"));
   };
   const judged = "every run was replayed and judged by sabsim";
-  assert.equal(saying("module 123", 2), `${judged} (module), except exact repeats: it says the same`);
-  assert.equal(saying("module 123", 1), `${judged} (module): it says the same`);
-  assert.equal(saying("program sabsim 0.1.0", 2), `${judged} (program): it says the same`);
+  assert.equal(saying("module 123", 2), `${judged} (module), except exact repeats: it agrees with the recorder`);
+  assert.equal(saying("module 123", 1), `${judged} (module): it agrees with the recorder`);
+  assert.equal(saying("program sabsim 0.1.0", 2), `${judged} (program): it agrees with the recorder`);
 });
 
 test("of runs whose ordinary accesses aren't watched it isn't said that they were judged", () => {
   const lines = linesOf(seeds(1, 2), { ordinary: "store", checked: 2 });
-  assert.ok(lines.includes("every run was replayed by sabsim (module), except exact repeats: it says the same"));
+  const which = "every run was replayed by sabsim (module), except exact repeats";
+  assert.ok(lines.includes(`${which}: it agrees with the recorder`));
 });
 
 /** A tally of keys, with three seeds for each. @param {number[]} keys @param {number} most */

@@ -28,7 +28,8 @@ const hasCompiler = spawnSync("tsc", ["--version"]).status === 0;
 const withCompiler = { skip: hasCompiler ? false : "there is no tsc on this machine" };
 
 /** What a summary says of runs that the module has checked. */
-const CHECKED = /^every run was replayed and judged by sabsim \(module\), except exact repeats: it says the same$/m;
+const CHECKED =
+  /^every run was replayed and judged by sabsim \(module\), except exact repeats: it agrees with the recorder$/m;
 
 const room = mkdtempSync(join(tmpdir(), "sabsim-package-"));
 after(() => rmSync(room, { recursive: true, force: true }));
@@ -344,7 +345,7 @@ test("with a program it replays what was recorded, and checks", withProgram, asy
 
   await the.test("runs are checked by it if it is chosen, and else by the module", () => {
     const chosen = recorded(folder, ["--sabsim", join(place, "sabsim")]);
-    assert.match(chosen.output, /^every run .* by sabsim \(program\): it says the same$/m);
+    assert.match(chosen.output, /^every run .* by sabsim \(program\): it agrees with the recorder$/m);
     const { seed, output } = recorded(folder, ["--out", "found"]);
     assert.match(output, CHECKED);
     const kept = (ending) => join(folder, `found/seed-${seed}.${ending}`);

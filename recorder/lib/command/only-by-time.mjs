@@ -1,5 +1,5 @@
-// Lost wake-ups that a time hides: waits that ended only because their time was up, of all runs that finished. A wait at
-// a place that nobody else notifies or writes in any run is a sleep, and isn't reported.
+// Lost wake-ups that a time hides: waits that ended only because their time was up, of all runs that finished. If
+// nobody else notifies or writes the place in any run, the wait is a sleep, and isn't reported.
 
 import { durationText, placeKey } from "../run/timed-ends.mjs";
 import { counted, digits } from "../run/words.mjs";

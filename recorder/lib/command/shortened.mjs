@@ -41,7 +41,7 @@ export function shortenedLines(shortening, before = null) {
   if (unchanged !== null) return [`not shortened: ${unchanged}${runs === 0 ? "" : `, ${made}`}`];
   const changed = `${counted(changes.before, "change")} of agents to ${digits(changes.after)}`;
   const called = `${counted(calls.before, "call")} to ${digits(calls.after)}`;
-  const same = checked ? "; sabsim says the same of it" : "";
+  const same = checked ? "; sabsim agrees with the recorder" : "";
   const needs = onlyIf === before ? [] : [onlyIf ?? "no timed wait ends early in it"];
   return [`shortened: ${changed}, ${called}, ${made}${same}`, ...[...detail, ...needs].map((line) => `  ${line}`)];
 }

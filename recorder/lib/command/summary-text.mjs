@@ -148,7 +148,7 @@ function checkLines({ runs, sabsim: { checked, judges, versions } }) {
   // How many runs are repeats of one that the module was asked about depends on the jobs, so there is no number.
   const repeats = checked > 1 && kinds.includes("module") ? ", except exact repeats" : "";
   const how = `replayed ${judges ? "and judged " : ""}by sabsim (${kinds.join(" and ")})`;
-  return [`${which} ${how}${repeats}: it says the same`];
+  return [`${which} ${how}${repeats}: it agrees with the recorder`];
 }
 
 /** @param {SummaryData} summary */
