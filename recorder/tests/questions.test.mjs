@@ -31,7 +31,7 @@ test("the configuration for VS Code replays a kept run", () => {
   const { name, bin } = JSON.parse(readFileSync(new URL("package.json", TOP), "utf8"));
   assert.equal(program, `\${workspaceFolder}/node_modules/${name}/${bin["sabsim-record"]}`);
   const { module, replay } = optionsOf(args);
-  assert.deepEqual([module, replay.file], ["lock.mjs", "found/seed-13.json"]);
+  assert.deepEqual([module, replay.file], ["lock.mjs", "found/seed-10.json"]);
 });
 
 test("the likelihoods are those of the formula", () => {
