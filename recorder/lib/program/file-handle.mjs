@@ -3,8 +3,8 @@
 import { EventEmitter } from "node:events";
 import fs from "node:fs";
 import readline from "node:readline";
+import { nodeError } from "./node-error.mjs";
 import { promiseLater } from "./twin-calls.mjs";
-import { nodeError } from "./module-urls.mjs";
 
 /** @typedef {import("./twin-calls.mjs").Given} Given */
 

@@ -6,7 +6,8 @@ import path from "node:path";
 import { fileURLToPath } from "node:url";
 import { CommonJS } from "./commonjs.mjs";
 import { SourceTextModule, SyntheticModule, compiledOnce } from "./compiled-once.mjs";
-import { formatOf, nodeError, resolved, textOf, urlOf } from "./module-urls.mjs";
+import { formatOf, resolved, textOf, urlOf } from "./module-urls.mjs";
+import { nodeError } from "./node-error.mjs";
 
 const Modules = /** @type {any} */ (Module);
 const require = createRequire(import.meta.url);

@@ -5,6 +5,7 @@ import fs from "node:fs";
 import path from "node:path";
 import vm from "node:vm";
 import { fileURLToPath } from "node:url";
+import { nodeError } from "./node-error.mjs";
 
 /** @typedef {"module" | "commonjs" | "json" | "builtin" | "other"} Format of a module; node refuses to load another */
 
@@ -29,22 +30,6 @@ const LIKELY_IN_MODULES = Object.freeze([
 
 /** @param {string} url @returns {string} how node's messages name a module */
 const shown = (url) => (url.startsWith("file:") ? fileURLToPath(url) : url);
-
-/**
- * An error as node makes it.
- * @param {string} code
- * @param {string} message
- * @param {object} [members]
- * @param {ErrorConstructor | TypeErrorConstructor} [Kind]
- */
-export function nodeError(code, message, members = {}, Kind = Error) {
-  const error = new Kind(message);
-  // The stack is made with the code in it, and the name stays as it was.
-  error.name = `${error.name} [${code}]`;
-  void error.stack;
-  delete (/** @type {any} */ (error)).name;
-  return Object.assign(error, { code, ...members });
-}
 
 /**
  * @param {string} specifier

@@ -1,7 +1,7 @@
 // What a program may use of node, by the table beside this file. What is refused is replaced: it keeps what `typeof`
 // and `instanceof` say, and reports its name when it is called. Modules of node that took it before keep their own.
 
-import Module, { createRequire } from "node:module";
+import Module from "node:module";
 import { GLOBALS, METHODS, MODULES, SCHEME_MODULES } from "./surface-table.mjs";
 import { apply, construct, defineProperty, getOwnPropertyDescriptor, ownKeys } from "../primordials.mjs";
 
@@ -10,7 +10,7 @@ import { apply, construct, defineProperty, getOwnPropertyDescriptor, ownKeys } f
 /** @typedef {{ refuse: (name: string) => void, isPlaying?: () => boolean, loads?: (id: string) => void }} Given */
 
 const Modules = /** @type {any} */ (Module);
-const require = createRequire(import.meta.url);
+const required = Module.createRequire(import.meta.url);
 const isBuiltin = Modules.isBuiltin;
 
 /** The major versions of node whose exports and order of events were compared with the tables and tests. */
@@ -61,7 +61,7 @@ export function unknownNames() {
     const row = rowOf(id);
     if (row === undefined) return [id];
     if (typeof row === "string") return [];
-    const exports = require(id);
+    const exports = required(id);
     const unknown = namesIn(exports).filter((name) => kindIn(row, name) === undefined);
     return unknown.filter((name) => typeof exports[name] !== "number").map((name) => `${id}.${name}`);
   });

@@ -44,8 +44,10 @@ import { printAtOnce } from "./printing.mjs";
 import { receiverOf } from "./receiving.mjs";
 import { furnishRefusals } from "./refusals.mjs";
 import { argvOf, evaluated } from "./start.mjs";
+import { refuseRest } from "./surface.mjs";
 import { Threads } from "./threads.mjs";
 import { Timers } from "./timers.mjs";
+import { putTwins } from "./twins.mjs";
 import { WaitAsync } from "./wait-async.mjs";
 import { workerClass } from "./workers.mjs";
 
@@ -67,8 +69,6 @@ const { port, origin, memory: shared, plan, rules } = /** @type {Given} */ (thre
 const { setImmediate: turnLater } = nodeTimers;
 const firstEnv = { ...process.env };
 const GRAPH_MODULE = new URL("./graph.mjs", import.meta.url);
-const TWINS_MODULE = new URL("./twins.mjs", import.meta.url);
-const SURFACE_MODULE = new URL("./surface.mjs", import.meta.url);
 const chance = new Chance();
 const placeNames = new SourceNames(origin);
 
@@ -218,11 +218,8 @@ function partsOf(player, blocks, mesh) {
 
 /** @typedef {ReturnType<typeof partsOf>} Parts */
 
-/**
- * @param {Parts} parts
- * @param {(given: import("./twin-calls.mjs").Given) => void} putTwins of `twins.mjs`
- */
-function furnish({ moves, buffers, waits, ends, events, timers, later }, putTwins) {
+/** @param {Parts} parts */
+function furnish({ moves, buffers, waits, ends, events, timers, later }) {
   const listAgain = listingOf([globalThis, buffer, crypto, process, util]);
   const { words } = moves.board;
   printAtOnce(() => words[WORD.IS_SILENT] === 0 && isPlaying(), printedName);
@@ -364,8 +361,6 @@ function serve(parts, graph) {
 export async function main(load) {
   const numbered = nextMessage();
   const { Graph } = await load(GRAPH_MODULE.href);
-  const { refuseRest } = await load(SURFACE_MODULE.href);
-  const { putTwins } = await load(TWINS_MODULE.href);
   const graph = new Graph({ refuse: (/** @type {string} */ what) => refuse(`used ${what}, which isn't simulated`) });
   port.postMessage({ begun: true });
   const { agent, ...given } = await numbered;
@@ -377,7 +372,7 @@ export async function main(load) {
   self.player = player;
   self.buffers = parts.buffers;
   self.moves = parts.moves;
-  furnish(parts, putTwins);
+  furnish(parts);
   refuseRest({
     refuse: (/** @type {string} */ name) => refuse(`called ${name}, which isn't simulated`), isPlaying,
     loads: (/** @type {string} */ id) => graph.loads(id),
