@@ -1,14 +1,10 @@
-// Texts that are made of copies of what was written down, by calls that are remembered from run to run: they are the
-// same as without.
+// Texts that are made by calls that are remembered from run to run: they are the same as without.
 
 import assert from "node:assert/strict";
 import { test } from "node:test";
-import { WORD, wordsFor } from "../lib/memory/layout.mjs";
 import { Log } from "../lib/memory/log.mjs";
-import { Memory } from "../lib/memory/memory.mjs";
 import { Records } from "../lib/memory/records.mjs";
 import { viewName } from "../lib/memory/spelling.mjs";
-import { Stores, TakenStores } from "../lib/memory/stores.mjs";
 import { Names } from "../lib/options/names.mjs";
 import { KnownCalls } from "../lib/run/known-calls.mjs";
 import { transcriptOf } from "../lib/run/transcript.mjs";
@@ -111,33 +107,4 @@ test("more calls than are remembered have their texts too", () => {
     const run = runOf(Array.from({ length: 1_000 }, (_, at) => ({ call: CALL, answer: from + at })));
     assert.deepEqual(textsOf({ ...run, known }), textsOf(run));
   }
-});
-
-test("records and stores that were taken stay as they were when the next run writes others", () => {
-  const { records: [records], ...run } = runOf(MADE);
-  const before = textsOf({ ...run, records: [records] });
-  const copy = new Records(records.taken(MADE.length));
-  for (let position = 0; position < MADE.length; position += 1) records.begin(position, { ...CALL, index: 7 });
-  assert.deepEqual(textsOf({ ...run, records: [copy] }), before);
-  assert.notDeepEqual(textsOf({ ...run, records: [records] }), before);
-  assert.equal(records.taken(0).byteLength, 0);
-});
-
-test("stores that were taken are listed as they were", () => {
-  const bytes = new Uint8Array(new SharedArrayBuffer(16));
-  const memory = new Memory([bytes.buffer], [new SharedArrayBuffer(16)]);
-  const words = new Int32Array(wordsFor(2));
-  const stores = new Stores(Stores.memory([16]), words, memory);
-  stores.begin();
-  bytes.set([1, 2, 3, 4, 5], 3);
-  stores.takeWritten(1, 4, 0, 3, 8, 1);
-  const listed = () => stores.list().map((store) => ({ ...store, bytes: [...store.bytes] }));
-  const [before, taken] = [listed(), new TakenStores(stores.taken())];
-  assert.equal(before.length, 5);
-  stores.begin();
-  bytes.fill(9);
-  stores.takeChanged(0, 7, 0);
-  assert.notDeepEqual(listed(), before);
-  assert.deepEqual(taken.list().map((store) => ({ ...store, bytes: [...store.bytes] })), before);
-  assert.equal(words[WORD.STORES] > 0, true);
 });

@@ -56,6 +56,20 @@ test("a call is spelled as docs/FORMATS.md has it, and room is kept for all of i
   }
 });
 
+test("a call's room in a script is counted as long as its text is", () => {
+  const long = [2 ** 31 - 1, -(2 ** 31), 2 ** 31, 2 ** 53 - 1, -(2 ** 53 - 1), 5n, -5n, 2n ** 64n];
+  const operands = [0, -0, 1, 9, 10, 11, 99, 100, 101, 999_999_999, 1_000_000_000, -1, -9, -10, -100, ...long];
+  const view = { kind: kind("Int32"), block: 0, offset: 0, length: 4 };
+  for (const operand of operands) {
+    const exchange = { call: 2, ...view, index: typeof operand === "bigint" ? 3 : operand, operands: [operand] };
+    for (const limit of [undefined, 0, 10, 999]) {
+      const made = { ...exchange, limit };
+      const moves = 28 + (limit === undefined ? 0 : 20);
+      assert.equal(textRoom(1, made), callText("v", made).length + moves, `${operand}, ${limit}`);
+    }
+  }
+});
+
 const trace = (lengths) => ({
   lengths,
   canBlock: [true, false],

@@ -86,14 +86,16 @@ export class Accesses {
   take() {
     const { board, memory, ordinary, stores, log } = this.table;
     const { length } = memory.real;
+    let isChanged = length > FIRST_MORE;
     for (let block = 0; block < length && block < FIRST_MORE; block += 1) {
       if (!memory.hasChanged(block)) continue;
+      isChanged = true;
       board.spins.news();
       if (ordinary === "watch") this.#takeSeen(block);
       if (ordinary === "store") stores.takeChanged(this.agent, log.length, block);
     }
     if (length > FIRST_MORE) this.#takeMore();
-    return memory.changed();
+    return isChanged ? memory.changed() : undefined;
   }
 
   /** Takes what the writes that were seen have changed in the blocks that no script can have. */

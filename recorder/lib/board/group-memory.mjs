@@ -1,5 +1,6 @@
 // The memory that the threads of a group share: the agents' buffers, and what the recorder writes down of a run.
 
+import { CopiedRuns } from "../memory/copied-runs.mjs";
 import { Log } from "../memory/log.mjs";
 import { Notes } from "../memory/notes.mjs";
 import { Records } from "../memory/records.mjs";
@@ -21,6 +22,7 @@ export function memoryOf({ agents, buffers }, logEvents) {
     buffers: buffers.map((bytes) => new SharedArrayBuffer(bytes)),
     copies: buffers.map((bytes) => new SharedArrayBuffer(bytes)),
     records: Array.from({ length: agents }, () => Records.memory()),
+    runs: CopiedRuns.memory(),
     notes: Array.from({ length: agents }, () => Notes.memory()),
   };
 }

@@ -20,8 +20,10 @@ export const NO_CALL = 15;
 const ROOM = 2 ** 20;
 const FOR_CALLS = 65_536;
 
-// An event's words.
-const EACH = 8;
+/** How many words an event has. */
+export const EVENT_WORDS = 8;
+
+const EACH = EVENT_WORDS;
 const HEAD = 0;
 const NUMBER = 1;
 const BLOCK = 2;
@@ -245,6 +247,11 @@ export class Log {
   /** @returns {Int32Array} all events, in memory of their own, which the next run leaves as it is */
   taken() {
     return this.events.slice(0, this.length * EACH);
+  }
+
+  /** @param {Int32Array} into which as many events are copied as it has room for */
+  copyTo(into) {
+    into.set(this.events.subarray(0, into.length));
   }
 
   /** @param {Int32Array} events @returns {Log} a log of events that were taken from one, without what they read */

@@ -9,6 +9,9 @@ const { Uint8Array } = globalThis;
 const areEqual = uncurried(Buffer.prototype.equals);
 const setBytes = uncurried(Uint8Array.prototype.set);
 
+/** So many bytes are compared here in less time than by a call of node. */
+const SHORT = 24;
+
 /** @typedef {{ block: number, byte: number, was: number, is: number }} Change */
 
 export class Memory {
@@ -65,7 +68,9 @@ export class Memory {
   hasChanged(block) {
     const real = this.real[block];
     const known = this.known[block];
-    return real.length <= SCRIPT_LIMITS.bytes && real.length === known.length && !areEqual(real, known);
+    const { length } = real;
+    if (length !== known.length || length > SCRIPT_LIMITS.bytes) return false;
+    return length > SHORT ? !areEqual(real, known) : areDifferent(real, known, length);
   }
 
   /** @returns {Change | undefined} the first byte that isn't as it is known */
@@ -89,4 +94,17 @@ export class Memory {
  */
 export function byteOf(call) {
   return call.offset + call.index * SIZES[call.kind];
+}
+
+/**
+ * @param {Uint8Array} one
+ * @param {Uint8Array} other
+ * @param {number} length of both
+ * @returns {boolean} whether a byte differs
+ */
+function areDifferent(one, other, length) {
+  for (let byte = 0; byte < length; byte += 1) {
+    if (one[byte] !== other[byte]) return true;
+  }
+  return false;
 }

@@ -7,7 +7,7 @@ import { answerText } from "../../script/report.mjs";
 import { positionIn } from "../primordials.mjs";
 
 // Agents may change what they find, so the engine's own functions are kept here, before.
-const { ArrayBuffer, BigInt64Array, Float64Array, Int32Array, SharedArrayBuffer } = globalThis;
+const { BigInt64Array, Float64Array, Int32Array, SharedArrayBuffer } = globalThis;
 const { asIntN, asUintN } = BigInt;
 
 /**
@@ -70,12 +70,20 @@ export class Records {
     return new SharedArrayBuffer(calls * BYTES_EACH);
   }
 
-  /** @param {ArrayBufferLike} memory in which each record has as many bytes */
-  constructor(memory) {
-    const room = memory.byteLength / BYTES_EACH;
-    this.bigs = new BigInt64Array(memory, 0, room * BIGS_EACH);
-    this.numbers = new Float64Array(memory, this.bigs.byteLength, room * NUMBERS_EACH);
-    this.words = new Int32Array(memory, this.bigs.byteLength + this.numbers.byteLength, room * WORDS_EACH);
+  /** @param {number} calls @returns {number} how many bytes their records take: a multiple of 8 */
+  static bytesOf(calls) {
+    return calls * BYTES_EACH;
+  }
+
+  /**
+   * @param {ArrayBufferLike} memory
+   * @param {number} [from] the byte at which the records begin: a multiple of 8
+   * @param {number} [calls] how many there is room for; as many as the memory has room for, if it isn't given
+   */
+  constructor(memory, from = 0, calls = (memory.byteLength - from) / BYTES_EACH) {
+    this.bigs = new BigInt64Array(memory, from, calls * BIGS_EACH);
+    this.numbers = new Float64Array(memory, from + this.bigs.byteLength, calls * NUMBERS_EACH);
+    this.words = new Int32Array(memory, from + this.bigs.byteLength + this.numbers.byteLength, calls * WORDS_EACH);
   }
 
   /** @param {number} position of the call among the agent's @param {Call} call that begins */
@@ -197,18 +205,11 @@ export class Records {
     return true;
   }
 
-  /**
-   * The first records, in memory of their own, which the next run leaves as it is.
-   * @param {number} count how many
-   * @returns {ArrayBuffer}
-   */
-  taken(count) {
-    const memory = new ArrayBuffer(count * BYTES_EACH);
-    const { bigs, numbers, words } = new Records(memory);
+  /** @param {Records} into which as many are copied as it has room for */
+  copyTo({ bigs, numbers, words }) {
     bigs.set(this.bigs.subarray(0, bigs.length));
     numbers.set(this.numbers.subarray(0, numbers.length));
     words.set(this.words.subarray(0, words.length));
-    return memory;
   }
 
   /**

@@ -7,6 +7,10 @@ import { SCRIPT_LIMITS } from "../../script/limits.mjs";
 /** @typedef {import("./records.mjs").Call} Call */
 /** @typedef {{ kind: number, block: number, offset: number, length: number }} Range of a view: see `Call` */
 
+// The marks of a call, as in ["load", "v", 0], and those before an operand.
+const CALL_MARKS = 10;
+const OPERAND_MARKS = 2;
+
 // The text around a call in a script, that of its steps, and that of the end of its time, at most.
 const AROUND_CALL = 8;
 const FOUR_STEPS = 4 * 5;
@@ -62,12 +66,22 @@ export function placedCallText({ kind, block, offset, length, index }, call) {
   return callText(`${viewKey(element)}`, call, 0);
 }
 
+/** @param {number | bigint} operand @returns {number} how long its text is: that of a short whole number is counted */
+function operandLength(operand) {
+  if (typeof operand === "bigint" || (operand | 0) !== operand) return operandText(operand).length;
+  let length = operand < 0 ? 2 : 1;
+  for (let rest = operand < 0 ? -operand : operand; rest > 9; rest = floor(rest / 10)) length += 1;
+  return length;
+}
+
 /**
- * How many bytes of a script a call and its moves take at most.
+ * How many bytes of a script a call and its moves take at most. An agent asks this for each call, so no text is made.
  * @param {number} nameLength of its view
  * @param {Call} call
  */
 export function textRoom(nameLength, call) {
-  const timeUp = call.limit === undefined ? 0 : TIME_UP_MOVE;
-  return callText("", call).length + nameLength + AROUND_CALL + FOUR_STEPS + timeUp;
+  let length = CALLS[call.call].name.length + nameLength + CALL_MARKS + operandLength(call.index);
+  for (let at = 0; at < call.operands.length; at += 1) length += OPERAND_MARKS + operandLength(call.operands[at]);
+  const limit = call.limit === undefined ? 0 : OPERAND_MARKS + operandLength(call.limit) + TIME_UP_MOVE;
+  return length + limit + AROUND_CALL + FOUR_STEPS;
 }

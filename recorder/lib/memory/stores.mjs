@@ -17,7 +17,10 @@ const ROOM = SCRIPT_LIMITS.agents * SCRIPT_LIMITS.calls * 8;
 // Up to so many bytes that were written together stand as the elements that were written.
 const FEW_BYTES = 64;
 
-const EACH = 8;
+/** How many words a store has. */
+export const STORE_WORDS = 8;
+
+const EACH = STORE_WORDS;
 const POSITION = 0;
 const AGENT = 1;
 const BLOCK = 2;
@@ -163,12 +166,17 @@ export class Stores {
 
   /** @returns {Store[]} in the order in which they are done; they hold until the next run begins */
   list() {
-    return listed(this.entries, this.words[WORD.STORES]);
+    return listed(this.entries, this.count);
   }
 
-  /** @returns {Int32Array} all of them, in memory of their own, which the next run leaves as it is */
-  taken() {
-    return this.entries.slice(0, this.words[WORD.STORES] * EACH);
+  /** @returns {number} how many there are */
+  get count() {
+    return this.words[WORD.STORES];
+  }
+
+  /** @param {Int32Array} into which as many are copied as it has room for */
+  copyTo(into) {
+    into.set(this.entries.subarray(0, into.length));
   }
 
   /**
@@ -250,8 +258,8 @@ export class Stores {
   }
 }
 
-/** Stores that were taken from a run's, all of them. */
-export class TakenStores {
+/** Copies of a run's stores, all of them. */
+export class CopiedStores {
   /** @param {Int32Array} entries */
   constructor(entries) {
     this.entries = entries;
@@ -279,7 +287,7 @@ export class TakenStores {
  * @returns {Store[]} in the order in which they are done
  */
 function listed(entries, count) {
-  const bytes = new Uint8Array(entries.buffer);
+  const bytes = new Uint8Array(entries.buffer, entries.byteOffset);
   const stores = [];
   let isOrdered = true;
   let last = 0;

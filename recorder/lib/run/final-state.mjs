@@ -28,6 +28,12 @@ const MOST_CHARACTERS = 240;
 /** How many states are remembered: runs mostly end in few. */
 const MOST_REMEMBERED = 256;
 
+/** A text of so many characters is remembered itself. */
+const MOST_KEY = 2_048;
+
+/** @param {string} text @returns {string} */
+const hashOf = (text) => createHash("sha256").update(text).digest("base64");
+
 /** @param {string} text @param {number} most */
 const cut = (text, most) => (text.length > most ? `${text.slice(0, most)}…` : text);
 
@@ -86,7 +92,7 @@ export class FinalStates {
   /** @param {Name[]} names of words and arrays */
   constructor(names) {
     this.names = names;
-    /** @type {Map<string, FinalState>} by their hashes */
+    /** @type {Map<string, FinalState>} by how the run ended and all bytes, or by their hash if these are many */
     this.known = new Map();
   }
 
@@ -98,13 +104,14 @@ export class FinalStates {
    */
   of(ending, bytes, more) {
     const all = more === undefined ? bytes : [...bytes, more.digest];
-    const hash = createHash("sha256").update(`${ending} ${all.join(" ")}`).digest("base64");
-    const known = this.known.get(hash);
+    const text = `${ending} ${all.join(" ")}`;
+    const key = text.length > MOST_KEY ? hashOf(text) : text;
+    const known = this.known.get(key);
     if (known !== undefined) return known;
     const shown = [...bytes.map((hex) => cut(hex, SHOWN_DIGITS)), ...(more?.shown ?? [])];
-    const state = { hash, shown, named: this.#named(bytes, shown) };
+    const state = { hash: hashOf(text), shown, named: this.#named(bytes, shown) };
     if (this.known.size === MOST_REMEMBERED) this.known.clear();
-    this.known.set(hash, state);
+    this.known.set(key, state);
     return state;
   }
 

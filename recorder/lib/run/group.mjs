@@ -185,13 +185,15 @@ export class Group {
    */
   #handOn({ outcome, judgement, taken, aside }, onOutcome) {
     if (taken === undefined) {
-      onOutcome(outcome, judgement, aside);
+      onOutcome(outcome, /** @type {Judgement | undefined} */ (judgement), aside);
       return;
     }
-    this.texts ??= new TextMaker(started(this.plan), this.options.isBrief === true);
-    this.texts.complete(outcome, taken);
+    this.texts ??= new TextMaker(started(this.plan), started(this.memory).runs, this.options.isBrief === true);
+    const events = this.texts.complete(outcome, taken);
     // Without a script the run isn't checked.
-    onOutcome(outcome, outcome.script === undefined ? undefined : judgement, aside);
+    const isChecked = judgement !== undefined && outcome.script !== undefined;
+    onOutcome(outcome, isChecked ? { ...judgement, events } : undefined, aside);
+    this.texts.free(taken);
   }
 
   /** @param {number} agent whose code goes on @returns {Promise<string | undefined>} file, line and column, if known */

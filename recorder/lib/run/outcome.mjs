@@ -94,5 +94,7 @@
 
 /** @typedef {{ outcome: Outcome, judgement?: Judgement, aside: Aside }} One all that is reported of one run */
 
-/** @typedef {One & { taken?: import("./taken.mjs").Taken }} Sent the same as the referee sends it: without its script
- * and report if these are made of copies */
+/** @typedef {Omit<Judgement, "events"> & { events?: Int32Array }} SentJudgement without the events if they are copied */
+
+/** @typedef {Omit<One, "judgement"> & { judgement?: SentJudgement, taken?: import("./taken.mjs").Taken }} Sent the same
+ * as the referee sends it: without its script and report if these are made of copies */

@@ -2,6 +2,7 @@
 // unordered accesses and the trace.
 
 import { createHash } from "node:crypto";
+import { CopiedRuns } from "../memory/copied-runs.mjs";
 import { Records } from "../memory/records.mjs";
 import { Sources } from "../memory/sources.mjs";
 import { Names } from "../options/names.mjs";
@@ -32,6 +33,7 @@ export class RunReporter {
       log: maker.log, records: memory.records.map((each) => new Records(each)), lengths: plan.buffers,
       canBlock: plan.canBlock, names: new Names(plan.names),
     };
+    this.copies = new CopiedRuns(memory.runs);
     this.states = new FinalStates(plan.names);
     /** Whether each ordinary access is seen: code from before the recorder may make some that aren't watched. */
     this.seesAll = options.ordinary === "watch" && !preloads();
@@ -112,13 +114,8 @@ export class RunReporter {
     const { maker, maker: { stores }, run: { log, records } } = this;
     const isPlain = maker.program === undefined && initial.length === 0 && stores.isWhole();
     if (!isPlain || fails || ending !== "finished") return undefined;
-    return {
-      events: log.taken(),
-      records: records.map((each, agent) => each.taken(maker.board.journal.progress(agent).calls)),
-      stores: stores.taken(),
-      bytes,
-      isOrdinary: this.#isOrdinary(),
-    };
+    const calls = maker.agents.map((agent) => maker.board.journal.progress(agent).calls);
+    return { copy: this.copies.copy(log, records, stores, calls), bytes, isOrdinary: this.#isOrdinary() };
   }
 
   /**
@@ -189,7 +186,7 @@ export class RunReporter {
    * @param {Outcome} outcome
    * @param {Made} found
    * @param {import("./taken.mjs").Taken} [taken] of which the outcome gets its script
-   * @returns {import("./outcome.mjs").Judgement | undefined}
+   * @returns {import("./outcome.mjs").SentJudgement | undefined}
    */
   judgement({ script }, found, taken) {
     const { program } = this.maker;
@@ -199,7 +196,7 @@ export class RunReporter {
     // The stores of `init` are none of the run's accesses, and ordinary reads are in no script.
     const hasScript = script !== undefined || taken !== undefined;
     const isInScript = hasScript && !this.#isOrdinary() && initial.length === 0;
-    return { racy, events: taken?.events ?? this.run.log.taken(), isInScript };
+    return { racy, isInScript, ...(taken === undefined ? { events: this.run.log.taken() } : {}) };
   }
 
   /**

@@ -1,9 +1,9 @@
-// What was written down of a run that passes, as copies. Of these another thread makes its script and report, while the
-// agents make the next run.
+// What was written down of a run that passes, as a copy. Of it another thread makes the run's script and report, while
+// the agents make the next run.
 
+import { CopiedRuns } from "../memory/copied-runs.mjs";
 import { Log } from "../memory/log.mjs";
-import { Records } from "../memory/records.mjs";
-import { TakenStores } from "../memory/stores.mjs";
+import { CopiedStores } from "../memory/stores.mjs";
 import { Names } from "../options/names.mjs";
 import { fitted } from "./fitting.mjs";
 import { KnownCalls } from "./known-calls.mjs";
@@ -13,30 +13,41 @@ import { addAnswers, addTexts } from "./script-texts.mjs";
 
 /**
  * @typedef {object} Taken
- * @property {Int32Array} events of the log
- * @property {ArrayBuffer[]} records of each agent's calls
- * @property {Int32Array} stores that stand for ordinary writes: all of them
+ * @property {import("../memory/copied-runs.mjs").Copy} copy
  * @property {string[]} bytes of each block at the end, in hexadecimal digits
  * @property {boolean} isOrdinary whether ordinary accesses were made, or may have been made unseen
  */
 
 export class TextMaker {
-  /** @param {import("../options/plan.mjs").Plan} plan @param {boolean} isBrief whether outcomes have no answers */
-  constructor({ buffers, canBlock, names }, isBrief) {
+  /**
+   * @param {import("../options/plan.mjs").Plan} plan
+   * @param {SharedArrayBuffer} memory of the copies
+   * @param {boolean} isBrief whether outcomes have no answers
+   */
+  constructor({ buffers, canBlock, names }, memory, isBrief) {
     this.fixed = { lengths: buffers, canBlock, names: new Names(names), known: new KnownCalls() };
+    this.copies = new CopiedRuns(memory);
     this.isBrief = isBrief;
   }
 
   /**
-   * Adds to an outcome what is read off copies: its script and report, or why it has none, and its answers.
+   * Adds to an outcome what is read off a copy: its script and report, or why it has none, and its answers.
    * @param {Outcome} outcome
    * @param {Taken} taken
+   * @returns {Int32Array} the events of the run; they hold until the copy is freed
    */
-  complete(outcome, { events, records, stores, bytes, isOrdinary }) {
+  complete(outcome, { copy, bytes, isOrdinary }) {
     const { fixed, isBrief } = this;
-    const run = { ...fixed, log: Log.from(events), records: records.map((each) => new Records(each)), isOrdinary };
-    const found = fitted(run, new TakenStores(stores), [], bytes);
+    const { events, records, stores } = this.copies.parts(copy);
+    const run = { ...fixed, log: Log.from(events), records, isOrdinary };
+    const found = fitted(run, new CopiedStores(stores), [], bytes);
     if (!isBrief) addAnswers(outcome, found, bytes, run.canBlock.length);
     addTexts(outcome, found);
+    return events;
+  }
+
+  /** @param {Taken} taken whose copy nobody reads any more */
+  free({ copy }) {
+    this.copies.free(copy);
   }
 }
