@@ -145,9 +145,11 @@ export class Group {
    * Makes a run for each seed, in their order.
    * @param {Wanted[]} seeds
    * @param {(outcome: Outcome, judgement: Judgement | undefined, aside: Aside) => void} onOutcome
+   * @param {(outcome: Outcome) => void} [onFailing] is called for a failing run before that, and before the next run,
+   * whose agents may end the process
    */
-  run(seeds, onOutcome) {
-    return this.#work({ seeds }, onOutcome);
+  run(seeds, onOutcome, onFailing) {
+    return this.#work({ seeds }, onOutcome, onFailing);
   }
 
   /** Ends all workers. */
@@ -160,16 +162,20 @@ export class Group {
    * Has the referee do something, and does what it asks for meanwhile.
    * @param {{ seeds: Wanted[] } | { learns: true }} work
    * @param {(outcome: Outcome, judgement: Judgement | undefined, aside: Aside) => void} onOutcome
+   * @param {(outcome: Outcome) => void} [onFailing] as above
    */
-  async #work(work, onOutcome) {
+  async #work(work, onOutcome, onFailing) {
     const referee = started(this.referee);
     referee.post(work);
     for (;;) {
       const { message, ended } = await referee.next();
       if (ended !== undefined) throw new Error(`the referee's worker failed: ${ended}`);
       if (message.finished) return;
+      if (message.outcome?.fails) {
+        onFailing?.(message.outcome);
+        referee.post({ taken: true });
+      }
       if (message.outcome) this.#handOn(message, onOutcome);
-      if (message.outcome?.fails) referee.post({ taken: true });
       if (message.replace) {
         await Promise.all(message.replace.map((/** @type {number} */ agent) => this.replace(agent)));
         referee.post({ replaced: true });

@@ -24,7 +24,7 @@ async function answerTo(request) {
   if (request.open !== undefined) await job.open(request.open);
   // Its first workers have begun.
   stopGrowth();
-  if (request.run !== undefined) await job.run(request.run, sendOutcome);
+  if (request.run !== undefined) await job.run(request.run, sendOutcome, (failing) => send({ failing }));
   return request.shorten && job.shorten(request.shorten, (tried) => send({ tried }));
 }
 

@@ -14,6 +14,9 @@ import { KeepsGlobals, keepsGlobals } from "./first-again.mjs";
 /** @typedef {{ stray?: import("../board/row.mjs").Stray, acts?: string }} Besides `acts` is a digest of what was done */
 /** @typedef {Outcome & import("../check/check.mjs").Check & Besides} Checked */
 
+/** Why a failing run isn't checked whose job's process was ended before. */
+const NOT_CHECKED = "the process of its job ended before it was checked";
+
 /**
  * @typedef {object} CheckOptions
  * @property {number} checkEvery one in how many of the runs that don't fail is checked, and has a script
@@ -68,6 +71,9 @@ export class Job {
   #shortens = false;
   #firstFailing = new FirstFailing();
 
+  /** @type {number | undefined} the seed of the run that may be the first failing one */
+  #first;
+
   /**
    * Starts its workers.
    * @param {import("../run/group.mjs").GroupOptions & CheckOptions} options
@@ -87,19 +93,25 @@ export class Job {
    * Makes runs, and checks them.
    * @param {import("../run/outcome.mjs").Wanted[]} seeds
    * @param {(outcome: Checked) => void} onOutcome
+   * @param {(outcome: Checked) => void} [onFailing] is called for a failing run before it is checked, and before the
+   * next run begins
    * @returns {Promise<void>} fails if a check has failed, and the outcome of that run is the last one; also if a program
    * keeps something in globals
    */
-  async run(seeds, onOutcome) {
+  async run(seeds, onOutcome, onFailing = () => {}) {
     const group = await this.#opened();
+    /** @param {Outcome} outcome @param {Checked} as */
+    const brief = ({ seed }, as) => (!this.#isBrief || seed === this.#first ? as : lightened(as));
     await group.run(seeds, (outcome, judgement, aside) => {
       if (this.#failure !== undefined) return;
+      const checked = this.#checked({ outcome, judgement, aside });
+      if (checked !== undefined) onOutcome(brief(outcome, checked));
+    }, (outcome) => {
       // Only the first failing run is kept, and a job's seeds ascend.
       const isFirst = this.#firstFailing.takes(outcome);
+      if (isFirst) this.#first = outcome.seed;
       if (isFirst && this.#shortens) group.beginAhead();
-      const checked = this.#checked({ outcome, judgement, aside });
-      if (checked === undefined) return;
-      onOutcome(isFirst || !this.#isBrief ? checked : lightened(checked));
+      onFailing(brief(outcome, { ...outcome, checked: false, unchecked: NOT_CHECKED }));
     });
     if (this.#failure !== undefined) throw this.#failure;
   }

@@ -19,6 +19,7 @@ import { KeepsGlobals } from "./first-again.mjs";
 /**
  * @typedef {object} Message what it answers: one of these
  * @property {import("../shorter/shorten.mjs").Tried} [tried]
+ * @property {Checked} [failing] the outcome of a run that fails, and that is about to be checked
  * @property {Checked} [outcome]
  * @property {Packed} [failed]
  * @property {unknown} [done]
@@ -70,6 +71,8 @@ export class RemoteJob {
     this.onMessage = undefined;
     /** @type {string | undefined} why its process is no more */
     this.lost = undefined;
+    /** @type {Checked | undefined} a failing run whose check hasn't ended */
+    this.failing = undefined;
     /** @type {Promise<void>} */
     this.gone = new Promise((done) => this.#watch(done));
     this.child.on("message", (message) => this.#take(message));
@@ -145,18 +148,26 @@ export class RemoteJob {
    */
   #ask(request, onOutcome) {
     return new Promise((done, fail) => {
+      /** @param {Checked} outcome */
+      const handOn = (outcome) => {
+        this.failing = undefined;
+        onOutcome?.(outcome);
+      };
       /** @type {(settle: (value: unknown) => void, value: unknown) => void} */
       const end = (settle, value) => {
         this.onMessage = undefined;
+        this.failing = undefined;
         settle(value);
       };
       /** @param {Message} message */
       const onMessage = (message) => {
         try {
-          if (message.outcome !== undefined) onOutcome?.(message.outcome);
+          if (message.failing !== undefined) this.failing = message.failing;
+          else if (message.outcome !== undefined) handOn(message.outcome);
           else if (message.failed !== undefined) throw unpacked(message.failed);
           else end(done, message.done);
         } catch (problem) {
+          if (problem instanceof LostJob && this.failing !== undefined) handOn(this.failing);
           end(fail, problem);
         }
       };
