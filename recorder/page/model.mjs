@@ -1,6 +1,7 @@
 // A run as its page shows it: its steps, and for each of them the memory, who waits where, and where the agents are. It
 // runs in pages, and in tests; it knows nothing of how things are shown.
 
+import { helpersIn } from "../script/helpers.mjs";
 import { Rows } from "./memory-rows.mjs";
 import { Views, write } from "./elements.mjs";
 import { Stepper } from "./steps.mjs";
@@ -128,7 +129,9 @@ export class Run {
       return pair.length > 0 ? pair.sort((one, other) => one - other) : [end];
     }
     if (ending === "deadlock") {
-      const waiting = standings.filter(({ standing }) => standing.at === "waits").map(({ agent }) => agent);
+      const helpers = helpersIn(this.data.views);
+      const sleepers = standings.filter(({ agent, standing }) => standing.at === "waits" && !helpers.has(agent));
+      const waiting = sleepers.map(({ agent }) => agent);
       return [Math.max(...waiting.map((agent) => this.#lastOf(agent)), -1)].map((at) => (at < 0 ? end : at));
     }
     const isByAgent = ending === "failed" || ending === "bound";

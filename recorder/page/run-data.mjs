@@ -24,7 +24,7 @@
  * @property {string} module the name of its file
  * @property {string} ending
  * @property {string} detail
- * @property {number} agents how many, without that of `init`
+ * @property {number} agents how many, with helpers, and without that of `init`
  * @property {number[]} blocks their lengths
  * @property {View[]} views
  * @property {View[]} arrays of the code, by which ordinary accesses were made
@@ -36,7 +36,8 @@
  * @property {{ file: string, text: string | null }[]} files
  * @property {[number, number][]} races the two events of each, the most useful first
  * @property {"all" | "touched"} holds which ordinary writes the script has
- * @property {string[]} [threads] of a program: each thread's file and where it was started; of the first one nothing
+ * @property {string[]} [threads] of a program: each thread's file and where it was started; of the first one nothing;
+ * and of each helper whose waitAsync it stands for
  * @property {number[]} [senders] of a program: which thread has sent each message
  * @property {Task[]} [tasks] of a program: what its event loops have taken up besides messages
  * @property {string} [script] its text, in a page that can change the schedule

@@ -1,11 +1,12 @@
 // The steps of a run, from the entries of its report and the events of its trace.
 
 import { isStandIn } from "../schedule/report.mjs";
+import { handOverOf, helpersIn } from "../script/helpers.mjs";
 import { storedBytes } from "../script/values.mjs";
 import { labelOf, writtenView } from "../script/written.mjs";
 import { changesBy, sizeOf } from "./elements.mjs";
 import { endingText } from "./endings.mjs";
-import { callText, changesText, entryText, standingText, valueText } from "./words.mjs";
+import { callText, changesText, entryText, handOverText, standingText, valueText } from "./words.mjs";
 
 /** @typedef {import("../schedule/report.mjs").Entry} Entry */
 /** @typedef {import("./elements.mjs").Change} Change */
@@ -39,6 +40,7 @@ import { callText, changesText, entryText, standingText, valueText } from "./wor
  * @property {Change[]} changes of elements, by the stores
  * @property {boolean} isSwitch whether another agent has made the step before
  * @property {Entry} [fact]
+ * @property {boolean} [isReworded] whether its sentence isn't the report's: a message, or a wait that is handed over
  */
 
 /** A message has a word of its own. */
@@ -121,7 +123,11 @@ export class Stepper {
   #end() {
     const { detail, standings } = this.data;
     const ending = endingText(this.data.ending, detail);
-    const stands = standings.map(({ agent, standing }) => `Agent ${agent} ${standingText(standing)}.`);
+    const helpers = helpersIn(this.data.views);
+    const stands = standings.map(({ agent, standing }) => {
+      const owner = helpers.get(agent);
+      return `Agent ${agent}${owner === undefined ? "" : ` (waitAsync of agent ${owner})`} ${standingText(standing)}.`;
+    });
     this.#add({ what: "end", text: `the end: ${ending}`, sentence: [`The run ends: ${ending}.`, ...stands].join(" ") });
   }
 
@@ -140,6 +146,8 @@ export class Stepper {
     }
     while (this.next < this.entries.length && isNoCall(this.entries[this.next])) this.#entry(-1, undefined);
     this.#entry(event.place, position);
+    // A wait that has ended is handed back before its thread goes on.
+    while (handOverOf(this.entries[this.next]?.does ?? [])?.begins === false) this.#entry(-1, undefined);
   }
 
   /** @param {Event} event @param {number} position */
@@ -197,7 +205,7 @@ export class Stepper {
     this.pending[agent] = [];
     if (what === "wait") this.waits[agent] = number;
     const [name] = does;
-    const message = this.#messageText(entry);
+    const message = handOverText(entry) ?? this.#messageText(entry);
     // The place of a message is nothing of the program's.
     const touches = at !== undefined && what !== "leave" && message === undefined;
     const access = touches ? [this.#accessOf(entry, !["load", "wait", "notify"].includes(`${name}`))] : [];
@@ -205,7 +213,7 @@ export class Stepper {
       what: what === "act" ? "call" : /** @type {"wait" | "leave"} */ (what),
       agent, entry: number, event, place, sentence: message ?? sentence, text: message ?? callText(does),
       answer: message === undefined ? answerText(entry) : "",
-      accesses: access, stores: this.#storesOf(entry), fact: entry,
+      accesses: access, stores: this.#storesOf(entry), fact: entry, isReworded: message !== undefined,
     });
   }
 
@@ -264,10 +272,11 @@ function bytesText({ block, byte, size }, view) {
 }
 
 /**
- * Whether an entry is none of a call that its agent made: it stands for an ordinary write, or is stuck.
+ * Whether an entry is none of a call that its agent made: it stands for an ordinary write, hands a wait over, or is
+ * stuck.
  * @param {Entry} entry
  */
-const isNoCall = ({ what, does }) => what === "stuck" || isStandIn(does);
+const isNoCall = ({ what, does }) => what === "stuck" || isStandIn(does) || handOverOf(does) !== undefined;
 
 /** @param {Event} event */
 export const isOrdinary = ({ does }) => does === "read" || does === "write";

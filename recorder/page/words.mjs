@@ -1,6 +1,8 @@
 // The facts of a run in the words of `sabsim replay --format explained`, from what `--format json` prints of it. It
 // runs in pages, and in tests.
 
+import { handOverOf } from "../script/helpers.mjs";
+
 /** @typedef {import("../schedule/report.mjs").Entry} Entry */
 /** @typedef {import("../script/text.mjs").View} View */
 
@@ -18,6 +20,19 @@ export const valueText = (value) => (typeof value === "string" && /^-?\d+$/.test
 
 /** @param {(string | number)[]} does @returns {string} a call as JavaScript writes it */
 export const callText = ([name, view, ...others]) => `${name}(${[view, ...others.map(valueText)].join(", ")})`;
+
+/**
+ * A notify by which a thread and its helper hand a wait of waitAsync over.
+ * @param {Entry} entry
+ * @returns {string | undefined} undefined: it is another call
+ */
+export function handOverText({ agent, does }) {
+  const found = handOverOf(does);
+  if (found === undefined) return undefined;
+  const { helper, owner, begins } = found;
+  if (agent === owner) return `${begins ? "hands its waitAsync to" : "gets the end of its waitAsync from"} agent ${helper}`;
+  return `${begins ? "takes" : "hands back"} the waitAsync of agent ${owner}`;
+}
 
 /** @param {(string | number)[]} does @returns {string} the element that a call names */
 export const elementText = ([, view, index]) => `${view}[${index}]`;

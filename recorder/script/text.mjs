@@ -14,7 +14,8 @@
  * @property {string} text the call as a script has it
  * @property {boolean} joined whether it joined the line of waiters
  * @property {string | null} answer as a report spells it, or null while it waits
- * @property {boolean} isOwn whether the agent called it; else it stands for an ordinary write
+ * @property {boolean} isOwn whether the agent called it; else it stands for an ordinary write, or hands a wait over
+ * @property {Done} [standsFor] what the agent called, where another agent of the script makes that
  * @property {string} [name] of its element, where that has one
  * @property {string[]} [steps] what a report has of each of its steps, once that was made
  */

@@ -278,10 +278,10 @@ export class Player {
     return this.#answer(word, MAKE);
   }
 
-  /** @param {Call} call a wait that joins the line @param {number} source */
-  joins(call, source) {
+  /** @param {Call} call a wait that joins the line @param {number} source @param {number} [more] flags */
+  joins(call, source, more = 0) {
     this.table.records.join(this.part.made);
-    this.#log(JOIN, call, COMPARES, source);
+    this.#log(JOIN, call, COMPARES | more, source);
     this.table.board.did(this.agent, JOIN);
   }
 

@@ -6,11 +6,13 @@ const { Int32Array, SharedArrayBuffer } = globalThis;
 
 const MOST_WAITERS = 1_024;
 
-// How many waits there were in the run, how many were notified, and behind which slot all are free.
+// How many waits there were in the run, how many were notified, behind which slot all are free, and whether a notify
+// looked for waits where one has been lost.
 const JOINED = 0;
 const NOTIFIED = 1;
 const END = 2;
-const HEAD = 3;
+const MISSED = 3;
+const HEAD = 4;
 
 // The words of a slot.
 const EACH = 6;
@@ -21,10 +23,11 @@ const BYTE = 3;
 const TICKET = 4;
 const ORDER = 5;
 
-// The word STATE.
+// The word STATE. A wait is lost if its thread has ended.
 const FREE = 0;
 const WAITS = 1;
 const WOKEN = 2;
+const LOST = 3;
 
 /** In place of a slot. */
 export const NO_WAITER = -1;
@@ -48,6 +51,11 @@ export class AsyncWaiters {
   /** @returns {number} how many waits of the run have joined the line */
   get joined() {
     return this.words[JOINED];
+  }
+
+  /** @returns {boolean} whether a notify came to a place at which a wait has been lost: an agent would still wait there */
+  get hasMissed() {
+    return this.words[MISSED] === 1;
   }
 
   /** @returns {boolean} whether there is room for another wait */
@@ -80,9 +88,10 @@ export class AsyncWaiters {
   oldest(block, byte) {
     let oldest = NO_WAITER;
     for (let slot = 0; slot < this.words[END]; slot += 1) {
-      const isHere = this.#word(slot, STATE) === WAITS && this.#word(slot, BLOCK) === block
-        && this.#word(slot, BYTE) === byte;
-      if (isHere && (oldest < 0 || this.ticket(slot) < this.ticket(oldest))) oldest = slot;
+      if (this.#word(slot, BLOCK) !== block || this.#word(slot, BYTE) !== byte) continue;
+      const state = this.#word(slot, STATE);
+      if (state === LOST) this.words[MISSED] = 1;
+      if (state === WAITS && (oldest < 0 || this.ticket(slot) < this.ticket(oldest))) oldest = slot;
     }
     return oldest;
   }
@@ -117,7 +126,10 @@ export class AsyncWaiters {
 
   /** @param {number} agent that has ended: nobody notifies its waits */
   endOf(agent) {
-    for (let slot = 0; slot < this.words[END]; slot += 1) if (this.#word(slot, AGENT) === agent) this.leave(slot);
+    for (let slot = 0; slot < this.words[END]; slot += 1) {
+      const isPending = this.#word(slot, AGENT) === agent && this.#word(slot, STATE) === WAITS;
+      if (isPending) this.words[HEAD + slot * EACH + STATE] = LOST;
+    }
   }
 
   /** @returns {number} the first free slot */

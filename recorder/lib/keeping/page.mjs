@@ -4,6 +4,7 @@
 
 import { endingText } from "../../page/endings.mjs";
 import { builtSimulator, documentOf } from "./document.mjs";
+import { helperNames, placesInScript } from "./helpers.mjs";
 import { sendersIn } from "./messages.mjs";
 
 /** @typedef {import("../run/outcome.mjs").Outcome} Outcome */
@@ -97,17 +98,21 @@ export function pageData(outcome, facts, module) {
   const places = [...new Set([...events, ...tasks].map(({ source }) => source))].filter((source) => source !== null);
   const placeNumbers = new Map(places.map((place, at) => [place, at]));
   const entries = objects.filter(({ what }) => what === "act" || what === "wait" || what === "leave");
+  const file = decodeURIComponent(module.replace(/[?#].*$/, "").replace(/^.*\//, ""));
+  const { threads } = outcome;
+  const helpers = helperNames(views, threads ?? [], file);
+  const inScript = placesInScript(all, entries);
   return {
-    ...(outcome.threads === undefined ? {} : { threads: outcome.threads, senders: sendersIn(entries) }),
-    seed, ending, detail, holds, blocks, views, arrays, places, files: sources, script,
-    module: decodeURIComponent(module.replace(/[?#].*$/, "").replace(/^.*\//, "")),
-    agents: outcome.progress.length,
+    ...(threads === undefined ? {} : { threads: [...threads, ...helpers], senders: sendersIn(entries) }),
+    seed, ending, detail, holds, blocks, views, arrays, places, files: sources, script, module: file,
+    agents: outcome.progress.length + helpers.length,
     isWhole: events.length === all.length,
     entries,
     standings: objects.filter(({ standing }) => standing !== undefined),
-    events: events.map(({ event, agent, call, does, block, byte, size, read, write, source }) => {
+    events: events.map((each) => {
+      const { event, agent, call, does, block, byte, size, read, write, source } = each;
       const place = placeNumbers.get(source) ?? -1;
-      return { agent, call, does, block, byte, size, read, write, place, ...accesses.get(event) };
+      return { agent, call, does, block, byte, size, read, write, place, ...inScript.get(each), ...accesses.get(event) };
     }),
     ...(tasks.length === 0 ? {} : { tasks: tasks.map(({ before, agent, text, source }) =>
       ({ before, agent, text, place: placeNumbers.get(source) ?? -1 })) }),

@@ -10,8 +10,11 @@ export const WRITE = 5;
 /**
  * What an event is. `AGAIN`: an ordinary access that its agent has made before, since its last call. `ONLY_BY_TIME`:
  * the end of a wait by its time, where nothing else could move, though its word had changed or nobody else was left.
+ * `ASYNC`: a wait that joins the line, or its end, in which nobody sleeps.
  */
-export const FLAG = Object.freeze({ READS: 1, WRITES: 2, ATOMIC: 4, WAITERS: 8, AGAIN: 16, ONLY_BY_TIME: 32 });
+export const FLAG = Object.freeze({
+  READS: 1, WRITES: 2, ATOMIC: 4, WAITERS: 8, AGAIN: 16, ONLY_BY_TIME: 32, ASYNC: 64,
+});
 
 /** Where there is no call of Atomics. */
 export const NO_CALL = 15;
@@ -201,6 +204,11 @@ export class Log {
   /** @param {number} event */
   flagsAt(event) {
     return this.events[event * EACH + HEAD] >> FLAG_BITS;
+  }
+
+  /** @param {number} event */
+  callAt(event) {
+    return this.events[event * EACH + NUMBER];
   }
 
   /** @param {number} event */

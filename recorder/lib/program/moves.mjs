@@ -2,12 +2,13 @@
 // own, one where it is sent and one where it is received: notifies that wake nobody. An event loop that has nothing to
 // do waits; one that has something asks for the turn.
 
-import { CALL_NUMBERS, KINDS, SIZES } from "../../script/kinds.mjs";
+import { CALL_NUMBERS, CONSTRUCTORS, KINDS, SIZES } from "../../script/kinds.mjs";
 import { LEAVE, TIME_UP } from "../board/journal.mjs";
 import { CHANNEL_PLACE, LOOP_PLACES, MESSAGES, MESSAGE_PLACES, PORT_PLACES } from "../memory/blocks.mjs";
 import { LOOP, NOWHERE, PHASE, WORD } from "../memory/layout.mjs";
 import { FLAG } from "../memory/log.mjs";
 import { byteOf } from "../memory/memory.mjs";
+import { bufferOf } from "../primordials.mjs";
 
 /** @typedef {import("../memory/records.mjs").Call} Call */
 
@@ -99,14 +100,21 @@ export class Moves {
     const source = player.begins(call, called);
     const word = player.compared(call, view, source);
     const isOver = call.limit !== undefined && (call.milliseconds ?? call.limit) <= 0;
-    if (word === "not-equal" || isOver) player.ends(call, word, source);
+    if (word === "not-equal") player.ends(call, word, source);
+    else if (isOver) this.#passes(call, source);
     else this.#join(call, source);
     return word;
   }
 
-  /** @param {Call} call a wait that joins the line without a draw @returns {number} which of the thread's calls it is */
+  /**
+   * A wait joins the line without a draw, whatever its word is now: that was equal when the wait began.
+   * @param {Call} call
+   * @returns {number} which of the thread's calls it is
+   */
   joinNow(call) {
     const { player } = this;
+    const memory = bufferOf(player.table.memory.real[call.block]);
+    call.operands = [new CONSTRUCTORS[call.kind](memory, byteOf(call), 1)[0]];
     player.beginsNow(call);
     this.#join(call, 0);
     return player.part.made - 1;
@@ -119,13 +127,8 @@ export class Moves {
    * @param {boolean} isTimeUp
    */
   leave(made, call, isTimeUp) {
-    const { board, agent, player: { part, table: { log, records } } } = this;
-    const event = isTimeUp ? TIME_UP : LEAVE;
-    const from = byteOf(call);
-    part.enter();
-    log.append(event, agent, call.call, FLAG.WAITERS, made, call.block, from, from + SIZES[call.kind], call, 0);
-    records.answer(made, isTimeUp ? "timed-out" : "ok");
-    board.did(agent, event);
+    this.player.part.enter();
+    this.#ends(made, call, isTimeUp, FLAG.ASYNC);
     this.#goesOn();
   }
 
@@ -173,9 +176,28 @@ export class Moves {
   /** @param {Call} call @param {number} source */
   #join(call, source) {
     const { player } = this;
-    player.joins(call, source);
+    player.joins(call, source, FLAG.ASYNC);
     player.part.made += 1;
     this.#goesOn();
+  }
+
+  /** @param {Call} call a wait whose time is up as it joins the line @param {number} source */
+  #passes(call, source) {
+    const { player } = this;
+    player.joins(call, source);
+    this.#ends(player.part.made, call, true, 0);
+    player.part.made += 1;
+    this.#goesOn();
+  }
+
+  /** @param {number} made which of the thread's calls it is @param {Call} call @param {boolean} isTimeUp @param {number} more flags */
+  #ends(made, call, isTimeUp, more) {
+    const { board, agent, player: { table: { log, records } } } = this;
+    const event = isTimeUp ? TIME_UP : LEAVE;
+    const [from, flags] = [byteOf(call), FLAG.WAITERS | more];
+    log.append(event, agent, call.call, flags, made, call.block, from, from + SIZES[call.kind], call, 0);
+    records.answer(made, isTimeUp ? "timed-out" : "ok");
+    board.did(agent, event);
   }
 
   /** The thread's own code goes on. */

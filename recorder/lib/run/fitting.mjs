@@ -7,6 +7,7 @@ import { scriptText } from "../../script/text.mjs";
 import { LEAVE, MAKE, MOVES, TIME_UP } from "../board/journal.mjs";
 import { FLAG, READ } from "../memory/log.mjs";
 import { NO_NAMES } from "../options/names.mjs";
+import { Helpers, isAsync } from "./helpers.mjs";
 import { UNSEEN, transcriptOf } from "./transcript.mjs";
 
 /** @typedef {import("../memory/stores.mjs").Store} Store */
@@ -21,9 +22,14 @@ import { UNSEEN, transcriptOf } from "./transcript.mjs";
  * @property {string} [noScript] why there is no script
  */
 
+const TRACE_ALONE = "which no script can have; of such a run sabsim judges the trace alone";
+
 /** Why there is no script of a run whose calls alone are too many, as a program's may be. */
-const BEYOND = `a thread made more than ${SCRIPT_LIMITS.calls} calls, which no script can have; of such a run sabsim judges `
-  + "the trace alone";
+const BEYOND = `a thread made more than ${SCRIPT_LIMITS.calls} calls, ${TRACE_ALONE}`;
+const BEYOND_WITH_HELPERS = `with those that stand for Atomics.waitAsync there are more than ${SCRIPT_LIMITS.calls} calls of `
+  + `an agent, ${TRACE_ALONE}`;
+const TOO_MANY = `it has more than ${SCRIPT_LIMITS.agents} threads and waits of Atomics.waitAsync that are pending at once, `
+  + TRACE_ALONE;
 
 /** The unsigned kinds, the largest first. */
 const UNSIGNED = ["BigUint64", "Uint32", "Uint16", "Uint8"].map((name) => {
@@ -128,20 +134,38 @@ function placesOf(stores) {
 }
 
 /**
- * How many calls each agent makes by itself, and how many moves are made.
+ * How many calls each agent makes by itself, helpers too, and how many moves are made.
  * @param {import("../memory/log.mjs").Log} log
- * @param {number} agents how many
+ * @param {number} agents how many, without helpers
  */
 function countsOf(log, agents) {
   const calls = Array.from({ length: agents }, () => 0);
+  const helpers = new Helpers(agents);
   let moves = 0;
   for (let event = 0; event < log.length; event += 1) {
     const what = log.whatAt(event);
     if (what >= READ) continue;
+    const agent = log.agentAt(event);
+    const isEnd = what === LEAVE || what === TIME_UP;
     moves += MOVES[what];
-    if (what !== LEAVE && what !== TIME_UP) calls[log.agentAt(event)] += 1;
+    if (isAsync(log, event)) {
+      const helper = isEnd ? helpers.end(agent, log.callAt(event)) : helpers.begin(agent, log.callAt(event));
+      calls[helper] = (calls[helper] ?? 0) + (isEnd ? 1 : 2);
+      calls[agent] += 1;
+      moves += 2 * MOVES[MAKE];
+    } else if (!isEnd) calls[agent] += 1;
   }
-  return { calls, moves };
+  return { calls, moves, helpers: helpers.count };
+}
+
+/**
+ * @param {ReturnType<typeof countsOf>} counts
+ * @returns {string | undefined} why the calls alone can't stand in a script; undefined: they may
+ */
+function reasonAgainstCalls(counts) {
+  if (counts.helpers > 0 && counts.calls.length > SCRIPT_LIMITS.agents) return TOO_MANY;
+  if (reasonAgainst(counts, []) === undefined) return undefined;
+  return counts.helpers > 0 ? BEYOND_WITH_HELPERS : BEYOND;
 }
 
 /**
@@ -232,7 +256,8 @@ export function fitted(run, stores, initial, final) {
   let noScript = "too many ordinary writes were made to bytes that calls touch";
   if (stores.isLost()) return { transcript: transcriptOf(run, []), noScript };
   const counts = countsOf(run.log, run.canBlock.length);
-  if (reasonAgainst(counts, []) !== undefined) return { transcript: transcriptOf(run, []), noScript: BEYOND };
+  noScript = reasonAgainstCalls(counts);
+  if (noScript !== undefined) return { transcript: transcriptOf(run, []), noScript };
   let isOfCallsAlone = true;
   for (const { holds, list } of stores.isWhole() ? choices : choices.slice(2)) {
     const [own, first] = list();

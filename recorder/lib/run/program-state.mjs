@@ -12,8 +12,8 @@ import { blockNames } from "./program-names.mjs";
 const CUT = "a thread was terminated while it waited, which no script can have; of such a run sabsim judges the trace "
   + "alone";
 
-const WAITS_ASYNC = "it has waited by Atomics.waitAsync, which no script can have yet; of such a run sabsim judges the "
-  + "trace alone";
+const CUT_ASYNC = "a notify came where a thread that has ended had waited by Atomics.waitAsync, which no script can have; of "
+  + "such a run sabsim judges the trace alone";
 
 const MORE_MEMORY = `its threads share more than ${MOST_BLOCKS} buffers, one of more than ${MOST_BYTES} bytes, or one that `
   + "grows, which neither a script nor a trace can have; such a run the recorder alone judges";
@@ -67,7 +67,7 @@ export class ProgramState {
   whyNoScript() {
     if (this.goesBeyondTraces) return MORE_MEMORY;
     if (this.ports.isCut()) return CUT;
-    return (this.board.waiters?.joined ?? 0) > 0 ? WAITS_ASYNC : undefined;
+    return this.board.waiters?.hasMissed ? CUT_ASYNC : undefined;
   }
 
   /** @returns {boolean} whether the run has memory that neither a script nor a trace can have */

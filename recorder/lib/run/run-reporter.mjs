@@ -193,9 +193,11 @@ export class RunReporter {
     const hasEvents = script !== undefined || taken !== undefined || (program !== undefined && !program.goesBeyondTraces);
     if (!hasEvents || found.isUnseen || this.options.ordinary !== "watch") return undefined;
     const { racy, initial } = found;
-    // The stores of `init` are none of the run's accesses, and ordinary reads are in no script.
+    // The stores of `init` are none of the run's accesses, ordinary reads are in no script, and in one nothing orders
+    // what a thread does while its helper waits with that wait.
     const hasScript = script !== undefined || taken !== undefined;
-    const isInScript = hasScript && !this.#isOrdinary() && initial.length === 0;
+    const hasHelpers = (this.maker.board.waiters?.joined ?? 0) > 0;
+    const isInScript = hasScript && !this.#isOrdinary() && initial.length === 0 && !hasHelpers;
     return { racy, isInScript, ...(taken === undefined ? { events: this.run.log.taken() } : {}) };
   }
 

@@ -1,6 +1,7 @@
 // What an outcome has of a run's script: the script and its report, or why there is none, and what its calls returned.
 
 import { reportText } from "../../script/report.mjs";
+import { ownCalls } from "./transcript.mjs";
 
 /** @typedef {import("./outcome.mjs").Outcome} Outcome */
 /** @typedef {import("./fitting.mjs").Fitted} Fitted */
@@ -14,7 +15,7 @@ import { reportText } from "../../script/report.mjs";
  */
 export function addAnswers(outcome, { transcript }, bytes, agents) {
   outcome.bytes = bytes;
-  const own = transcript.calls.slice(0, agents).map((calls) => calls.filter(({ isOwn }) => isOwn));
+  const own = Array.from({ length: agents }, (_, agent) => ownCalls(transcript, agent));
   outcome.answers = own.map((calls) => calls.map(({ answer }) => answer));
 }
 

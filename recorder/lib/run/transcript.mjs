@@ -1,14 +1,17 @@
 // What was done in a run, as a script and its report have it: views, the calls of each agent, and moves. Ordinary
 // writes stand among the calls as stores. What agents call is counted apart: they are none of theirs. Ordinary reads
-// aren't among the calls. So a view without an element says that the run has ordinary accesses, or may have some.
+// aren't among the calls. So a view without an element says that the run has ordinary accesses, or may have some. A wait
+// of Atomics.waitAsync is one of a helper, an agent of its own, to which its thread hands it over.
 
+import { BEGINS, ENDS } from "../../script/helpers.mjs";
 import { CONSTRUCTORS, KINDS, SIZES } from "../../script/kinds.mjs";
 import { answerText } from "../../script/report.mjs";
-import { LEAVE, MAKE, MOVES, TIME_UP } from "../board/journal.mjs";
+import { JOIN, LEAVE, MAKE, MOVES, TIME_UP } from "../board/journal.mjs";
 import { READ } from "../memory/log.mjs";
 import { callText, viewName } from "../memory/spelling.mjs";
 import { STORED } from "../memory/stores.mjs";
 import { NO_NAMES, nameText } from "../options/names.mjs";
+import { Helpers, isAsync } from "./helpers.mjs";
 import { KnownCalls } from "./known-calls.mjs";
 
 /** @typedef {import("../memory/stores.mjs").Store} Store */
@@ -47,7 +50,8 @@ class Writer {
   /** @param {Run} run @param {boolean[]} canBlock of each agent, also of the one of `init` */
   constructor({ lengths, names = NO_NAMES, known = new KnownCalls() }, canBlock) {
     this.lengths = lengths;
-    this.canBlock = canBlock;
+    this.canBlock = [...canBlock];
+    this.helpers = new Helpers(canBlock.length);
     this.names = names;
     this.known = known;
     /** @type {Map<string, View>} */
@@ -129,16 +133,60 @@ class Writer {
     return named === undefined ? { done, view: { name, range: call } } : { done };
   }
 
+  /** @param {import("../memory/records.mjs").Records} records @param {number} agent @returns {Done} the agent's next call */
+  #next(records, agent) {
+    const position = this.own[agent];
+    const { done, view } = this.known.at(records, position, () => this.#call(records, position));
+    if (view !== undefined) this.addView(view.name, view.range);
+    this.own[agent] += 1;
+    return done;
+  }
+
   /** @param {import("../memory/records.mjs").Records} records @param {number} agent @param {number} event */
   addEvent(records, agent, event) {
-    if (event !== LEAVE && event !== TIME_UP) {
-      const position = this.own[agent];
-      const { done, view } = this.known.at(records, position, () => this.#call(records, position));
-      if (view !== undefined) this.addView(view.name, view.range);
-      this.calls[agent].push(done);
-      this.own[agent] += 1;
-    }
+    if (event !== LEAVE && event !== TIME_UP) this.calls[agent].push(this.#next(records, agent));
     this.addMoves(agent, MOVES[event], event === TIME_UP);
+  }
+
+  /**
+   * Adds the begin of a wait in which nobody sleeps, or its end: its helper makes it.
+   * @param {import("../memory/records.mjs").Records} records
+   * @param {number} owner the agent that has called waitAsync
+   * @param {number} event
+   * @param {number} call which of its calls it is
+   */
+  addAsync(records, owner, event, call) {
+    const { helpers } = this;
+    if (event === JOIN) {
+      const helper = helpers.begin(owner, call);
+      if (helper === this.calls.length) this.#addHelper(helper);
+      const wait = this.#next(records, owner);
+      const handOver = helpers.handOver(helper, BEGINS);
+      this.#add(owner, { ...handOver, isOwn: true, standsFor: wait });
+      this.#add(helper, handOver);
+      this.calls[helper].push(wait);
+      this.addMoves(helper, MOVES[event], false);
+      return;
+    }
+    const helper = helpers.end(owner, call);
+    this.addMoves(helper, MOVES[event], event === TIME_UP);
+    const handOver = helpers.handOver(helper, ENDS);
+    this.#add(helper, handOver);
+    this.#add(owner, handOver);
+  }
+
+  /** @param {number} helper that makes its first wait */
+  #addHelper(helper) {
+    this.calls.push([]);
+    this.canBlock.push(true);
+    this.plainMoves.push({ agent: helper, timeUp: false });
+    this.addView(this.helpers.nameOf(helper), this.helpers.rangeOf(helper));
+  }
+
+  /** @param {number} agent @param {Done} done a call that it makes at once */
+  #add(agent, done) {
+    this.calls[agent].push(done);
+    this.addMoves(agent, MOVES[MAKE], false);
   }
 }
 
@@ -165,7 +213,8 @@ export function transcriptOf(run, stores, initial = []) {
     if (event >= READ) continue;
     addStores(position);
     const agent = log.agentAt(position);
-    writer.addEvent(records[agent], agent, event);
+    if (isAsync(log, position)) writer.addAsync(records[agent], agent, event, log.callAt(position));
+    else writer.addEvent(records[agent], agent, event);
   }
   addStores(Infinity);
   if (isOrdinary) writer.addView(UNSEEN, NO_ELEMENT);
@@ -180,5 +229,6 @@ export function transcriptOf(run, stores, initial = []) {
  * @returns {(Done & { inScript: number })[]} each with its number in the script
  */
 export function ownCalls(transcript, agent) {
-  return transcript.calls[agent].map((call, inScript) => ({ ...call, inScript })).filter((call) => call.isOwn);
+  const calls = transcript.calls[agent].map((call, inScript) => ({ ...call, ...call.standsFor, inScript }));
+  return calls.filter((call) => call.isOwn);
 }

@@ -3,8 +3,9 @@
 //
 // An access or a notify is three moves in a row, and one draw. So is a wait that doesn't wait; one that waits is two
 // moves, and two more where it is woken or its time is up, which is another draw. Stores by the views of ordinary
-// writes and of `init` are no draws.
+// writes and of `init` are no draws. A wait of a helper is one of the thread that has called waitAsync.
 
+import { handOverOf, helpersIn } from "../../script/helpers.mjs";
 import { CALLS, KINDS, SIZES } from "../../script/kinds.mjs";
 import { OF_STORES, writtenText } from "../../script/written.mjs";
 import { callNumber } from "../board/row.mjs";
@@ -36,7 +37,7 @@ import { Refused } from "../options/refused.mjs";
 /**
  * @typedef {object} KeptScript
  * @property {number[]} lengths of the blocks
- * @property {boolean[]} canBlock of each agent, without the one of `init`
+ * @property {boolean[]} canBlock of each agent, without helpers and the one of `init`
  * @property {Draw[]} draws
  * @property {Step[]} steps in the order in which they begin
  */
@@ -88,7 +89,7 @@ function lengthsOf(script) {
  * @param {any} parts of a call as a script has it
  * @param {Map<string, View>} views
  * @param {AsSpelled} spelled
- * @returns {Omit<Step, "agent" | "call"> & { view: string, waits: boolean }}
+ * @returns {Omit<Step, "agent" | "call"> & { view: string, waits: boolean, isHandOver: boolean }}
  */
 function callOf(parts, views, spelled) {
   need(Array.isArray(parts) && METHODS.includes(parts[0]), `${JSON.stringify(parts)} is no call`);
@@ -102,7 +103,7 @@ function callOf(parts, views, spelled) {
   const isOwn = !OF_STORES.test(name);
   const isWrite = !isOwn && method === "store" && operands.length === 1;
   return {
-    isOwn, view: name, waits: method === "wait", loads: method === "load",
+    isOwn, view: name, waits: method === "wait", loads: method === "load", isHandOver: handOverOf(parts) !== undefined,
     text: isWrite ? writeOf(spelled, name, index, operands[0]) : callText(name, call),
     key: placedCallText(call, call), block, from, to: from + SIZES[kind],
   };
@@ -136,8 +137,13 @@ class Reader {
       return calls.map((call) => callOf(call, views, spelled));
     });
     const isOfInit = this.calls.at(-1)?.some(({ view }) => OF_INIT.test(view));
+    /** From each helper to its thread. */
+    this.owners = helpersIn(script.views);
+    const own = script.agents.length - this.owners.size - (isOfInit ? 1 : 0);
+    const areLast = [...this.owners].every(([helper, owner]) => owner < own && helper >= own && helper < this.calls.length);
+    need(areLast, "its views of waitAsync name agents that it doesn't have");
     /** @type {boolean[]} */
-    this.canBlock = script.agents.slice(0, isOfInit ? -1 : undefined).map((/** @type {any} */ { block }) => block);
+    this.canBlock = script.agents.slice(0, own).map((/** @type {any} */ { block }) => block);
     need(this.canBlock.every((block) => typeof block === "boolean"), "an agent doesn't say whether it can block");
     /**
      * Of each agent: how many calls have begun, how many of these are its own, the last one where it waits, and its
@@ -169,7 +175,7 @@ class Reader {
     need(at !== undefined, `its move ${place} is no agent's`);
     if (at.waits !== undefined) {
       need(this.#hasMoves(agent, 1), `its move ${place} doesn't end a wait in a row`);
-      this.#draw({ agent, step: at.waits, goesOn: true, writes: [] });
+      this.#draw({ agent: at.waits.agent, step: at.waits, goesOn: true, writes: [] });
       at.waits = undefined;
       this.position += 2;
       return;
@@ -190,14 +196,25 @@ class Reader {
     need(call !== undefined, `its move ${place} is one of no call`);
     const isWhole = this.#hasMoves(agent, 2);
     need(isWhole || (call.waits && this.#hasMoves(agent, 1)), `its move ${place} doesn't make a call in a row`);
+    at.begun += 1;
+    this.position += isWhole ? 3 : 2;
+    if (!call.isHandOver) at.waits = this.#step(call, this.owners.get(agent) ?? agent, isWhole);
+  }
+
+  /**
+   * @param {Reader["calls"][number][number]} call that begins
+   * @param {number} agent whose it is: of a helper's its thread
+   * @param {boolean} isWhole
+   * @returns {Step | undefined} undefined: it is over
+   */
+  #step(call, agent, isWhole) {
+    const at = this.at[agent];
     const step = { ...call, agent, call: at.own };
     this.steps.push(step);
     if (step.isOwn) this.#draw({ agent, step, goesOn: false, writes: [] });
     else at.last?.writes.push(step);
-    at.begun += 1;
     at.own += step.isOwn ? 1 : 0;
-    at.waits = isWhole ? undefined : step;
-    this.position += isWhole ? 3 : 2;
+    return isWhole ? undefined : step;
   }
 
   /** @param {number} agent @param {number} count @returns {boolean} whether so many moves of an agent come next */

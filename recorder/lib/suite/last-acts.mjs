@@ -72,15 +72,14 @@ function actsOf(lines, data) {
   const returned = Array(data.agents).fill(0);
   const steps = new Stepper(data, new Views(data)).all();
   return steps.filter(({ agent }) => agent !== undefined).map((step, at) => {
-    const { agent = 0, entry, event, place, sentence, what, accesses: [access] } = step;
+    const { agent = 0, entry, event, place, sentence, what, accesses: [access], isReworded } = step;
     const line = explained.get(entry ?? -1) ?? `${NO_MOVE} ${agent} ${returned[agent]}`;
     const [move, , count] = line.split(" ");
     if (entry !== undefined) returned[agent] = Number(count) + (what === "wait" ? 0 : 1);
     const isOrdinary = what === "ordinary" || what === "store";
     const does = `${move} ${agent} ${count} ${access?.writes ? "write" : "read"} `.padEnd(width);
     const where = place < 0 ? "" : `, at ${data.places[place]}`;
-    const words = data.senders === undefined || !/^(?:sends|receives) message /.test(sentence)
-      ? line : `${line.slice(0, width)}${sentence}`;
+    const words = isReworded ? `${line.slice(0, width)}${sentence}` : line;
     const text = `${shortened(isOrdinary ? `${does}${sentence}` : words)}${where}`;
     return { at, text, isMarked: event !== undefined && racing.has(event) };
   });

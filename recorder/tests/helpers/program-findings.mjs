@@ -39,15 +39,15 @@ export class TableRuns {
   }
 
   /**
-   * The runs of a program, of which the first and each that fails are checked by sabsim.
+   * The runs of a program, of which the first and each that fails are checked by sabsim, or all.
    * @param {Program} program
-   * @param {{ first?: number, last: number }} seeds
+   * @param {{ first?: number, last: number, areWhole?: boolean }} seeds
    * @returns {Promise<(Outcome & Check)[]>}
    */
-  async runs(program, { first = 1, last }) {
+  async runs(program, { first = 1, last, areWhole = false }) {
     this.group.enter(urlOf(program).href);
     const seeds = Array.from({ length: last - first + 1 }, (_, at) => first + at);
-    const wanted = seeds.map((seed) => ({ seed, whole: seed === 1, isSilent: true }));
+    const wanted = seeds.map((seed) => ({ seed, whole: areWhole || seed === 1, isSilent: true }));
     /** @type {(Outcome & Check)[]} */
     const outcomes = [];
     await this.group.run(wanted, (outcome, judgement, aside) => {

@@ -1,0 +1,33 @@
+// Helpers: the agents of a script that stand for Atomics.waitAsync. Nobody sleeps in such a wait, so the agent that
+// calls it goes on; but an agent of a script that waits does nothing else. So each of these waits is a helper's. The
+// agent hands it over by a notify at a place of the two, and so does the helper when it was notified. The view of these
+// places names both: `waitAsync_2_of_0` is that of helper 2, which serves agent 0.
+
+/** The elements of the view: at the first one the agent hands the wait over, and at the other one the helper does. */
+export const BEGINS = 0;
+export const ENDS = 1;
+
+const HELPERS_VIEW = /^waitAsync_(\d+)_of_(\d+)$/;
+
+/** @param {number} helper @param {number} owner the agent that it serves @returns {string} the name of their view */
+export const helpersView = (helper, owner) => `waitAsync_${helper}_of_${owner}`;
+
+/**
+ * @param {{ name: string }[]} views of a script
+ * @returns {Map<number, number>} from each helper to the agent that it serves
+ */
+export function helpersIn(views) {
+  return new Map(views.flatMap(({ name }) => {
+    const [, helper, owner] = HELPERS_VIEW.exec(name) ?? [];
+    return helper === undefined ? [] : [[Number(helper), Number(owner)]];
+  }));
+}
+
+/**
+ * @param {unknown[]} does a call: its name, its view's, its index, and what else it takes
+ * @returns {{ helper: number, owner: number, begins: boolean } | undefined} undefined: it hands nothing over
+ */
+export function handOverOf([, view, index]) {
+  const [, helper, owner] = HELPERS_VIEW.exec(`${view}`) ?? [];
+  return helper === undefined ? undefined : { helper: Number(helper), owner: Number(owner), begins: index === BEGINS };
+}
