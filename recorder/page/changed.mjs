@@ -2,7 +2,6 @@
 // of how things are shown.
 
 import { isStandIn } from "../schedule/report.mjs";
-import { handOverOf } from "../script/helpers.mjs";
 import { sizeOf, valueAt } from "./elements.mjs";
 import { isOrdinary } from "./steps.mjs";
 import { callText, counted, valueText } from "./words.mjs";
@@ -95,12 +94,9 @@ function retraced({ events, agents }, script, { entries }) {
     if (!isShown) continue;
     const number = own[agent][call];
     const known = calls.get(`${agent} ${number}`);
-    // That a wait is handed over is no event.
-    if (known === undefined && handOverOf(does) === undefined) return [];
-    if (known !== undefined) {
-      const [begun, end = begun] = known;
-      made.push([what === "leave" ? { ...end, does: answer === "ok" ? "leave" : "time-up" } : begun]);
-    }
+    if (known === undefined) return [];
+    const [begun, end = begun] = known;
+    made.push([what === "leave" ? { ...end, does: answer === "ok" ? "leave" : "time-up" } : begun]);
     if (what !== "wait") made.push(ordinary.get(`${agent} ${number + 1}`) ?? []);
   }
   return made.flat();

@@ -1,7 +1,7 @@
 // The steps of a run, from the entries of its report and the events of its trace.
 
 import { isStandIn } from "../schedule/report.mjs";
-import { handOverOf, helpersIn } from "../script/helpers.mjs";
+import { helpersIn } from "../script/helpers.mjs";
 import { storedBytes } from "../script/values.mjs";
 import { labelOf, writtenView } from "../script/written.mjs";
 import { changesBy, sizeOf } from "./elements.mjs";
@@ -146,8 +146,6 @@ export class Stepper {
     }
     while (this.next < this.entries.length && isNoCall(this.entries[this.next])) this.#entry(-1, undefined);
     this.#entry(event.place, position);
-    // A wait that has ended is handed back before its thread goes on.
-    while (handOverOf(this.entries[this.next]?.does ?? [])?.begins === false) this.#entry(-1, undefined);
   }
 
   /** @param {Event} event @param {number} position */
@@ -272,11 +270,10 @@ function bytesText({ block, byte, size }, view) {
 }
 
 /**
- * Whether an entry is none of a call that its agent made: it stands for an ordinary write, hands a wait over, or is
- * stuck.
+ * Whether an entry is none of a call that its agent made: it stands for an ordinary write, or is stuck.
  * @param {Entry} entry
  */
-const isNoCall = ({ what, does }) => what === "stuck" || isStandIn(does) || handOverOf(does) !== undefined;
+const isNoCall = ({ what, does }) => what === "stuck" || isStandIn(does);
 
 /** @param {Event} event */
 export const isOrdinary = ({ does }) => does === "read" || does === "write";

@@ -68,6 +68,7 @@ for (const [names, why] of [
   [{ Uint8_b1_at8_x4: 0 }, /scripts name other views so/],
   [{ ordinary_x: 0 }, /scripts name other views so/],
   [{ init_: 0 }, /scripts name other views so/],
+  [{ waitAsync_1_of_0: 0 }, /^`names` can't have waitAsync_1_of_0: scripts name other views so: give it another name$/],
   [{ unseen: 0 }, /^`names` can't have unseen: scripts name other views so: give it another name$/],
   [{ LOCK: "0" }, /^`names` says of LOCK no place: give \[kind, buffer, index\] for an element/],
   [{ LOCK: ["Int32"] }, /says of LOCK no place/],

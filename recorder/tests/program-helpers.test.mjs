@@ -6,6 +6,9 @@ import { readFileSync } from "node:fs";
 import { after, before, describe, it } from "node:test";
 import { pageData } from "../lib/keeping/page.mjs";
 import { wordsText } from "../lib/keeping/words.mjs";
+import { keptScript } from "../lib/shorter/kept-script.mjs";
+import { changedData } from "../page/changed.mjs";
+import { Run } from "../page/model.mjs";
 import { readReport } from "../schedule/report.mjs";
 import { TableRuns } from "./helpers/program-findings.mjs";
 import { simulated } from "./helpers/simulate.mjs";
@@ -68,9 +71,26 @@ describe("a wait of waitAsync in a script", () => {
       [14, 1, 1, "leave", "ok"], [17, 1, 2, "act", 0], [20, 0, 3, "act", 0], [23, 0, 4, "act", 7],
     ]);
     assert.deepEqual([done[4].found, done[5].found], [{ waited: 1, woken: [1] }, { woken_by: 12 }]);
-    // The thread has made four calls and has sent a message: nothing is handed over there.
+    // Of the thread there are a message and three calls: none of them hands anything over.
     assert.deepEqual(outcome.answers, [["0", "ok", "1", "7"]]);
     assert.deepEqual([outcome.calls, outcome.progress], [4, [{ returned: 4, calls: 4 }]]);
+  });
+
+  it("is read back as the thread's own", async (context) => {
+    const { outcome, script } = await onlyRun(context, `const { value } = Atomics.waitAsync(words, 0, 0);
+      Atomics.notify(words, 0);
+      await value;`);
+    const { canBlock, steps, draws } = keptScript(outcome.script ?? "", "the run");
+    assert.deepEqual(canBlock, [true]);
+    assert.deepEqual(steps.map(({ agent, call, text }) => [agent, call, text]), [
+      [0, 0, '["notify", "Int32_b3", 0, 0]'], [0, 1, '["wait", "Int32_b0", 0, 0]'], [0, 2, '["notify", "Int32_b0", 0]'],
+    ]);
+    assert.deepEqual(draws.map(({ agent, goesOn, step }) => [agent, goesOn, step.call]), [
+      [0, false, 0], [0, false, 1], [0, false, 2], [0, true, 1],
+    ]);
+    const views = script.views.map((view) => (view.name === "waitAsync_1_of_0" ? { ...view, name: "waitAsync_1_of_1" } : view));
+    const text = JSON.stringify({ ...script, views }).replaceAll("waitAsync_1_of_0", "waitAsync_1_of_1");
+    assert.throws(() => keptScript(text, "x.json"), /^Error: x\.json is no script .*: its views of waitAsync name agents that it doesn't have$/);
   });
 
   it("has a helper of its own where another one is pending, and else that one's", async (context) => {
@@ -234,8 +254,8 @@ throw new Error("mine");`,
     const words = own.map((line) => line.replace(`${mine[0]} `, "H ").replace(`agent ${mine[0]}`, "agent H")
       .replace(/woken by \d+/, "woken").replace(/:\d+$/, ""));
     assert.deepEqual(words.filter((line) => !/message|^0 1 of|: /.test(line) || /words|b0\[2\]/.test(line)), [
-      "0 hands its waitAsync to agent H",
-      "H takes the waitAsync of agent 0",
+      "0 hands its waitAsync to agent H, at main.mjs:5",
+      "H takes the waitAsync of agent 0, at main.mjs:5",
       "H wait(Int32_b0, 0, 0) waits at Int32_b0[0], first in line, at main.mjs:5",
       "0 writes Int32_b0[2], without Atomics: changes Int32_b0[2] from 0 to 5, at main.mjs:6",
       "H wait(Int32_b0, 0, 0) was woken",
@@ -247,6 +267,26 @@ throw new Error("mine");`,
     ]);
     const data = pageData(outcome, output, "file:///main.mjs");
     assert.deepEqual([data.agents, data.threads?.length, data.senders?.[0]], [4, 4, 0]);
+  });
+
+  it("shows them on the page, where each agent's steps stay in their order in another schedule", async (context) => {
+    const [outcome] = await runsOf(context, FILES);
+    const { output } = simulated(["replay", "--format", "json"], outcome.script ?? "");
+    const data = pageData(outcome, output, "file:///main.mjs");
+    const run = new Run(data);
+    assert.ok(run.isTraced);
+    const report = readReport(output);
+    // What the page makes of any schedule, of the one that was recorded.
+    const again = new Run(changedData(data, JSON.parse(outcome.script ?? ""), report));
+    const stepsOf = ({ steps }) => data.threads?.map((_, own) => steps.filter(({ agent, what }) => agent === own && what !== "task")
+      .map(({ text, place }) => `${text}, at ${data.places[place]}`));
+    assert.deepEqual(stepsOf(again), stepsOf(run));
+    const [first] = stepsOf(run) ?? [];
+    const [at, back, read] = ["hands its waitAsync to", "gets the end of its waitAsync from", "reads"].map((text) =>
+      first.findIndex((line) => line.startsWith(text)));
+    assert.ok(at >= 0 && at < back && back < read);
+    const pending = report.agents.find(({ standing }) => standing?.at === "waits")?.agent;
+    assert.match(run.steps.at(-1)?.sentence ?? "", new RegExp(`Agent ${pending} \\(waitAsync of agent 1\\) waits at Int32_b0\\[1\\] since`));
   });
 });
 

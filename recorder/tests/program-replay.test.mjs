@@ -80,11 +80,11 @@ test("a run without a script is made again, too, and options of the command line
     "main.mjs": `import { Worker } from "node:worker_threads";
       const words = new Int32Array(new SharedArrayBuffer(8));
       const worker = new Worker(new URL("./worker.mjs", import.meta.url), { workerData: words });
-      // A script can't have such a wait.
-      await Atomics.waitAsync(words, 0, 0).value;
+      // With the two threads that is more than the agents that a script can have.
+      await Promise.all(Array.from({ length: 15 }, () => Atomics.waitAsync(words, 0, 0).value));
       process.exitCode = 3;`,
     "worker.mjs": `import { workerData } from "node:worker_threads";
-      while (Atomics.notify(workerData, 0) === 0) Atomics.wait(workerData, 1, 0, 1);`,
+      for (let woken = 0; woken < 15; woken += Atomics.notify(workerData, 0)) Atomics.wait(workerData, 1, 0, 1);`,
   }, []);
   assert.ok(!readdirSync(folder).some((name) => /^seed-\d+\.json$/.test(name)));
   const { status, stdout } = recorded(["--replay", file, "--races", "allow"]);
@@ -92,6 +92,27 @@ test("a run without a script is made again, too, and options of the command line
   assert.match(stdout, /^ {2}agent 0 exited with code 3$/m);
   // It has fewer moves than that.
   assert.match(recorded(["--replay", file, "--max-moves", "2"]).stdout, /^1 of 1 run failed: 1 limit met$/m);
+});
+
+test("a run that waits by waitAsync is made again, and what differs is named as the thread's", (context) => {
+  const { main, file, folder, name } = kept(context, {
+    "main.mjs": `import { Worker } from "node:worker_threads";
+      const words = new Int32Array(new SharedArrayBuffer(8));
+      new Worker(new URL("./worker.mjs", import.meta.url), { workerData: words });
+      for (let round = 0; round < 2; round += 1) await Atomics.waitAsync(words, 0, 0).value;
+      process.exitCode = 3;`,
+    "worker.mjs": `import { workerData } from "node:worker_threads";
+      for (let woken = 0; woken < 2; woken += Atomics.notify(workerData, 0)) Atomics.wait(workerData, 1, 0, 1);`,
+  }, []);
+  const script = readFileSync(join(folder, `${name}.json`), "utf8");
+  assert.match(script, /"waitAsync_2_of_0"/);
+  const { status, stdout, stderr } = recorded(["--replay", file, "--out", join(folder, "again")]);
+  assert.deepEqual([status, stderr], [1, ""]);
+  assert.match(stdout, /^every run was replayed and judged by sabsim \(\w+\): it agrees with the recorder$/m);
+  assert.equal(readFileSync(join(folder, "again", `${name}.replayed.json`), "utf8"), script);
+  writeFileSync(main, readFileSync(main, "utf8").replace("words, 0, 0", "words, round, 0"));
+  assert.match(recorded(["--replay", file]).stderr,
+    /: in the script comes agent 0's call (\d), \["wait", "Int32_b0", 0, 0\], and now agent 0's call \1, \["wait", "Int32_b0", 1, 0\]$/m);
 });
 
 test("where the code does other things the first of them is named", (context) => {

@@ -114,9 +114,8 @@ ${then}`,
   it("has what comes before a notify before what comes after the promise", async (context) => {
     const outcomes = await runsOf(context, files("await value;", ""), { seeds: seedsTo(6) });
     assert.deepEqual(endingsOf(outcomes), ["finished: "]);
-    for (const { trace = "", checked, noScript } of outcomes) {
-      assert.match(noScript ?? "", /waited by Atomics\.waitAsync/);
-      assert.equal(checked, false);
+    for (const { trace = "", checked } of outcomes) {
+      assert.equal(checked, true);
       const does = trace.split("\n").slice(0, -1).map((line) => JSON.parse(line)).filter(({ agent }) => agent === 0);
       const [wait, leave] = ["wait", "leave"].map((word) => does.find((event) => event.does === word));
       assert.deepEqual([leave.call, leave.block, leave.byte, leave.waiters], [wait.call, wait.block, wait.byte, true]);
@@ -131,16 +130,20 @@ ${then}`,
 });
 
 describe("a run that uses it", () => {
-  it("isn't replayed, and the summary counts it and says why", async (context) => {
+  it("is replayed, except where more are pending than there can be agents: the summary counts such runs", async (context) => {
     const path = programOf(context, {
       "main.mjs": `${MAIN}started();
-        if (Math.random() < 0.5) await Atomics.waitAsync(words, 0, 0).value;`,
-      "worker.mjs": `${WORKER}while (Atomics.notify(words, 0) === 0 && Math.random() < 0.9);`,
+        // With the two threads there are 18 agents, or 3.
+        const all = Array.from({ length: Math.random() < 0.5 ? 16 : 1 }, () => Atomics.waitAsync(words, 0, 0).value);
+        Atomics.store(words, 1, all.length);
+        await Promise.all(all);`,
+      "worker.mjs": `${WORKER}while (Atomics.load(words, 1) === 0); Atomics.notify(words, 0);`,
     });
-    const words = [RECORD, "--program", path, "--seeds", "1..8", "--jobs", "1", "--races", "allow"];
+    const words = [RECORD, "--program", path, "--seeds", "1..12", "--jobs", "1", "--bounds", "allow"];
     const { stdout } = await execute(process.execPath, words).catch((error) => error);
-    const [, counted] = /^(\d+) runs? (?:has|have) no script, and w.*waited by Atomics\.waitAsync/m.exec(stdout) ?? [];
-    assert.ok(Number(counted) > 0 && Number(counted) < 8, stdout);
+    const [, counted] = /^(\d+) runs have no script, and weren't checked: it has more than 16 threads and waits of /m.exec(stdout) ?? [];
+    assert.ok(Number(counted) > 1 && Number(counted) < 12, stdout);
+    assert.match(stdout, new RegExp(`^${12 - Number(counted)} of 12 runs were replayed and judged by sabsim`, "m"));
   });
 
   it("is the same each time", async (context) => {

@@ -1,11 +1,12 @@
 // The helpers of a program's run, the agents of its script that stand for Atomics.waitAsync: what they are called, and
-// which events of the trace are theirs. The trace has their waits among the calls of the threads.
+// which events are theirs. In the trace their waits are those of the threads, and nothing is handed over.
 
 import { isStandIn } from "../../schedule/report.mjs";
 import { handOverOf, helpersIn } from "../../script/helpers.mjs";
 
 /** @typedef {import("../../schedule/report.mjs").Entry} Entry */
-/** @typedef {{ agent: number, call: number }} Place of an event in the script: whose it is, and which of the calls */
+
+const WORD_BYTES = 4;
 
 /**
  * @param {{ name: string }[]} views of the script
@@ -19,23 +20,39 @@ export function helperNames(views, threads, module) {
 }
 
 /**
- * Where the events of a trace stand in the script. There a wait that is handed over, and one that is handed back, is a
- * call of its thread.
- * @param {any[]} events of the trace
+ * The events of a trace as the script has them: those that hand waits over too, and each with the agent that it is of
+ * there, and which of that one's calls it is (`inScript`).
+ * @param {any[]} events
  * @param {Entry[]} entries of the script's report: those that act, wait and leave
- * @returns {Map<any, Place>}
+ * @returns {any[]} the events themselves if the script has no helpers
  */
-export function placesInScript(events, entries) {
-  const calls = entries.filter(({ does }) => !isStandIn(does) && handOverOf(does) === undefined);
-  /** @type {number[]} how many waits of each thread were handed back */
-  const back = [];
+export function eventsInScript(events, entries) {
+  const calls = entries.filter(({ does }) => !isStandIn(does));
+  if (!calls.some(({ does }) => handOverOf(does) !== undefined)) return events;
+  /** @type {number[]} how many calls of each agent have begun */
+  const begun = [];
   let next = 0;
-  return new Map(events.map((event) => {
-    const { agent, call, does } = event;
-    const entry = does === "read" || does === "write" ? undefined : calls[next++];
-    const before = back[agent] ?? 0;
-    if (entry === undefined || entry.agent === agent) return [event, { agent, call: call + before }];
-    if (entry.what === "leave") back[agent] = before + 1;
-    return [event, { agent: entry.agent, call: entry.call }];
-  }));
+  const taken = () => {
+    const { agent, what } = calls[next];
+    next += 1;
+    begun[agent] = (begun[agent] ?? 0) + (what === "leave" ? 0 : 1);
+    return { agent, call: begun[agent] - 1 };
+  };
+  /** @param {any} event of the wait @param {boolean} begins */
+  const handedOver = (event, begins) => {
+    const all = [];
+    while (handOverOf(calls[next]?.does ?? [])?.begins === begins) {
+      const { place } = calls[next];
+      const inScript = taken();
+      all.push({ ...event, ...inScript, inScript, does: "notify", ...place, size: WORD_BYTES, read: false, atomic: false });
+    }
+    return all;
+  };
+  return events.flatMap((event) => {
+    const { agent, does } = event;
+    if (does === "read" || does === "write") return [{ ...event, inScript: { agent, call: begun[agent] ?? 0 } }];
+    const before = handedOver(event, true);
+    if (calls[next] === undefined) return [event];
+    return [...before, { ...event, inScript: taken() }, ...handedOver(event, false)];
+  });
 }

@@ -4,7 +4,7 @@
 
 import { endingText } from "../../page/endings.mjs";
 import { builtSimulator, documentOf } from "./document.mjs";
-import { helperNames, placesInScript } from "./helpers.mjs";
+import { eventsInScript, helperNames } from "./helpers.mjs";
 import { sendersIn } from "./messages.mjs";
 
 /** @typedef {import("../run/outcome.mjs").Outcome} Outcome */
@@ -89,19 +89,18 @@ export function pageData(outcome, facts, module) {
   const { arrays, made } = outcome.accesses ?? { arrays: [], made: [] };
   const accesses = new Map(made.map(([event, array, value]) => [event, { array, value: value ?? undefined }]));
   const objects = objectsOf(facts);
+  const entries = objects.filter(({ what }) => what === "act" || what === "wait" || what === "leave");
   // The first line may say that accesses are missing.
-  const all = objectsOf(trace).filter(({ event }) => event !== undefined);
+  const all = eventsInScript(objectsOf(trace).filter(({ event }) => event !== undefined), entries);
   const racing = racingEvents(races, all);
   const events = shownEvents(all, racing);
   const numbers = new Map(events.map((event, at) => [event, at]));
   const tasks = (outcome.tasks ?? []).map((task) => ({ ...task, before: countBefore(events, task.event) }));
   const places = [...new Set([...events, ...tasks].map(({ source }) => source))].filter((source) => source !== null);
   const placeNumbers = new Map(places.map((place, at) => [place, at]));
-  const entries = objects.filter(({ what }) => what === "act" || what === "wait" || what === "leave");
   const file = decodeURIComponent(module.replace(/[?#].*$/, "").replace(/^.*\//, ""));
   const { threads } = outcome;
   const helpers = helperNames(views, threads ?? [], file);
-  const inScript = placesInScript(all, entries);
   return {
     ...(threads === undefined ? {} : { threads: [...threads, ...helpers], senders: sendersIn(entries) }),
     seed, ending, detail, holds, blocks, views, arrays, places, files: sources, script, module: file,
@@ -109,10 +108,9 @@ export function pageData(outcome, facts, module) {
     isWhole: events.length === all.length,
     entries,
     standings: objects.filter(({ standing }) => standing !== undefined),
-    events: events.map((each) => {
-      const { event, agent, call, does, block, byte, size, read, write, source } = each;
+    events: events.map(({ event, agent, call, does, block, byte, size, read, write, source, inScript }) => {
       const place = placeNumbers.get(source) ?? -1;
-      return { agent, call, does, block, byte, size, read, write, place, ...inScript.get(each), ...accesses.get(event) };
+      return { agent, call, does, block, byte, size, read, write, place, ...inScript, ...accesses.get(event) };
     }),
     ...(tasks.length === 0 ? {} : { tasks: tasks.map(({ before, agent, text, source }) =>
       ({ before, agent, text, place: placeNumbers.get(source) ?? -1 })) }),
