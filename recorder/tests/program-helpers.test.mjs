@@ -119,6 +119,20 @@ describe("a wait of waitAsync in a script", () => {
     ]);
   });
 
+  it("has a helper of another thread never", async (context) => {
+    const round = `const { value } = Atomics.waitAsync(words, 0, 0); Atomics.notify(words, 0); await value;`;
+    const [outcome] = await runsOf(context, {
+      "main.mjs": `import { Worker } from "node:worker_threads";
+        ${SHARED}${round}
+        new Worker(new URL("./worker.mjs", import.meta.url), { workerData: words });`,
+      "worker.mjs": `${WORKER}${round}`,
+    });
+    assert.equal(outcome.checked, true);
+    const { views, agents } = JSON.parse(outcome.script ?? "");
+    const helpers = views.flatMap(({ name }) => (name.startsWith("waitAsync_") ? [name] : []));
+    assert.deepEqual([helpers, agents.length], [["waitAsync_2_of_0", "waitAsync_3_of_1"], 4]);
+  });
+
   it("ends by its time where that is up", async (context) => {
     const { calls, schedule, outcome } = await onlyRun(context, `setTimeout(() => {}, 90);
       if (await Atomics.waitAsync(words, 0, 0, 50).value !== "timed-out") throw new Error("who has notified?");`);
@@ -159,6 +173,19 @@ describe("a wait of waitAsync in a script", () => {
   });
 });
 
+it("a run with helpers is judged by its trace: in the script nothing orders a thread's accesses with its helper's wait", async (context) => {
+  const { outcome } = await onlyRun(context, `const longs = new BigInt64Array(words.buffer);
+    const { value } = Atomics.waitAsync(words, 0, 0);
+    Atomics.store(longs, 0, 5n);
+    Atomics.notify(words, 0);
+    await value;`);
+  assert.deepEqual([outcome.ending, outcome.races], ["finished", []]);
+  const judged = (/** @type {string[]} */ words, text = "") => simulated(["judge", ...words], text).output;
+  assert.match(judged(["--trace"], outcome.trace), /^no data race: /);
+  // The helper is agent 1.
+  assert.match(judged([], outcome.script), /^race at bytes 0 to 3 of block 0: agent 1 in wait\(Int32_b0, 0, 0\) at 10, agent 0 in store/);
+});
+
 describe("a notify in a script", () => {
   it("wakes threads that sleep and helpers in the order in which they came, and counts both", async (context) => {
     const outcomes = await runsOf(context, {
@@ -168,10 +195,11 @@ describe("a notify in a script", () => {
         const wait = () => Atomics.waitAsync(words, 0, 0).value;
         const waits = [wait(), wait()];
         new Worker(new URL("./worker.mjs", import.meta.url), { workerData: words });
-        // The worker sleeps when nothing else can move.
-        await new Promise((done) => setTimeout(done, 5_000));
+        // The worker sleeps when nothing else can move; and whoever is woken has gone on before the next notify.
+        const others = () => new Promise((done) => setTimeout(done, 5_000));
+        await others();
         waits.push(wait());
-        for (const count of [3, 1]) Atomics.notify(words, 0, count);
+        for (const count of [2, 1, 1]) { Atomics.notify(words, 0, count); await others(); }
         await Promise.all(waits);`,
       "worker.mjs": `${WORKER}Atomics.wait(words, 0, 0);`,
     }, { seeds: [1, 2, 3, 4], options: { timeouts: 0 } });
@@ -179,7 +207,7 @@ describe("a notify in a script", () => {
       assert.deepEqual([ending, checked], ["finished", true]);
       const woken = replayOf(script).entries.flatMap(({ what, found }) => (what === "act" && found?.woken?.length > 0 ? [found] : []));
       // Threads are agents 0 and 1, and helpers are numbered by the first wait of each.
-      assert.deepEqual(woken, [{ waited: 4, woken: [2, 3, 1] }, { waited: 1, woken: [4] }]);
+      assert.deepEqual(woken, [{ waited: 4, woken: [2, 3] }, { waited: 2, woken: [1] }, { waited: 1, woken: [4] }]);
     }
   });
 
@@ -288,6 +316,20 @@ throw new Error("mine");`,
     const pending = report.agents.find(({ standing }) => standing?.at === "waits")?.agent;
     assert.match(run.steps.at(-1)?.sentence ?? "", new RegExp(`Agent ${pending} \\(waitAsync of agent 1\\) waits at Int32_b0\\[1\\] since`));
   });
+});
+
+it("a deadlock's step on the page is the wait of a thread", async (context) => {
+  const [outcome] = await runsOf(context, {
+    "main.mjs": `import { Worker } from "node:worker_threads";
+      const words = new Int32Array(new SharedArrayBuffer(16));
+      new Worker(new URL("./worker.mjs", import.meta.url), { workerData: words });
+      setTimeout(() => Atomics.waitAsync(words, 1, 0), 5_000);`,
+    "worker.mjs": `${WORKER}Atomics.wait(words, 0, 0);`,
+  }, { options: { timeouts: 0 } });
+  assert.deepEqual([outcome.ending, outcome.checked], ["deadlock", true]);
+  const { steps, failing } = new Run(pageData(outcome, simulated(["replay", "--format", "json"], outcome.script ?? "").output, "file:///main.mjs"));
+  assert.deepEqual(failing.map((at) => [steps[at].agent, steps[at].text]), [[1, "wait(Int32_b0, 0, 0)"]]);
+  assert.ok(steps.slice(failing[0]).some(({ text }) => text === "wait(Int32_b0, 1, 0)"));
 });
 
 describe("programs of the table that use waitAsync", () => {
