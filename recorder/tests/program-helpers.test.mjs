@@ -4,6 +4,7 @@
 import assert from "node:assert/strict";
 import { readFileSync } from "node:fs";
 import { after, before, describe, it } from "node:test";
+import { sendersIn } from "../lib/keeping/messages.mjs";
 import { pageData } from "../lib/keeping/page.mjs";
 import { wordsText } from "../lib/keeping/words.mjs";
 import { keptScript } from "../lib/shorter/kept-script.mjs";
@@ -94,7 +95,7 @@ describe("a wait of waitAsync in a script", () => {
   });
 
   it("has a helper of its own where another one is pending, and else that one's", async (context) => {
-    const { calls, schedule } = await onlyRun(context, `const [one, two] = [0, 1].map((index) => Atomics.waitAsync(words, index, 0).value);
+    const { outcome, calls, schedule } = await onlyRun(context, `const [one, two] = [0, 1].map((index) => Atomics.waitAsync(words, index, 0).value);
       Atomics.notify(words, 1);
       await two;
       const three = Atomics.waitAsync(words, 2, 0).value;
@@ -117,6 +118,8 @@ describe("a wait of waitAsync in a script", () => {
     assert.deepEqual(schedule, [
       ...times(0, 3), ...begins(1), ...begins(2), ...times(0, 3), ...ends(2), ...begins(2), ...times(0, 6), ...ends(1), ...ends(2),
     ]);
+    // What is handed over is no message.
+    assert.deepEqual(sendersIn(replayOf(outcome.script).entries), [0]);
   });
 
   it("has a helper of another thread never", async (context) => {
@@ -239,17 +242,21 @@ describe("how many helpers there can be", () => {
     assert.match(outcome.noScript ?? "", /^it has more than 16 threads and waits of Atomics\.waitAsync that are pending at once, which no script can have;/);
   });
 
-  it("with at most 1,000 calls each", async (context) => {
-    const rounds = (/** @type {number} */ count) => `for (let round = 0; round < ${count}; round += 1) {
-      const { value } = Atomics.waitAsync(words, 0, 0);
-      Atomics.notify(words, 0);
-      await value;
-    }`;
-    // The helper makes three calls for each wait, and so does the thread, which has sent a message.
-    const { calls } = await onlyRun(context, rounds(333));
+  it("with at most 1,000 calls each, as the threads with what they hand over", async (context) => {
+    const rounds = (/** @type {number} */ count, how = "", notifies = "") => `${how === "" ? "" : "setTimeout(() => {}, 1e6);"}
+      for (let round = 0; round < ${count}; round += 1) {
+        const { value } = Atomics.waitAsync(words, 0, 0${how});
+        ${notifies}
+        await value;
+      }`;
+    const notified = (/** @type {number} */ count) => "Atomics.notify(words, 0); ".repeat(count);
+    // In a round the helper makes three calls, and the thread hands over and back. It has sent a message.
+    const { calls } = await onlyRun(context, rounds(333, "", notified(1)));
     assert.deepEqual(calls.map(({ length }) => length), [1_000, 999]);
-    const [outcome] = await runsOf(context, { "main.mjs": `${SHARED}${rounds(334)}` });
-    assert.match(outcome.noScript ?? "", /^with those that stand for Atomics\.waitAsync there are more than 1000 calls of an agent, which no script/);
+    for (const main of [rounds(334, ", 1"), rounds(250, "", notified(2))]) {
+      const [outcome] = await runsOf(context, { "main.mjs": `${SHARED}${main}` });
+      assert.match(outcome.noScript ?? "", /^with those that stand for Atomics\.waitAsync there are more than 1000 calls of an agent, which no script/);
+    }
   });
 });
 
