@@ -1,9 +1,9 @@
 // Helpers: the agents of a script that stand for Atomics.waitAsync. Nobody sleeps in such a wait, so the agent that
-// calls it goes on; but an agent of a script that waits does nothing else. So each of these waits is a helper's. The
-// agent hands it over by a notify at a place of the two, and so does the helper when it was notified. The view of these
-// places names both: `waitAsync_2_of_0` is that of helper 2, which serves agent 0.
+// calls it goes on; but an agent of a script that waits does nothing else. So each of these waits is a helper's. Both
+// notify a place of their own before the wait, first the agent and then the helper, and another one after it, first the
+// helper. The view of these two places names both: `waitAsync_2_of_0` is that of helper 2, which serves agent 0.
 
-/** The elements of the view: at the first one the agent hands the wait over, and at the other one the helper does. */
+/** The elements of the view: of the place that is notified before the wait, and of that after it. */
 export const BEGINS = 0;
 export const ENDS = 1;
 

@@ -7,7 +7,7 @@ const { Int32Array, SharedArrayBuffer } = globalThis;
 const MOST_WAITERS = 1_024;
 
 // How many waits there were in the run, how many were notified, behind which slot all are free, and whether a notify
-// looked for waits where one has been lost.
+// came to the place of a lost wait.
 const JOINED = 0;
 const NOTIFIED = 1;
 const END = 2;
@@ -53,7 +53,7 @@ export class AsyncWaiters {
     return this.words[JOINED];
   }
 
-  /** @returns {boolean} whether a notify came to a place at which a wait has been lost: an agent would still wait there */
+  /** @returns {boolean} whether a notify came to a place of a lost wait: in a script an agent would still wait there */
   get hasMissed() {
     return this.words[MISSED] === 1;
   }

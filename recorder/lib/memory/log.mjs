@@ -10,7 +10,7 @@ export const WRITE = 5;
 /**
  * What an event is. `AGAIN`: an ordinary access that its agent has made before, since its last call. `ONLY_BY_TIME`:
  * the end of a wait by its time, where nothing else could move, though its word had changed or nobody else was left.
- * `ASYNC`: a wait that joins the line, or its end, in which nobody sleeps.
+ * `ASYNC`: a wait of Atomics.waitAsync joins the line, or it ends: nobody sleeps in it.
  */
 export const FLAG = Object.freeze({
   READS: 1, WRITES: 2, ATOMIC: 4, WAITERS: 8, AGAIN: 16, ONLY_BY_TIME: 32, ASYNC: 64,
