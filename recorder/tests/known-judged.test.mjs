@@ -9,7 +9,7 @@ import { Group } from "../lib/run/group.mjs";
 import { traceText } from "../lib/run/trace.mjs";
 import { simulatorAt } from "../lib/simulator/chosen.mjs";
 import { SABSIM, withSabsim } from "./helpers/needs.mjs";
-import { seedsTo } from "./helpers/recorded.mjs";
+import { lasting, seedsTo } from "./helpers/recorded.mjs";
 import { eventsOfTrace, slowJudge } from "./helpers/slow-judge.mjs";
 
 /** @typedef {import("../lib/run/outcome.mjs").One} One */
@@ -39,7 +39,7 @@ async function runsOf(name) {
   const runs = [];
   try {
     const wanted = seedsTo(JUDGED).map((seed) => ({ seed, whole: true }));
-    await group.run(wanted, (outcome, judgement, aside) => void runs.push({ outcome, judgement, aside }));
+    await group.run(wanted, (outcome, judgement, aside) => void runs.push({ outcome, judgement: lasting(judgement), aside }));
   } finally {
     await group.close();
   }

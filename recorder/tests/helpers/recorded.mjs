@@ -23,13 +23,19 @@ export async function recorded(options, seeds = [1]) {
   const runs = [];
   try {
     const wanted = seeds.map((seed) => ({ seed, whole: true }));
-    await group.run(wanted, (outcome, judgement) => runs.push({ outcome, judgement }));
+    await group.run(wanted, (outcome, judgement) => runs.push({ outcome, judgement: lasting(judgement) }));
   } finally {
     await group.close();
   }
   for (const run of runs) checkedBy(simulator, run);
   return runs.map(({ outcome }) => outcome);
 }
+
+/**
+ * What a group hands on with an outcome holds until its next run.
+ * @param {import("../../lib/run/outcome.mjs").Judgement} [judgement]
+ */
+export const lasting = (judgement) => judgement && { ...judgement, events: judgement.events.slice() };
 
 /** The seeds from 1 to a last one. @param {number} last */
 export const seedsTo = (last) => Array.from({ length: last }, (_, at) => at + 1);
