@@ -86,8 +86,9 @@ export class ProgramGroup extends Group {
   /**
    * @param {Wanted[]} seeds
    * @param {Parameters<Group["run"]>[1]} onOutcome
+   * @param {Parameters<Group["run"]>[2]} [onFailing]
    */
-  run(seeds, onOutcome) {
+  run(seeds, onOutcome, onFailing) {
     // Of several jobs the one prints that makes the first run of all.
     this.#loud ??= /** @type {{ first?: number }} */ (this.options).first ?? seeds[0]?.seed;
     const all = seeds.map((wanted) => {
@@ -96,7 +97,7 @@ export class ProgramGroup extends Group {
       // A script alone doesn't make a program's run again: that needs its row.
       return { ...wanted, isFresh, isSilent: !this.#isShown(wanted), wantsRow: true };
     });
-    return super.run(all, onOutcome);
+    return super.run(all, onOutcome, onFailing);
   }
 
   /** @param {Wanted} wanted @returns {boolean} whether it is shown what the run prints */
