@@ -105,12 +105,12 @@ function ownModules(url) {
   return [...bodies].map(([href, code]) => ({ url: href, code }));
 }
 
-/** @type {Map<string, Uint8Array | undefined>} what the engine has made of modules, by their URLs */
+/** @type {Map<string, any>} the functions that the engine has made here of modules for other threads, by their URLs */
 const made = new Map();
 
 /**
  * The same as `ownModules`, compiled here: in a thread that gets them the engine needn't do so. It does if a flag of the
- * engine differs by then.
+ * engine differs by then. If a module is evaluated here too, it isn't compiled again.
  * @param {URL} url
  * @returns {OwnModule[]}
  */
@@ -118,10 +118,9 @@ function compiledModules(url) {
   return ownModules(url).map((module) => {
     if (!made.has(module.url)) {
       const options = { filename: module.url, produceCachedData: true };
-      const compiled = /** @type {any} */ (compileFunction(module.code, PARAMETERS, options));
-      made.set(module.url, compiled.cachedData);
+      made.set(module.url, compileFunction(module.code, PARAMETERS, options));
     }
-    return { ...module, compiled: made.get(module.url) };
+    return { ...module, compiled: made.get(module.url).cachedData };
   });
 }
 
@@ -135,7 +134,7 @@ function evaluated(list, modules = {}) {
   const loaded = async (/** @type {string} */ url) => evaluated(ownModules(new URL(url)), modules);
   for (const { url, code, compiled } of list) {
     const options = { filename: url, cachedData: /** @type {Buffer | undefined} */ (compiled) };
-    modules[url] ??= compileFunction(code, PARAMETERS, options)(modules, require, loaded);
+    modules[url] ??= (made.get(url) ?? compileFunction(code, PARAMETERS, options))(modules, require, loaded);
   }
   return list.length === 0 ? {} : modules[list[list.length - 1].url];
 }

@@ -2,7 +2,7 @@
 
 import { MessageChannel, Worker, receiveMessageOnPort } from "node:worker_threads";
 import { workerLimits } from "./garbage.mjs";
-import { ownModules } from "./own-modules.cjs";
+import { compiledModules } from "./own-modules.cjs";
 
 // How long an end is awaited. A call of native code, as one that waits for another program, can't be broken off: the
 // thread stays until that call returns.
@@ -76,7 +76,7 @@ export class Thread {
    * @param {URL} root
    */
   giveAhead(root) {
-    const ahead = ownModules(root).slice(0, -1);
+    const ahead = compiledModules(root).slice(0, -1);
     for (const { url } of ahead) this.given.add(url);
     this.post({ ahead });
   }
@@ -85,11 +85,9 @@ export class Thread {
    * Gives a worker that awaits its data a module of the recorder, and what else this needs. It calls its `main`.
    * @param {URL} root
    * @param {object} [data]
-   * @param {(root: URL) => import("./own-modules.cjs").OwnModule[]} [modulesOf] that are compiled already, if many
-   * workers get them
    */
-  give(root, data, modulesOf = ownModules) {
-    this.post({ modules: modulesOf(root).filter(({ url }) => !this.given.has(url)), ...data });
+  give(root, data) {
+    this.post({ modules: compiledModules(root).filter(({ url }) => !this.given.has(url)), ...data });
   }
 
   /**

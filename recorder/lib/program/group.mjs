@@ -7,7 +7,6 @@ import { Board } from "../board/board.mjs";
 import { waysOf } from "../board/strategy/ways.mjs";
 import { WORD } from "../memory/layout.mjs";
 import { Refused } from "../options/refused.mjs";
-import { compiledModules } from "../processes/own-modules.cjs";
 import { begunWith } from "../processes/thread.mjs";
 import { Group } from "../run/group.mjs";
 import { GRAPH_FLAGS } from "./graph-flags.mjs";
@@ -137,7 +136,7 @@ export class ProgramGroup extends Group {
     const { memory, plan, rules } = this;
     while (this.#spare.length < this.#ahead) {
       const thread = this.begin(begunWith(FLAGS));
-      thread.give(PROGRAM_MODULE, { origin: this.#origin, ordinary, memory, plan, rules }, compiledModules);
+      thread.give(PROGRAM_MODULE, { origin: this.#origin, ordinary, memory, plan, rules });
       this.#spare.push(thread.next().then(() => thread));
     }
   }
