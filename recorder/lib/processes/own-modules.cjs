@@ -37,12 +37,15 @@ const OWN = /^\..*\.mjs$/;
  * How a function's body gets what a module exports.
  * @param {string} url of the module that imports it
  * @param {string} from what stands in the import
+ * @param {URL[]} imported to which the module is added, if it is the recorder's own
  * @returns {string}
  */
-function ownerOf(url, from) {
+function ownerOf(url, from, imported) {
   if (!from.startsWith(".")) return `require("${from}")`;
   const file = new URL(from, url);
-  return OWN.test(from) ? `modules[${JSON.stringify(file.href)}]` : `require(${JSON.stringify(fileURLToPath(file))})`;
+  if (!OWN.test(from)) return `require(${JSON.stringify(fileURLToPath(file))})`;
+  imported.push(file);
+  return `modules[${JSON.stringify(file.href)}]`;
 }
 
 /**
@@ -58,10 +61,7 @@ function bodyOf(url, text) {
   /** @type {URL[]} */
   const imported = [];
   const body = text.replace(STATEMENT, (statement, taken, from, name, several) => {
-    if (from !== undefined) {
-      if (OWN.test(from)) imported.push(new URL(from, url));
-      return `const ${taken.replaceAll(" as ", ": ")} = ${ownerOf(url, from)};`;
-    }
+    if (from !== undefined) return `const ${taken.replaceAll(" as ", ": ")} = ${ownerOf(url, from, imported)};`;
     if (name === undefined && several === undefined) throw new Error(`${url} can't be a function's body: ${statement}`);
     names.push(...(name === undefined ? several.match(/\w+/g) : [name]));
     return "";
