@@ -46,6 +46,25 @@ const WRONG = {
   ],
 };
 
+test("several simulators of a process have the module compiled once", (context) => {
+  const { Module } = WebAssembly;
+  let times = 0;
+  context.after(() => {
+    WebAssembly.Module = Module;
+  });
+  WebAssembly.Module = class extends Module {
+    constructor(bytes) {
+      super(bytes);
+      times += 1;
+    }
+  };
+  const { file } = simulatorOf(context, readFileSync(join(RECORDER, "wasm/sabsim.wasm")));
+  const ended = [new ModuleSimulator(file), new ModuleSimulator(file)].map((each) => each.run({ job: "replay" }, "{"));
+  // Neither takes what is no JSON.
+  assert.deepEqual(ended.map(({ status }) => status), [1, 1]);
+  assert.equal(times, 1);
+});
+
 for (const [what, [bytes, why]] of Object.entries(WRONG)) {
   test(`a module that ${what} fails the check, each time`, async (context) => {
     const run = await runOf(context, agentsPath("three-state-mutex"));
