@@ -3,13 +3,14 @@
 // The process of the first job begins before anything else is loaded.
 
 import { createRequire } from "node:module";
-import { startJob } from "./lib/seeds/start-job.mjs";
 
+const require = createRequire(import.meta.url);
+const { startJob } = require("./lib/seeds/start-job.cjs");
 const words = process.argv.slice(2);
 /** @param {RegExp} pattern @returns {boolean} */
 const hasWord = (pattern) => words.some((word) => pattern.test(word));
 const child = hasWord(/^(-[hV]$|--(help|version|replay))/) ? undefined : startJob(hasWord(/^--program(=|$)/));
-const { evaluated, ownModules } = createRequire(import.meta.url)("./lib/processes/own-modules.cjs");
+const { evaluated, ownModules } = require("./lib/processes/own-modules.cjs");
 const { main } = evaluated(ownModules(new URL("./lib/command/main.mjs", import.meta.url)));
 const status = await main(words, child);
 // All is written. What the engine still compiles in other threads isn't awaited.

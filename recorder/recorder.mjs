@@ -1,6 +1,6 @@
 // The recorder as a library: `import { explore, record } from "./recorder.mjs"`.
 
-export { Difference } from "./lib/check/check.mjs";
+export { Difference } from "./lib/check/difference.mjs";
 export { explore } from "./lib/library/explore.mjs";
 export { record } from "./lib/library/recorder.mjs";
 export { Refused } from "./lib/options/refused.mjs";

@@ -7,7 +7,8 @@ import { cpSync, readFileSync, readdirSync, writeFileSync } from "node:fs";
 import { join } from "node:path";
 import { test } from "node:test";
 import { fileURLToPath, pathToFileURL } from "node:url";
-import { Difference, checkedBy } from "../lib/check/check.mjs";
+import { checkedBy } from "../lib/check/check.mjs";
+import { Difference } from "../lib/check/difference.mjs";
 import { simulatorAt } from "../lib/simulator/chosen.mjs";
 import { ModuleSimulator } from "../lib/simulator/module.mjs";
 import { agentsPath, temporaryFolder } from "./helpers/common.mjs";
@@ -44,6 +45,25 @@ const WRONG = {
     /^seed 1: the code and sabsim differ, in line 3 of the report\n {2}the code: 2 . 0 return 0\n {2}sabsim: {3}2 . 0 retorn 0$/,
   ],
 };
+
+test("several simulators of a process have the module compiled once", (context) => {
+  const { Module } = WebAssembly;
+  let times = 0;
+  context.after(() => {
+    WebAssembly.Module = Module;
+  });
+  WebAssembly.Module = class extends Module {
+    constructor(bytes) {
+      super(bytes);
+      times += 1;
+    }
+  };
+  const { file } = simulatorOf(context, readFileSync(join(RECORDER, "wasm/sabsim.wasm")));
+  const ended = [new ModuleSimulator(file), new ModuleSimulator(file)].map((each) => each.run({ job: "replay" }, "{"));
+  // Neither takes what is no JSON.
+  assert.deepEqual(ended.map(({ status }) => status), [1, 1]);
+  assert.equal(times, 1);
+});
 
 for (const [what, [bytes, why]] of Object.entries(WRONG)) {
   test(`a module that ${what} fails the check, each time`, async (context) => {

@@ -35,7 +35,7 @@ test("a process that asks for it collects its garbage once in 2,048 times, and s
 test("the process of a job collects garbage in the workers that it begins before it has loaded its module", () => {
   const fileOf = (path) => fileURLToPath(new URL(path, import.meta.url));
   const module = new URL("./helpers/begun-thread.mjs", import.meta.url).href;
-  const words = [fileOf("../lib/processes/own-process.cjs"), module, GARBAGE];
+  const words = [fileOf("../lib/processes/own-process.cjs"), module, GARBAGE, GARBAGE, "1"];
   const { stdout, stderr } = spawnSync(process.execPath, words, { encoding: "utf8" });
   assert.deepEqual([stdout, stderr], ["true false undefined\n", ""]);
 });

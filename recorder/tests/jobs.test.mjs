@@ -13,7 +13,7 @@ import { pathToFileURL } from "node:url";
 import { Delivery } from "../lib/seeds/delivery.mjs";
 import { Runs, outcomesOf } from "../lib/seeds/runs.mjs";
 import { isWorthIt } from "../lib/seeds/more-jobs.mjs";
-import { jobWords } from "../lib/seeds/start-job.mjs";
+import { jobWords } from "../lib/seeds/start-job.cjs";
 import { RECORD, agentsOf, agentsPath, temporaryFolder } from "./helpers/common.mjs";
 import { CHECKING, onLinux } from "./helpers/needs.mjs";
 

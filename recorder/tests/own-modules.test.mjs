@@ -145,14 +145,21 @@ function readBy(context, words) {
   return readFileSync(noted, "utf8").split("\n").flatMap((path) => path.split("/recorder/lib/").slice(1));
 }
 
+/** @param {string[]} read @param {string} first @param {string} second @returns {boolean} whether it was read later */
+const isBefore = (read, first, second) => read.includes(first) && read.indexOf(first) < read.indexOf(second);
+
 /** What only some commands need. */
-const SELDOM = /^program\/|^run\/program-state|^command\/replay|^shorter\/shorten\.|^keeping\/(page|pictures|document)/;
+const SELDOM = new RegExp([
+  /^program\//, /^run\/program-state/, /^command\/replay/, /^shorter\/(shorten|stretches)\./, /^library\/caller/,
+  /^keeping\/(page|pictures|document|kept-program|how-made|about)\./,
+].map(({ source }) => source).join("|"));
 
 test("a run of agents loads nothing that is for whole programs, replays or kept runs alone", (context) => {
   const read = readBy(context, [agentsPath("naive-mutex"), "--seeds", "1"]);
   const needed = ["command/main.mjs", "seeds/job-process.mjs", "run/referee.mjs", "agent/worker.mjs"];
   assert.deepEqual(needed.filter((path) => !read.includes(path)), []);
   assert.deepEqual(read.filter((path) => SELDOM.test(path)), []);
+  assert.ok(isBefore(read, "agent/worker.mjs", "seeds/job.mjs"), "the workers don't await the job's modules");
 });
 
 test("what is for whole programs is loaded for them, and what is for kept runs when one is kept", (context) => {
@@ -160,6 +167,7 @@ test("what is for whole programs is loaded for them, and what is for kept runs w
   const ofProgram = readBy(context, ["--program", program, "--seeds", "1"]);
   for (const path of ["program/group.mjs", "run/program-state.mjs"]) assert.ok(ofProgram.includes(path), path);
   assert.ok(!ofProgram.includes("agent/worker.mjs"), "no workers begin that only a module of agents needs");
+  assert.ok(isBefore(ofProgram, "program/worker.mjs", "seeds/job.mjs"), "the workers don't await the job's modules");
   const out = temporaryFolder(context);
   const ofKept = readBy(context, [agentsPath("naive-mutex"), "--seeds", "1..60", "--fail-fast", "--out", out]);
   for (const path of ["shorter/shorten.mjs", "keeping/page.mjs"]) assert.ok(ofKept.includes(path), path);

@@ -10,7 +10,7 @@ import { after, test } from "node:test";
 import { fileURLToPath, pathToFileURL } from "node:url";
 import { promisify } from "node:util";
 import { Worker } from "node:worker_threads";
-import { GRAPH_FLAGS } from "../lib/program/graph-flags.mjs";
+import { GRAPH_FLAGS } from "../lib/program/graph-flags.cjs";
 
 const FLAGS = ["--no-warnings", ...GRAPH_FLAGS];
 const PROCESS = fileURLToPath(new URL("helpers/graph-process.mjs", import.meta.url));

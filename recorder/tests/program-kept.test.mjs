@@ -7,7 +7,7 @@ import { describe, it } from "node:test";
 import { fileURLToPath, pathToFileURL } from "node:url";
 import { promisify } from "node:util";
 import { defaultsOf } from "../lib/options/table.mjs";
-import { GRAPH_FLAGS } from "../lib/program/graph-flags.mjs";
+import { GRAPH_FLAGS } from "../lib/program/graph-flags.cjs";
 import { MOST_RUNS, ProgramGroup } from "../lib/program/group.mjs";
 import { programOf, runsOf } from "./helpers/whole-programs.mjs";
 

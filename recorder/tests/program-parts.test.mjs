@@ -8,7 +8,7 @@ import { join } from "node:path";
 import { test } from "node:test";
 import { fileURLToPath, pathToFileURL } from "node:url";
 import { promisify } from "node:util";
-import { GRAPH_FLAGS } from "../lib/program/graph-flags.mjs";
+import { GRAPH_FLAGS } from "../lib/program/graph-flags.cjs";
 import { temporaryFolder } from "./helpers/common.mjs";
 
 const execute = promisify(execFile);

@@ -4,7 +4,7 @@ import assert from "node:assert/strict";
 import { describe, it } from "node:test";
 import { defaultsOf } from "../lib/options/table.mjs";
 import { RemoteJob } from "../lib/seeds/remote-job.mjs";
-import { startJob } from "../lib/seeds/start-job.mjs";
+import { startJob } from "../lib/seeds/start-job.cjs";
 import { PROGRAMS, urlOf } from "./programs/table.mjs";
 
 /** Programs with messages, timers, waits and ordinary accesses; some of their runs fail. */

@@ -15,24 +15,38 @@ const WORKER = 'import { parentPort, workerData } from "node:worker_threads";\n'
 const ANSWERS = `${WORKER}parentPort.on("message", (value) => parentPort.postMessage(value));`;
 
 /**
+ * Opens a group for a program, has something done with it, and closes it.
+ * @template T
+ * @param {import("node:test").TestContext} context
+ * @param {Record<string, string>} files
+ * @param {(group: ProgramGroup) => Promise<T>} act
+ * @returns {Promise<T>}
+ */
+async function withGroup(context, files, act) {
+  const module = pathToFileURL(programOf(context, files)).href;
+  const options = { ...defaultsOf("record"), isProgram: true, seconds: 20, args: [], module };
+  const group = /** @type {ProgramGroup} */ (await ProgramGroup.open(options));
+  try {
+    return await act(group);
+  } finally {
+    await group.close();
+  }
+}
+
+/**
  * Makes a run, and says which threads are others afterwards.
  * @param {import("node:test").TestContext} context
  * @param {Record<string, string>} files
  * @param {{ ending?: string, isFresh?: boolean }} [how]
  * @returns {Promise<number[]>} their numbers
  */
-async function replacedIn(context, files, { ending = "finished", isFresh = false } = {}) {
-  const module = pathToFileURL(programOf(context, files)).href;
-  const options = { ...defaultsOf("record"), isProgram: true, seconds: 20, args: [], module };
-  const group = /** @type {ProgramGroup} */ (await ProgramGroup.open(options));
-  try {
+function replacedIn(context, files, { ending = "finished", isFresh = false } = {}) {
+  return withGroup(context, files, async (group) => {
     const before = [...group.agents];
     const { outcome } = await group.one({ seed: 1, whole: false, isSilent: true, isFresh });
     assert.equal(outcome.ending, ending, outcome.detail);
     return before.flatMap((thread, agent) => (group.agents[agent] === thread ? [] : [agent]));
-  } finally {
-    await group.close();
-  }
+  });
 }
 
 describe("a thread is kept", { concurrency: 3 }, () => {
@@ -80,5 +94,29 @@ describe("a thread is replaced", { concurrency: 3 }, () => {
 
   it("before a run that wants fresh threads, also if it takes no part", async (context) => {
     assert.deepEqual(await replacedIn(context, { "main.mjs": "" }, { isFresh: true }), [0, 1, 2]);
+  });
+});
+
+describe("a group has begun", { concurrency: 3 }, () => {
+  // Besides the referee's thread.
+  const begunIn = (group) => group.threads.size - 1;
+  const wanted = { seed: 1, whole: false, isSilent: true };
+
+  it("three threads, and others that stand ready when some are to be replaced", async (context) => {
+    await withGroup(context, { "main.mjs": "" }, async (group) => {
+      await group.one(wanted);
+      assert.equal(begunIn(group), 3);
+      await group.one({ ...wanted, isFresh: true });
+      assert.ok(begunIn(group) > 3);
+    });
+  });
+
+  it("as many threads as a run needs, and no more", async (context) => {
+    const main = `${MAIN}for (const _ of "1234") started();`;
+    const files = { "main.mjs": main, "worker.mjs": `${WORKER}Atomics.add(workerData, 0, 1);` };
+    await withGroup(context, files, async (group) => {
+      await group.one(wanted);
+      assert.equal(begunIn(group), 5);
+    });
   });
 });

@@ -6,6 +6,7 @@ import { join } from "node:path";
 import { test } from "node:test";
 import { setTimeout as sleep } from "node:timers/promises";
 import { pathToFileURL } from "node:url";
+import { compileFunction } from "node:vm";
 import { Thread, beginThreads, begunThread } from "../lib/processes/thread.mjs";
 import { temporaryFolder } from "./helpers/common.mjs";
 
@@ -95,6 +96,24 @@ test("a thread that loops is ended, and nothing is told of it", async (context) 
   };
   assert.equal(await thread.stop(20_000), true);
   assert.equal(told, false);
+});
+
+test("each module that a worker is given is compiled already", async (context) => {
+  const lib = new URL("../lib/", import.meta.url);
+  const [board, player] = ["board/board.mjs", "agent/player.mjs"].map((path) => new URL(path, lib));
+  const thread = begunThread(player);
+  context.after(() => thread.stop());
+  const posted = [];
+  thread.post = (message) => void posted.push(message);
+  thread.giveAhead(board);
+  thread.give(player);
+  const [{ ahead }, { modules }] = posted;
+  assert.ok(ahead.length > 10 && modules.length > 10);
+  for (const { url, code, compiled } of [...ahead, ...modules]) {
+    const options = { filename: url, cachedData: Buffer.from(compiled) };
+    const made = compileFunction(code, ["modules", "require", "loaded"], options);
+    assert.equal(made.cachedDataRejected, false, url);
+  }
 });
 
 test("a worker evaluates what is behind its module ahead of its data, and nothing twice", async (context) => {

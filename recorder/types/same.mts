@@ -1,7 +1,7 @@
 // Holds the types that the package declares (recorder.d.mts) against those of the code: each pair must be the same.
 
 import * as declared from "../recorder.mjs";
-import * as check from "../lib/check/check.mjs";
+import * as difference from "../lib/check/difference.mjs";
 import * as exploring from "../lib/library/explore.mjs";
 import * as recording from "../lib/library/recorder.mjs";
 import * as refused from "../lib/options/refused.mjs";
@@ -38,9 +38,9 @@ export type Held = [
   Holds<Same<Flat<declared.Summary>, Flat<WholeSummary>>>,
   Holds<Same<Parameters<declared.WithBuffers>, Parameters<WithBuffers>>>,
   Holds<Same<ReturnType<declared.WithBuffers>, ReturnType<WithBuffers>>>,
-  Holds<Same<Flat<declared.Difference["outcome"]>, Flat<check.Difference["outcome"]>>>,
+  Holds<Same<Flat<declared.Difference["outcome"]>, Flat<difference.Difference["outcome"]>>>,
   Holds<Same<ConstructorParameters<typeof declared.Refused>, ConstructorParameters<typeof refused.Refused>>>,
-  Holds<Same<keyof declared.Difference, keyof check.Difference>>,
+  Holds<Same<keyof declared.Difference, keyof difference.Difference>>,
   Holds<Same<keyof declared.NoSabsim, keyof native.NoSabsim>>,
   Holds<Same<ConstructorParameters<typeof declared.LostJob>, ConstructorParameters<typeof remote.LostJob>>>,
   Holds<Same<ConstructorParameters<typeof declared.KeepsGlobals>, ConstructorParameters<typeof again.KeepsGlobals>>>,

@@ -15,7 +15,8 @@ import { Journal, MOST_MOVES, MOVES } from "./journal.mjs";
 import { Line } from "./line.mjs";
 import { Row, STRAYS } from "./row.mjs";
 import { Spins } from "./spins.mjs";
-import { NEVER, NOBODY_MOVES, Strategy } from "./strategy.mjs";
+import { NOBODY_MOVES, Strategy } from "./strategy.mjs";
+import { NEVER } from "./strategy/ways.mjs";
 import { REASON_BYTES, Turn } from "./turn.mjs";
 
 const { Int32Array, Float64Array } = globalThis;

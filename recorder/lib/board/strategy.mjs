@@ -9,7 +9,7 @@ import { Able } from "./strategy/able.mjs";
 import { Asked } from "./strategy/asked.mjs";
 import { Slow } from "./strategy/slow.mjs";
 import { STRATEGIES } from "./strategy/table.mjs";
-import { PILOT_WAYS } from "./strategy/ways.mjs";
+import { NEVER, PILOT_WAYS } from "./strategy/ways.mjs";
 
 const { imul } = Math;
 
@@ -26,9 +26,6 @@ const { imul } = Math;
  */
 
 /** @typedef {import("./strategy/ways.mjs").Way} Way */
-
-/** In place of a part of the draws: timed waits don't end by themselves. */
-export const NEVER = "never";
 
 /** What `next` answers where nobody moves any more. */
 export const NOBODY_MOVES = -1;

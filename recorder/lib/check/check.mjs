@@ -4,11 +4,11 @@ import { firstDifference } from "../../script/report.mjs";
 import { Log } from "../memory/log.mjs";
 import { traceText } from "../run/trace.mjs";
 import { NoSabsim } from "../simulator/native.mjs";
+import { Difference } from "./difference.mjs";
 
 /** @typedef {import("../run/outcome.mjs").One} One */
 /** @typedef {import("../run/outcome.mjs").Outcome} Outcome */
 /** @typedef {import("../simulator/chosen.mjs").Simulator} Simulator */
-/** @typedef {Pick<Outcome, "seed" | "script" | "report" | "trace">} Scripted what is kept of a run that differs */
 
 /**
  * @typedef {object} Check
@@ -20,22 +20,6 @@ import { NoSabsim } from "../simulator/native.mjs";
 // The status of a verdict that lists unordered accesses. The recorder finds the same ones, also those that are no data
 // race by ECMA-262.
 const FOUND_UNORDERED = 5;
-
-/** What the code saw isn't what the simulator reports, or the simulator has failed: a defect of one of them. */
-export class Difference extends Error {
-  /**
-   * @param {string} message both sides
-   * @param {Scripted} outcome with its script and report, and with its trace if the verdict on it differs
-   * @param {string} replayed the report of the simulator
-   * @param {string} [judged] its verdict, if that differs
-   */
-  constructor(message, outcome, replayed, judged) {
-    super(message);
-    this.outcome = outcome;
-    this.replayed = replayed;
-    this.judged = judged;
-  }
-}
 
 /**
  * Asks the simulator. That it stops in the middle is no answer.

@@ -1,6 +1,6 @@
 // What went wrong, as it is printed.
 
-import { Difference } from "../check/check.mjs";
+import { Difference } from "../check/difference.mjs";
 import { NotKept } from "../keeping/keep.mjs";
 import { Refused } from "../options/refused.mjs";
 import { KeepsGlobals } from "../seeds/first-again.mjs";

@@ -3,7 +3,8 @@
 import { existsSync } from "node:fs";
 import { shortPath } from "../keeping/about.mjs";
 import { howMade } from "../keeping/how-made.mjs";
-import { PROGRAM_ENDING, keepProgram, keptProgram, urlOf } from "../keeping/kept-program.mjs";
+import { PROGRAM_ENDING } from "../keeping/keep.mjs";
+import { keepProgram, keptProgram, urlOf } from "../keeping/kept-program.mjs";
 import { keepPictures, notesOn } from "../keeping/pictures.mjs";
 import { Refused } from "../options/refused.mjs";
 import { firstOtherText, rowStrayedText } from "../shorter/differing.mjs";

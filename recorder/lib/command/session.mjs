@@ -1,8 +1,7 @@
 // What the command line does: many runs, a summary of them, and the first failing one kept.
 
 import { setImmediate as turn } from "node:timers/promises";
-import { Difference } from "../check/check.mjs";
-import { howMade } from "../keeping/how-made.mjs";
+import { Difference } from "../check/difference.mjs";
 import { Keeper, missingFiles } from "../keeping/keep.mjs";
 import { collectGarbage, onceMore, stopGrowth } from "../processes/garbage.mjs";
 import { preloads } from "../processes/preloads.mjs";
@@ -165,6 +164,7 @@ export class Session {
       keeper.keepAll(seed, { json: script, report, "trace.jsonl": trace, ...theirs });
     } else if (failing !== undefined && keeper.seed === failing.seed) {
       const outcome = shortened?.shortest ?? failing;
+      const { howMade } = await import("../keeping/how-made.mjs");
       const how = { simulator: this.simulator, ...howMade(this.options) };
       const { keepPictures, notesOn } = await import("../keeping/pictures.mjs");
       const { keepProgram } = await import("../keeping/kept-program.mjs");

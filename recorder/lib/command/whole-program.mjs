@@ -1,6 +1,6 @@
 // What the command line runs: a module of agents, or a whole program.
 
-import { PROGRAM_ENDING } from "../keeping/kept-program.mjs";
+import { PROGRAM_ENDING } from "../keeping/keep.mjs";
 import { needFitting } from "../options/of-programs.mjs";
 import { Refused } from "../options/refused.mjs";
 import { wordOf } from "../options/table.mjs";

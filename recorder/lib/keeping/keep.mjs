@@ -14,6 +14,9 @@ import { comesBefore } from "../run/order.mjs";
  * @property {string[]} [notes] what their readers must know; an older recorder has none
  */
 
+/** What the name of the file ends with, behind that of the run, by which a kept run of a program is made again. */
+export const PROGRAM_ENDING = "program.json";
+
 /** A file couldn't be written. */
 export class NotKept extends Error {}
 

@@ -9,9 +9,7 @@ import { MOST_DRAWS } from "../board/row.mjs";
 import { Refused } from "../options/refused.mjs";
 import { optionsOf } from "../options/table.mjs";
 import { rowOf, stretchesOf } from "../shorter/stretches.mjs";
-
-/** What its name ends with, behind that of the run. */
-export const PROGRAM_ENDING = "program.json";
+import { PROGRAM_ENDING } from "./keep.mjs";
 
 /**
  * @typedef {object} KeptProgram

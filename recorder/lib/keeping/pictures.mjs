@@ -4,7 +4,7 @@
 import { join } from "node:path";
 import { hasFloats } from "../../script/written.mjs";
 import { aboutOf } from "./about.mjs";
-import { PROGRAM_ENDING } from "./kept-program.mjs";
+import { PROGRAM_ENDING } from "./keep.mjs";
 import { pageText } from "./page.mjs";
 import { wordsText } from "./words.mjs";
 

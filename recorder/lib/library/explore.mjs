@@ -4,8 +4,8 @@ import { Job } from "../seeds/job.mjs";
 import { Runs, outcomesOf } from "../seeds/runs.mjs";
 import { BATCH } from "../seeds/seed-queue.mjs";
 import { chosenProgram } from "../simulator/chosen.mjs";
+import { folderOfCaller } from "./caller.mjs";
 import { exploreOptions } from "./library-options.mjs";
-import { folderOfCaller } from "./module-url.mjs";
 
 /** @typedef {import("../simulator/native.mjs").NoSabsim} NoSabsim */
 /** @typedef {import("../options/refused.mjs").Refused} Refused */

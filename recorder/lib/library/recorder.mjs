@@ -3,8 +3,8 @@
 import { Job } from "../seeds/job.mjs";
 import { Runs } from "../seeds/runs.mjs";
 import { chosenProgram } from "../simulator/chosen.mjs";
+import { folderOfCaller } from "./caller.mjs";
 import { checkedOptions } from "./library-options.mjs";
-import { folderOfCaller } from "./module-url.mjs";
 
 /** @typedef {import("../check/check.mjs").Check} Check */
 /** @typedef {{ remembers?: import("../seeds/first-again.mjs").Remembering }} Again of the last of many runs */

@@ -1,8 +1,7 @@
 // What an option may be. Each kind looks at a value, as the library is given it, and at a text of the command line.
 
 import { SCRIPT_LIMITS } from "../../script/limits.mjs";
-import { NEVER } from "../board/strategy.mjs";
-import { STRATEGY_WORDS, waysOf } from "../board/strategy/ways.mjs";
+import { NEVER, STRATEGY_WORDS, waysOf } from "../board/strategy/ways.mjs";
 import { checkedAgents, checkedBuffers, checkedNoBlock } from "./plan.mjs";
 import { Refused } from "./refused.mjs";
 

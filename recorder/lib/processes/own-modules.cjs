@@ -37,12 +37,15 @@ const OWN = /^\..*\.mjs$/;
  * How a function's body gets what a module exports.
  * @param {string} url of the module that imports it
  * @param {string} from what stands in the import
+ * @param {URL[]} imported to which the module is added, if it is the recorder's own
  * @returns {string}
  */
-function ownerOf(url, from) {
+function ownerOf(url, from, imported) {
   if (!from.startsWith(".")) return `require("${from}")`;
   const file = new URL(from, url);
-  return OWN.test(from) ? `modules[${JSON.stringify(file.href)}]` : `require(${JSON.stringify(fileURLToPath(file))})`;
+  if (!OWN.test(from)) return `require(${JSON.stringify(fileURLToPath(file))})`;
+  imported.push(file);
+  return `modules[${JSON.stringify(file.href)}]`;
 }
 
 /**
@@ -58,10 +61,7 @@ function bodyOf(url, text) {
   /** @type {URL[]} */
   const imported = [];
   const body = text.replace(STATEMENT, (statement, taken, from, name, several) => {
-    if (from !== undefined) {
-      if (OWN.test(from)) imported.push(new URL(from, url));
-      return `const ${taken.replaceAll(" as ", ": ")} = ${ownerOf(url, from)};`;
-    }
+    if (from !== undefined) return `const ${taken.replaceAll(" as ", ": ")} = ${ownerOf(url, from, imported)};`;
     if (name === undefined && several === undefined) throw new Error(`${url} can't be a function's body: ${statement}`);
     names.push(...(name === undefined ? several.match(/\w+/g) : [name]));
     return "";
@@ -105,12 +105,12 @@ function ownModules(url) {
   return [...bodies].map(([href, code]) => ({ url: href, code }));
 }
 
-/** @type {Map<string, Uint8Array | undefined>} what the engine has made of modules, by their URLs */
+/** @type {Map<string, any>} the functions that the engine has made here of modules for other threads, by their URLs */
 const made = new Map();
 
 /**
  * The same as `ownModules`, compiled here: in a thread that gets them the engine needn't do so. It does if a flag of the
- * engine differs by then.
+ * engine differs by then. If a module is evaluated here too, it isn't compiled again.
  * @param {URL} url
  * @returns {OwnModule[]}
  */
@@ -118,10 +118,9 @@ function compiledModules(url) {
   return ownModules(url).map((module) => {
     if (!made.has(module.url)) {
       const options = { filename: module.url, produceCachedData: true };
-      const compiled = /** @type {any} */ (compileFunction(module.code, PARAMETERS, options));
-      made.set(module.url, compiled.cachedData);
+      made.set(module.url, compileFunction(module.code, PARAMETERS, options));
     }
-    return { ...module, compiled: made.get(module.url) };
+    return { ...module, compiled: made.get(module.url).cachedData };
   });
 }
 
@@ -135,7 +134,7 @@ function evaluated(list, modules = {}) {
   const loaded = async (/** @type {string} */ url) => evaluated(ownModules(new URL(url)), modules);
   for (const { url, code, compiled } of list) {
     const options = { filename: url, cachedData: /** @type {Buffer | undefined} */ (compiled) };
-    modules[url] ??= compileFunction(code, PARAMETERS, options)(modules, require, loaded);
+    modules[url] ??= (made.get(url) ?? compileFunction(code, PARAMETERS, options))(modules, require, loaded);
   }
   return list.length === 0 ? {} : modules[list[list.length - 1].url];
 }

@@ -1,6 +1,7 @@
 // What the process of a job begins with: workers, and meanwhile the module whose URL is its first word. The second word
-// is the URL of the referee's module; the third one, if there is one, that of the agents' workers. This is a CommonJS
-// module, since such a one is loaded sooner.
+// is the URL of the referee's module; the third one that of the workers of agents or of a program. The fourth says how
+// many of these begin, and the others are words of node's command line for them. This is a CommonJS module, since such a
+// one is loaded sooner.
 "use strict";
 
 const { pathToFileURL } = require("node:url");
@@ -11,9 +12,11 @@ const own = pathToFileURL(__filename);
 const modules = {};
 
 evaluated(ownModules(new URL("./garbage.mjs", own)), modules).collectGarbage();
-const { FIRST_AGENTS, beginThreads, giveAhead } = evaluated(ownModules(new URL("./thread.mjs", own)), modules);
-const [job, referee, agents] = process.argv.slice(2).map((word) => new URL(word));
-if (agents !== undefined) beginThreads(agents, FIRST_AGENTS);
-beginThreads(referee, 1);
-giveAhead();
-evaluated(ownModules(job), modules);
+const { beginThreads, giveAhead } = evaluated(ownModules(new URL("./thread.mjs", own)), modules);
+const [job, referee, worker, count, ...flags] = process.argv.slice(2);
+const root = new URL(worker);
+beginThreads(root, Number(count), flags.length === 0 ? undefined : [...process.execArgv, ...flags]);
+beginThreads(new URL(referee), 1);
+// The referee has time: the code that is run is loaded first.
+giveAhead(root);
+evaluated(ownModules(new URL(job)), modules);

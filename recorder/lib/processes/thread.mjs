@@ -2,7 +2,7 @@
 
 import { MessageChannel, Worker, receiveMessageOnPort } from "node:worker_threads";
 import { workerLimits } from "./garbage.mjs";
-import { ownModules } from "./own-modules.cjs";
+import { compiledModules } from "./own-modules.cjs";
 
 // How long an end is awaited. A call of native code, as one that waits for another program, can't be broken off: the
 // thread stays until that call returns.
@@ -76,7 +76,7 @@ export class Thread {
    * @param {URL} root
    */
   giveAhead(root) {
-    const ahead = ownModules(root).slice(0, -1);
+    const ahead = compiledModules(root).slice(0, -1);
     for (const { url } of ahead) this.given.add(url);
     this.post({ ahead });
   }
@@ -85,11 +85,9 @@ export class Thread {
    * Gives a worker that awaits its data a module of the recorder, and what else this needs. It calls its `main`.
    * @param {URL} root
    * @param {object} [data]
-   * @param {(root: URL) => import("./own-modules.cjs").OwnModule[]} [modulesOf] that are compiled already, if many
-   * workers get them
    */
-  give(root, data, modulesOf = ownModules) {
-    this.post({ modules: modulesOf(root).filter(({ url }) => !this.given.has(url)), ...data });
+  give(root, data) {
+    this.post({ modules: compiledModules(root).filter(({ url }) => !this.given.has(url)), ...data });
   }
 
   /**
@@ -144,35 +142,37 @@ export class Thread {
   }
 }
 
-/**
- * How many workers a group of agents begins at once, besides its referee's: two for each of two agents, since others of
- * theirs load after the pilots.
- */
-export const FIRST_AGENTS = 4;
-
 const OWN_WORKER = new URL("./own-worker.cjs", import.meta.url);
 
-/** @returns {Thread} one that awaits its data, with the recorder's modules that it is to evaluate */
-const newThread = () => new Thread(OWN_WORKER, {}, { ownPort: true });
+/**
+ * @param {string[]} [execArgv] words of node's command line; those of this process if it isn't given
+ * @returns {Thread} one that awaits its data, with the recorder's modules that it is to evaluate
+ */
+const newThread = (execArgv) => new Thread(OWN_WORKER, {}, { ownPort: true, execArgv });
 
 /** @type {{ root: URL, thread: Thread }[]} those that a process has begun while it loads its modules */
 const begun = [];
 
-/** @param {URL} root the module that a worker will be given @param {number} count how many begin now */
-export function beginThreads(root, count) {
-  for (let each = 0; each < count; each += 1) begun.push({ root, thread: newThread() });
+/**
+ * @param {URL} root the module that a worker will be given
+ * @param {number} count how many begin now
+ * @param {string[]} [execArgv] as above
+ */
+export function beginThreads(root, count, execArgv) {
+  for (let each = 0; each < count; each += 1) begun.push({ root, thread: newThread(execArgv) });
 }
 
-/** Gives those that have begun what is known already. */
-export function giveAhead() {
-  for (const { root, thread } of begun) thread.giveAhead(root);
+/** @param {URL} root the module of those that get now what it imports */
+export function giveAhead(root) {
+  for (const each of begun) if (each.root.href === root.href) each.thread.giveAhead(root);
 }
 
-/** @param {string[]} execArgv words of node's command line @returns {Thread} the same, begun just now */
-export const begunWith = (execArgv) => new Thread(OWN_WORKER, {}, { ownPort: true, execArgv });
-
-/** @param {URL} root the module that it will be given @returns {Thread} one that has begun, or begins */
-export function begunThread(root) {
+/**
+ * @param {URL} root the module that it will be given
+ * @param {string[]} [execArgv] as above
+ * @returns {Thread} one that has begun, or begins
+ */
+export function begunThread(root, execArgv) {
   const at = begun.findIndex((each) => each.root.href === root.href);
-  return at < 0 ? newThread() : begun.splice(at, 1)[0].thread;
+  return at < 0 ? newThread(execArgv) : begun.splice(at, 1)[0].thread;
 }

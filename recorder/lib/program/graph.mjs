@@ -1,5 +1,5 @@
 // The modules of a program, made anew for each run in a thread that is kept. ES modules are vm.SourceTextModule; the
-// thread needs the flags of `graph-flags.mjs`. Load this file before anything replaces what node's modules export.
+// thread needs the flags of `graph-flags.cjs`. Load this file before anything replaces what node's modules export.
 
 import Module, { createRequire } from "node:module";
 import path from "node:path";

@@ -7,10 +7,10 @@ import { Board } from "../board/board.mjs";
 import { waysOf } from "../board/strategy/ways.mjs";
 import { WORD } from "../memory/layout.mjs";
 import { Refused } from "../options/refused.mjs";
-import { compiledModules } from "../processes/own-modules.cjs";
-import { begunWith } from "../processes/thread.mjs";
+import { FIRST_THREADS } from "../processes/first-workers.cjs";
+import { begunThread } from "../processes/thread.mjs";
 import { Group } from "../run/group.mjs";
-import { GRAPH_FLAGS } from "./graph-flags.mjs";
+import { GRAPH_FLAGS } from "./graph-flags.cjs";
 import { programMemory, programPlan } from "./program-memory.mjs";
 
 /** @typedef {import("../processes/thread.mjs").Thread} Thread */
@@ -22,9 +22,6 @@ const REFEREE_MODULE = new URL("../run/referee.mjs", import.meta.url);
 
 /** The time of a wait or a timer that is further away is never up early in the seeds that hurry. */
 const SOON_MILLISECONDS = 1_000;
-
-/** How many threads stand ready at first: the program's own one, and two workers. */
-const FIRST_THREADS = 3;
 
 const { store, notify } = Atomics;
 
@@ -47,8 +44,8 @@ export class ProgramGroup extends Group {
   /** @type {any[]} ports by which each thread gets ports to others */
   #controls = [];
 
-  /** How many threads stand ready beside those that have a number. */
-  #ahead = FIRST_THREADS;
+  /** How many threads stand ready beside those that have a number: none before one is to be replaced. */
+  #ahead = 0;
 
   /** @type {Promise<void>} settled when no more are being added */
   #growing = Promise.resolve();
@@ -78,7 +75,8 @@ export class ProgramGroup extends Group {
     const options = this.refereeOptions({ hasInit: false, hasCheck: false });
     const asked = { ...options, stuck: this.options.stuck, isProgram: true, fresh: false };
     referee.post({ memory: this.memory, plan, rules: this.rules, options: asked });
-    this.#prepare();
+    if (this.options.fresh) this.beginAhead();
+    this.#prepare(FIRST_THREADS);
     meanwhile();
     await this.#grow(FIRST_THREADS);
   }
@@ -123,36 +121,39 @@ export class ProgramGroup extends Group {
 
   /** @param {number} agent whose thread is ended, and another one takes its place */
   async replace(agent) {
-    this.#prepare();
+    this.beginAhead();
     const [next] = await Promise.all([this.#taken(), this.agents[agent].stop()]);
     this.threads.delete(this.agents[agent]);
     await this.#hand(agent, next);
   }
 
-  /** Some stand ready at any time. */
-  beginAhead() {}
+  /** From now on some threads stand ready: those that have a number are to be replaced. */
+  beginAhead() {
+    this.#ahead = Math.max(FIRST_THREADS, this.agents.length);
+    this.#prepare(this.#ahead);
+  }
 
-  /** Keeps some threads ready. */
-  #prepare() {
+  /** @param {number} count how many threads that have no number are to have begun */
+  #prepare(count) {
     const { ordinary } = this.options;
     const { memory, plan, rules } = this;
-    while (this.#spare.length < this.#ahead) {
-      const thread = this.begin(begunWith(FLAGS));
-      thread.give(PROGRAM_MODULE, { origin: this.#origin, ordinary, memory, plan, rules }, compiledModules);
+    while (this.#spare.length < count) {
+      const thread = this.begin(begunThread(PROGRAM_MODULE, FLAGS));
+      thread.give(PROGRAM_MODULE, { origin: this.#origin, ordinary, memory, plan, rules });
       this.#spare.push(thread.next().then(() => thread));
     }
   }
 
   /** @returns {Promise<Thread>} */
   #taken() {
-    this.#prepare();
+    this.#prepare(Math.max(1, this.#ahead));
     return this.inTime(/** @type {Promise<Thread>} */ (this.#spare.shift()));
   }
 
   /** @param {number} count how many threads are to have a number */
   async #grow(count) {
+    this.#prepare(count - this.agents.length);
     for (let agent = this.agents.length; agent < count; agent += 1) await this.#hand(agent, await this.#taken());
-    this.#ahead = Math.max(this.#ahead, count);
     const words = this.board?.words ?? new Int32Array(0);
     store(words, WORD.THREADS, this.agents.length);
     notify(words, WORD.THREADS);

@@ -1,4 +1,4 @@
-// Functions of node that none of its modules exports. Only threads with the flags of `graph-flags.mjs` have them.
+// Functions of node that none of its modules exports. Only threads with the flags of `graph-flags.cjs` have them.
 
 import { createRequire } from "node:module";
 

@@ -34,6 +34,8 @@ export class Pilots {
     /** For each place, which agents use it and which of them write, as bits. */
     this.users = new Uint16Array(PLACES);
     this.writers = new Uint16Array(PLACES);
+    /** @type {number[]} the places that any agent uses: few of all that there are */
+    this.used = [];
     /** The places where agents meet, though by these bits they don't. */
     this.marked = new Uint8Array(PLACES);
   }
@@ -59,9 +61,8 @@ export class Pilots {
 
   /** @param {KnownPlaces} known that learns all of it */
   teach(known) {
-    for (let place = 0; place < PLACES; place += 1) {
+    for (const place of this.used) {
       const users = this.users[place];
-      if (users === 0) continue;
       if (this.#isShared(place) || this.marked[place] === 1) known.share(place);
       else if ((users & (users - 1)) === 0) known.giveTo(place, 31 - Math.clz32(users));
       else known.setReadAlone(place);
@@ -78,6 +79,7 @@ export class Pilots {
     const to = log.toAt(event);
     for (let byte = log.fromAt(event); byte < to; byte += 1) {
       const place = placeNumber(block, byte);
+      if (this.users[place] === 0) this.used.push(place);
       this.users[place] |= agent;
       if ((flags & FLAG.WRITES) !== 0) this.writers[place] |= agent;
       if ((flags & FLAG.WAITERS) !== 0) this.marked[place] = 1;

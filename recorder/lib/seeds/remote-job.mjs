@@ -1,7 +1,7 @@
 // A job in a process of its own. All threads of a process share one lock of the engine's for Atomics.wait, so several
 // jobs in one process would stand in each other's way; and a process that agents hold or end isn't the recorder's.
 
-import { Difference } from "../check/check.mjs";
+import { Difference } from "../check/difference.mjs";
 import { Refused } from "../options/refused.mjs";
 import { endGroup } from "../processes/group-end.mjs";
 import { NoSabsim } from "../simulator/native.mjs";
@@ -29,7 +29,7 @@ import { KeepsGlobals } from "./first-again.mjs";
  * @typedef {object} Packed an error as a message
  * @property {string} [kind] undefined: it is a defect
  * @property {string} message
- * @property {import("../check/check.mjs").Scripted} [outcome] of a difference
+ * @property {import("../check/difference.mjs").Scripted} [outcome] of a difference
  * @property {string} [replayed] of a difference
  * @property {string} [judged] of a difference
  */

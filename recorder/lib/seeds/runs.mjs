@@ -8,7 +8,7 @@ import { differenceBetween } from "./first-again.mjs";
 import { moreJobs } from "./more-jobs.mjs";
 import { LostJob, RemoteJob } from "./remote-job.mjs";
 import { SeedQueue } from "./seed-queue.mjs";
-import { startJob } from "./start-job.mjs";
+import { startJob } from "./start-job.cjs";
 
 /** @typedef {import("./job.mjs").Checked} Outcome */
 /** @typedef {RemoteJob | import("./job.mjs").Job} AnyJob */

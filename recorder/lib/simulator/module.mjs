@@ -39,6 +39,16 @@ function bytesOf(text) {
   return ROOM.subarray(0, encoder.encodeInto(text, ROOM).written);
 }
 
+/** @type {Map<string, WebAssembly.Module>} what was compiled in this process, by the URLs of files */
+const compiled = new Map();
+
+/** @param {URL} file @returns {WebAssembly.Module} which the engine compiles once */
+function moduleAt(file) {
+  const module = compiled.get(file.href) ?? new WebAssembly.Module(readFileSync(file));
+  compiled.set(file.href, module);
+  return module;
+}
+
 export class ModuleSimulator {
   /** @type {Simulator | undefined} */
   #simulator;
@@ -64,7 +74,7 @@ export class ModuleSimulator {
   }
 
   #asked() {
-    this.#simulator ??= new Simulator(new WebAssembly.Module(readFileSync(this.file)));
+    this.#simulator ??= new Simulator(moduleAt(this.file));
     return this.#simulator;
   }
 

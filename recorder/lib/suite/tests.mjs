@@ -1,7 +1,7 @@
 // Tests of modules of agents and of whole programs, for node's own test runner and for others.
 
 import { test } from "node:test";
-import { callerOf } from "../library/module-url.mjs";
+import { callerOf } from "../library/caller.mjs";
 import { tried } from "./trial.mjs";
 
 /** @typedef {import("../library/library-options.mjs").TrialOptions} TrialOptions */

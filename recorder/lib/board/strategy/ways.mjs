@@ -1,6 +1,10 @@
-// What `--strategy` can say: one of the strategies, or `mixed`, by which a run's seed says which it takes.
+// What `--strategy` can say: one of the strategies, or `mixed`, by which a run's seed says which it takes. And what
+// `--timeouts` can say besides a number.
 
 import { STRATEGIES } from "./table.mjs";
+
+/** In place of a part of the draws: timed waits don't end by themselves. */
+export const NEVER = "never";
 
 /**
  * @typedef {object} Way how the agents of a run are drawn

@@ -1,12 +1,18 @@
-// Starts the process of a job, which awaits then what it is to do.
+// Starts the process of a job, which awaits then what it is to do. This is a CommonJS module, since such a one is loaded
+// sooner.
+"use strict";
 
-import { fork } from "node:child_process";
-import { fileURLToPath } from "node:url";
+const { fork } = require("node:child_process");
+const { fileURLToPath, pathToFileURL } = require("node:url");
+const { FIRST_AGENTS, FIRST_THREADS } = require("../processes/first-workers.cjs");
+const { GRAPH_FLAGS } = require("../program/graph-flags.cjs");
 
-const PROGRAM = fileURLToPath(new URL("../processes/own-process.cjs", import.meta.url));
-const MODULE = new URL("./job-process.mjs", import.meta.url).href;
-const REFEREE = new URL("../run/referee.mjs", import.meta.url).href;
-const AGENTS = new URL("../agent/worker.mjs", import.meta.url).href;
+const own = pathToFileURL(__filename);
+const PROGRAM = fileURLToPath(new URL("../processes/own-process.cjs", own));
+const MODULE = new URL("./job-process.mjs", own).href;
+const REFEREE = new URL("../run/referee.mjs", own).href;
+const AGENTS = [new URL("../agent/worker.mjs", own).href, String(FIRST_AGENTS)];
+const THREADS = [new URL("../program/worker.mjs", own).href, String(FIRST_THREADS), ...GRAPH_FLAGS];
 
 // A program that stands in the words of node's command line itself, and what it is.
 const EVALUATED = /^(-[ep]+|--eval|--print|--input-type)$/;
@@ -21,7 +27,7 @@ const PORT = /^--(inspect|debug)-port$/;
  * @param {string[]} words that this process got
  * @returns {string[]} those that the process of a job gets
  */
-export function jobWords(words) {
+function jobWords(words) {
   const kept = [];
   for (let at = 0; at < words.length; at += 1) {
     const [name, value] = words[at].split("=", 2);
@@ -35,9 +41,11 @@ export function jobWords(words) {
  * @param {boolean} [isProgram] whether it runs a program of several threads, whose workers begin otherwise
  * @returns {import("node:child_process").ChildProcess} which leads a group of processes
  */
-export function startJob(isProgram = false) {
+function startJob(isProgram = false) {
   const stdio = ["ignore", "inherit", "inherit", "ipc"];
   const execArgv = jobWords(process.execArgv);
-  const words = [MODULE, REFEREE, ...(isProgram ? [] : [AGENTS])];
+  const words = [MODULE, REFEREE, ...(isProgram ? THREADS : AGENTS)];
   return fork(PROGRAM, words, { stdio, execArgv, serialization: "advanced", detached: true, windowsHide: true });
 }
+
+module.exports = { jobWords, startJob };
