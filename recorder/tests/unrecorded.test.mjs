@@ -4,9 +4,10 @@
 import assert from "node:assert/strict";
 import { writeFileSync } from "node:fs";
 import { join } from "node:path";
-import { describe, test } from "node:test";
+import { after, describe, test } from "node:test";
 import { record } from "../recorder.mjs";
 import { assertAgents } from "../testing.mjs";
+import { Cases } from "./helpers/cases.mjs";
 import { agentsPath, temporaryFolder } from "./helpers/common.mjs";
 import { CHECKER } from "./helpers/needs.mjs";
 import { placesOf, recorded, summaryLines } from "./helpers/recorded.mjs";
@@ -121,9 +122,12 @@ describe("recorded memory in another thread is refused, whatever is done with or
   };
   for (const ordinary of ["watch", "store", "refuse"]) {
     for (const unrecorded of ["fail", "allow"]) {
-      for (const [way, what] of Object.entries(WAYS)) {
+      const args = Object.keys(WAYS);
+      const cases = new Cases({ module: MODULE, agents: 1, buffers: [16], args, ordinary, unrecorded });
+      after(() => cases.close());
+      for (const [at, [way, what]] of Object.entries(WAYS).entries()) {
         test(`${way}, --ordinary ${ordinary}, --unrecorded ${unrecorded}`, async () => {
-          const { ending, detail } = await outcomeOf(way, { ordinary, unrecorded });
+          const { ending, detail } = await cases.outcomeOf(at);
           assert.equal(ending, "failed", detail);
           const why = `${what} was given recorded memory, and nobody sees what another thread does with it\n`;
           assert.ok(detail.includes(`agent 0 did something that the recorder can't record: Error: ${why}`), detail);
