@@ -43,7 +43,7 @@ const WAYS = {
     words[1] += 1;
     lock.unlock();
   },
-  calls: () => [Atomics.add(atLoading, 0, 1), Atomics.load(atLoading, 0)],
+  calls: () => [Atomics.add(atLoading, 0, 1), Atomics.sub(atLoading, 0, 1)],
   wakes: () => Atomics.notify(atLoading, 0),
   ordinarily: () => {
     atLoading[0] = 1;
