@@ -12,7 +12,19 @@ const words = new Int32Array(new SharedArrayBuffer(4));
 const started = () => new Worker(new URL("./worker.mjs", import.meta.url), { workerData: words });
 `;
 const WORKER = 'import { parentPort, workerData } from "node:worker_threads";\n';
+const EXITS = { "main.mjs": `${MAIN}started();`, "worker.mjs": "process.exit(3);" };
 const ANSWERS = `${WORKER}parentPort.on("message", (value) => parentPort.postMessage(value));`;
+
+/**
+ * @param {import("node:test").TestContext} context
+ * @param {Record<string, string>} files
+ * @returns {Promise<ProgramGroup>}
+ */
+async function groupOf(context, files) {
+  const module = pathToFileURL(programOf(context, files)).href;
+  const options = { ...defaultsOf("record"), isProgram: true, seconds: 20, args: [], module };
+  return /** @type {ProgramGroup} */ (await ProgramGroup.open(options));
+}
 
 /**
  * Makes a run, and says which threads are others afterwards.
@@ -22,9 +34,7 @@ const ANSWERS = `${WORKER}parentPort.on("message", (value) => parentPort.postMes
  * @returns {Promise<number[]>} their numbers
  */
 async function replacedIn(context, files, { ending = "finished", isFresh = false } = {}) {
-  const module = pathToFileURL(programOf(context, files)).href;
-  const options = { ...defaultsOf("record"), isProgram: true, seconds: 20, args: [], module };
-  const group = /** @type {ProgramGroup} */ (await ProgramGroup.open(options));
+  const group = await groupOf(context, files);
   try {
     const before = [...group.agents];
     const { outcome } = await group.one({ seed: 1, whole: false, isSilent: true, isFresh });
@@ -74,11 +84,27 @@ describe("a thread is replaced", { concurrency: 3 }, () => {
   });
 
   it("if it exits by process.exit", async (context) => {
-    const files = { "main.mjs": `${MAIN}started();`, "worker.mjs": "process.exit(3);" };
-    assert.deepEqual(await replacedIn(context, files), [1]);
+    assert.deepEqual(await replacedIn(context, EXITS), [1]);
   });
 
   it("before a run that wants fresh threads, also if it takes no part", async (context) => {
     assert.deepEqual(await replacedIn(context, { "main.mjs": "" }, { isFresh: true }), [0, 1, 2]);
   });
+});
+
+it("no thread stands ready to take a place, until more were lost than there are", async (context) => {
+  const group = await groupOf(context, EXITS);
+  // Besides those with a number there is the referee's.
+  const ready = () => group.threads.size - group.agents.length - 1;
+  try {
+    const found = [ready()];
+    for (let seed = 1; seed <= 5; seed += 1) {
+      await group.one({ seed, whole: false, isSilent: true });
+      found.push(ready());
+    }
+    // Each run loses one of three threads. From the fourth on three have begun, of which one is taken.
+    assert.deepEqual(found, [0, 0, 0, 0, 2, 2]);
+  } finally {
+    await group.close();
+  }
 });

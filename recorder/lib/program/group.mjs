@@ -1,5 +1,6 @@
 // A group of threads that run a program, and the thread of their referee. Some stand ready; a run that needs more gets
-// more. A thread that ended amid its code can't begin again: another one takes its place.
+// more. A thread that ended amid its code can't begin again: another one takes its place. If that comes again and
+// again, others have begun before.
 
 import { MessageChannel } from "node:worker_threads";
 import { SCRIPT_LIMITS } from "../../script/limits.mjs";
@@ -47,8 +48,8 @@ export class ProgramGroup extends Group {
   /** @type {any[]} ports by which each thread gets ports to others */
   #controls = [];
 
-  /** How many threads stand ready beside those that have a number. */
-  #ahead = FIRST_THREADS;
+  /** How many threads were ended so that others took their places. */
+  #replaced = 0;
 
   /** @type {Promise<void>} settled when no more are being added */
   #growing = Promise.resolve();
@@ -78,7 +79,7 @@ export class ProgramGroup extends Group {
     const options = this.refereeOptions({ hasInit: false, hasCheck: false });
     const asked = { ...options, stuck: this.options.stuck, isProgram: true, fresh: false };
     referee.post({ memory: this.memory, plan, rules: this.rules, options: asked });
-    this.#prepare();
+    this.#prepare(FIRST_THREADS);
     meanwhile();
     await this.#grow(FIRST_THREADS);
   }
@@ -122,20 +123,20 @@ export class ProgramGroup extends Group {
 
   /** @param {number} agent whose thread is ended, and another one takes its place */
   async replace(agent) {
-    this.#prepare();
+    this.#replaced += 1;
     const [next] = await Promise.all([this.#taken(), this.agents[agent].stop()]);
     this.threads.delete(this.agents[agent]);
     await this.#hand(agent, next);
   }
 
-  /** Some stand ready at any time. */
+  /** Nothing shows how many will be needed. */
   beginAhead() {}
 
-  /** Keeps some threads ready. */
-  #prepare() {
+  /** @param {number} count how many threads are to have begun, and have no number yet */
+  #prepare(count) {
     const { ordinary } = this.options;
     const { memory, plan, rules } = this;
-    while (this.#spare.length < this.#ahead) {
+    while (this.#spare.length < count) {
       const thread = this.begin(begunWith(FLAGS));
       thread.give(PROGRAM_MODULE, { origin: this.#origin, ordinary, memory, plan, rules }, compiledModules);
       this.#spare.push(thread.next().then(() => thread));
@@ -144,14 +145,15 @@ export class ProgramGroup extends Group {
 
   /** @returns {Promise<Thread>} */
   #taken() {
-    this.#prepare();
+    // Once in a job all threads may be replaced, to make a run in fresh ones. If more are lost, further ones will be.
+    this.#prepare(this.#replaced > this.agents.length ? this.agents.length : 1);
     return this.inTime(/** @type {Promise<Thread>} */ (this.#spare.shift()));
   }
 
   /** @param {number} count how many threads are to have a number */
   async #grow(count) {
+    this.#prepare(count - this.agents.length);
     for (let agent = this.agents.length; agent < count; agent += 1) await this.#hand(agent, await this.#taken());
-    this.#ahead = Math.max(this.#ahead, count);
     const words = this.board?.words ?? new Int32Array(0);
     store(words, WORD.THREADS, this.agents.length);
     notify(words, WORD.THREADS);
