@@ -22,10 +22,10 @@ const OPTIONS = Object.freeze({ ...defaultsOf("record"), isProgram: true, second
 /**
  * Writes the files of a program.
  * @param {string} folder
- * @param {Record<string, string>} files by their names
+ * @param {Record<string, string>} files by their names; the main one is `main.mjs` or `main.cjs`
  * @returns {string} the path of the main one
  */
-function written(folder, files) {
+export function programIn(folder, files) {
   for (const [name, text] of Object.entries(files)) {
     mkdirSync(dirname(join(folder, name)), { recursive: true });
     writeFileSync(join(folder, name), text);
@@ -36,10 +36,10 @@ function written(folder, files) {
 /**
  * Writes the files of a program into a folder of their own.
  * @param {import("node:test").TestContext} context
- * @param {Record<string, string>} files by their names; the main one is `main.mjs` or `main.cjs`
+ * @param {Record<string, string>} files
  * @returns {string} the path of the main one
  */
-export const programOf = (context, files) => written(temporaryFolder(context), files);
+export const programOf = (context, files) => programIn(temporaryFolder(context), files);
 
 /** Threads with some options, in which programs are run. */
 class Threads {
@@ -76,7 +76,7 @@ class Threads {
   /** @type {Threads["runs"]} */
   async #made(files, { seeds, args }) {
     rmSync(this.#folder, { recursive: true });
-    const module = pathToFileURL(written(this.#folder, files)).href;
+    const module = pathToFileURL(programIn(this.#folder, files)).href;
     const options = /** @type {any} */ ({ ...OPTIONS, module, args: [], ...this.options });
     this.#group ??= /** @type {ProgramGroup} */ (await ProgramGroup.open(options));
     this.#group.enter(module, args);
@@ -99,7 +99,7 @@ after(() => Promise.all([...all.values()].map((threads) => threads.end())));
 /**
  * Runs a program.
  * @param {import("node:test").TestContext} _context
- * @param {Record<string, string>} files as `programOf` takes them
+ * @param {Record<string, string>} files as `programIn` takes them
  * @param {{ seeds?: number[], args?: string[], options?: object }} [how]
  * @returns {Promise<Checked[]>} in the order of the seeds; fails where the simulator says something else
  */
