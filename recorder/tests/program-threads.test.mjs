@@ -92,18 +92,18 @@ describe("a thread is replaced", { concurrency: 3 }, () => {
   });
 });
 
-it("no thread stands ready to take a place, until more were lost than there are", async (context) => {
+it("no thread stands ready to take a place, until all were lost three times", async (context) => {
   const group = await groupOf(context, EXITS);
   // Besides those with a number there is the referee's.
   const ready = () => group.threads.size - group.agents.length - 1;
   try {
     const found = [ready()];
-    for (let seed = 1; seed <= 5; seed += 1) {
+    for (let seed = 1; seed <= 11; seed += 1) {
       await group.one({ seed, whole: false, isSilent: true });
       found.push(ready());
     }
-    // Each run loses one of three threads. From the fourth on three have begun, of which one is taken.
-    assert.deepEqual(found, [0, 0, 0, 0, 2, 2]);
+    // Each run loses one of three threads. From the tenth on three have begun, of which one is taken.
+    assert.deepEqual(found, [...Array(10).fill(0), 2, 2]);
   } finally {
     await group.close();
   }

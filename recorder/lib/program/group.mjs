@@ -27,6 +27,12 @@ const SOON_MILLISECONDS = 1_000;
 /** How many threads stand ready at first: the program's own one, and two workers. */
 const FIRST_THREADS = 3;
 
+/**
+ * A job's first failing run may cost all of its threads so often: it is made again in fresh ones, and for its lines of
+ * code. If more are lost, further ones will be, and others begin before.
+ */
+const FEW_TIMES = 3;
+
 const { store, notify } = Atomics;
 
 /** What a thread needs that makes modules anew, besides the words of this process: see `graph.mjs`. */
@@ -145,8 +151,7 @@ export class ProgramGroup extends Group {
 
   /** @returns {Promise<Thread>} */
   #taken() {
-    // Once in a job all threads may be replaced, to make a run in fresh ones. If more are lost, further ones will be.
-    this.#prepare(this.#replaced > this.agents.length ? this.agents.length : 1);
+    this.#prepare(this.#replaced > FEW_TIMES * this.agents.length ? this.agents.length : 1);
     return this.inTime(/** @type {Promise<Thread>} */ (this.#spare.shift()));
   }
 
