@@ -10,8 +10,9 @@ import { COLUMNS, PROGRAMS, measured, tables } from "../bench/strategies.mjs";
 const README = readFileSync(new URL("../bench/README.md", import.meta.url), "utf8");
 
 test("a table has a row for each program, and a column for each strategy", async () => {
-  const text = await tables(["barrier-reused", "philosophers"], { seeds: 5, jobs: 1 });
-  const lines = text.split("\n").filter((line) => line.startsWith("| barrier") || line.startsWith("| philosophers"));
+  // Of two agents each, since each agent costs two workers in each column.
+  const text = await tables(["lost-wake-up", "peterson-turn-first"], { seeds: 5, jobs: 1 });
+  const lines = text.split("\n").filter((line) => line.startsWith("| lost-wake-up") || line.startsWith("| peterson"));
   assert.equal(lines.length, 6);
   for (const line of lines) assert.equal(line.split(" | ").length, COLUMNS.length + 1);
   // Five runs are counted as of 1,000.

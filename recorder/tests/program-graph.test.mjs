@@ -372,9 +372,11 @@ test("graphs that are over are garbage: memory and time of a run stay", async ()
     exports.later = () => import("./d.mjs");`, "d.mjs": `export const d = 3;`,
   });
   const url = pathToFileURL(join(folder, "memory/main.mjs")).href;
-  const graph = new URL("../lib/program/graph.mjs", import.meta.url).href;
+  const own = (name) => JSON.stringify(new URL(`../lib/program/${name}.mjs`, import.meta.url));
   const code = `
-    import { Graph } from ${JSON.stringify(graph)};
+    import { Graph } from ${own("graph")};
+    import { beginLoader } from ${own("node-loader")};
+    await beginLoader((url) => import(url));
     const graph = new Graph({ refuse() {} }); const turn = () => new Promise((done) => setTimeout(done, 10));
     const heaps = []; const times = [];
     for (let part = 0; part < 4; part += 1) {

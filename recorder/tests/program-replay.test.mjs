@@ -3,16 +3,17 @@
 
 import assert from "node:assert/strict";
 import { spawnSync } from "node:child_process";
-import { readFileSync, readdirSync, writeFileSync } from "node:fs";
+import { mkdtempSync, readFileSync, readdirSync, rmSync, writeFileSync } from "node:fs";
+import { tmpdir } from "node:os";
 import { dirname, join } from "node:path";
-import { test } from "node:test";
+import { after, before, test } from "node:test";
 import { MOST_DRAWS } from "../lib/board/row.mjs";
 import { Keeper } from "../lib/keeping/keep.mjs";
 import { keepProgram, keptProgram } from "../lib/keeping/kept-program.mjs";
 import { Refused } from "../lib/options/refused.mjs";
 import { explore } from "../recorder.mjs";
 import { RECORD, temporaryFolder } from "./helpers/common.mjs";
-import { programOf } from "./helpers/whole-programs.mjs";
+import { programIn, programOf } from "./helpers/whole-programs.mjs";
 
 // Main looks at the word when the first message has come. The worker may have stored it or not.
 const MAIN = `import { Worker } from "node:worker_threads";
@@ -39,12 +40,10 @@ function recorded(words, options = {}) {
 
 /**
  * A program of which a failing run is kept.
- * @param {import("node:test").TestContext} context
- * @param {Record<string, string>} [files]
- * @param {string[]} [words]
+ * @param {string} main its path
+ * @param {string[]} words
  */
-function kept(context, files = { "main.mjs": MAIN, "worker.mjs": WORKER }, words = ["--timeouts", "0.2", "--", "mine"]) {
-  const main = programOf(context, files);
+function kept(main, words) {
   const folder = join(dirname(main), "found");
   const { status, stderr } = recorded(["--program", main, "--seeds", "1..60", "--fail-fast", "--out", folder, ...words]);
   assert.equal(status, 1, stderr);
@@ -52,8 +51,16 @@ function kept(context, files = { "main.mjs": MAIN, "worker.mjs": WORKER }, words
   return { main, folder, file: join(folder, name ?? "none"), name: (name ?? "").replace(".program.json", "") };
 }
 
-test("a kept run of a program is made again from its file alone: the same script, report and trace", (context) => {
-  const { main, folder, file, name } = kept(context);
+/** @type {ReturnType<typeof kept>} the program above: tests that look at its kept run leave its files as they were */
+let ofMain;
+const room = mkdtempSync(join(tmpdir(), "recorder-"));
+before(() => {
+  ofMain = kept(programIn(room, { "main.mjs": MAIN, "worker.mjs": WORKER }), ["--timeouts", "0.2", "--", "mine"]);
+});
+after(() => rmSync(room, { recursive: true, force: true }));
+
+test("a kept run of a program is made again from its file alone: the same script, report and trace", () => {
+  const { main, folder, file, name } = ofMain;
   const seed = Number(name.replace("seed-", ""));
   const { program, args, options, row, script } = keptProgram(readFileSync(file, "utf8"), file);
   assert.deepEqual([program, args, options], [main, ["mine"], { timeouts: 0.2 }]);
@@ -76,7 +83,7 @@ test("a kept run of a program is made again from its file alone: the same script
 });
 
 test("a run without a script is made again, too, and options of the command line go before the kept ones", (context) => {
-  const { file, folder } = kept(context, {
+  const { file, folder } = kept(programOf(context, {
     "main.mjs": `import { Worker } from "node:worker_threads";
       const words = new Int32Array(new SharedArrayBuffer(8));
       const worker = new Worker(new URL("./worker.mjs", import.meta.url), { workerData: words });
@@ -85,7 +92,7 @@ test("a run without a script is made again, too, and options of the command line
       process.exitCode = 3;`,
     "worker.mjs": `import { workerData } from "node:worker_threads";
       for (let woken = 0; woken < 15; woken += Atomics.notify(workerData, 0)) Atomics.wait(workerData, 1, 0, 1);`,
-  }, []);
+  }), []);
   assert.ok(!readdirSync(folder).some((name) => /^seed-\d+\.json$/.test(name)));
   const { status, stdout } = recorded(["--replay", file, "--races", "allow"]);
   assert.equal(status, 1);
@@ -95,7 +102,7 @@ test("a run without a script is made again, too, and options of the command line
 });
 
 test("a run that waits by waitAsync is made again, and what differs is named as the thread's", (context) => {
-  const { main, file, folder, name } = kept(context, {
+  const { main, file, folder, name } = kept(programOf(context, {
     "main.mjs": `import { Worker } from "node:worker_threads";
       const words = new Int32Array(new SharedArrayBuffer(8));
       new Worker(new URL("./worker.mjs", import.meta.url), { workerData: words });
@@ -103,7 +110,7 @@ test("a run that waits by waitAsync is made again, and what differs is named as 
       process.exitCode = 3;`,
     "worker.mjs": `import { workerData } from "node:worker_threads";
       for (let woken = 0; woken < 2; woken += Atomics.notify(workerData, 0)) Atomics.wait(workerData, 1, 0, 1);`,
-  }, []);
+  }), []);
   const script = readFileSync(join(folder, `${name}.json`), "utf8");
   assert.match(script, /"waitAsync_2_of_0"/);
   const { status, stdout, stderr } = recorded(["--replay", file, "--out", join(folder, "again")]);
@@ -115,8 +122,8 @@ test("a run that waits by waitAsync is made again, and what differs is named as 
     /: in the script comes agent 0's call (\d), \["wait", "Int32_b0", 0, 0\], and now agent 0's call \1, \["wait", "Int32_b0", 1, 0\]$/m);
 });
 
-test("where the code does other things the first of them is named", (context) => {
-  const { main, file } = kept(context);
+test("where the code does other things the first of them is named", () => {
+  const { main, file } = ofMain;
   const files = { main, worker: join(dirname(main), "worker.mjs") };
   const changed = [
     ["main", MAIN.replace("Atomics.load(words, 0)", "Atomics.load(words, 1)"),
@@ -140,8 +147,8 @@ test("where the code does other things the first of them is named", (context) =>
   }
 });
 
-test("an edited row makes another run of the program, or it is said which draw it can't make", async (context) => {
-  const { main, file } = kept(context);
+test("an edited row makes another run of the program, or it is said which draw it can't make", async () => {
+  const { main, file } = ofMain;
   const all = JSON.parse(readFileSync(file, "utf8"));
   /** @param {number[][]} row */
   const replayedBy = (row) => {

@@ -131,6 +131,11 @@ describe("threads", () => {
     assert.deepEqual(endingsOf([outcome]), ["finished: "]);
   });
 
+  it("the first one may exit in a listener of its exit, and that code counts", async (context) => {
+    const [{ ending, detail }] = await runsOf(context, { "main.mjs": 'process.on("exit", () => process.exit(3));' });
+    assert.deepEqual([ending, detail], ["failed", "agent 0 exited with code 3: it calls process.exit at main.mjs:1:34"]);
+  });
+
   it("one that is terminated while it waits leaves no script: its trace alone is judged", async (context) => {
     const [outcome] = await runsOf(context, {
       "main.mjs": `${MAIN}const words = new Int32Array(new SharedArrayBuffer(8));
@@ -179,9 +184,10 @@ describe("the seed", () => {
           port1.postMessage(name);
         }
         setImmediate(() => { order += "i"; });
-        process.on("exit", () => { if (order !== "abi") throw process.exit(1 + ["aib", "bai", "bia", "iab", "iba"].indexOf(order)); });`,
+        process.on("exit", () => { process.exitCode = ["abi", "aib", "bai", "bia", "iab", "iba"].indexOf(order); });`,
     }, { seeds: seedsTo(40) });
     assert.ok(new Set(outcomes.map(({ detail }) => detail)).size >= 4);
+    assert.ok(!outcomes.some(({ detail }) => detail.includes("-1")), "an order is none of these");
   });
 });
 

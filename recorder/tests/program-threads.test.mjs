@@ -12,6 +12,7 @@ const words = new Int32Array(new SharedArrayBuffer(4));
 const started = () => new Worker(new URL("./worker.mjs", import.meta.url), { workerData: words });
 `;
 const WORKER = 'import { parentPort, workerData } from "node:worker_threads";\n';
+const EXITS = { "main.mjs": `${MAIN}started();`, "worker.mjs": "process.exit(3);" };
 const ANSWERS = `${WORKER}parentPort.on("message", (value) => parentPort.postMessage(value));`;
 
 /**
@@ -88,8 +89,7 @@ describe("a thread is replaced", { concurrency: 3 }, () => {
   });
 
   it("if it exits by process.exit", async (context) => {
-    const files = { "main.mjs": `${MAIN}started();`, "worker.mjs": "process.exit(3);" };
-    assert.deepEqual(await replacedIn(context, files), [1]);
+    assert.deepEqual(await replacedIn(context, EXITS), [1]);
   });
 
   it("before a run that wants fresh threads, also if it takes no part", async (context) => {
@@ -98,25 +98,26 @@ describe("a thread is replaced", { concurrency: 3 }, () => {
 });
 
 describe("a group has begun", { concurrency: 3 }, () => {
-  // Besides the referee's thread.
-  const begunIn = (group) => group.threads.size - 1;
-  const wanted = { seed: 1, whole: false, isSilent: true };
-
-  it("three threads, and others that stand ready when some are to be replaced", async (context) => {
-    await withGroup(context, { "main.mjs": "" }, async (group) => {
-      await group.one(wanted);
-      assert.equal(begunIn(group), 3);
-      await group.one({ ...wanted, isFresh: true });
-      assert.ok(begunIn(group) > 3);
-    });
-  });
-
   it("as many threads as a run needs, and no more", async (context) => {
     const main = `${MAIN}for (const _ of "1234") started();`;
     const files = { "main.mjs": main, "worker.mjs": `${WORKER}Atomics.add(workerData, 0, 1);` };
     await withGroup(context, files, async (group) => {
-      await group.one(wanted);
-      assert.equal(begunIn(group), 5);
+      await group.one({ seed: 1, whole: false, isSilent: true });
+      assert.equal(group.threads.size - 1, 5);
+    });
+  });
+
+  it("none that stands ready to take a place, until all were lost three times", async (context) => {
+    // Besides those with a number there is the referee's.
+    const ready = (group) => group.threads.size - group.agents.length - 1;
+    await withGroup(context, EXITS, async (group) => {
+      const found = [ready(group)];
+      for (let seed = 1; seed <= 11; seed += 1) {
+        await group.one({ seed, whole: false, isSilent: true });
+        found.push(ready(group));
+      }
+      // Each run loses one of three threads. From the tenth on three have begun, of which one is taken.
+      assert.deepEqual(found, [...Array(10).fill(0), 2, 2]);
     });
   });
 });

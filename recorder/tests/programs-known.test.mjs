@@ -8,6 +8,7 @@ import { TableRuns, findingOf } from "./helpers/program-findings.mjs";
 import { PROGRAMS, urlOf } from "./programs/table.mjs";
 
 const SEEDS = 200;
+const PARTS = 2;
 
 /** Of a rare program at most one run in so many fails, if each thread that can go on is as likely. */
 const RARE = 50;
@@ -28,16 +29,18 @@ function demandRight({ isEndless }, outcomes) {
   assert.deepEqual(others.map(({ seed, detail }) => `seed ${seed}: ${detail}`), []);
 }
 
-/** @param {(program: Program) => boolean} isOne */
-const programs = (isOne) => PROGRAMS.filter(isOne);
-
-describe("programs with known answers in the recorder", () => {
+/**
+ * The tests of some programs, in threads of their own.
+ * @param {Program[]} all
+ */
+function testEach(all) {
   /** @type {TableRuns} */
   let runs;
   before(async () => { runs = await TableRuns.open(); });
   after(() => runs.close());
+  const those = (/** @type {(program: Program) => boolean} */ isOne) => all.filter(isOne);
 
-  for (const program of programs(({ right, notYet }) => right && notYet === undefined)) {
+  for (const program of those(({ right, notYet }) => right && notYet === undefined)) {
     it(`${program.name} passes under ${SEEDS} seeds`, async () => {
       const outcomes = await runs.runs(program, { last: SEEDS });
       assert.equal(outcomes.length, SEEDS);
@@ -46,7 +49,7 @@ describe("programs with known answers in the recorder", () => {
     });
   }
 
-  for (const program of programs(({ right, notYet }) => !right && notYet === undefined)) {
+  for (const program of those(({ right, notYet }) => !right && notYet === undefined)) {
     it(`${program.name} is found`, async () => {
       const outcomes = await runs.untilFailing(program, SEEDS);
       assert.ok(outcomes.some(({ fails }) => fails), "no run has failed");
@@ -54,7 +57,7 @@ describe("programs with known answers in the recorder", () => {
     });
   }
 
-  for (const program of programs(({ notYet }) => notYet !== undefined)) {
+  for (const program of those(({ notYet }) => notYet !== undefined)) {
     it(`${program.name} is refused, since it needs ${program.notYet}`, async () => {
       const [{ ending, detail }] = await runs.runs(program, { last: 1 });
       const folder = new URL("./", urlOf(program)).pathname.split("/").at(-2);
@@ -62,6 +65,13 @@ describe("programs with known answers in the recorder", () => {
       assert.ok(detail.includes(program.notYet) && /isn't simulated/.test(detail), detail);
       assert.match(detail, new RegExp(`at ${folder}/[\\w-]+\\.[cm]js:\\d+:\\d+`));
     });
+  }
+}
+
+// One thread of a program goes on at a time. So that this file isn't left alone at the end, parts go on side by side.
+describe("programs with known answers in the recorder", { concurrency: PARTS }, () => {
+  for (let part = 0; part < PARTS; part += 1) {
+    describe(`part ${part + 1}`, { concurrency: 1 }, () => testEach(PROGRAMS.filter((_, at) => at % PARTS === part)));
   }
 });
 
@@ -71,7 +81,7 @@ describe("rare programs, if each thread that can go on is as likely", () => {
   before(async () => { runs = await TableRuns.open("uniform"); });
   after(() => runs.close());
 
-  for (const program of programs(({ isRare, notYet }) => isRare && notYet === undefined)) {
+  for (const program of PROGRAMS.filter(({ isRare, notYet }) => isRare && notYet === undefined)) {
     it(`${program.name} fails in at most one run in ${RARE}`, async () => {
       const outcomes = await runs.runs(program, { last: SEEDS });
       const failed = outcomes.filter(({ fails }) => fails);

@@ -9,6 +9,7 @@ import { before, describe, test } from "node:test";
 import { pathToFileURL } from "node:url";
 import { Group } from "../lib/run/group.mjs";
 import { Refused, record } from "../recorder.mjs";
+import { CASE_WORD, Cases } from "./helpers/cases.mjs";
 import { agentsOf, temporaryFolder } from "./helpers/common.mjs";
 import { CHECKER } from "./helpers/needs.mjs";
 
@@ -56,6 +57,27 @@ async function recordBody(context, body, options = {}) {
   return record({ ...HOW, module: agents, ...options });
 }
 
+/**
+ * Records agents that try one body after the other, in the same workers.
+ * @param {import("node:test").TestContext} context
+ * @param {{ top?: string, bodies: string[] }} code what stands above the agent, and the bodies, of one line each
+ * @param {object} [options]
+ * @returns {Promise<{ outcomes: import("./helpers/cases.mjs").Checked[], lines: number[] }>} of each body
+ */
+async function recordBodies(context, { top = "", bodies }, options = {}) {
+  const agents = join(temporaryFolder(context), "agents.mjs");
+  const above = `${top}\nconst BODIES = [\n`;
+  writeFileSync(agents, `${above}${bodies.map((body) => `(words) => { ${body} },\n`).join("")}];
+    export default function agent({ buffers }) {
+      const words = new Int32Array(buffers[0]);
+      BODIES[words[${CASE_WORD}]](words);
+    }`);
+  const cases = new Cases({ ...HOW, module: agents, ...options });
+  context.after(() => cases.close());
+  const outcomes = await Promise.all(bodies.map((_, at) => cases.outcomeOf(at)));
+  return { outcomes, lines: bodies.map((_, at) => above.split("\n").length + at) };
+}
+
 describe("work that goes on later", () => {
   const later = [
     ["what comes after a promise", "Promise.resolve().then(() => { throw new Error('never seen'); });", "a promise"],
@@ -76,12 +98,13 @@ describe("work that goes on later", () => {
   ];
   // Of timers it is known at the end alone whether they were cleared, and of crypto whether a callback gets the bytes.
   const UNPLACED = ["setTimeout", "setInterval", "setImmediate", "a callback of crypto"];
-  const text = (body) => `
+  const IMPORTS = `
     import crypto from "node:crypto";
     import dns from "node:dns";
     import fs from "node:fs";
     import zlib from "node:zlib";
-    import { MessageChannel, Worker, receiveMessageOnPort } from "node:worker_threads";
+    import { MessageChannel, Worker, receiveMessageOnPort } from "node:worker_threads";`;
+  const text = (body) => `${IMPORTS}
     export default function agent({ buffers }) {
       const words = new Int32Array(buffers[0]);
       ${body}
@@ -92,14 +115,14 @@ describe("work that goes on later", () => {
     const all = later.flatMap(([name, body, word]) => {
       return [`${body} ${call}`, `${call} ${body}`].map((both) => [name, both, word]);
     });
-    const outcomes = await madeOfEach(all, ([, body]) => recordText(context, text(body)));
+    const { outcomes, lines } = await recordBodies(context, { top: IMPORTS, bodies: all.map(([, body]) => body) });
     outcomes.forEach(({ ending, detail }, at) => {
       const [name, , word] = all[at];
       assert.equal(ending, "failed", name);
       const [what, place] = detail.split("\n    at ");
       assert.equal(what, `agent 0 goes on later, by ${word}, but an agent must be synchronous`, name);
       if (UNPLACED.includes(name)) assert.equal(place, undefined, name);
-      else assert.match(place, /^agents\.mjs:9:\d+$/, name);
+      else assert.match(place, new RegExp(`^agents\\.mjs:${lines[at]}:\\d+$`), name);
     });
   });
 
@@ -163,7 +186,8 @@ describe("work that goes on later", () => {
       "for (const end of ['inflate', 'gunzip', 'unzip', 'brotliDecompress']) " +
         "try { zlib[`${end}Sync`](Buffer.from('none of it')); } catch (error) { if (!error.code) throw error; }",
     ];
-    const outcomes = await madeOfEach(bodies, (body) => recordText(context, text(`${body} ${call}`), { agents: 1 }));
+    const code = { top: IMPORTS, bodies: bodies.map((body) => `${body} ${call}`) };
+    const { outcomes } = await recordBodies(context, code, { agents: 1 });
     outcomes.forEach(({ ending, detail }, at) => assert.deepEqual([ending, detail], ["finished", ""], bodies[at]));
   });
 });

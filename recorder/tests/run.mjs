@@ -20,10 +20,11 @@ const BUILT = fileURLToPath(new URL("../../crates/sabsim/out/sabsim", import.met
 
 // The files that take the most processor time begin first, so that none of them is left alone at the end.
 const SLOWEST = [
-  "programs-known", "page-schedule", "known", "realm", "race-programs", "program", "jobs", "examples", "seeds",
-  "known-judged", "program-ends", "runs", "pilots", "explore", "shards", "library", "programs-in-node", "wrong",
-  "program-runs", "bench", "first-again", "judged", "rows", "checks", "shorter", "replay", "judge", "conversions",
-  "catches-all", "unseen", "testing",
+  "programs-known", "page-schedule", "known", "realm", "explore", "program", "seeds", "jobs", "examples",
+  "race-programs", "timed", "known-judged", "programs-in-node", "wrong", "bench", "pilots", "program-same", "runs",
+  "checks", "first-again", "shards", "library", "judged", "rows", "judge", "program-library", "program-replay",
+  "testing", "unseen", "shorter", "program-strategy", "program-again", "conversions", "catches-all", "strategy",
+  "written", "unrecorded", "program-output", "replay",
 ].map((name) => `${name}.test.mjs`);
 
 /**

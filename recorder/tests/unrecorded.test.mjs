@@ -4,9 +4,10 @@
 import assert from "node:assert/strict";
 import { writeFileSync } from "node:fs";
 import { join } from "node:path";
-import { describe, test } from "node:test";
+import { after, describe, test } from "node:test";
 import { record } from "../recorder.mjs";
 import { assertAgents } from "../testing.mjs";
+import { Cases } from "./helpers/cases.mjs";
 import { agentsPath, temporaryFolder } from "./helpers/common.mjs";
 import { CHECKER } from "./helpers/needs.mjs";
 import { placesOf, recorded, summaryLines } from "./helpers/recorded.mjs";
@@ -16,6 +17,13 @@ const MODULE = agentsPath("unrecorded");
 /** The outcome of a way of `agents/unrecorded.mjs`. */
 const outcomeOf = (way, options = {}) =>
   record({ module: MODULE, agents: 1, buffers: [16], args: [way], sabsim: CHECKER, seconds: 5, ...options });
+
+/** Ways that are tried in the same workers. @param {string[]} ways @param {object} options @returns {Cases} */
+function casesOf(ways, options) {
+  const cases = new Cases({ module: MODULE, agents: 1, buffers: [16], args: ways, ...options });
+  after(() => cases.close());
+  return cases;
+}
 
 /** The line of the agents' module in which a text stands. */
 const lineOf = (text) => placesOf("unrecorded", text)[0].line;
@@ -31,20 +39,27 @@ const SIDE_BY_SIDE = { concurrency: 4 };
  * @param {object} [options]
  */
 function testFailing(cases, options = {}) {
-  for (const [way, told] of Object.entries(cases)) {
+  const tried = casesOf(Object.keys(cases), options);
+  for (const [at, [way, told]] of Object.entries(cases).entries()) {
     test(`${way} ${JSON.stringify(options)}`, async () => {
-      const { ending, detail, checked, script } = await outcomeOf(way, options);
+      const { ending, detail, checked, script } = await tried.outcomeOf(at);
       assert.deepEqual([ending, checked, script], ["failed", false, undefined], detail);
       assert.match(detail, told);
     });
   }
 }
 
+/** The same, each in workers of its own: what it does lasts, and is reported of the runs after it, too. */
+function testFailingApart(cases) {
+  for (const [way, told] of Object.entries(cases)) testFailing({ [way]: told });
+}
+
 /** @param {string[]} ways that finish @param {object} [options] */
 function testFinishing(ways, options = {}) {
-  for (const way of ways) {
+  const tried = casesOf(ways, options);
+  for (const [at, way] of ways.entries()) {
     test(`${way} ${JSON.stringify(options)}`, async () => {
-      const { ending, detail, unrecorded } = await outcomeOf(way, options);
+      const { ending, detail, unrecorded } = await tried.outcomeOf(at);
       assert.deepEqual([ending, detail, unrecorded], ["finished", "", undefined]);
     });
   }
@@ -81,12 +96,15 @@ describe("shared memory that isn't recorded", SIDE_BY_SIDE, () => {
     growsOrdinarily: uses("uses", "growable SharedArrayBuffer", lineOf("growsOrdinarily: () =>") + 1,
       "1 ordinary read or write"),
     message: /^agent 0 uses a SharedArrayBuffer of its own, which isn't recorded \(1 call of Atomics, the first at /,
+  });
+  testFailingApart({
     wasm: new RegExp("^agent 0 has a shared WebAssembly\\.Memory, made at unrecorded\\.mjs:"
       + `${lineOf("wasm: () =>")}:\\d+, which isn't recorded: nobody sees what is done with it; `),
     wasmExported: new RegExp("^agent 0 has a shared WebAssembly\\.Memory, made at unrecorded\\.mjs:"
       + `${lineOf("wasmExported: () =>")}:\\d+, `),
   });
-  testFailing({ lock: /3 calls of Atomics/, waits: /^agent 0 would wait at /, wasm: /WebAssembly/ }, { ordinary: "store" });
+  testFailing({ lock: /3 calls of Atomics/, waits: /^agent 0 would wait at / }, { ordinary: "store" });
+  testFailing({ wasm: /WebAssembly/ }, { ordinary: "store" });
   testFailing({ waits: /^agent 0 would wait at /, waitsOften: /^agent 0 would wait at / }, { clock: "real" });
 
   test("in agents that each have a lock of their own is no race of what they lock", async () => {
@@ -121,9 +139,10 @@ describe("recorded memory in another thread is refused, whatever is done with or
   };
   for (const ordinary of ["watch", "store", "refuse"]) {
     for (const unrecorded of ["fail", "allow"]) {
-      for (const [way, what] of Object.entries(WAYS)) {
+      const cases = casesOf(Object.keys(WAYS), { ordinary, unrecorded });
+      for (const [at, [way, what]] of Object.entries(WAYS).entries()) {
         test(`${way}, --ordinary ${ordinary}, --unrecorded ${unrecorded}`, async () => {
-          const { ending, detail } = await outcomeOf(way, { ordinary, unrecorded });
+          const { ending, detail } = await cases.outcomeOf(at);
           assert.equal(ending, "failed", detail);
           const why = `${what} was given recorded memory, and nobody sees what another thread does with it\n`;
           assert.ok(detail.includes(`agent 0 did something that the recorder can't record: Error: ${why}`), detail);
@@ -180,13 +199,15 @@ const unheard = (what, way, off = 0) =>
 const STARTS = lineOf("const ended");
 
 describe("what other threads and messages do", SIDE_BY_SIDE, () => {
-  testFailing({
+  testFailingApart({
     ownAbroad: abroad("a new Worker", STARTS),
     wasmAbroad: /^agent 0 has a shared WebAssembly\.Memory, [^]*\nagent 0 gave memory or a port to another thread, by /,
     waitsForAbroad: /^agent 0 would wait at unrecorded\.mjs:\d+:\d+ on a SharedArrayBuffer of its own, /,
     portToAbroad: /^agent 0 works with another thread, by MessagePort\.postMessage at /,
     posts: abroad("Worker.postMessage", lineOf("posts: () =>")),
     hooks: abroad("module.register", lineOf("hooks: () =>")),
+  });
+  testFailing({
     parentPosts: untaken("parentPort\\.postMessage", "parentPosts"),
     untaken: untaken("MessagePort\\.postMessage", "untaken"),
     channel: untaken("new BroadcastChannel", "channel"),

@@ -1,8 +1,8 @@
 // CommonJS modules in a thread that makes run after run: the cache is emptied for each, and `import()` in them leads to
 // the run's own graph. Which names a CommonJS module exports to ES modules is found by node's own lexer.
 
-import Module, { createRequire } from "node:module";
 import fs from "node:fs";
+import Module from "node:module";
 import path from "node:path";
 import vm from "node:vm";
 import { pathToFileURL } from "node:url";
@@ -11,6 +11,7 @@ import { isModuleSyntax } from "./module-urls.mjs";
 /** @typedef {(specifier: string, parent: string, attributes: any) => Promise<any>} Import */
 
 const Modules = /** @type {any} */ (Module);
+const { createRequire } = Module;
 const { readFileSync } = /** @type {any} */ (fs);
 const { compileFunction } = /** @type {any} */ (vm);
 const { parse } = createRequire(import.meta.url)("internal/deps/cjs-module-lexer/lexer");

@@ -1,18 +1,19 @@
 // The modules of a program, made anew for each run in a thread that is kept. ES modules are vm.SourceTextModule; the
 // thread needs the flags of `graph-flags.cjs`. Load this file before anything replaces what node's modules export.
 
-import Module, { createRequire } from "node:module";
+import Module from "node:module";
 import path from "node:path";
 import { fileURLToPath } from "node:url";
 import { CommonJS } from "./commonjs.mjs";
 import { SourceTextModule, SyntheticModule, compiledOnce } from "./compiled-once.mjs";
 import { formatOf, resolved, textOf, urlOf } from "./module-urls.mjs";
 import { nodeError } from "./node-error.mjs";
+import { nodeLoader } from "./node-loader.mjs";
 
 const Modules = /** @type {any} */ (Module);
-const require = createRequire(import.meta.url);
+const required = Module.createRequire(import.meta.url);
 // Only node has it, and only with the flag, so its name is no literal for the checker of types.
-const { decorateErrorStack, SideEffectFreeRegExpPrototypeSymbolReplace } = require(["internal", "util"].join("/"));
+const { decorateErrorStack, SideEffectFreeRegExpPrototypeSymbolReplace } = required(["internal", "util"].join("/"));
 // Node makes a context of its own when it first needs one, for the text of an error. From now on it has it.
 SideEffectFreeRegExpPrototypeSymbolReplace(/a/, "", "");
 const engineSync = Modules.syncBuiltinESMExports;
@@ -36,7 +37,7 @@ const ownOf = (exports, name) => (Object.hasOwn(exports, name) ? exports[name] :
 class Builtin {
   /** @param {string} url */
   constructor(url) {
-    this.exports = require(url);
+    this.exports = required(url);
     this.names = Object.keys(this.exports).filter((name) => name !== "default");
     const owner = this;
     this.module = new SyntheticModule(["default", ...this.names], () => owner.sync(), { identifier: url });
@@ -279,7 +280,7 @@ const isKnownType = (type) => type === undefined || type === "json";
  * @param {Record<string, string>} attributes
  */
 async function failNatively(url, attributes) {
-  await import(url, { assert: attributes });
+  await nodeLoader.load(url, { assert: attributes });
   throw nodeError("ERR_UNKNOWN_MODULE_FORMAT", `sabsim can't load ${url}`);
 }
 

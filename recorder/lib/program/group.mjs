@@ -1,5 +1,6 @@
 // A group of threads that run a program, and the thread of their referee. Some stand ready; a run that needs more gets
-// more. A thread that ended amid its code can't begin again: another one takes its place.
+// more. A thread that ended amid its code can't begin again: another one takes its place. If that comes again and
+// again, others have begun before.
 
 import { MessageChannel } from "node:worker_threads";
 import { SCRIPT_LIMITS } from "../../script/limits.mjs";
@@ -23,6 +24,12 @@ const REFEREE_MODULE = new URL("../run/referee.mjs", import.meta.url);
 /** The time of a wait or a timer that is further away is never up early in the seeds that hurry. */
 const SOON_MILLISECONDS = 1_000;
 
+/**
+ * A job's first failing run may cost all of its threads so often: it is made again in fresh ones, and for its lines of
+ * code. If more are lost, further ones will be, and others begin before.
+ */
+const FEW_TIMES = 3;
+
 const { store, notify } = Atomics;
 
 /** What a thread needs that makes modules anew, besides the words of this process: see `graph.mjs`. */
@@ -44,8 +51,8 @@ export class ProgramGroup extends Group {
   /** @type {any[]} ports by which each thread gets ports to others */
   #controls = [];
 
-  /** How many threads stand ready beside those that have a number: none before one is to be replaced. */
-  #ahead = 0;
+  /** How many threads were ended so that others took their places. */
+  #replaced = 0;
 
   /** @type {Promise<void>} settled when no more are being added */
   #growing = Promise.resolve();
@@ -75,7 +82,6 @@ export class ProgramGroup extends Group {
     const options = this.refereeOptions({ hasInit: false, hasCheck: false });
     const asked = { ...options, stuck: this.options.stuck, isProgram: true, fresh: false };
     referee.post({ memory: this.memory, plan, rules: this.rules, options: asked });
-    if (this.options.fresh) this.beginAhead();
     this.#prepare(FIRST_THREADS);
     meanwhile();
     await this.#grow(FIRST_THREADS);
@@ -121,19 +127,16 @@ export class ProgramGroup extends Group {
 
   /** @param {number} agent whose thread is ended, and another one takes its place */
   async replace(agent) {
-    this.beginAhead();
+    this.#replaced += 1;
     const [next] = await Promise.all([this.#taken(), this.agents[agent].stop()]);
     this.threads.delete(this.agents[agent]);
     await this.#hand(agent, next);
   }
 
-  /** From now on some threads stand ready: those that have a number are to be replaced. */
-  beginAhead() {
-    this.#ahead = Math.max(FIRST_THREADS, this.agents.length);
-    this.#prepare(this.#ahead);
-  }
+  /** Nothing shows how many will be needed. */
+  beginAhead() {}
 
-  /** @param {number} count how many threads that have no number are to have begun */
+  /** @param {number} count how many threads are to have begun, and have no number yet */
   #prepare(count) {
     const { ordinary } = this.options;
     const { memory, plan, rules } = this;
@@ -146,7 +149,7 @@ export class ProgramGroup extends Group {
 
   /** @returns {Promise<Thread>} */
   #taken() {
-    this.#prepare(Math.max(1, this.#ahead));
+    this.#prepare(this.#replaced > FEW_TIMES * this.agents.length ? this.agents.length : 1);
     return this.inTime(/** @type {Promise<Thread>} */ (this.#spare.shift()));
   }
 

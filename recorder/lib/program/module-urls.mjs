@@ -6,11 +6,11 @@ import path from "node:path";
 import vm from "node:vm";
 import { fileURLToPath } from "node:url";
 import { nodeError } from "./node-error.mjs";
+import { nodeLoader } from "./node-loader.mjs";
 
 /** @typedef {"module" | "commonjs" | "json" | "builtin" | "other"} Format of a module; node refuses to load another */
 
 const { readFileSync, statSync } = /** @type {any} */ (fs);
-const engineResolve = /** @type {any} */ (import.meta).resolve;
 
 const NAMES = Object.freeze(["exports", "require", "module", "__filename", "__dirname"]);
 const JAVASCRIPT = /^data:\s*(?:text|application)\/javascript\s*(?:;\s*charset=utf-?8\s*)?(?:;base64)?,/i;
@@ -36,7 +36,7 @@ const shown = (url) => (url.startsWith("file:") ? fileURLToPath(url) : url);
  * @param {string} parent URL of the module that imports it
  * @returns {string} the URL, whether there is such a file or not, as import.meta.resolve returns it
  */
-export const urlOf = (specifier, parent) => engineResolve(`${specifier}`, parent);
+export const urlOf = (specifier, parent) => nodeLoader.resolve(`${specifier}`, parent);
 
 /**
  * @param {string} specifier

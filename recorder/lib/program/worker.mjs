@@ -33,10 +33,12 @@ import { furnishGrowing } from "./growing.mjs";
 import {
   furnishCloning, furnishMemory, furnishProcess, furnishThreads, furnishTimers, keepProcess, restoreProcess,
 } from "./furnish.mjs";
+import { Graph } from "./graph.mjs";
 import { Loop } from "./loop.mjs";
 import { listingOf } from "./member.mjs";
 import { Mesh } from "./mesh.mjs";
 import { Moves } from "./moves.mjs";
+import { beginLoader } from "./node-loader.mjs";
 import { PortEvents, servePorts } from "./port-events.mjs";
 import { PortTable } from "../board/port-table.mjs";
 import { KIND, Ports, channelClass } from "./ports.mjs";
@@ -68,7 +70,6 @@ const { Error: EngineError } = globalThis;
 const { port, origin, memory: shared, plan, rules } = /** @type {Given} */ (threads.workerData);
 const { setImmediate: turnLater } = nodeTimers;
 const firstEnv = { ...process.env };
-const GRAPH_MODULE = new URL("./graph.mjs", import.meta.url);
 const chance = new Chance();
 const placeNames = new SourceNames(origin);
 
@@ -360,7 +361,7 @@ function serve(parts, graph) {
 /** @param {(url: string) => Promise<any>} load imports a module */
 export async function main(load) {
   const numbered = nextMessage();
-  const { Graph } = await load(GRAPH_MODULE.href);
+  await beginLoader(load);
   const graph = new Graph({ refuse: (/** @type {string} */ what) => refuse(`used ${what}, which isn't simulated`) });
   port.postMessage({ begun: true });
   const { agent, ...given } = await numbered;

@@ -1,5 +1,5 @@
-// What agents do that nobody sees: a function for each way, by the first of the arguments. Each has a call on the
-// recorded buffer besides, so that nothing else is amiss.
+// What agents do that nobody sees: a function for each way. The argument names the way; of several arguments word 3 of
+// the recorded buffer says which one does. Each has a call on that buffer besides, so that nothing else is amiss.
 
 import nodeModule from "node:module";
 import {
@@ -43,7 +43,7 @@ const WAYS = {
     words[1] += 1;
     lock.unlock();
   },
-  calls: () => [Atomics.add(atLoading, 0, 1), Atomics.load(atLoading, 0)],
+  calls: () => [Atomics.add(atLoading, 0, 1), Atomics.sub(atLoading, 0, 1)],
   wakes: () => Atomics.notify(atLoading, 0),
   ordinarily: () => {
     atLoading[0] = 1;
@@ -150,8 +150,9 @@ const WAYS = {
 /** The names of all ways. */
 export const NAMES = Object.keys(WAYS);
 
-export default function agent({ buffers: [buffer], args: [way] }) {
+export default function agent({ buffers: [buffer], args }) {
   const words = new Int32Array(buffer);
+  const way = args.length === 1 ? args[0] : args[Atomics.load(words, 3)];
   WAYS[way](words, buffer);
   Atomics.add(words, 1, 1);
 }

@@ -3,9 +3,11 @@
 
 import util from "node:util";
 import { Graph } from "../../lib/program/graph.mjs";
+import { beginLoader } from "../../lib/program/node-loader.mjs";
 
 const [programs, runs] = process.argv.slice(2).map((word) => JSON.parse(word));
 let lines = [];
+await beginLoader((url) => import(url));
 const graph = new Graph({ refuse: (name) => {
   lines.push(`refused: ${name}`);
   throw new Error(name);

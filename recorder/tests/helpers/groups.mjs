@@ -17,6 +17,9 @@ export async function groupOf(context, module, options = {}) {
   return group;
 }
 
+/** So many seeds are tried at a time: at first one, since in some groups each run that fails costs workers. */
+const MOST_AT_ONCE = 10;
+
 /**
  * The first failing run of a group's agents that meets no bound, by its seed.
  * @param {Group} group
@@ -24,9 +27,9 @@ export async function groupOf(context, module, options = {}) {
  * @returns {Promise<import("../../lib/run/outcome.mjs").Outcome>}
  */
 export async function firstFailing(group, most = 500) {
-  for (let first = 1; first <= most; first += 10) {
+  for (let first = 1, count = 1; first <= most; first += count, count = Math.min(2 * count, MOST_AT_ONCE)) {
     const failing = [];
-    const seeds = Array.from({ length: 10 }, (_, at) => ({ seed: first + at, whole: false, isTrial: true }));
+    const seeds = Array.from({ length: count }, (_, at) => ({ seed: first + at, whole: false, isTrial: true }));
     await group.run(seeds, (outcome) => outcome.fails && outcome.ending !== "bound" && failing.push(outcome.seed));
     if (failing.length > 0) return (await group.one({ seed: failing[0], whole: true })).outcome;
   }

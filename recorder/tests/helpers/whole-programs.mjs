@@ -1,25 +1,31 @@
-// Runs of whole programs that tests write. Each outcome has all its parts, and the simulator checks it.
+// Runs of whole programs that tests write. Each outcome has all its parts, and the simulator checks it. The programs of a
+// test's process are run in the same threads, one after the other, from files of the same folder.
 
-import { mkdirSync, writeFileSync } from "node:fs";
+import { mkdirSync, mkdtempSync, rmSync, writeFileSync } from "node:fs";
+import { tmpdir } from "node:os";
 import { dirname, join } from "node:path";
+import { after } from "node:test";
 import { pathToFileURL } from "node:url";
+import { checkedBy } from "../../lib/check/check.mjs";
 import { defaultsOf } from "../../lib/options/table.mjs";
-import { Job } from "../../lib/seeds/job.mjs";
+import { ProgramGroup } from "../../lib/program/group.mjs";
+import { keepsGlobals } from "../../lib/seeds/first-again.mjs";
+import { simulatorAt } from "../../lib/simulator/chosen.mjs";
 import { temporaryFolder } from "./common.mjs";
+import { CHECKER } from "./needs.mjs";
 
-/** @typedef {import("../../lib/seeds/job.mjs").Checked} Checked */
+/** @typedef {import("../../lib/run/outcome.mjs").Outcome & import("../../lib/check/check.mjs").Check} Checked */
 
 /** What is left of the recorder's own defaults. */
-const OPTIONS = Object.freeze({ ...defaultsOf("record"), isProgram: true, seconds: 20, checks: true, checkEvery: 1 });
+const OPTIONS = Object.freeze({ ...defaultsOf("record"), isProgram: true, seconds: 20 });
 
 /**
  * Writes the files of a program.
- * @param {import("node:test").TestContext} context
+ * @param {string} folder
  * @param {Record<string, string>} files by their names; the main one is `main.mjs` or `main.cjs`
  * @returns {string} the path of the main one
  */
-export function programOf(context, files) {
-  const folder = temporaryFolder(context);
+export function programIn(folder, files) {
   for (const [name, text] of Object.entries(files)) {
     mkdirSync(dirname(join(folder, name)), { recursive: true });
     writeFileSync(join(folder, name), text);
@@ -28,23 +34,78 @@ export function programOf(context, files) {
 }
 
 /**
- * Runs a program.
+ * Writes the files of a program into a folder of their own.
  * @param {import("node:test").TestContext} context
- * @param {Record<string, string>} files as `programOf` takes them
+ * @param {Record<string, string>} files
+ * @returns {string} the path of the main one
+ */
+export const programOf = (context, files) => programIn(temporaryFolder(context), files);
+
+/** Threads with some options, in which programs are run. */
+class Threads {
+  #folder = mkdtempSync(join(tmpdir(), "recorder-"));
+  #simulator = simulatorAt(CHECKER);
+
+  /** @type {ProgramGroup | undefined} */
+  #group;
+
+  /** @type {Promise<unknown>} settled when no program is being run */
+  #rest = Promise.resolve();
+
+  /** @param {object} options */
+  constructor(options) {
+    this.options = options;
+  }
+
+  /**
+   * @param {Record<string, string>} files
+   * @param {{ seeds: number[], args: string[] }} how
+   * @returns {Promise<Checked[]>}
+   */
+  runs(files, how) {
+    const runs = this.#rest.then(() => this.#made(files, how));
+    this.#rest = runs.catch(() => {});
+    return runs;
+  }
+
+  async end() {
+    await this.#group?.close();
+    rmSync(this.#folder, { recursive: true, force: true });
+  }
+
+  /** @type {Threads["runs"]} */
+  async #made(files, { seeds, args }) {
+    rmSync(this.#folder, { recursive: true });
+    const module = pathToFileURL(programIn(this.#folder, files)).href;
+    const options = /** @type {any} */ ({ ...OPTIONS, module, args: [], ...this.options });
+    this.#group ??= /** @type {ProgramGroup} */ (await ProgramGroup.open(options));
+    this.#group.enter(module, args);
+    /** @type {Checked[]} */
+    const outcomes = [];
+    const wanted = seeds.map((seed) => ({ seed, whole: true, needsTrace: true, isSilent: true }));
+    await this.#group.run(wanted, (outcome, judgement, aside) => {
+      const keeps = keepsGlobals(outcome, aside.again);
+      if (keeps !== undefined) throw keeps;
+      outcomes.push(checkedBy(this.#simulator, { outcome, judgement, aside }));
+    });
+    return outcomes;
+  }
+}
+
+/** @type {Map<string, Threads>} by their options */
+const all = new Map();
+after(() => Promise.all([...all.values()].map((threads) => threads.end())));
+
+/**
+ * Runs a program.
+ * @param {import("node:test").TestContext} _context
+ * @param {Record<string, string>} files as `programIn` takes them
  * @param {{ seeds?: number[], args?: string[], options?: object }} [how]
  * @returns {Promise<Checked[]>} in the order of the seeds; fails where the simulator says something else
  */
-export async function runsOf(context, files, { seeds = [1], args = [], options = {} } = {}) {
-  const job = new Job();
-  /** @type {Checked[]} */
-  const outcomes = [];
-  try {
-    const module = pathToFileURL(programOf(context, files)).href;
-    await job.open(/** @type {any} */ ({ ...OPTIONS, module, args, ...options }));
-    const wanted = seeds.map((seed) => ({ seed, whole: true, needsTrace: true, isSilent: true }));
-    await job.run(wanted, (outcome) => void outcomes.push(outcome));
-  } finally {
-    await job.close();
-  }
-  return outcomes;
+export function runsOf(_context, files, { seeds = [1], args = [], options = {} } = {}) {
+  const key = JSON.stringify(options);
+  const threads = all.get(key) ?? new Threads(options);
+  all.set(key, threads);
+  return threads.runs(files, { seeds, args });
 }
