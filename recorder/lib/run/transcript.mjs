@@ -11,6 +11,7 @@ import { STORED } from "../memory/stores.mjs";
 import { NO_NAMES, nameText } from "../options/names.mjs";
 import { KnownCalls } from "./known-calls.mjs";
 
+/** @typedef {import("../memory/records.mjs").Records} Records */
 /** @typedef {import("../memory/stores.mjs").Store} Store */
 /** @typedef {import("../../script/text.mjs").Done} Done */
 /** @typedef {import("../../script/text.mjs").Move} Move */
@@ -20,7 +21,7 @@ import { KnownCalls } from "./known-calls.mjs";
 /**
  * @typedef {object} Run what a transcript is made from
  * @property {import("../memory/log.mjs").Log} log
- * @property {import("../memory/records.mjs").Records[]} records of each agent
+ * @property {Pick<Records, "callAt" | "doneAt" | "takeFingerprint">[]} records of each agent
  * @property {number[]} lengths of the blocks
  * @property {boolean[]} canBlock of each agent
  * @property {import("../options/names.mjs").Names} [names] of words and of whole arrays
@@ -116,7 +117,7 @@ class Writer {
 
   /**
    * A call as the texts have it.
-   * @param {import("../memory/records.mjs").Records} records
+   * @param {Run["records"][number]} records
    * @param {number} position
    * @returns {import("./known-calls.mjs").KnownCall}
    */
@@ -129,7 +130,7 @@ class Writer {
     return named === undefined ? { done, view: { name, range: call } } : { done };
   }
 
-  /** @param {import("../memory/records.mjs").Records} records @param {number} agent @param {number} event */
+  /** @param {Run["records"][number]} records @param {number} agent @param {number} event */
   addEvent(records, agent, event) {
     if (event !== LEAVE && event !== TIME_UP) {
       const position = this.own[agent];
