@@ -190,6 +190,8 @@ export interface Outcome {
   scriptHolds?: "all" | "touched";
   /** Why there is no script. */
   noScript?: string;
+  /** Of a program's run that shares more memory than a script can have: which bytes of its buffers stand where. */
+  windows?: Window[];
   /** What sabsim must answer. */
   report?: string;
   /**
@@ -241,6 +243,18 @@ export interface Outcome {
   original?: Omit<Outcome, "original" | "shortened" | "remembers">;
   /** What came of the option `shorten`, where the run failed. */
   shortened?: Shortened;
+}
+
+/** Bytes of a program's buffer, from `from` to `to` - 1, that stand in a block of the script and of the trace. */
+export interface Window {
+  /** The number by which texts call the buffer, and the line where it was made; empty if that isn't known. */
+  buffer: number;
+  name: string;
+  from: number;
+  to: number;
+  /** Where they begin. */
+  block: number;
+  byte: number;
 }
 
 /** What an agent is at that hasn't come to its end. */

@@ -35,7 +35,7 @@ function copyButton(code) {
 const line = (name, ...parts) => made("p", "", made("span", "name", `${name}: `), ...parts);
 
 /** @param {RunData} data */
-export function showAbout({ about, command, threads = [] }) {
+export function showAbout({ about, command, threads = [], windows = [] }) {
   const pane = by("about");
   pane.hidden = about === undefined;
   if (about === undefined) return;
@@ -43,8 +43,10 @@ export function showAbout({ about, command, threads = [] }) {
   const code = made("code", "command", command === undefined ? "" : commandText(command));
   const again = command === undefined ? ["no command makes it again"] : [code, " ", copyButton(code)];
   const started = threads.flatMap((name, agent) => (name === "" ? [] : [line(`Agent ${agent}`, name)]));
+  const stretches = windows.map(({ where, what }) => line(where, what));
+  const memory = windows.length === 0 ? [] : [made("details", "", made("summary", "", "Memory"), ...stretches)];
   pane.replaceChildren(
-    line("Run it again", ...again), line("Module", made("code", "", module)), ...started,
+    line("Run it again", ...again), line("Module", made("code", "", module)), ...started, ...memory,
     line("Options", options === "" ? "none" : made("code", "", options)), line("Made by", versions),
   );
 }

@@ -38,6 +38,8 @@
  * @property {"all" | "touched"} holds which ordinary writes the script has
  * @property {string[]} [threads] of a program: each thread's file and where it was started; of the first one nothing;
  * and of each helper whose waitAsync it stands for
+ * @property {{ where: string, what: string }[]} [windows] of a program that has more memory than a script: which bytes of
+ * the blocks are which ones of the program
  * @property {number[]} [senders] of a program: which thread has sent each message
  * @property {Task[]} [tasks] of a program: what its event loops have taken up besides messages
  * @property {string} [script] its text, in a page that can change the schedule

@@ -55,8 +55,8 @@ describe("more than 1,000 calls of a thread", { concurrency: 3 }, () => {
   });
 });
 
-const MEMORY = "its threads share more than 3 buffers, one of more than 65536 bytes, or one that grows, which neither a script "
-  + "nor a trace can have; such a run the recorder alone judges";
+const MEMORY = "its threads share more than 3 buffers, one of more than 65536 bytes, or one that grows, and touch more "
+  + "pages of 64 bytes than a script and a trace have room for; such a run the recorder alone judges";
 
 const MANY = 40;
 const LARGE = 2 ** 24;
@@ -77,11 +77,12 @@ ${act}`,
 
 const WAKES = `Atomics.store(many[${MANY} - 1], 0, 1);\nAtomics.notify(many[${MANY} - 1], 0);`;
 const WRITES = `for (const words of many) words[1] = 9;\nlarge[${LARGE} - 1] = large[${LARGE} - 2];`;
+const FILLS = "large.fill(1, 0, 200_000);";
 const FINDS = `if (many[17][1] + large[${LARGE} - 1] !== 12) throw new Error("it isn't there");`;
 
 describe("more buffers than a script can have, and a larger one", { concurrency: 3 }, () => {
-  it("end no run: it has neither a script nor a trace, and it isn't checked", async (context) => {
-    const outcomes = await runsOf(context, sharing(`${WRITES}\n${WAKES}`, FINDS), { seeds: [1, 2, 3, 4, 5] });
+  it("end no run: if it touches more than a script has room for, it isn't checked", async (context) => {
+    const outcomes = await runsOf(context, sharing(`${FILLS}\n${WRITES}\n${WAKES}`, FINDS), { seeds: [1, 2, 3, 4, 5] });
     for (const { ending, detail, script, noScript, trace, noTrace, checked } of outcomes) {
       assert.deepEqual([ending, detail, script, trace], ["finished", "", undefined, undefined]);
       assert.deepEqual([noScript, noTrace, checked], [MEMORY, MEMORY, false]);
@@ -143,7 +144,7 @@ if (Math.random() < 0.5) {
   });
 
   it("are counted in the summary, and a failing run is kept and made again by its row", async (context) => {
-    const main = programOf(context, sharing(`${WAKES}\n${WRITES}`, FINDS));
+    const main = programOf(context, sharing(`${WAKES}\n${WRITES}\n${FILLS}`, FINDS));
     const folder = join(dirname(main), "kept");
     const { status, stdout } = await recorded(main, "1..8", "--out", folder, "--no-shorten");
     const lines = stdout.split("\n");

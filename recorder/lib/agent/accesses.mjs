@@ -98,14 +98,34 @@ export class Accesses {
     return isChanged ? memory.changed() : undefined;
   }
 
-  /** Takes what the writes that were seen have changed in the blocks that no script can have. */
+  /**
+   * Takes what the writes that were seen have changed in the blocks that no script can have as they are. Those that
+   * follow each other and go on from each other are taken together, as below.
+   */
   #takeMore() {
-    const { board, log, memory } = this.table;
+    const { log } = this.table;
+    let block = FIRST_MORE;
+    let kind = -1;
+    let from = 0;
+    let to = 0;
     for (let event = this.since; event < log.length; event += 1) {
-      const block = log.blockAt(event);
-      if (block < FIRST_MORE || log.whatAt(event) !== WRITE) continue;
-      if (memory.takeOver(block, log.fromAt(event), log.toAt(event))) board.spins.news();
+      const next = log.blockAt(event);
+      if (next < FIRST_MORE || log.whatAt(event) !== WRITE || (log.flagsAt(event) & FLAG.AGAIN) !== 0) continue;
+      if (next !== block || log.kindAt(event) !== kind || log.fromAt(event) !== to) {
+        this.#takeStretchOfMore(block, from, to, kind);
+        block = next;
+        kind = log.kindAt(event);
+        from = log.fromAt(event);
+      }
+      to = log.toAt(event);
     }
+    this.#takeStretchOfMore(block, from, to, kind);
+  }
+
+  /** @param {number} block @param {number} from @param {number} to @param {number} kind */
+  #takeStretchOfMore(block, from, to, kind) {
+    const { board, log, stores } = this.table;
+    if (from < to && stores.takeWrittenInMore(this.agent, log.length, block, from, to, kind)) board.spins.news();
   }
 
   /**

@@ -7,6 +7,7 @@ import { PROGRAM_ENDING } from "../keeping/keep.mjs";
 import { keepProgram, keptProgram, urlOf } from "../keeping/kept-program.mjs";
 import { keepPictures, notesOn } from "../keeping/pictures.mjs";
 import { Refused } from "../options/refused.mjs";
+import { Windows } from "../run/windows.mjs";
 import { firstOtherText, rowStrayedText } from "../shorter/differing.mjs";
 import { keptScript } from "../shorter/kept-script.mjs";
 import { Replaying, textOf } from "./replaying.mjs";
@@ -28,7 +29,8 @@ export class ProgramReplay extends Replaying {
     if (!existsSync(this.main)) throw new Refused(`there is no file ${this.main}: --program says where the program is`);
     this.module = urlOf(this.main);
     const script = run.script;
-    this.script = script === undefined || !existsSync(script) ? undefined : keptScript(textOf(script), script);
+    const isThere = script !== undefined && existsSync(script);
+    this.script = isThere ? keptScript(textOf(script), script, [], run.windows) : undefined;
     this.keepsAs(new RegExp(`\\.${PROGRAM_ENDING.replace(".", "\\.")}$`));
   }
 
@@ -39,8 +41,8 @@ export class ProgramReplay extends Replaying {
   }
 
   /** @param {Checked} outcome @returns {string | undefined} */
-  differenceOf({ stray, script }) {
-    const now = script === undefined ? undefined : keptScript(script, "the run");
+  differenceOf({ stray, script, windows }) {
+    const now = script === undefined ? undefined : keptScript(script, "the run", [], windows && new Windows(windows));
     const other = this.script && now && firstOtherText(this.script, now);
     return other ?? (stray && rowStrayedText(stray));
   }

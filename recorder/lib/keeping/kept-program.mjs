@@ -8,6 +8,7 @@ import { SCRIPT_LIMITS } from "../../script/limits.mjs";
 import { MOST_DRAWS } from "../board/row.mjs";
 import { Refused } from "../options/refused.mjs";
 import { optionsOf } from "../options/table.mjs";
+import { Windows } from "../run/windows.mjs";
 import { rowOf, stretchesOf } from "../shorter/stretches.mjs";
 import { PROGRAM_ENDING } from "./keep.mjs";
 
@@ -19,9 +20,11 @@ import { PROGRAM_ENDING } from "./keep.mjs";
  * @property {Record<string, unknown>} options of the run that aren't as they are by themselves
  * @property {number[]} row
  * @property {string | undefined} script the path of the run's script, if the row is still the one that it belongs to
+ * @property {Windows | undefined} windows of that script, if its blocks aren't the program's
  */
 
 /** @typedef {import("../run/group.mjs").GroupOptions} GroupOptions */
+/** @typedef {import("../run/outcome.mjs").Outcome} Outcome */
 
 /** @param {number[]} row */
 const digestOf = (row) => createHash("sha256").update(row.join()).digest("hex").slice(0, 16);
@@ -32,38 +35,43 @@ const RULES = optionsOf("record").filter(([name, { isShared }]) => isShared && n
 /**
  * Keeps what makes a run of a program again.
  * @param {import("./keep.mjs").Keeper} keeper
- * @param {import("../run/outcome.mjs").Outcome} outcome of the run that is kept
+ * @param {Outcome} outcome of the run that is kept
  * @param {GroupOptions} options of the run
  * @returns {string[]} why that isn't kept, if so
  */
-export function keepProgram(keeper, { seed, row, script }, options) {
+export function keepProgram(keeper, { seed, row, script, windows }, options) {
   if (!options.isProgram || row === undefined) return [];
   if (row.length >= MOST_DRAWS) {
     return [`not kept: ${keeper.nameOf(seed, PROGRAM_ENDING)}: the run has ${MOST_DRAWS} draws or more`];
   }
   const name = keeper.nameOf(seed, "json");
-  const text = textOf({ seed, row, script: script === undefined ? undefined : name }, options, keeper.folder);
+  const text = textOf({ seed, row, windows, script: script === undefined ? undefined : name }, options, keeper.folder);
   keeper.keepAll(seed, { [PROGRAM_ENDING]: text });
   return [];
 }
 
 /**
- * @param {{ seed: number, row: number[], script: string | undefined }} run
+ * @param {Pick<Outcome, "windows"> & { seed: number, row: number[], script: string | undefined }} run
  * @param {GroupOptions} options
  * @param {string} folder in which the file will be
  */
-function textOf({ seed, row, script }, options, folder) {
+function textOf({ seed, row, script, windows }, options, folder) {
   const given = RULES.filter(([name, { ifNone }]) =>
     ![undefined, ifNone].includes(/** @type {any} */ (options)[name]));
   const members = {
     program: relative(resolve(folder), fileURLToPath(options.module)), args: options.args, seed,
     options: Object.fromEntries(given.map(([name]) => [name, /** @type {any} */ (options)[name]])),
     row: stretchesOf(row).map(({ agent, draws }) => [agent, draws]),
-    ...(script === undefined ? {} : { script: { file: script, row: digestOf(row) } }),
+    ...(script === undefined ? {} : { script: { file: script, row: digestOf(row), ...memoryOf(windows) } }),
   };
   const lines = Object.entries(members).map(([name, value]) => `  ${JSON.stringify(name)}: ${JSON.stringify(value)}`);
   return `{\n${lines.join(",\n")}\n}\n`;
 }
+
+/** @param {Outcome["windows"]} windows @returns {{ windows?: number[][] }} */
+const memoryOf = (windows) => (windows === undefined ? {} : {
+  windows: windows.map(({ buffer, from, to, block, byte }) => [buffer, from, to, block, byte]),
+});
 
 /** @param {unknown} value @returns {value is Record<string, any>} */
 const isObject = (value) => typeof value === "object" && value !== null && !Array.isArray(value);
@@ -91,6 +99,23 @@ function rowFrom(given, refuse) {
   const length = stretches.reduce((sum, { draws }) => sum + draws, 0);
   if (length > MOST_DRAWS) refuse(`its row has ${length} draws, and there can be ${MOST_DRAWS}`);
   return rowOf(stretches);
+}
+
+/** @param {unknown} numbers @returns {boolean} whether they are those of a window */
+const isWindow = (numbers) =>
+  Array.isArray(numbers) && numbers.length === 5 && numbers.every((each) => Number.isSafeInteger(each) && each >= 0);
+
+/**
+ * @param {unknown} given
+ * @param {(why: string) => never} refuse
+ * @returns {Windows | undefined}
+ */
+function windowsFrom(given, refuse) {
+  if (given === undefined) return undefined;
+  if (!Array.isArray(given) || !given.every(isWindow)) refuse("its script's windows must have five numbers each");
+  /** @type {number[][]} */
+  const list = given;
+  return new Windows(list.map(([buffer, from, to, block, byte]) => ({ buffer, from, to, block, byte })));
 }
 
 /**
@@ -136,6 +161,7 @@ export function keptProgram(text, file) {
   return {
     program: besides(file, program), args, seed, options: optionsFrom(options, refuse), row,
     script: isOwn ? besides(file, script.file) : undefined,
+    windows: isOwn ? windowsFrom(script.windows, refuse) : undefined,
   };
 }
 

@@ -6,6 +6,7 @@ import { endingText } from "../../page/endings.mjs";
 import { builtSimulator, documentOf } from "./document.mjs";
 import { eventsInScript, helperNames } from "./helpers.mjs";
 import { sendersIn } from "./messages.mjs";
+import { placedIn, windowTexts } from "./windows.mjs";
 
 /** @typedef {import("../run/outcome.mjs").Outcome} Outcome */
 /** @typedef {import("../../page/run-data.mjs").RunData} RunData */
@@ -39,18 +40,18 @@ function accessOf(read, write) {
 
 /**
  * The events of each race: of each side the first access that is like it.
- * @param {Outcome["races"]} races
+ * @param {Outcome} outcome
  * @param {any[]} events
  * @returns {any[][]}
  */
-function racingEvents(races, events) {
+function racingEvents({ races, windows }, events) {
   const first = new Map();
   if (races.length === 0) return [];
   for (const event of events) {
     const key = keyOf(event);
     if (!first.has(key)) first.set(key, event);
   }
-  const pairs = races.map(({ sides }) => sides.map((side) => first.get(keyOf(side))));
+  const pairs = races.map(({ sides }) => sides.map((side) => first.get(keyOf(placedIn(windows, side)))));
   return pairs.filter((pair) => !pair.includes(undefined));
 }
 
@@ -83,7 +84,7 @@ function countBefore(events, event) {
  * @returns {RunData}
  */
 export function pageData(outcome, facts, module) {
-  const { seed, ending, races, script = "{}", trace = "", sources = [], scriptHolds: holds = "all" } = outcome;
+  const { seed, ending, windows, script = "{}", trace = "", sources = [], scriptHolds: holds = "all" } = outcome;
   const detail = [outcome.detail, outcome.onlyIf ?? ""].filter((text) => text !== "").join("\n");
   const { blocks, views } = JSON.parse(script);
   const { arrays, made } = outcome.accesses ?? { arrays: [], made: [] };
@@ -92,7 +93,7 @@ export function pageData(outcome, facts, module) {
   const entries = objects.filter(({ what }) => what === "act" || what === "wait" || what === "leave");
   // The first line may say that accesses are missing.
   const all = eventsInScript(objectsOf(trace).filter(({ event }) => event !== undefined), entries);
-  const racing = racingEvents(races, all);
+  const racing = racingEvents(outcome, all);
   const events = shownEvents(all, racing);
   const numbers = new Map(events.map((event, at) => [event, at]));
   const tasks = (outcome.tasks ?? []).map((task) => ({ ...task, before: countBefore(events, task.event) }));
@@ -103,6 +104,7 @@ export function pageData(outcome, facts, module) {
   const helpers = helperNames(views, threads ?? [], file);
   return {
     ...(threads === undefined ? {} : { threads: [...threads, ...helpers], senders: sendersIn(entries) }),
+    ...(windows === undefined ? {} : { windows: windowTexts(windows) }),
     seed, ending, detail, holds, blocks, views, arrays, places, files: sources, script, module: file,
     agents: outcome.progress.length + helpers.length,
     isWhole: events.length === all.length,

@@ -1,4 +1,5 @@
-// A program's run in words: its threads, and then each step with its line of code. A message is sent and received.
+// A program's run in words: its threads, its memory if that stands in windows, and then each step with its line of
+// code. A message is sent and received.
 
 import { Views } from "../../page/elements.mjs";
 import { endingText } from "../../page/endings.mjs";
@@ -16,13 +17,14 @@ const NO_MOVE = "-";
  */
 export function wordsText(facts, outcome, module) {
   const data = pageData(outcome, facts, module);
-  const { seed, ending, detail, threads = [], places } = data;
+  const { seed, ending, detail, threads = [], windows = [], places } = data;
   const names = threads.map((name, agent) => `agent ${agent}: ${name === "" ? data.module : name}`);
   const steps = new Stepper(data, new Views(data)).all();
   const lines = steps.filter(({ agent }) => agent !== undefined).map(({ entry, agent, sentence, place }) => {
     const where = place < 0 ? "" : `, at ${places[place]}`;
     return `${entry ?? NO_MOVE} ${agent} ${sentence}${where}`;
   });
+  const memory = windows.map(({ where, what }) => `${where}: ${what}`);
   const head = `seed ${seed} of ${data.module}: ${endingText(ending, detail)}`;
-  return [head, ...names, "", ...lines, "", ...detail.split("\n"), ""].join("\n");
+  return [head, ...names, ...memory, "", ...lines, "", ...detail.split("\n"), ""].join("\n");
 }

@@ -2,6 +2,7 @@
 // can reach it. The last block is for messages: to send one and to receive it are acts on the waiters of a place there.
 // So what was done before it was sent happens before what is done after it is received.
 
+import { KINDS } from "../../script/kinds.mjs";
 import { SCRIPT_LIMITS } from "../../script/limits.mjs";
 import { isGrowable, mostLengthOf, sharedLengthOf } from "../primordials.mjs";
 import { placeNumber } from "./known-places.mjs";
@@ -29,6 +30,9 @@ export const loopPlace = (agent) => placeNumber(MESSAGES, 4 * (LOOP_PLACES + age
 /** How many blocks for a program's memory a script can have, and how long each can be. Others have greater numbers. */
 export const MOST_BLOCKS = MESSAGES;
 export const MOST_BYTES = SCRIPT_LIMITS.bytes;
+
+/** In place of a view's kind: what a buffer had in it when it became a block, as a write of its thread. */
+export const HELD = KINDS.length + 2;
 
 const NO_BYTES = new Uint8Array(0);
 
@@ -119,6 +123,17 @@ export class Blocks {
     this.buffers[block] = buffer;
     memory.real[block] = new Uint8Array(buffer);
     this.#learn(block, sharedLengthOf(buffer));
+  }
+
+  /**
+   * A block that no script can have as it is begins: what this thread has written there is known from now on.
+   * @param {number} block
+   * @param {number} agent the thread
+   * @param {number} position in the log
+   */
+  begins(block, agent, position) {
+    this.memory.takeAll(block);
+    this.more.begins(block, agent, position);
   }
 
   /** @param {number} block that this thread has made longer */

@@ -262,6 +262,27 @@ export class Log {
     into.set(this.events.subarray(0, into.length));
   }
 
+  /**
+   * A log of the same events on other bytes, in memory of its own.
+   * @param {(event: LogEvent) => { block: number, from: number, to: number, offset: number, length: number }} placed
+   * gives an event's block, its bytes there, and its view
+   * @returns {Log}
+   */
+  moved(placed) {
+    const log = Log.from(this.taken());
+    log.values = this.values.slice(0, this.length * VALUE_BYTES);
+    for (let event = 0; event < this.length; event += 1) {
+      const { block, from, to, offset, length } = placed(this.at(event));
+      const at = event * EACH;
+      log.events[at + BLOCK] = block;
+      log.events[at + FROM] = from;
+      log.events[at + TO] = to;
+      log.events[at + OFFSET] = offset;
+      log.events[at + LENGTH] = length;
+    }
+    return log;
+  }
+
   /** @param {Int32Array} events @returns {Log} a log of events that were taken from one, without what they read */
   static from(events) {
     const log = new Log(NO_MEMORY, Int32Array.of(events.length / EACH), 0);

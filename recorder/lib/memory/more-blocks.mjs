@@ -1,11 +1,12 @@
-// The blocks of a program that no script can have: those behind the third one, those of more bytes than a block of a
-// script, and those that grow. Their number has no small limit. What is known of their bytes, and where their memory was
-// made, stands in memory that grows as they come.
+// The blocks of a program that no script can have as they are: those behind the third one, those of more bytes than a
+// block of a script, and those that grow. Their number has no small limit. What is known of their bytes, with which
+// ones they began, and where their memory was made, stands in memory that grows as they come.
 
 import { SCRIPT_LIMITS } from "../../script/limits.mjs";
 import { uncurried } from "../primordials.mjs";
 
 const { Int32Array, SharedArrayBuffer, Uint8Array } = globalThis;
+const setBytes = uncurried(Uint8Array.prototype.set);
 /** @type {{ new (bytes: number, options: { maxByteLength: number }): Growing }} */
 const EngineShared = /** @type {any} */ (SharedArrayBuffer);
 const encode = uncurried(TextEncoder.prototype.encodeInto);
@@ -15,12 +16,22 @@ const { ceil, max, min } = Math;
 
 /** @typedef {SharedArrayBuffer & { grow(bytes: number): void, maxByteLength: number }} Growing */
 
+/**
+ * @typedef {object} Start how a block began
+ * @property {Uint8Array} bytes that it had
+ * @property {number} agent that had made and filled it
+ * @property {number} position in the log at which it became a block
+ */
+
 /** The number of the first one. */
 export const FIRST_MORE = SCRIPT_LIMITS.blocks;
 
 /** How many there can be, and how many bytes all of them can have together. */
 const MOST = 2 ** 20;
 const MOST_BYTES = 2 ** 31 - 2 ** 16;
+
+/** Of a longer one it isn't kept with which bytes it began. */
+const MOST_START = 2 ** 26;
 
 const NAME_BYTES = 1_024;
 const PAGE = 2 ** 16;
@@ -29,12 +40,16 @@ const PAGE = 2 ** 16;
 const COUNT = 0;
 const USED = 1;
 const HEAD = 2;
-const EACH = 5;
+const EACH = 9;
 const FIRST = 0;
 const LENGTH = 1;
 const MOST_LENGTH = 2;
 const NAME = 3;
 const NAME_LENGTH = 4;
+const START = 5;
+const START_LENGTH = 6;
+const AGENT = 7;
+const POSITION = 8;
 
 /** @param {number} bytes @param {number} to a power of two @returns {number} */
 const rounded = (bytes, to) => ceil(bytes / to) * to;
@@ -85,16 +100,44 @@ export class MoreBlocks {
     const at = HEAD + words[COUNT] * EACH;
     const first = words[USED];
     const name = first + rounded(mostLength, 8);
-    const end = name + rounded(min(place.length * 3, NAME_BYTES), 8);
+    const start = name + rounded(min(place.length * 3, NAME_BYTES), 8);
+    const end = start + (length > MOST_START ? 0 : rounded(length, 8));
     if (words[COUNT] === MOST || end > MOST_BYTES || !isReserved(memory, (at + EACH) * 4, end)) return -1;
     words[at + FIRST] = first;
     words[at + LENGTH] = length;
     words[at + MOST_LENGTH] = mostLength;
     words[at + NAME] = name;
-    words[at + NAME_LENGTH] = encode(encoder, place, new Uint8Array(memory.bytes, name, end - name)).written;
+    words[at + NAME_LENGTH] = encode(encoder, place, new Uint8Array(memory.bytes, name, start - name)).written;
+    words[at + START] = start;
+    words[at + START_LENGTH] = end === start ? 0 : length;
     words[USED] = end;
     words[COUNT] += 1;
     return FIRST_MORE + words[COUNT] - 1;
+  }
+
+  /**
+   * A block begins with the bytes that are known of it now.
+   * @param {number} block its number
+   * @param {number} agent that has made and filled it
+   * @param {number} position in the log
+   */
+  begins(block, agent, position) {
+    const { words, memory } = this;
+    const at = this.#at(block);
+    const length = words[at + START_LENGTH];
+    const start = new Uint8Array(memory.bytes, words[at + START], length);
+    setBytes(start, new Uint8Array(memory.bytes, words[at + FIRST], length));
+    words[at + AGENT] = agent;
+    words[at + POSITION] = position;
+  }
+
+  /** @param {number} block its number @returns {Start | undefined} undefined: it isn't known of so long a block */
+  start(block) {
+    const { words, memory } = this;
+    const at = this.#at(block);
+    if (words[at + START_LENGTH] === 0) return undefined;
+    const bytes = new Uint8Array(memory.bytes, words[at + START], words[at + START_LENGTH]);
+    return { bytes, agent: words[at + AGENT], position: words[at + POSITION] };
   }
 
   /** @param {number} block its number @returns {Uint8Array} what is known of its bytes */

@@ -108,17 +108,40 @@ export class Stores {
    * @param {number} from
    * @param {number} to
    * @param {number} kind of the view that it was written by, or a greater number where that is no typed array
+   * @returns {boolean} whether it has changed anything
    */
   takeWritten(agent, position, block, from, to, kind) {
+    let hasChanged = false;
     if (kind < KINDS.length && to - from <= FEW_BYTES) {
-      for (let byte = from; byte < to; byte += SIZES[kind]) this.#take(agent, position, block, byte, kind);
-      return;
+      for (let byte = from; byte < to; byte += SIZES[kind]) {
+        if (this.#take(agent, position, block, byte, kind)) hasChanged = true;
+      }
+      return hasChanged;
     }
     for (let byte = from; byte < to;) {
       const size = largestAt(byte, to);
-      this.#take(agent, position, block, byte, STORED[kind] === UNSIGNED[size] ? kind : UNSIGNED[size]);
+      const stored = STORED[kind] === UNSIGNED[size] ? kind : UNSIGNED[size];
+      if (this.#take(agent, position, block, byte, stored)) hasChanged = true;
       byte += size;
     }
+    return hasChanged;
+  }
+
+  /**
+   * Takes the same of an access to a block that no script can have as it is. What is longer than a block of a script,
+   * or comes when the stores are lost, is known afterwards, and has no stores.
+   * @param {number} agent
+   * @param {number} position
+   * @param {number} block
+   * @param {number} from
+   * @param {number} to
+   * @param {number} kind
+   * @returns {boolean} whether it has changed anything
+   */
+  takeWrittenInMore(agent, position, block, from, to, kind) {
+    if (to - from > SCRIPT_LIMITS.bytes) this.words[WORD.IS_THINNED] = LOST;
+    if (this.isLost()) return this.buffers.takeOver(block, from, to);
+    return this.takeWritten(agent, position, block, from, to, kind);
   }
 
   /**
@@ -142,7 +165,7 @@ export class Stores {
    */
   touch(block, from, to) {
     const { touched, dropped, words } = this;
-    // No script has more blocks.
+    // Of other blocks either all stores are there, or they are lost.
     if (block >= this.firsts.length) return;
     for (let byte = from; byte < to; byte += 1) {
       const place = this.firsts[block] + byte;
@@ -186,6 +209,7 @@ export class Stores {
    * @param {number} block
    * @param {number} byte
    * @param {number} kind
+   * @returns {boolean} whether it has
    */
   #take(agent, position, block, byte, kind) {
     const real = this.buffers.real[block];
@@ -193,7 +217,7 @@ export class Stores {
     const to = byte + SIZES[kind];
     let at = byte;
     while (at < to && real[at] === known[at]) at += 1;
-    if (at === to) return;
+    if (at === to) return false;
     this.buffers.takeOver(block, byte, to);
     if (this.words[WORD.STORES] === ROOM) this.#thin();
     if (this.words[WORD.IS_THINNED] !== ALL && !this.#isTouched(block, byte, to)) {
@@ -201,6 +225,7 @@ export class Stores {
     } else {
       this.#push(agent, position, block, byte, kind);
     }
+    return true;
   }
 
   /** @param {number} agent @param {number} position @param {number} block @param {number} byte @param {number} kind */
@@ -224,6 +249,8 @@ export class Stores {
 
   /** @param {number} agent @param {number} position @param {number} block @param {number} from @param {number} to */
   #drop(agent, position, block, from, to) {
+    // Of other blocks nobody knows which bytes calls touch.
+    if (block >= this.firsts.length) this.words[WORD.IS_THINNED] = LOST;
     for (let byte = from; byte < to; byte += 1) this.dropped[this.firsts[block] + byte] = ((position << 4) | agent) + 1;
   }
 

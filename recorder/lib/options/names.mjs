@@ -22,7 +22,7 @@ import { Refused } from "./refused.mjs";
  */
 
 // In scripts `ordinary_` may stand before a name, and a view's name has 32 characters at most.
-const MOST_CHARACTERS = 23;
+export const MOST_CHARACTERS = 23;
 const RIGHT = new RegExp(`^[A-Za-z0-9_]{1,${MOST_CHARACTERS}}$`);
 
 /** What scripts name views by themselves. */

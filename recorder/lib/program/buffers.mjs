@@ -3,7 +3,7 @@
 // others do. What comes out of a message is another object on the same memory: which block that is, is found by writing.
 
 import { learn } from "../agent/ordinary/context.mjs";
-import { WHOLE_BUFFER } from "../agent/ordinary/watched.mjs";
+import { HELD } from "../memory/blocks.mjs";
 import { FIRST_MORE } from "../memory/more-blocks.mjs";
 import { isGrowable, sharedLengthOf, weakGet, weakSet } from "../primordials.mjs";
 
@@ -47,6 +47,7 @@ function hasBytes(buffer) {
  * @property {(place: import("../agent/ordinary/context.mjs").Place, from: number, to: number, writes: boolean) => void}
  * seen gets an ordinary access that is about to be made
  * @property {(block: number, place: string) => void} named gets where the memory of a new block was made
+ * @property {(block: number) => void} began gets a new block that no script can have as it is
  * @property {(why: string) => never} refuse ends the run
  */
 
@@ -112,9 +113,9 @@ export class Buffers {
     known.block = block;
     if (block < FIRST_MORE) shown.named(block, place);
     mesh.handAll({ kind: "block", block, buffer });
-    if (block >= FIRST_MORE) blocks.memory.takeAll(block);
+    if (block >= FIRST_MORE) shown.began(block);
     else if (hasBytes(buffer)) {
-      shown.seen({ block, kind: WHOLE_BUFFER, offset: 0, length }, 0, length, true);
+      shown.seen({ block, kind: HELD, offset: 0, length }, 0, length, true);
     }
     this.onBlock(known.own, known.block);
   }

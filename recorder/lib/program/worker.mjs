@@ -191,10 +191,11 @@ const nextMessage = () => new Promise((done) => {
  * @param {Mesh} mesh
  */
 function partsOf(player, blocks, mesh) {
-  const { agent, table: { board } } = player;
+  const { agent, table: { board, log } } = player;
   const moves = new Moves(player, shared.buffers[MESSAGES]);
   const seen = watching.seen;
-  const buffers = new Buffers(blocks, mesh, { seen, refuse, named: nameBlock });
+  const began = (/** @type {number} */ block) => blocks.begins(block, agent, log.length);
+  const buffers = new Buffers(blocks, mesh, { seen, refuse, named: nameBlock, began });
   const table = new PortTable(shared.ports);
   const all = new Threads(agent, board, table, moves);
   /** @type {{ loop?: Loop }} */

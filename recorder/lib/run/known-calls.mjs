@@ -3,7 +3,6 @@
 
 import { FINGERPRINT } from "../memory/records.mjs";
 
-/** @typedef {import("../memory/records.mjs").Records} Records */
 /** @typedef {import("./transcript.mjs").Range} Range */
 /** @typedef {import("../../script/text.mjs").Done} Done */
 
@@ -25,7 +24,7 @@ export class KnownCalls {
   #asked = new Int32Array(FINGERPRINT);
 
   /**
-   * @param {Records} records
+   * @param {import("./transcript.mjs").Run["records"][number]} records
    * @param {number} position
    * @param {() => KnownCall} make is called if the call isn't known
    * @returns {KnownCall}

@@ -21,6 +21,8 @@
  * @property {"all" | "touched"} [scriptHolds] which ordinary writes stand in the script: all, or those of bytes that
  * some call of Atomics touches
  * @property {string} [noScript] why there is no script
+ * @property {import("./in-windows.mjs").NamedWindow[]} [windows] of a program whose memory is more than a script can
+ * have: which bytes of its buffers stand where in the script's blocks and in the trace
  * @property {import("./failure.mjs").Failure} [failure] what a run that fails failed by, in short; a race is in `races`
  * @property {import("./standing.mjs").Standing[]} [standing] what each agent is at in a deadlock, or at a limit
  * @property {string} [report] what sabsim must answer

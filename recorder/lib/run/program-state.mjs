@@ -7,7 +7,9 @@ import { Keepers } from "../memory/keepers.mjs";
 import { WORD } from "../memory/layout.mjs";
 import { TaskNotes } from "../memory/task-notes.mjs";
 import { moreBytesOf } from "./final-state.mjs";
+import { inWindows, windowsOf } from "./in-windows.mjs";
 import { blockNames } from "./program-names.mjs";
+import { PAGE_BYTES, Windows } from "./windows.mjs";
 
 const CUT = "a thread was terminated while it waited, which no script can have; of such a run sabsim judges the trace "
   + "alone";
@@ -15,8 +17,15 @@ const CUT = "a thread was terminated while it waited, which no script can have; 
 const CUT_ASYNC = "a notify came where a thread that has ended had waited by Atomics.waitAsync, which no script can have; of "
   + "such a run sabsim judges the trace alone";
 
-const MORE_MEMORY = `its threads share more than ${MOST_BLOCKS} buffers, one of more than ${MOST_BYTES} bytes, or one that `
-  + "grows, which neither a script nor a trace can have; such a run the recorder alone judges";
+/** Why a run has neither a script nor a trace. */
+const MORE_MEMORY = `its threads share more than ${MOST_BLOCKS} buffers, one of more than ${MOST_BYTES} bytes, or one `
+  + `that grows, and touch more pages of ${PAGE_BYTES} bytes than a script and a trace have room for; such a run the `
+  + "recorder alone judges";
+
+const LOST = "so many ordinary writes were made to its buffers, or one had so many bytes at first, that a script "
+  + "doesn't have them; of such a run sabsim judges the trace alone";
+
+/** @typedef {import("./in-windows.mjs").Written} Written */
 
 /**
  * @typedef {object} ProgramMemory
@@ -63,16 +72,29 @@ export class ProgramState {
     return this.threads;
   }
 
-  /** @returns {string | undefined} why the run can't have a script, if so */
-  whyNoScript() {
-    if (this.goesBeyondTraces) return MORE_MEMORY;
-    if (this.ports.isCut()) return CUT;
-    return this.board.waiters?.hasMissed ? CUT_ASYNC : undefined;
+  /** @returns {boolean} whether the run has memory that neither a script nor a trace can have as it is */
+  get goesBeyond() {
+    return this.blocks.goBeyond;
   }
 
-  /** @returns {boolean} whether the run has memory that neither a script nor a trace can have */
-  get goesBeyondTraces() {
-    return this.blocks.goBeyond;
+  /**
+   * A run as its script and its trace have it, if its memory is more than these can have.
+   * @param {Written} made whose blocks are the program's
+   * @param {string[]} called the names of these
+   * @param {import("./windows.mjs").Window[]} [list] windows that are known already
+   * @returns {Written | undefined} undefined: there is no room for all that it touches
+   */
+  inWindows(made, called, list) {
+    const windows = list === undefined ? windowsOf(made.run) : new Windows(list);
+    return windows && inWindows(windows, made, this.blocks, called);
+  }
+
+  /** @param {Written | undefined} written @returns {string | undefined} why the run can't have a script, if so */
+  whyNoScript(written) {
+    if (written === undefined) return MORE_MEMORY;
+    if (this.ports.isCut()) return CUT;
+    if (this.board.waiters?.hasMissed) return CUT_ASYNC;
+    return written.windows !== undefined && written.stores.isLost() ? LOST : undefined;
   }
 
   /** @returns {import("./final-state.mjs").MoreBytes | undefined} of the blocks that no script can have, if there are any */

@@ -21,6 +21,7 @@ import { NO_SCRIPT, unrecordedIn } from "./unseen.mjs";
 
 /** @typedef {import("./outcome.mjs").Outcome} Outcome */
 /** @typedef {import("./run-maker.mjs").Made} Made */
+/** @typedef {import("./in-windows.mjs").Written} Written */
 
 export class RunReporter {
   /** @param {import("./run-maker.mjs").Given} given @param {import("./run-maker.mjs").RunMaker} maker */
@@ -35,6 +36,8 @@ export class RunReporter {
     };
     this.copies = new CopiedRuns(memory.runs);
     this.states = new FinalStates(plan.names);
+    /** @type {{ found: Made, written: Written | undefined } | undefined} what was asked for last */
+    this.last = undefined;
     /** Whether each ordinary access is seen: code from before the recorder may make some that aren't watched. */
     this.seesAll = options.ordinary === "watch" && !preloads();
   }
@@ -89,18 +92,37 @@ export class RunReporter {
       outcome.noScript = NO_SCRIPT;
       return;
     }
-    const { maker: { stores, agents }, options, run } = this;
-    const why = this.maker.program?.whyNoScript();
-    if (why !== undefined) {
+    const { maker: { program, agents }, options, run } = this;
+    const written = this.#writtenOf(found);
+    if (written?.windows !== undefined) outcome.windows = written.windows;
+    const why = program?.whyNoScript(written);
+    if (written === undefined || why !== undefined) {
       this.#addFailure(outcome, found, transcriptOf(run, []));
       outcome.noScript = why;
       return;
     }
-    const whole = { ...run, isOrdinary: this.#isOrdinary() };
-    const fit = fitted(whole, stores, found.initial, found.bytes);
-    this.#addFailure(outcome, found, fit.transcript);
-    if (outcome.fails || !options.isBrief) addAnswers(outcome, fit, found.bytes, agents.length);
+    const fit = fitted(written.run, written.stores, found.initial, written.bytes);
+    this.#addFailure(outcome, found, written.windows === undefined ? fit.transcript : transcriptOf(run, []));
+    if (outcome.fails || !options.isBrief) addAnswers(outcome, fit, written.bytes, agents.length);
     addTexts(outcome, fit);
+  }
+
+  /** @param {Made} found @returns {Written | undefined} the run as its script and its trace have it, if they can */
+  #writtenOf(found) {
+    if (this.last?.found !== found) this.last = { found, written: this.#written(found.bytes) };
+    return this.last.written;
+  }
+
+  /**
+   * @param {string[]} bytes of each block at the end, in hexadecimal digits
+   * @param {Outcome["windows"]} [windows] those of its script, if it has some
+   * @returns {Written | undefined} the run of the log, as its script and its trace have it, if they can
+   */
+  #written(bytes, windows) {
+    const { maker: { program, stores }, run, sourceNames } = this;
+    const made = { run: { ...run, isOrdinary: this.#isOrdinary() }, stores, bytes };
+    if (program === undefined || !program.goesBeyond) return made;
+    return program.inWindows(made, program.names((text) => sourceNames.withNames(text)).blocks, windows);
   }
 
   /**
@@ -156,20 +178,22 @@ export class RunReporter {
    * @param {boolean} wantsTrace
    */
   addSources(outcome, wantsTrace) {
-    const { run: { log, lengths }, sourceNames } = this;
+    const { run: { log }, sourceNames } = this;
     outcome.races = this.options.ordinary === "watch" ? this.races(true) : [];
     if (!wantsTrace) return;
-    if (this.maker.program?.goesBeyondTraces) {
-      outcome.noTrace = outcome.noScript;
+    const written = this.#written([], outcome.windows);
+    if (written === undefined) {
+      outcome.noTrace = this.maker.program?.whyNoScript(written);
       return;
     }
+    if (written.windows !== undefined) outcome.windows = written.windows;
     const names = this.sources.map((each) => each.list().map((/** @type {string} */ place) => {
       return place === "" ? "" : sourceNames.nameOf(place);
     }));
     // If some are found, no verdict on the trace says that there are none.
     const mayLookClean = !(this.seesAll && log.hasRoom()) && outcome.races.length === 0;
-    outcome.trace = (mayLookClean ? UNSEEN_LINE : "") + traceText(log, names);
-    outcome.accesses = accessesIn(log, lengths);
+    outcome.trace = (mayLookClean ? UNSEEN_LINE : "") + traceText(written.run.log, names);
+    outcome.accesses = accessesIn(written.run.log, written.run.lengths);
     const tasks = this.#tasks();
     outcome.sources = sourceNames.textsOf([...placesIn(log, names), ...tasks.flatMap(({ source }) => source ?? [])]);
     if (this.maker.program !== undefined) outcome.tasks = tasks;
@@ -189,16 +213,18 @@ export class RunReporter {
    * @returns {import("./outcome.mjs").SentJudgement | undefined}
    */
   judgement({ script }, found, taken) {
-    const { program } = this.maker;
-    const hasEvents = script !== undefined || taken !== undefined || (program !== undefined && !program.goesBeyondTraces);
-    if (!hasEvents || found.isUnseen || this.options.ordinary !== "watch") return undefined;
+    const hasScript = script !== undefined || taken !== undefined;
+    if (found.isUnseen || this.options.ordinary !== "watch") return undefined;
+    if (!hasScript && this.maker.program === undefined) return undefined;
     const { racy, initial } = found;
+    const written = taken === undefined ? this.#writtenOf(found) : undefined;
+    if (taken === undefined && written === undefined) return undefined;
     // The stores of `init` are none of the run's accesses, ordinary reads are in no script, and in one nothing orders
     // what a thread does while its helper waits with that wait.
-    const hasScript = script !== undefined || taken !== undefined;
+    const isOrdinary = written?.run.isOrdinary ?? this.#isOrdinary();
     const hasHelpers = (this.maker.board.waiters?.joined ?? 0) > 0;
-    const isInScript = hasScript && !this.#isOrdinary() && initial.length === 0 && !hasHelpers;
-    return { racy, isInScript, ...(taken === undefined ? { events: this.run.log.taken() } : {}) };
+    const isInScript = hasScript && !isOrdinary && initial.length === 0 && !hasHelpers;
+    return { racy, isInScript, ...(written === undefined ? {} : { events: written.run.log.taken() }) };
   }
 
   /**

@@ -23,7 +23,7 @@ import { KnownCalls } from "./known-calls.mjs";
 /**
  * @typedef {object} Run what a transcript is made from
  * @property {import("../memory/log.mjs").Log} log
- * @property {import("../memory/records.mjs").Records[]} records of each agent
+ * @property {Pick<Records, "callAt" | "doneAt" | "takeFingerprint">[]} records of each agent
  * @property {number[]} lengths of the blocks
  * @property {boolean[]} canBlock of each agent
  * @property {import("../options/names.mjs").Names} [names] of words and of whole arrays
@@ -120,7 +120,7 @@ class Writer {
 
   /**
    * A call as the texts have it.
-   * @param {import("../memory/records.mjs").Records} records
+   * @param {Run["records"][number]} records
    * @param {number} position
    * @returns {import("./known-calls.mjs").KnownCall}
    */
@@ -133,7 +133,7 @@ class Writer {
     return named === undefined ? { done, view: { name, range: call } } : { done };
   }
 
-  /** @param {import("../memory/records.mjs").Records} records @param {number} agent @returns {Done} the agent's next call */
+  /** @param {Run["records"][number]} records @param {number} agent @returns {Done} the agent's next call */
   #next(records, agent) {
     const position = this.own[agent];
     const { done, view } = this.known.at(records, position, () => this.#call(records, position));
@@ -142,7 +142,7 @@ class Writer {
     return done;
   }
 
-  /** @param {import("../memory/records.mjs").Records} records @param {number} agent @param {number} event */
+  /** @param {Run["records"][number]} records @param {number} agent @param {number} event */
   addEvent(records, agent, event) {
     if (event !== LEAVE && event !== TIME_UP) this.calls[agent].push(this.#next(records, agent));
     this.addMoves(agent, MOVES[event], event === TIME_UP);
@@ -150,7 +150,7 @@ class Writer {
 
   /**
    * Adds the begin of a wait in which nobody sleeps, or its end: its helper makes it.
-   * @param {import("../memory/records.mjs").Records} records
+   * @param {Run["records"][number]} records
    * @param {number} owner the agent that has called waitAsync
    * @param {number} event
    * @param {number} call which of its calls it is

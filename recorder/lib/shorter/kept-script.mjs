@@ -9,6 +9,7 @@ import { handOverOf, helpersIn } from "../../script/helpers.mjs";
 import { CALLS, KINDS, SIZES } from "../../script/kinds.mjs";
 import { OF_STORES, writtenText } from "../../script/written.mjs";
 import { callNumber } from "../board/row.mjs";
+import { byteOf } from "../memory/memory.mjs";
 import { callText, placedCallText } from "../memory/spelling.mjs";
 import { Refused } from "../options/refused.mjs";
 
@@ -19,7 +20,8 @@ import { Refused } from "../options/refused.mjs";
  * @property {number} call its number among the agent's own; of a store that of the next one
  * @property {string} text as the script has it; of a store that stands for an ordinary write what was written:
  * `samples[1] = 0.25`
- * @property {string} key the same, with what its view is in place of the view's name
+ * @property {string} key the same, with what its view is in place of the view's name; if it is a byte of a program's
+ * buffer in a window, with that one
  * @property {number} block
  * @property {number} from the first byte of its element
  * @property {number} to the byte behind its last one
@@ -62,6 +64,7 @@ function need(holds, why) {
 const isCount = (value) => Number.isInteger(value) && Number(value) >= 0;
 
 /** @typedef {import("../memory/spelling.mjs").Range} View */
+/** @typedef {import("../run/windows.mjs").Windows} Windows */
 
 /** @typedef {Map<string, import("../../script/text.mjs").View>} AsSpelled views as the script has them, by their names */
 
@@ -86,26 +89,37 @@ function lengthsOf(script) {
 }
 
 /**
+ * @param {import("../memory/records.mjs").Call} call
+ * @param {Windows | undefined} windows undefined: the script's blocks are the program's
+ */
+function keyOf(call, windows) {
+  const behind = windows?.behind(call.block, byteOf(call));
+  if (behind === undefined) return placedCallText(call, call);
+  return `${behind.buffer} ${behind.byte} ${callText(KINDS[call.kind], call, 0)}`;
+}
+
+/**
  * @param {any} parts of a call as a script has it
  * @param {Map<string, View>} views
  * @param {AsSpelled} spelled
+ * @param {Windows | undefined} windows
  * @returns {Omit<Step, "agent" | "call"> & { view: string, waits: boolean, isHandOver: boolean }}
  */
-function callOf(parts, views, spelled) {
+function callOf(parts, views, spelled, windows) {
   need(Array.isArray(parts) && METHODS.includes(parts[0]), `${JSON.stringify(parts)} is no call`);
   const [method, name, index, ...rest] = parts;
   const view = views.get(name);
   need(view !== undefined, `its call ${JSON.stringify(parts)} has a view that it doesn't have`);
-  const { kind, block, offset } = view;
+  const { kind, block } = view;
   const operands = rest.map((value) => (typeof value === "string" ? BigInt(value) : value));
   const call = { ...view, call: METHODS.indexOf(method), index, operands, limit: undefined };
-  const from = offset + index * SIZES[kind];
+  const from = byteOf(call);
   const isOwn = !OF_STORES.test(name);
   const isWrite = !isOwn && method === "store" && operands.length === 1;
   return {
     isOwn, view: name, waits: method === "wait", loads: method === "load", isHandOver: handOverOf(parts) !== undefined,
     text: isWrite ? writeOf(spelled, name, index, operands[0]) : callText(name, call),
-    key: placedCallText(call, call), block, from, to: from + SIZES[kind],
+    key: keyOf(call, windows), block, from, to: from + SIZES[kind],
   };
 }
 
@@ -122,8 +136,12 @@ function writeOf(views, name, index, operand) {
 }
 
 class Reader {
-  /** @param {any} script @param {Set<number>} idle the moves that have no effect, by their positions */
-  constructor(script, idle) {
+  /**
+   * @param {any} script
+   * @param {Set<number>} idle the moves that have no effect, by their positions
+   * @param {Windows | undefined} windows
+   */
+  constructor(script, idle, windows) {
     this.lengths = lengthsOf(script);
     need(Array.isArray(script.agents) && Array.isArray(script.schedule), "it has no agents, or no schedule");
     const views = viewsOf(script, this.lengths);
@@ -134,7 +152,7 @@ class Reader {
     /** @type {ReturnType<typeof callOf>[][]} */
     this.calls = script.agents.map((/** @type {any} */ { calls }) => {
       need(Array.isArray(calls), "an agent has no calls");
-      return calls.map((call) => callOf(call, views, spelled));
+      return calls.map((call) => callOf(call, views, spelled, windows));
     });
     const isOfInit = this.calls.at(-1)?.some(({ view }) => OF_INIT.test(view));
     /** From each helper to its thread. */
@@ -229,12 +247,13 @@ class Reader {
  * @param {string} text
  * @param {string} name of its file, for messages
  * @param {Iterable<number>} [idle] the positions of moves that have no effect
+ * @param {Windows} [windows] of a program's run, if the script's blocks aren't the program's
  * @returns {KeptScript}
  * @throws {Refused}
  */
-export function keptScript(text, name, idle = []) {
+export function keptScript(text, name, idle = [], windows = undefined) {
   try {
-    return new Reader(JSON.parse(text), new Set(idle)).read();
+    return new Reader(JSON.parse(text), new Set(idle), windows).read();
   } catch (problem) {
     if (!(problem instanceof Unlike || problem instanceof SyntaxError)) throw problem;
     throw new Refused(`${name} is no script that the recorder has kept: ${problem.message.split("\n")[0]}`);
