@@ -14,6 +14,7 @@ import { NO_NAMES, nameText } from "../options/names.mjs";
 import { Helpers, isAsync } from "./helpers.mjs";
 import { KnownCalls } from "./known-calls.mjs";
 
+/** @typedef {import("../memory/records.mjs").Records} Records */
 /** @typedef {import("../memory/stores.mjs").Store} Store */
 /** @typedef {import("../../script/text.mjs").Done} Done */
 /** @typedef {import("../../script/text.mjs").Move} Move */
