@@ -4,6 +4,7 @@
 import Module, { createRequire } from "node:module";
 import fs from "node:fs";
 import path from "node:path";
+import process from "node:process";
 import vm from "node:vm";
 import { pathToFileURL } from "node:url";
 import { isModuleSyntax } from "./module-urls.mjs";

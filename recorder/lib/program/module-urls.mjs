@@ -10,6 +10,7 @@ import { nodeError } from "./node-error.mjs";
 /** @typedef {"module" | "commonjs" | "json" | "builtin" | "other"} Format of a module; node refuses to load another */
 
 const { readFileSync, statSync } = /** @type {any} */ (fs);
+const bytesFrom = Buffer.from;
 const engineResolve = /** @type {any} */ (import.meta).resolve;
 
 const NAMES = Object.freeze(["exports", "require", "module", "__filename", "__dirname"]);
@@ -63,7 +64,7 @@ export function resolved(specifier, parent) {
 export function textOf(url) {
   if (url.startsWith("file:")) return readFileSync(fileURLToPath(url), "utf8");
   const [, base64, body] = /** @type {RegExpExecArray} */ (DATA.exec(url.split("#")[0]));
-  return Buffer.from(decodeURIComponent(body), base64 ? "base64" : "utf8").toString("utf8");
+  return bytesFrom(decodeURIComponent(body), base64 ? "base64" : "utf8").toString("utf8");
 }
 
 /** @param {string} file @returns {string | undefined} the type that the package of a file has */
