@@ -67,9 +67,9 @@ export class ProgramGroup extends Group {
     const referee = this.thread(REFEREE_MODULE);
     this.referee = referee;
     referee.give(REFEREE_MODULE);
-    const { module, strategy, timeouts, maxMoves } = this.options;
+    const { module, strategy, timeouts, maxMoves, web = false } = this.options;
     this.#origin = module;
-    const plan = programPlan(SCRIPT_LIMITS.agents);
+    const plan = programPlan(SCRIPT_LIMITS.agents, !web);
     const ways = waysOf(strategy, true);
     this.plan = plan;
     this.rules = { agents: plan.agents, starts: 1, soon: SOON_MILLISECONDS, ways, timeouts, maxMoves };
@@ -133,11 +133,11 @@ export class ProgramGroup extends Group {
 
   /** Keeps some threads ready. */
   #prepare() {
-    const { ordinary } = this.options;
+    const { ordinary, web = false } = this.options;
     const { memory, plan, rules } = this;
     while (this.#spare.length < this.#ahead) {
       const thread = this.begin(begunWith(FLAGS));
-      thread.give(PROGRAM_MODULE, { origin: this.#origin, ordinary, memory, plan, rules }, compiledModules);
+      thread.give(PROGRAM_MODULE, { origin: this.#origin, ordinary, web, memory, plan, rules }, compiledModules);
       this.#spare.push(thread.next().then(() => thread));
     }
   }

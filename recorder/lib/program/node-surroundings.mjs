@@ -1,5 +1,5 @@
-// What a program's thread finds if it is one of node: a command line, node's modules, and ports with node's methods. The
-// file `web/surroundings.mjs` has the same for a program of browsers.
+// What a program's thread finds if it is one of node: a command line, node's modules, and ports with node's methods.
+// The file `web/surroundings.mjs` has the same for a program of browsers.
 
 import process from "node:process";
 import { broadcastClass } from "./broadcast.mjs";

@@ -45,6 +45,7 @@ import { Threads } from "./threads.mjs";
 import { Timers } from "./timers.mjs";
 import { putTwins } from "./twins.mjs";
 import { WaitAsync } from "./wait-async.mjs";
+import { WEB } from "./web/surroundings.mjs";
 
 const { Error: EngineError } = globalThis;
 
@@ -53,6 +54,7 @@ const { Error: EngineError } = globalThis;
  * @property {import("node:worker_threads").MessagePort} port
  * @property {string} origin the URL of the module from whose folder places in the code are named
  * @property {"watch" | "store" | "refuse"} ordinary
+ * @property {boolean} web whether the program is one for browsers
  * @property {ReturnType<typeof import("./program-memory.mjs").programMemory>} memory
  * @property {import("../options/plan.mjs").Plan} plan
  * @property {import("../board/strategy.mjs").Rules} rules
@@ -61,9 +63,9 @@ const { Error: EngineError } = globalThis;
 /** @typedef {{ url: string, isCode?: boolean, where: string }} Start */
 /** @typedef {{ start: Start, number: number, ports: any[], ids: number[] }} Handed */
 
-const { port, origin, memory: shared, plan, rules } = /** @type {Given} */ (threads.workerData);
+const { port, origin, web, memory: shared, plan, rules } = /** @type {Given} */ (threads.workerData);
 const { setImmediate: turnLater } = nodeTimers;
-const surroundings = NODE;
+const surroundings = web ? WEB : NODE;
 const chance = new Chance();
 const placeNames = new SourceNames(origin);
 
@@ -208,7 +210,8 @@ function partsOf(player, blocks, mesh) {
   });
   late.loop = loop;
   return {
-    moves, waits, buffers, ports, ends, events, timers, loop, children, threads: all, mesh, later, after, keepers, here, refuse,
+    moves, waits, buffers, ports, ends, events, timers, loop, children, threads: all, mesh, later, after, keepers, here,
+    refuse,
   };
 }
 
@@ -340,7 +343,8 @@ export async function main(load) {
   const numbered = nextMessage();
   const { Graph } = await load(surroundings.graph);
   const graph = new Graph({
-    refuse: (/** @type {string} */ what, /** @type {string} */ place) => refuse(`used ${what}, which isn't simulated`, place),
+    refuse: (/** @type {string} */ what, /** @type {string} */ place) =>
+      refuse(`used ${what}, which isn't simulated`, place),
   });
   port.postMessage({ begun: true });
   const { agent, ...given } = await numbered;
