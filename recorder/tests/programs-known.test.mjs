@@ -31,28 +31,43 @@ function demandRight({ isEndless }, outcomes) {
 /** @param {(program: Program) => boolean} isOne */
 const programs = (isOne) => PROGRAMS.filter(isOne);
 
-describe("programs with known answers in the recorder", () => {
-  /** @type {TableRuns} */
-  let runs;
-  before(async () => { runs = await TableRuns.open(); });
-  after(() => runs.close());
-
-  for (const program of programs(({ right, notYet }) => right && notYet === undefined)) {
+/**
+ * Right programs pass under each seed, and wrong ones are found.
+ * @param {() => TableRuns} runs
+ * @param {Program[]} all
+ */
+function knownOnes(runs, all) {
+  for (const program of all.filter(({ right }) => right)) {
     it(`${program.name} passes under ${SEEDS} seeds`, async () => {
-      const outcomes = await runs.runs(program, { last: SEEDS });
+      const outcomes = await runs().runs(program, { last: SEEDS });
       assert.equal(outcomes.length, SEEDS);
       demandRight(program, outcomes);
       assert.ok(outcomes[0].checked || outcomes[0].noScript !== undefined);
     });
   }
-
-  for (const program of programs(({ right, notYet }) => !right && notYet === undefined)) {
+  for (const program of all.filter(({ right }) => !right)) {
     it(`${program.name} is found`, async () => {
-      const outcomes = await runs.untilFailing(program, SEEDS);
+      const outcomes = await runs().untilFailing(program, SEEDS);
       assert.ok(outcomes.some(({ fails }) => fails), "no run has failed");
       demandKnown(program, outcomes);
     });
   }
+}
+
+describe("programs for browsers with known answers in the recorder", () => {
+  /** @type {TableRuns} */
+  let runs;
+  before(async () => { runs = await TableRuns.open({ web: true }); });
+  after(() => runs.close());
+  knownOnes(() => runs, programs(({ isWeb }) => isWeb === true));
+});
+
+describe("programs with known answers in the recorder", () => {
+  /** @type {TableRuns} */
+  let runs;
+  before(async () => { runs = await TableRuns.open(); });
+  after(() => runs.close());
+  knownOnes(() => runs, programs(({ isWeb, notYet }) => isWeb !== true && notYet === undefined));
 
   for (const program of programs(({ notYet }) => notYet !== undefined)) {
     it(`${program.name} is refused, since it needs ${program.notYet}`, async () => {
@@ -68,7 +83,7 @@ describe("programs with known answers in the recorder", () => {
 describe("rare programs, if each thread that can go on is as likely", () => {
   /** @type {TableRuns} */
   let runs;
-  before(async () => { runs = await TableRuns.open("uniform"); });
+  before(async () => { runs = await TableRuns.open({ strategy: "uniform" }); });
   after(() => runs.close());
 
   for (const program of programs(({ isRare, notYet }) => isRare && notYet === undefined)) {

@@ -15,7 +15,7 @@ const { wait: engineWait } = Atomics;
 /** @typedef {import("./worker-object.mjs").WebStart} WebStart */
 /** @typedef {import("../worker.mjs").Parts & { ends: WebEnds, events: WebPortEvents }} WebParts */
 
-/** @param {number} agent @returns {typeof Atomics} the engine's own; in a page `wait` throws as the engine does there */
+/** @param {number} agent @returns {typeof Atomics} the engine's own; in a page `wait` throws, as the engine's does */
 function atomicsOf(agent) {
   if (agent !== 0) return Atomics;
   const own = Object.defineProperties({}, Object.getOwnPropertyDescriptors(Atomics));
