@@ -124,6 +124,7 @@ describe("how a run ends", () => {
     assert.equal(ending, "deadlock");
     const waits = /^agent 1 (.*) waits at byte 0 of block 0 \(main\.mjs:2\): .*, at w\.js:2:11$/m;
     assert.equal(waits.exec(detail)?.[1], "(w.js, started at main.mjs:1:16)");
+    assert.match(detail, /^agent 0 has nothing to do, and is kept alive by the page$/m);
   });
 
   it("finished, if the page closes, whatever workers do", async (context) => {
@@ -175,6 +176,30 @@ describe("what nobody listens to fails the run", () => {
       assert.deepEqual([ending, detail], ["finished", ""], main);
     }
   });
+});
+
+describe("tasks of different sources come in either order", () => {
+  /** @type {[string, string][]} */
+  const programs = [
+    ["a timer that is due, and a message", `const { port1, port2 } = new MessageChannel();
+      let first;
+      port1.onmessage = () => { first ??= "message"; };
+      port2.postMessage(1);
+      setTimeout(() => { first ??= "timer"; if (first === "timer") throw new Error("the timer is first"); }, 1);
+      while (performance.now() < 5) { /* until it is due */ }`],
+    ["the event of a rejection, and a message by which it is handled", `const { port1, port2 } = new MessageChannel();
+      const rejected = Promise.reject(new Error("in time"));
+      port1.onmessage = () => { rejected.catch(() => {}); };
+      port2.postMessage(1);`],
+  ];
+  for (const [what, main] of programs) {
+    it(what, async (context) => {
+      const outcomes = await webRuns(context, { "main.mjs": main }, Array.from({ length: 20 }, (_, at) => at + 1));
+      const failed = outcomes.filter(({ ending }) => ending === "failed");
+      assert.ok(failed.length > 0 && failed.length < outcomes.length, `${failed.length} of ${outcomes.length} have failed`);
+      for (const { detail } of failed) assert.match(detail, /Error: (?:the timer is first|in time)/);
+    });
+  }
 });
 
 describe("what browsers don't have", () => {
@@ -233,7 +258,8 @@ test("what a page's script that isn't a module declares, each run declares anew"
       if (started !== 1 || self.helps() !== "helped" || typeof Box !== "function") throw new Error("is declared");
       if (typeof process !== "undefined") throw new Error("the process is there");`,
   }, [1, 2, 3]);
-  assert.deepEqual(outcomes.map(({ ending, detail }) => [ending, detail]), Array(3).fill(["finished", ""]));
+  // Each run is made twice, and has no trace if it went another way then.
+  assert.deepEqual(outcomes.map(({ detail, noTrace }) => [detail, noTrace]), Array(3).fill(["", undefined]));
 });
 
 test("a script's declarations become variables, in the same lines", () => {

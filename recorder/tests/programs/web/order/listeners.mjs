@@ -5,7 +5,11 @@ const note = (name) => (event) => {
   lines.push(`${name} ${event.data}`);
   queueMicrotask(() => lines.push(`microtask of ${name}`));
 };
-port1.addEventListener("message", note("first"));
+const first = note("first");
+for (const how of [undefined, false, { once: true }]) port1.addEventListener("message", first, how);
+const removed = note("removed");
+port1.addEventListener("message", removed);
+port1.removeEventListener("message", removed);
 port1.onmessage = note("replaced");
 port1.addEventListener("message", note("third"));
 port1.onmessage = note("handler");
