@@ -8,6 +8,7 @@ import { dirname, join } from "node:path";
 import { after, before, describe, it, test } from "node:test";
 import { GRAPH_FLAGS } from "../lib/program/graph-flags.mjs";
 import { record } from "../recorder.mjs";
+import { assertProgram } from "../testing.mjs";
 import { Browser, withBrowser } from "./helpers/browser.mjs";
 import { RECORD } from "./helpers/common.mjs";
 import { TableRuns } from "./helpers/program-findings.mjs";
@@ -303,6 +304,7 @@ test("the option goes with programs alone, and the library takes it", async (con
   const program = programOf(context, { "main.mjs": "if (self !== window) throw new Error();" });
   assert.equal((await record({ program, web: true })).ending, "finished");
   assert.equal((await record({ program })).ending, "failed");
+  await assertProgram({ program, web: true, seeds: 2 });
   const { status, stderr } = spawnSync(process.execPath, [RECORD, program, "--web"], { encoding: "utf8" });
   assert.deepEqual([status, stderr], [2, "record: --web needs --program: agents aren't run as in a browser\n"]);
 });

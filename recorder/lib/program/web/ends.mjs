@@ -77,13 +77,14 @@ export class WebEnds extends Ends {
    * An error comes to this thread's global object.
    * @param {Problem} problem
    * @param {unknown} error as the listeners get it
+   * @param {boolean} [isTask] whether a task brings it, and no code of the program runs
    */
-  raise(problem, error) {
+  raise(problem, error, isTask = false) {
     const { ports } = this.leaving;
     const targets = /** @type {import("./targets.mjs").Targets} */ (this.targets);
     const isListenedTo = problem.isListenedTo || targets.isListenedTo(globalThis, "error");
     const event = new ErrorEvent("error", { ...problem, error, cancelable: true });
-    if (!targets.dispatch(globalThis, event)) return;
+    if (!targets.dispatch(globalThis, event, isTask)) return;
     if (this.parentPort !== undefined) {
       ports.send(this.parentPort, { ...problem, isListenedTo }, [], undefined, KIND.ERROR);
     } else if (!isListenedTo) this.fail(problem.text);

@@ -9,7 +9,6 @@ import { KIND } from "../ports.mjs";
 import { Targets, methodsOf, putHandler } from "./targets.mjs";
 
 const EngineMessageEvent = MessageEvent;
-const EngineEvent = Event;
 
 /** What node's ports have, and those of browsers don't. Some of it node itself calls when it makes a port. */
 const OF_NODE = Object.freeze([
@@ -58,9 +57,9 @@ export class WebPortEvents extends PortEvents {
     if (meta.taker !== undefined) meta.taker(envelope);
     else if (envelope.kind !== KIND.CLOSE) targets.dispatch(port, messageOf(envelope));
     else if (!meta.closed) {
+      // Browsers have no event for it yet, though the standard has one.
       meta.closed = true;
       ports.world.table.close(meta.id);
-      targets.dispatch(port, new EngineEvent("close"));
     }
   }
 }
@@ -96,5 +95,6 @@ export function serveWebPorts({ ports, targets }) {
   };
   serveMethods(ports, methods);
   putHandler(prototype, "message", targets, start);
-  for (const type of ["messageerror", "close"]) putHandler(prototype, type, targets);
+  putHandler(prototype, "messageerror", targets);
+  deleteProperty(prototype, "onclose");
 }

@@ -109,7 +109,7 @@ class Worker extends EngineTarget {
       return;
     }
     const event = new ErrorEvent("error", { ...problem, cancelable: true });
-    if (targets.dispatch(this, event)) ends.raise({ ...problem, isListenedTo }, null);
+    if (targets.dispatch(this, event)) ends.raise({ ...problem, isListenedTo }, null, true);
   }
 }
 put(Worker.prototype, Symbol.toStringTag, "Worker");

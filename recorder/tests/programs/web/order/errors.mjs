@@ -40,6 +40,9 @@ worker.onerror = (event) => {
   setTimeout(() => worker.postMessage("more"));
 };
 await ended;
+queueMicrotask(() => lines.push("behind what is reported"));
 reportError(new Error("reported"));
+lines.push("reported");
+await null;
 lines.push("end");
 console.log(lines.join("\n"));
