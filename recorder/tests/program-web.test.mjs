@@ -3,14 +3,21 @@
 
 import assert from "node:assert/strict";
 import { spawnSync } from "node:child_process";
-import { readFileSync, readdirSync } from "node:fs";
+import { mkdirSync, mkdtempSync, readFileSync, readdirSync, rmSync, writeFileSync } from "node:fs";
+import { tmpdir } from "node:os";
 import { dirname, join } from "node:path";
 import { after, before, describe, it, test } from "node:test";
+import { pathToFileURL } from "node:url";
+import { checkedBy } from "../lib/check/check.mjs";
+import { defaultsOf } from "../lib/options/table.mjs";
 import { GRAPH_FLAGS } from "../lib/program/graph-flags.mjs";
+import { ProgramGroup } from "../lib/program/group.mjs";
+import { simulatorAt } from "../lib/simulator/chosen.mjs";
 import { record } from "../recorder.mjs";
 import { assertProgram } from "../testing.mjs";
 import { Browser, withBrowser } from "./helpers/browser.mjs";
 import { RECORD } from "./helpers/common.mjs";
+import { CHECKER } from "./helpers/needs.mjs";
 import { TableRuns } from "./helpers/program-findings.mjs";
 import { linesInBrowser } from "./helpers/web-page.mjs";
 import { programOf, runsOf } from "./helpers/whole-programs.mjs";
@@ -25,13 +32,40 @@ const MANY_SEEDS = 2_000;
 /** @param {string} name of a program @returns {string[]} the lines that Chromium has printed */
 const linesOf = (name) => readFileSync(new URL(name.replace(/mjs$/, "lines"), FOLDER), "utf8").split("\n").slice(0, -1);
 
+/** Little programs are written to this folder, one after the other, and run in the same threads. */
+const room = mkdtempSync(join(tmpdir(), "recorder-"));
+/** @type {ProgramGroup} */
+let group;
+before(async () => {
+  const module = pathToFileURL(join(room, "main.mjs")).href;
+  const options = { ...defaultsOf("record"), isProgram: true, web: true, seconds: 20, args: [], module };
+  group = /** @type {ProgramGroup} */ (await ProgramGroup.open(options));
+});
+after(async () => {
+  await group.close();
+  rmSync(room, { recursive: true, force: true });
+});
+
 /**
  * The runs of a program.
- * @param {import("node:test").TestContext} context
- * @param {Record<string, string>} files
- * @param {number[]} [seeds]
+ * @param {Record<string, string>} files by their names; the main one is `main.mjs` or `main.js`
+ * @param {number} [seeds] how many
+ * @param {boolean} [needsTrace] whether each run has its trace, for which it is made twice
+ * @returns {Promise<(import("../lib/run/outcome.mjs").Outcome & import("../lib/check/check.mjs").Check)[]>}
  */
-const webRuns = (context, files, seeds = [1]) => runsOf(context, files, { seeds, options: { web: true } });
+async function webRuns(files, seeds = 1, needsTrace = false) {
+  for (const [name, text] of Object.entries(files)) {
+    mkdirSync(dirname(join(room, name)), { recursive: true });
+    writeFileSync(join(room, name), text);
+  }
+  group.enter(pathToFileURL(join(room, "main.js" in files ? "main.js" : "main.mjs")).href);
+  const outcomes = [];
+  const wanted = Array.from({ length: seeds }, (_, at) => ({ seed: at + 1, whole: true, needsTrace, isSilent: true }));
+  await group.run(wanted, (outcome, judgement, aside) => {
+    outcomes.push(checkedBy(simulatorAt(CHECKER), { outcome, judgement, aside }));
+  });
+  return outcomes;
+}
 
 /** A worker by a URL with its code, which knows no other URL. @param {string} code @returns {string} */
 const workerOf = (code) => `new Worker("data:text/javascript,${encodeURIComponent(code)}", { type: "module" })`;
@@ -95,8 +129,8 @@ test(`a right program passes under ${MANY_SEEDS} seeds`, async () => {
 });
 
 describe("how a run ends", () => {
-  it("finished, if nothing can move and the page's module is evaluated, though workers listen", async (context) => {
-    const [{ ending, detail, checked }] = await webRuns(context, {
+  it("finished, if nothing can move and the page's module is evaluated, though workers listen", async () => {
+    const [{ ending, detail, checked }] = await webRuns({
       "main.mjs": `const worker = ${workerOf("onmessage = () => {};")};
         worker.postMessage(1);
         worker.onmessage = () => {};`,
@@ -104,8 +138,8 @@ describe("how a run ends", () => {
     assert.deepEqual([ending, detail, checked], ["finished", "", true]);
   });
 
-  it("stuck, if the page's module awaits something for ever", async (context) => {
-    const [{ ending, detail }] = await webRuns(context, {
+  it("stuck, if the page's module awaits something for ever", async () => {
+    const [{ ending, detail }] = await webRuns({
       "main.mjs": "const worker = new Worker(`w.mjs`);\nawait new Promise(() => {});",
       "w.mjs": "onmessage = () => {};",
     });
@@ -117,8 +151,8 @@ describe("how a run ends", () => {
     ]);
   });
 
-  it("deadlock, if a worker sleeps for ever, with its name and line", async (context) => {
-    const [{ ending, detail }] = await webRuns(context, {
+  it("deadlock, if a worker sleeps for ever, with its name and line", async () => {
+    const [{ ending, detail }] = await webRuns({
       "main.mjs": "const worker = new Worker(`w.js`);\nworker.postMessage(new Int32Array(new SharedArrayBuffer(4)));",
       "w.js": "onmessage = ({ data }) => {\n  Atomics.wait(data, 0, 0);\n};",
     });
@@ -128,13 +162,13 @@ describe("how a run ends", () => {
     assert.match(detail, /^agent 0 has nothing to do, and is kept alive by the page$/m);
   });
 
-  it("finished, if the page closes, whatever workers do", async (context) => {
-    const [{ ending, detail }] = await webRuns(context, {
+  it("finished, if the page closes, whatever workers do", async () => {
+    const [{ ending, detail }] = await webRuns({
       "main.mjs": `const worker = new Worker("w.js");
         worker.postMessage(new Int32Array(new SharedArrayBuffer(4)));
         worker.onmessage = () => { close(); setTimeout(() => { throw new Error("behind the end"); }); };`,
       "w.js": "onmessage = ({ data }) => {\n  postMessage(1);\n  Atomics.wait(data, 0, 0);\n};",
-    }, [1, 2, 3]);
+    }, 3);
     assert.deepEqual([ending, detail], ["finished", ""]);
   });
 });
@@ -156,14 +190,14 @@ describe("what nobody listens to fails the run", () => {
       /^agent 1 \(none\.js, started at main\.mjs:1:1\) can't load its script: NetworkError/],
   ];
   for (const [what, files, says] of failing) {
-    it(what, async (context) => {
-      const [{ ending, detail, fails }] = await webRuns(context, files);
+    it(what, async () => {
+      const [{ ending, detail, fails }] = await webRuns(files);
       assert.deepEqual([ending, fails], ["failed", true]);
       assert.match(detail, says);
     });
   }
 
-  it("and what somebody listens to, anywhere on the way, doesn't", async (context) => {
+  it("and what somebody listens to, anywhere on the way, doesn't", async () => {
     const throws = "throw new Error(`no`);";
     const listened = [
       `onerror = () => {}; ${throws}`, `onunhandledrejection = () => {}; Promise.reject(1);`,
@@ -171,7 +205,7 @@ describe("what nobody listens to fails the run", () => {
       `new Worker("none.js").onerror = () => {};`,
     ];
     for (const main of listened) {
-      const [{ ending, detail }] = await webRuns(context, {
+      const [{ ending, detail }] = await webRuns({
         "main.mjs": main, "w.js": throws, "listens.js": `onerror = () => {}; ${throws}`,
       });
       assert.deepEqual([ending, detail], ["finished", ""], main);
@@ -194,40 +228,41 @@ describe("tasks of different sources come in either order", () => {
       port2.postMessage(1);`],
   ];
   for (const [what, main] of programs) {
-    it(what, async (context) => {
-      const outcomes = await webRuns(context, { "main.mjs": main }, Array.from({ length: 20 }, (_, at) => at + 1));
+    it(what, async () => {
+      const outcomes = await webRuns({ "main.mjs": main }, 12);
       const failed = outcomes.filter(({ ending }) => ending === "failed");
-      assert.ok(failed.length > 0 && failed.length < outcomes.length, `${failed.length} of ${outcomes.length} have failed`);
+      assert.ok(failed.length > 0, "no run has failed");
+      assert.ok(failed.length < outcomes.length, "each run has failed");
       for (const { detail } of failed) assert.match(detail, /Error: (?:the timer is first|in time)/);
     });
   }
 });
 
 describe("what browsers don't have", () => {
-  it("ends the run if it is imported, with the line", async (context) => {
+  it("ends the run if it is imported, with the line", async () => {
     const files = { "parts/reads.mjs": "// reads\nimport { readFileSync } from `fs`;".replaceAll("`", '"') };
-    const [still] = await webRuns(context, { ...files, "main.mjs": 'import "./parts/reads.mjs";' });
+    const [still] = await webRuns({ ...files, "main.mjs": 'import "./parts/reads.mjs";' });
     assert.deepEqual([still.ending, still.detail],
       ["failed", "agent 0 used node:fs with --web, which isn't simulated, at parts/reads.mjs:2:1"]);
-    const [later] = await webRuns(context, { "main.mjs": "try {\n  await import(`node:fs`);\n} catch {}" });
+    const [later] = await webRuns({ "main.mjs": "try {\n  await import(`node:fs`);\n} catch {}" });
     assert.deepEqual([later.ending, later.detail],
       ["failed", "agent 0 used node:fs with --web, which isn't simulated, at main.mjs:2:3"]);
   });
 
-  it("isn't there, as in a browser", async (context) => {
-    const [{ ending, detail }] = await webRuns(context, { "main.mjs": "\nprocess.exit(0);" });
+  it("isn't there, as in a browser", async () => {
+    const [{ ending, detail }] = await webRuns({ "main.mjs": "\nprocess.exit(0);" });
     assert.equal(ending, "failed");
     assert.match(detail, /^agent 0 threw ReferenceError: process is not defined\n +at main\.mjs:2:1$/m);
   });
 
-  it("is named with its line if it isn't simulated", async (context) => {
+  it("is named with its line if it isn't simulated", async () => {
     const outcomes = [
       ["\nfetch(`data.json`);", "agent 0 called fetch, which isn't simulated, at main.mjs:2:1"],
       ["new Worker(`https://example.org/w.js`);",
         "agent 0 started a Worker of https://example.org/w.js, which isn't simulated, at main.mjs:1:1"],
     ];
     for (const [main, says] of outcomes) {
-      const [{ ending, detail }] = await webRuns(context, { "main.mjs": main });
+      const [{ ending, detail }] = await webRuns({ "main.mjs": main });
       assert.deepEqual([ending, detail], ["failed", says]);
     }
   });
@@ -241,8 +276,8 @@ describe("what browsers don't have", () => {
   });
 });
 
-test("a bare name leads to a package, and each file is a module whatever its name says", async (context) => {
-  const [{ ending, detail }] = await webRuns(context, {
+test("a bare name leads to a package, and each file is a module whatever its name says", async () => {
+  const [{ ending, detail }] = await webRuns({
     "main.mjs": `import { word } from "small"; import { other } from "./other.cjs";
       if (word + other !== "ab" || import.meta.dirname !== undefined) throw new Error(word + other);`,
     "other.cjs": "export const other = `b`;",
@@ -252,21 +287,21 @@ test("a bare name leads to a package, and each file is a module whatever its nam
   assert.deepEqual([ending, detail], ["finished", ""]);
 });
 
-test("what a page's script that isn't a module declares, each run declares anew", async (context) => {
-  const outcomes = await webRuns(context, {
+test("what a page's script that isn't a module declares, each run declares anew", async () => {
+  const outcomes = await webRuns({
     "main.js": `var started = typeof started === "undefined" ? 1 : started + 1;
       const { port1, port2 } = new MessageChannel(); class Box {} function helps() { return "helped"; } let left = 2;
       if (started !== 1 || self.helps() !== "helped" || typeof Box !== "function") throw new Error("is declared");
       if (typeof process !== "undefined") throw new Error("the process is there");`,
-  }, [1, 2, 3]);
+  }, 3, true);
   // Each run is made twice, and has no trace if it went another way then.
   assert.deepEqual(outcomes.map(({ detail, noTrace }) => [detail, noTrace]), Array(3).fill(["", undefined]));
 });
 
 test("a script's declarations become variables, in the same lines", () => {
   const script = [
-    "let a = 1, { b, c: [d = 2, ...e], ...f } = g;", "const h = () => { let own; var too; };", "class I {}", "(0, a)();",
-    "for (let i of []) { var j; let k; function l() {} }", "if (a) var m;", "function n() { var o; }",
+    "let a = 1, { b, c: [d = 2, ...e], ...f } = g;", "const h = () => { let own; var too; };", "class I {}",
+    "(0, a)();", "for (let i of []) { var j; let k; function l() {} }", "if (a) var m;", "function n() { var o; }",
     "label: { const p = 1; }",
   ].join("\n");
   const [{ text, names }, broken] = asVariables([script, "let = = 5;"]);
@@ -290,7 +325,8 @@ test("a kept run knows that it is one for browsers, and is made again", (context
   });
   const out = join(dirname(main), "found");
   const run = (...words) => spawnSync(process.execPath, [RECORD, ...words], { encoding: "utf8" });
-  const { status, stdout } = run("--program", main, "--web", "--seeds", "1..50", "--out", out);
+  const words = ["--seeds", "1..50", "--fail-fast", "--no-shorten", "--out", out];
+  const { status, stdout } = run("--program", main, "--web", ...words);
   assert.equal(status, 1, stdout);
   const [, seed] = /^first failing seed: (\d+), deadlock$/m.exec(stdout) ?? [];
   const kept = join(out, `seed-${seed}.program.json`);
