@@ -17,9 +17,9 @@ outer.onerror = (event) => {
   say(`${event.message} ${event.lineno}`);
 };
 await until(1);
-channel.postMessage("throw");
+outer.postMessage("throw");
 await until(2);
-channel.postMessage("who");
+outer.postMessage("who");
 await until(3);
 outer.postMessage("close");
 await new Promise((done) => { setTimeout(done, 500); });

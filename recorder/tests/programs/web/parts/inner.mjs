@@ -1,6 +1,8 @@
 const channel = new BroadcastChannel("alive");
-channel.onmessage = ({ data }) => {
+const answer = () => channel.postMessage(name);
+channel.onmessage = answer;
+onmessage = ({ data }) => {
   if (data === "throw") throw new Error("inner");
-  channel.postMessage(name);
+  answer();
 };
 postMessage(`started ${name}`);
