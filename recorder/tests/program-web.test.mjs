@@ -276,6 +276,21 @@ describe("what browsers don't have", () => {
   });
 });
 
+test("what is node's own, and browsers have too, still finds what it needs", async () => {
+  const [{ detail }] = await webRuns({
+    "main.mjs": `const { port1 } = new MessageChannel();
+      const [text, { a }, buffer] = await Promise.all([
+        new Response("text").text(), new Response('{"a":5}').json(), new Response("ab").arrayBuffer(),
+      ]);
+      const all = new Uint8Array([...new TextEncoder().encode(text), a, buffer.byteLength]);
+      const stream = new ReadableStream({ start(to) { to.enqueue(all); to.close(); } });
+      const { value } = await stream.getReader().read();
+      if (value.join() !== "116,101,120,116,5,2" || typeof global !== "undefined") throw new Error(value);
+      if (atob(btoa("x")) !== "x" || new URL("a", "file:///b/c").href !== "file:///b/a") throw new Error();`,
+  });
+  assert.equal(detail, "");
+});
+
 test("a bare name leads to a package, and each file is a module whatever its name says", async () => {
   const [{ ending, detail }] = await webRuns({
     "main.mjs": `import { word } from "small"; import { other } from "./other.cjs";

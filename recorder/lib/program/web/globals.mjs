@@ -1,15 +1,16 @@
 // The global object of a thread of a browser: what node has besides is taken away, and what browsers have is put there.
 
 import { apply, deleteProperty, likeEngine, put, setPrototypeOf } from "../../primordials.mjs";
+import { hide } from "./hidden.mjs";
 import { ErrorEvent, PromiseRejectionEvent, putHandler, putMethods } from "./targets.mjs";
 
 const EngineTarget = EventTarget;
 const { TypeError: EngineTypeError, URL: EngineURL } = globalThis;
 
-const OF_NODE = Object.freeze([
-  "Buffer", "__dirname", "__filename", "clearImmediate", "exports", "global", "module", "process", "require",
-  "setImmediate",
-]);
+const OF_NODE = Object.freeze(["__dirname", "__filename", "exports", "module", "process", "require"]);
+
+/** What node's own Response and the like ask for. */
+const FOR_NODE = Object.freeze(["Buffer", "clearImmediate", "global", "setImmediate"]);
 
 /** How many processors the program finds, whatever machine it is on. */
 const PROCESSORS = 4;
@@ -78,6 +79,7 @@ let type = "module";
 export function furnishGlobals(parts, targets, run) {
   const { timers, ends, moves: { agent } } = parts;
   for (const name of OF_NODE) deleteProperty(scope, name);
+  for (const name of FOR_NODE) hide(scope, name);
   putTimers(timers.functions);
   putMethods(scope, targets);
   for (const name of ["error", "unhandledrejection"]) putHandler(scope, name, targets);

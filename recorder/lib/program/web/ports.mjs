@@ -2,10 +2,10 @@
 // listeners, but by `start` or by what is assigned to `onmessage`.
 
 import threads from "node:worker_threads";
-import { isCalledByAgents } from "../../agent/frames.mjs";
-import { defineProperty, deleteProperty, getPrototypeOf } from "../../primordials.mjs";
+import { deleteProperty, getPrototypeOf } from "../../primordials.mjs";
 import { PortEvents, serveMethods } from "../port-events.mjs";
 import { KIND } from "../ports.mjs";
+import { hide } from "./hidden.mjs";
 import { Targets, methodsOf, putHandler } from "./targets.mjs";
 
 const EngineMessageEvent = MessageEvent;
@@ -62,13 +62,6 @@ export class WebPortEvents extends PortEvents {
       ports.world.table.close(meta.id);
     }
   }
-}
-
-/** @param {any} owner @param {string} name of a member that only node finds */
-function hide(owner, name) {
-  const own = owner[name];
-  const get = () => (isCalledByAgents(get) ? undefined : own);
-  defineProperty(owner, name, { get, configurable: true });
 }
 
 /**
