@@ -89,5 +89,4 @@ export function serveWebPorts({ ports, targets }) {
   serveMethods(ports, methods);
   putHandler(prototype, "message", targets, start);
   putHandler(prototype, "messageerror", targets);
-  deleteProperty(prototype, "onclose");
 }

@@ -40,9 +40,13 @@ worker.onerror = (event) => {
   setTimeout(() => worker.postMessage("more"));
 };
 await ended;
-queueMicrotask(() => lines.push("behind what is reported"));
-reportError(new Error("reported"));
-lines.push("reported");
-await null;
+await new Promise((done) => {
+  setTimeout(() => {
+    queueMicrotask(() => lines.push("behind what is reported"));
+    reportError(new Error("reported"));
+    lines.push("reported");
+    done();
+  });
+});
 lines.push("end");
 console.log(lines.join("\n"));
