@@ -118,6 +118,8 @@ export interface OfProgram {
   module?: undefined;
   /** Whether a run that is stuck fails; else "fail". It is stuck if nothing can move and something keeps it alive. */
   stuck?: "fail" | "allow";
+  /** Whether the program is one for browsers: its main module stands for a page; else it is one of node. */
+  web?: boolean;
   /** Of which runs it is shown, on standard error, what the program prints; else of the first one. */
   programOutput?: "all" | "none";
 }

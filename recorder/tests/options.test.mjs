@@ -30,7 +30,7 @@ test("the reference's tables have each option of the command line, of record and
   assert.deepEqual(namesBelow("`record` makes one run, in this process.").sort(), namesOf("record").sort());
   const [record, explore] = ["record", "explore"].map(namesOf);
   const more = explore.filter((name) => !record.includes(name));
-  assert.deepEqual(namesBelow("`explore` takes the same options").sort(), more.sort());
+  assert.deepEqual(namesBelow("`explore` takes these, and `record`'s").sort(), more.sort());
 });
 
 test("the library's types have each option of record and of explore", () => {

@@ -32,11 +32,12 @@ function demandRight({ isEndless }, outcomes) {
 /**
  * The tests of some programs, in threads of their own.
  * @param {Program[]} all
+ * @param {Parameters<typeof TableRuns.open>[0]} [how]
  */
-function testEach(all) {
+function testEach(all, how = {}) {
   /** @type {TableRuns} */
   let runs;
-  before(async () => { runs = await TableRuns.open(); });
+  before(async () => { runs = await TableRuns.open(how); });
   after(() => runs.close());
   const those = (/** @type {(program: Program) => boolean} */ isOne) => all.filter(isOne);
 
@@ -68,17 +69,23 @@ function testEach(all) {
   }
 }
 
+const OF_NODE = PROGRAMS.filter(({ isWeb }) => isWeb !== true);
+
 // One thread of a program goes on at a time. So that this file isn't left alone at the end, parts go on side by side.
 describe("programs with known answers in the recorder", { concurrency: PARTS }, () => {
   for (let part = 0; part < PARTS; part += 1) {
-    describe(`part ${part + 1}`, { concurrency: 1 }, () => testEach(PROGRAMS.filter((_, at) => at % PARTS === part)));
+    describe(`part ${part + 1}`, { concurrency: 1 }, () => testEach(OF_NODE.filter((_, at) => at % PARTS === part)));
   }
+});
+
+describe("programs for browsers with known answers in the recorder", () => {
+  testEach(PROGRAMS.filter(({ isWeb }) => isWeb === true), { web: true });
 });
 
 describe("rare programs, if each thread that can go on is as likely", () => {
   /** @type {TableRuns} */
   let runs;
-  before(async () => { runs = await TableRuns.open("uniform"); });
+  before(async () => { runs = await TableRuns.open({ strategy: "uniform" }); });
   after(() => runs.close());
 
   for (const program of PROGRAMS.filter(({ isRare, notYet }) => isRare && notYet === undefined)) {

@@ -19,7 +19,7 @@ const ANSWERS = new Map(SECTION.trim().split(/^- /m).slice(1).map((text) => {
 test("each question has an answer", () => {
   assert.deepEqual([...ANSWERS.keys()], [
     "Mac and Windows?", "Code for browsers?", "Wasm, Rust or C++ threads?", "VS Code?", "jest or vitest?",
-    "All schedules?", "One interleaving?", "How sure am I?",
+    "All schedules?", "How sure am I?",
   ]);
   for (const [question, answer] of ANSWERS) assert.ok(answer.length > 40, question);
 });
@@ -36,8 +36,8 @@ test("the configuration for VS Code replays a kept run", () => {
 
 test("the likelihoods are those of the formula", () => {
   const answer = ANSWERS.get("How sure am I?").replace(/\s+/g, " ");
-  const [, shown] = /one that (\d+) of 1,000 runs show is missed by/.exec(answer);
-  const [, ...rest] = /by (\d+) seeds with likelihood ([\d.]+), and by ([\d,]+) seeds with ([\d.]+)\./.exec(answer);
+  const [, shown] = /With N = (\d+), /.exec(answer);
+  const [, ...rest] = /, (\d+) seeds miss it with likelihood ([\d.]+), and ([\d,]+) seeds with ([\d.]+)\./.exec(answer);
   const [few, likely, many, unlikely] = rest.map((number) => Number(number.replace(",", "")));
   const missed = (seeds) => (1 - Number(shown) / 1_000) ** seeds;
   assert.equal(missed(few).toFixed(2), likely.toFixed(2));
@@ -49,7 +49,7 @@ test("the sections that the answers lead to are there", () => {
   const anchorOf = (text) => text.toLowerCase().replace(/[^a-z ]/g, "").replaceAll(" ", "-");
   const headingsOf = (text) => [...text.matchAll(/^#+ (.*)$/gm)].map(([, heading]) => anchorOf(heading));
   const links = [...SECTION.matchAll(/\]\(([^)#]*)#([^)]+)\)/g)];
-  assert.ok(links.length > 1);
+  assert.ok(links.length > 0);
   for (const [, file, link] of links) {
     const text = file === "" ? README : readFileSync(new URL(file, new URL("recorder/", TOP)), "utf8");
     assert.ok(headingsOf(text).includes(link), link);

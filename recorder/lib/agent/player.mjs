@@ -233,8 +233,8 @@ export class Player {
    * @param {Function} called
    */
   #wait(call, view, source, called) {
-    const { board } = this.table;
-    const word = this.compared(call, view, source);
+    const { board, canBlock } = this.table;
+    const word = this.compared(call, view, source, canBlock);
     if (call.limit !== undefined) board.spins.watch();
     if (word === "not-equal") return this.ends(call, word, source);
     this.joins(call, source);
@@ -259,15 +259,16 @@ export class Player {
    * @param {Call} call
    * @param {object} view
    * @param {number} source
+   * @param {boolean} [isAllowed] whether the agent may wait; else that is what is wrong with the call
    * @returns {"not-equal" | "timed-out"}
    */
-  compared(call, view, source) {
-    const { canBlock, stores } = this.table;
+  compared(call, view, source, isAllowed = true) {
+    const { stores } = this.table;
     return this.#tried(call, source, () => {
       const from = byteOf(call);
       if (isWithin(call)) stores.touch(call.block, from, from + SIZES[call.kind]);
       const found = engineCall(call, view);
-      if (!canBlock) throw new EngineTypeError("Atomics.wait cannot be called in this context");
+      if (!isAllowed) throw new EngineTypeError("Atomics.wait cannot be called in this context");
       return found;
     });
   }

@@ -84,6 +84,7 @@ export class Board {
     this.waiters?.begin();
     this.words[WORD.JOINED] = this.strategy.starts;
     this.words[WORD.MESSAGES] = 0;
+    this.words[WORD.MAY_REST] = 0;
     this.journal.begin();
     this.clock.begin(seed);
     this.deadlines.begin();
@@ -199,8 +200,9 @@ export class Board {
 
   /** @returns {import("./end.mjs").Ended} how a run ends in which nobody can move */
   #standstill() {
-    const { line } = this;
+    const { line, words } = this;
     if (this.#anyAgent((each) => line.waits(each) && !line.isIdle(each))) return "deadlock";
+    if (words[WORD.MAY_REST] === 1) return "finished";
     return this.#anyAgent((each) => line.isIdle(each)) ? "stuck" : "finished";
   }
 

@@ -51,6 +51,7 @@ import { moduleUrlOf } from "./module-url.mjs";
  * @property {string | URL} program its main module: a URL, or a path, from the folder of the file that calls `record`
  * @property {undefined} [module]
  * @property {"fail" | "allow"} [stuck] whether a run that is stuck fails; else "fail"
+ * @property {boolean} [web] whether the program is one for browsers; else it is one of node
  * @property {"all" | "none"} [programOutput] of which runs it is shown what the program prints; else of the first one
  */
 

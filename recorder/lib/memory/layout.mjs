@@ -39,6 +39,8 @@ export const WORD = Object.freeze({
   CHANGES: 32,
   SLOW: 33,
   SLOW_FOR: 34,
+  /** Of a program for browsers: whether the run is well if nothing can move any more. */
+  MAY_REST: 35,
 });
 
 /** Words of each agent; each agent has a line of the processor's cache for itself. */

@@ -84,6 +84,9 @@ export const OPTIONS = Object.freeze({
   stuck: { kind: choice(["fail", "allow"]), of: ALL, isShared: true, isReplayed: true,
     help: ["HOW", "fail: a run of a program that is stuck fails; allow: it is only reported, as for a program that people "
     + "end by Ctrl-C (fail)"] },
+  web: { kind: FLAG, of: ALL, ifNone: false, isShared: true, isReplayed: true,
+    help: ["", "the program is one for browsers: its main module stands for a page, and each Worker runs a script or a "
+    + "module by its URL"] },
   programOutput: { kind: choice(["all", "none"]), of: ALL,
     help: ["HOW", "what a program prints is shown of all runs or of none (of the first seed's run and the kept one)"] },
   clock: word(["run", "real"],

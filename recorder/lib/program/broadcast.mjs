@@ -12,6 +12,9 @@ const EngineEvent = MessageEvent;
 const { imul } = Math;
 const codeAt = uncurried(String.prototype.charCodeAt);
 
+/** The name of the method that gives a message to the listeners of a channel. */
+export const DELIVER = Symbol("deliver");
+
 /** @param {string} name @returns {number} the same for each channel of a name, and not 0 */
 function numberOf(name) {
   let number = 0x811c9dc5;
@@ -90,7 +93,7 @@ class BroadcastChannel extends EngineTarget {
     meta.queue = [];
     meta.refed = true;
     meta.where = this.#where;
-    meta.taker = ({ value }) => this.#take(value);
+    meta.taker = ({ value }) => this[DELIVER](value);
     table.setName(this.#id, numberOf(this.name));
     table.start(this.#id);
   }
@@ -133,8 +136,8 @@ class BroadcastChannel extends EngineTarget {
     return this;
   }
 
-  /** @param {unknown} value */
-  #take(value) {
+  /** @param {unknown} value that a message brings */
+  [DELIVER](value) {
     try {
       this.#handlers.message?.call(this, eventOf(this, value));
     } catch (thrown) {

@@ -4,6 +4,7 @@
 import fs from "node:fs";
 import Module from "node:module";
 import path from "node:path";
+import process from "node:process";
 import vm from "node:vm";
 import { pathToFileURL } from "node:url";
 import { isModuleSyntax } from "./module-urls.mjs";

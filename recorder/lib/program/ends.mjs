@@ -72,6 +72,21 @@ export class Ends {
     if (!isListenedTo) this.#fail(thrown, origin);
   }
 
+  /** The program's module of this thread is evaluated, or has thrown. */
+  evaluated() {
+    this.isEvaluated = true;
+  }
+
+  /** @returns {boolean} whether the thread takes up nothing more */
+  isDone() {
+    return this.isOver;
+  }
+
+  /** @returns {string[]} what keeps the thread alive besides its ports, timers, workers and tasks, in words */
+  keepers() {
+    return [];
+  }
+
   /** Nothing is left to be done: the program may find something. */
   beforeExit() {
     emit("beforeExit", Number(own.exitCode ?? 0));

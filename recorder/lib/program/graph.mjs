@@ -118,13 +118,40 @@ export class Graph {
   }
 
   /**
+   * Which module a specifier stands for.
+   * @param {string} specifier
+   * @param {string} parent URL of the module that imports it
+   * @returns {string} its URL
+   */
+  resolved(specifier, parent) {
+    return resolved(specifier, parent);
+  }
+
+  /** @param {string} url of a module that is there @returns {import("./module-urls.mjs").Format} */
+  formatOf(url) {
+    return formatOf(url);
+  }
+
+  /** @param {any} meta that a module gets @param {string} url of the module */
+  describe(meta, url) {
+    if (url.startsWith("file:")) {
+      const filename = fileURLToPath(url);
+      meta.dirname = path.dirname(filename);
+      meta.filename = filename;
+    }
+    meta.resolve = (/** @type {string} */ specifier) => urlOf(specifier, url);
+    meta.url = url;
+  }
+
+  /**
    * Runs the module that a thread begins with.
    * @param {string} url of a file, or `data:`
+   * @param {() => void} [begun] called when it has begun: it may await something at its top level
    * @returns {Promise<void>} settled once it is evaluated
    */
-  async enter(url) {
-    if (url.startsWith("file:") && formatOf(url) === "commonjs") this.#commonJS.main(fileURLToPath(url));
-    else await this.#evaluated(await this.#moduleOf(url, {}));
+  async enter(url, begun = () => {}) {
+    if (url.startsWith("file:") && this.formatOf(url) === "commonjs") this.#commonJS.main(fileURLToPath(url));
+    else await this.#evaluated(await this.#moduleOf(url, {}), begun);
   }
 
   /**
@@ -149,7 +176,7 @@ export class Graph {
 
   /** @param {string} specifier @param {string} parent @param {Record<string, string>} attributes */
   async #dynamic(specifier, parent, attributes) {
-    const module = await this.#moduleOf(resolved(specifier, parent), attributes);
+    const module = await this.#moduleOf(this.resolved(specifier, parent), attributes);
     await this.#evaluated(module);
     return module;
   }
@@ -157,7 +184,7 @@ export class Graph {
   /** @param {string} url @param {Record<string, string>} attributes @returns {Promise<any>} */
   async #moduleOf(url, attributes) {
     const known = this.#modules.get(url);
-    const format = known?.format ?? formatOf(url);
+    const format = known?.format ?? this.formatOf(url);
     if (format === "other" || (format === "json") !== (attributes.type === "json") || !isKnownType(attributes.type)) {
       await failNatively(url, attributes);
     }
@@ -187,7 +214,7 @@ export class Graph {
     const text = textOf(url);
     const options = {
       identifier: url,
-      initializeImportMeta: (/** @type {any} */ meta) => describe(meta, url),
+      initializeImportMeta: (/** @type {any} */ meta) => this.describe(meta, url),
       importModuleDynamically: (/** @type {string} */ specifier, /** @type {any} */ _, /** @type {any} */ attributes) =>
         this.#dynamic(specifier, url, attributes),
     };
@@ -208,13 +235,14 @@ export class Graph {
     return module;
   }
 
-  /** @param {any} module */
-  async #evaluated(module) {
+  /** @param {any} module @param {() => void} [begun] called when it has begun */
+  async #evaluated(module, begun = () => {}) {
     if (module.status === "unlinked" || module.status === "linking") await this.#linked(module);
     if (module.status === "evaluating") await Promise.allSettled(this.#evaluating);
     if (module.status === "errored") throw module.error;
     const evaluation = module.evaluate();
     this.#evaluating.add(evaluation);
+    begun();
     try {
       await evaluation;
     } catch (error) {
@@ -232,7 +260,7 @@ export class Graph {
       await before.catch(() => {});
       if (module.status !== "unlinked") return;
       await module.link((/** @type {string} */ specifier, /** @type {any} */ parent, /** @type {any} */ extra) =>
-        this.#moduleOf(resolved(specifier, parent.identifier), extra?.attributes ?? {}));
+        this.#moduleOf(this.resolved(specifier, parent.identifier), extra?.attributes ?? {}));
     })();
     this.#linking = linking;
     try {
@@ -261,7 +289,7 @@ export class Graph {
     const lines = /** @type {string} */ (error.stack).split("\n");
     const parent = /^(.*):\d+$/.exec(lines[0])?.[1];
     if (specifier === undefined || parent === undefined) return;
-    if (formatOf(resolved(specifier, parent)) !== "commonjs") return;
+    if (this.formatOf(this.resolved(specifier, parent)) !== "commonjs") return;
     const taken = /{.*}/.exec(lines[1])?.[0].replaceAll(/\s+as\s+/g, ": ");
     error.message = `Named export '${name}' not found. The requested module '${specifier}' is a CommonJS module, which `
       + "may not support all module.exports as named exports.\nCommonJS modules can always be imported via the default "
@@ -282,17 +310,6 @@ const isKnownType = (type) => type === undefined || type === "json";
 async function failNatively(url, attributes) {
   await nodeLoader.load(url, { assert: attributes });
   throw nodeError("ERR_UNKNOWN_MODULE_FORMAT", `sabsim can't load ${url}`);
-}
-
-/** @param {any} meta @param {string} url */
-function describe(meta, url) {
-  if (url.startsWith("file:")) {
-    const filename = fileURLToPath(url);
-    meta.dirname = path.dirname(filename);
-    meta.filename = filename;
-  }
-  meta.resolve = (/** @type {string} */ specifier) => urlOf(specifier, url);
-  meta.url = url;
 }
 
 /** @param {any} error that an ES module threw for a name of CommonJS */

@@ -71,9 +71,9 @@ export class ProgramGroup extends Group {
     const referee = this.thread(REFEREE_MODULE);
     this.referee = referee;
     referee.give(REFEREE_MODULE);
-    const { module, strategy, timeouts, maxMoves } = this.options;
+    const { module, strategy, timeouts, maxMoves, web = false } = this.options;
     this.#origin = module;
-    const plan = programPlan(SCRIPT_LIMITS.agents);
+    const plan = programPlan(SCRIPT_LIMITS.agents, !web);
     const ways = waysOf(strategy, true);
     this.plan = plan;
     this.rules = { agents: plan.agents, starts: 1, soon: SOON_MILLISECONDS, ways, timeouts, maxMoves };
@@ -138,11 +138,11 @@ export class ProgramGroup extends Group {
 
   /** @param {number} count how many threads are to have begun, and have no number yet */
   #prepare(count) {
-    const { ordinary } = this.options;
+    const { ordinary, web = false } = this.options;
     const { memory, plan, rules } = this;
     while (this.#spare.length < count) {
       const thread = this.begin(begunThread(PROGRAM_MODULE, FLAGS));
-      thread.give(PROGRAM_MODULE, { origin: this.#origin, ordinary, memory, plan, rules });
+      thread.give(PROGRAM_MODULE, { origin: this.#origin, ordinary, web, memory, plan, rules });
       this.#spare.push(thread.next().then(() => thread));
     }
   }

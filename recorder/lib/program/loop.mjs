@@ -42,6 +42,7 @@ const HASTY = 0.5;
  * @property {Set<{ refed: boolean, where: string }>} children workers that this thread has started
  * @property {import("../memory/task-notes.mjs").TaskNotes} notes of tasks that are taken up
  * @property {() => string | undefined} here where the program's code is
+ * @property {boolean} hasPhases whether timers that are due come before all else in each turn of the loop, as in node
  */
 
 export class Loop {
@@ -49,7 +50,7 @@ export class Loop {
   #tasks = [];
 
   /** Whether the loop has just turned: then timers come first. */
-  #isTurning = true;
+  #isTurning;
 
   /** Whether what waits in ports is looked at anew: it comes before the immediates. In a module the loop has begun. */
   #looks = false;
@@ -60,6 +61,7 @@ export class Loop {
   /** @param {Served} served */
   constructor(served) {
     this.served = served;
+    this.#isTurning = served.hasPhases;
     // Of its own: so a thread goes on alike where only others are drawn in another order.
     this.random = new Random(new Int32Array(4));
   }
@@ -83,7 +85,7 @@ export class Loop {
   /** Nothing of an earlier run is left. */
   clear() {
     this.#tasks = [];
-    this.#isTurning = true;
+    this.#isTurning = this.served.hasPhases;
     this.#looks = false;
     this.#before = new Map();
   }
@@ -99,8 +101,8 @@ export class Loop {
   #turn = () => {
     const { ends, moves, keepers } = this.served;
     for (;;) {
-      this.#drain();
-      if (ends.isOver) return this.served.goHome();
+      this.drain();
+      if (ends.isDone()) return this.served.goHome();
       const active = resources();
       if (active.some((each) => READING.has(each))) {
         turnLater(this.#turn);
@@ -124,7 +126,7 @@ export class Loop {
   };
 
   /** Runs ticks and microtasks until there are none. */
-  #drain() {
+  drain() {
     for (let again = true; again;) {
       again = false;
       try {
@@ -140,7 +142,7 @@ export class Loop {
   #endsNow() {
     const { ends } = this.served;
     ends.beforeExit();
-    this.#drain();
+    this.drain();
     if (ends.isOver) return true;
     if (this.#hasOwnTask() || this.#keepers().length > 0) return false;
     ends.leave();
@@ -176,11 +178,11 @@ export class Loop {
 
   /** @returns {string[]} what keeps the thread alive, in words */
   #keepers() {
-    const { ports, timers: armed, children } = this.served;
+    const { ports, timers: armed, children, ends } = this.served;
     const texts = armed.alive ? armed.keepers().map(keeperText) : [];
     if (this.#tasks.length > 0) texts.push("a task");
     for (const { refed, where } of children) if (refed) texts.push(`the worker started at ${where}`);
-    return [...texts, ...ports.keepers()];
+    return [...texts, ...ports.keepers(), ...ends.keepers()];
   }
 
   /** Takes up one of the tasks that are there. */
@@ -203,13 +205,13 @@ export class Loop {
    * @returns {(() => void)[]}
    */
   #choices() {
-    const { ports, events, timers: armed, waits } = this.served;
+    const { events, timers: armed, waits } = this.served;
     if (armed.inRound > 0) return [() => this.#runImmediate()];
     this.#offerEarly();
     const isDue = this.#deadline() <= this.#now();
     if (isDue && this.#isTurning) return [() => this.#runDue()];
     this.#isTurning = false;
-    const ready = ports.ready();
+    const ready = events.ready();
     const isFirst = this.#areFirst(ready);
     const acts = ready.map((port) => () => {
       this.#before.set(port, (this.#before.get(port) ?? 0) - 1);

@@ -11,6 +11,7 @@ import { nodeLoader } from "./node-loader.mjs";
 /** @typedef {"module" | "commonjs" | "json" | "builtin" | "other"} Format of a module; node refuses to load another */
 
 const { readFileSync, statSync } = /** @type {any} */ (fs);
+const bytesFrom = Buffer.from;
 
 const NAMES = Object.freeze(["exports", "require", "module", "__filename", "__dirname"]);
 const JAVASCRIPT = /^data:\s*(?:text|application)\/javascript\s*(?:;\s*charset=utf-?8\s*)?(?:;base64)?,/i;
@@ -63,7 +64,7 @@ export function resolved(specifier, parent) {
 export function textOf(url) {
   if (url.startsWith("file:")) return readFileSync(fileURLToPath(url), "utf8");
   const [, base64, body] = /** @type {RegExpExecArray} */ (DATA.exec(url.split("#")[0]));
-  return Buffer.from(decodeURIComponent(body), base64 ? "base64" : "utf8").toString("utf8");
+  return bytesFrom(decodeURIComponent(body), base64 ? "base64" : "utf8").toString("utf8");
 }
 
 /** @param {string} file @returns {string | undefined} the type that the package of a file has */

@@ -16,6 +16,7 @@ const ALWAYS = Object.freeze(["newListener", "removeListener"]);
  * @typedef {object} Serving
  * @property {import("./ports.mjs").Ports} ports
  * @property {(thrown: unknown) => void} uncaught takes what a listener has thrown
+ * @property {() => void} drain runs microtasks until there are none
  */
 
 /** @param {any} port @param {string} type @param {unknown} data */
@@ -30,6 +31,11 @@ export class PortEvents {
   constructor({ ports, uncaught }) {
     this.ports = ports;
     this.uncaught = uncaught;
+  }
+
+  /** @returns {any[]} the ports of this thread of which any may be delivered a message next */
+  ready() {
+    return this.ports.ready();
   }
 
   /** @param {any} port that has a message: its listeners get it */
@@ -212,13 +218,13 @@ function methodsOf(events) {
 }
 
 /**
- * Puts these methods in the place of node's, for ports of the run.
- * @param {PortEvents} events
+ * Puts methods in the place of node's, for ports of the run.
+ * @param {import("./ports.mjs").Ports} ports
+ * @param {Record<string, Function>} methods
  */
-export function servePorts(events) {
-  const { ports } = events;
+export function serveMethods(ports, methods) {
   const { prototype } = threads.MessagePort;
-  for (const [name, method] of Object.entries(methodsOf(events))) {
+  for (const [name, method] of Object.entries(methods)) {
     const engine = /** @type {any} */ (prototype)[name];
     const { [name]: served } = {
       /** @param {any[]} given */
@@ -228,6 +234,11 @@ export function servePorts(events) {
     };
     put(prototype, name, served);
   }
+}
+
+/** @param {PortEvents} events whose methods ports of the run get */
+export function servePorts(events) {
+  serveMethods(events.ports, methodsOf(events));
   for (const type of TYPES) serveHandler(events, type);
 }
 

@@ -18,10 +18,12 @@ const longest = () => [...Array.from({ length: MOST_BLOCKS }, () => MOST_BYTES),
 
 /**
  * @param {number} agents how many threads there can be
+ * @param {boolean} canBlock whether the first one can block
  * @returns {import("../options/plan.mjs").Plan}
  */
-export const programPlan = (agents) =>
-  ({ agents, buffers: longest(), canBlock: Array.from({ length: agents }, () => true), names: [] });
+export const programPlan = (agents, canBlock) => ({
+  agents, buffers: longest(), canBlock: Array.from({ length: agents }, (_, agent) => agent > 0 || canBlock), names: [],
+});
 
 /**
  * @param {import("../options/plan.mjs").Plan} plan

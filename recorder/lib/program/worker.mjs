@@ -26,32 +26,27 @@ import { Stores } from "../memory/stores.mjs";
 import { TaskNotes } from "../memory/task-notes.mjs";
 import { onceMore } from "../processes/garbage.mjs";
 import { SourceNames } from "../run/source-names.mjs";
-import { broadcastClass } from "./broadcast.mjs";
 import { Buffers } from "./buffers.mjs";
-import { Ends } from "./ends.mjs";
 import { furnishGrowing } from "./growing.mjs";
 import {
-  furnishCloning, furnishMemory, furnishProcess, furnishThreads, furnishTimers, keepProcess, restoreProcess,
+  furnishCloning, furnishMemory, furnishProcess, furnishTimers, keepProcess, restoreProcess,
 } from "./furnish.mjs";
-import { Graph } from "./graph.mjs";
 import { Loop } from "./loop.mjs";
 import { listingOf } from "./member.mjs";
 import { Mesh } from "./mesh.mjs";
 import { Moves } from "./moves.mjs";
+import { NODE } from "./node-surroundings.mjs";
 import { beginLoader } from "./node-loader.mjs";
-import { PortEvents, servePorts } from "./port-events.mjs";
 import { PortTable } from "../board/port-table.mjs";
-import { KIND, Ports, channelClass } from "./ports.mjs";
+import { Ports } from "./ports.mjs";
 import { printAtOnce } from "./printing.mjs";
-import { receiverOf } from "./receiving.mjs";
 import { furnishRefusals } from "./refusals.mjs";
-import { argvOf, evaluated } from "./start.mjs";
 import { refuseRest } from "./surface.mjs";
 import { Threads } from "./threads.mjs";
 import { Timers } from "./timers.mjs";
 import { putTwins } from "./twins.mjs";
 import { WaitAsync } from "./wait-async.mjs";
-import { workerClass } from "./workers.mjs";
+import { WEB } from "./web/surroundings.mjs";
 
 const { Error: EngineError } = globalThis;
 
@@ -60,20 +55,20 @@ const { Error: EngineError } = globalThis;
  * @property {import("node:worker_threads").MessagePort} port
  * @property {string} origin the URL of the module from whose folder places in the code are named
  * @property {"watch" | "store" | "refuse"} ordinary
+ * @property {boolean} web whether the program is one for browsers
  * @property {ReturnType<typeof import("./program-memory.mjs").programMemory>} memory
  * @property {import("../options/plan.mjs").Plan} plan
  * @property {import("../board/strategy.mjs").Rules} rules
  */
 
-/** @typedef {{ start: import("./workers.mjs").Start, number: number, ports: any[], ids: number[] }} Handed */
+/** @typedef {{ url: string, isCode?: boolean, where: string }} Start */
+/** @typedef {{ start: Start, number: number, ports: any[], ids: number[] }} Handed */
 
-const { port, origin, memory: shared, plan, rules } = /** @type {Given} */ (threads.workerData);
+const { port, origin, web, memory: shared, plan, rules } = /** @type {Given} */ (threads.workerData);
 const { setImmediate: turnLater } = nodeTimers;
-const firstEnv = { ...process.env };
+const surroundings = web ? WEB : NODE;
 const chance = new Chance();
 const placeNames = new SourceNames(origin);
-
-/** @typedef {import("./workers.mjs").Start} Start */
 
 /**
  * What the thread is; nothing before it knows which one.
@@ -94,9 +89,9 @@ const UNKNOWN_PLACE = "a place that isn't known";
 /** @returns {string} where the program's code is that has called one of the functions that stand for node's */
 const here = () => sourceOfCall() ?? UNKNOWN_PLACE;
 
-/** @param {string} why @returns {never} */
-function refuse(why) {
-  return playing().refuse(`${why}, at ${sourceHere() ?? UNKNOWN_PLACE}`);
+/** @param {string} why @param {string} [place] of the program's code @returns {never} */
+function refuse(why, place = sourceHere() ?? UNKNOWN_PLACE) {
+  return playing().refuse(`${why}, at ${place}`);
 }
 
 /** @param {unknown} buffer */
@@ -135,7 +130,7 @@ const private_ = {
 };
 
 /** @param {Moves} moves @param {WaitAsync} waits @returns {typeof Atomics} */
-const atomicsOf = (moves, waits) => recordedAtomics(Atomics, {
+const atomicsOf = (moves, waits) => recordedAtomics(surroundings.atomics(moves.agent), {
   blockOf,
   isRecording: isPlaying,
   make: (call, view, called) => {
@@ -171,7 +166,7 @@ function playerOf(agent) {
     unseen: NOTHING_LATER,
     chance,
     lengths: plan.buffers,
-    canBlock: true,
+    canBlock: plan.canBlock[agent],
     ordinary: "watch",
     goesBeyond: true,
     parks: true,
@@ -202,8 +197,9 @@ function partsOf(player, blocks, mesh) {
   const late = {};
   const later = (/** @type {string} */ name, /** @type {() => void} */ act) => late.loop?.later(name, act);
   const ports = new Ports({ agent, table, moves, buffers, mesh, here, refuse, later });
-  const ends = new Ends({ agent, player, ports, threads: all, here });
-  const events = new PortEvents({ ports, uncaught: (thrown) => ends.uncaught(thrown) });
+  const ends = new surroundings.Ends({ agent, player, ports, threads: all, here });
+  const drain = () => late.loop?.drain();
+  const events = new surroundings.PortEvents({ ports, uncaught: (thrown) => ends.uncaught(thrown), drain });
   const timers = new Timers({ now: () => board.clock.now(), changed: () => {}, here: sourceOfCall });
   const children = new Set();
   const keepers = new Keepers(shared.keepers[agent]);
@@ -212,10 +208,13 @@ function partsOf(player, blocks, mesh) {
   const waits = new WaitAsync({ moves, buffers, isPlaying, refuse });
   const loop = new Loop({
     moves, ports, events, timers, waits, ends, keepers, children, refuse, goHome: () => after.goHome(),
-    notes: new TaskNotes(shared.tasks), here: sourceHere,
+    notes: new TaskNotes(shared.tasks), here: sourceHere, hasPhases: surroundings.hasPhases,
   });
   late.loop = loop;
-  return { moves, waits, buffers, ports, ends, events, timers, loop, children, threads: all, mesh, later, after, keepers };
+  return {
+    moves, waits, buffers, ports, ends, events, timers, loop, children, threads: all, mesh, later, after, keepers, here,
+    refuse,
+  };
 }
 
 /** @typedef {ReturnType<typeof partsOf>} Parts */
@@ -237,7 +236,7 @@ function furnish({ moves, buffers, waits, ends, events, timers, later }) {
   globalThis.Atomics = atomicsOf(moves, waits);
   waits.furnish(Atomics);
   furnishTimers(timers);
-  servePorts(events);
+  surroundings.serve(events);
   furnishRefusals(refuse);
   furnishProcess((code) => ends.exit(code));
   ends.guard();
@@ -248,7 +247,7 @@ function furnish({ moves, buffers, waits, ends, events, timers, later }) {
 /**
  * What a thread that another one has started was handed.
  * @param {Parts} parts
- * @returns {{ start: import("./workers.mjs").Start, parentPort: any }}
+ * @returns {{ start: Start, parentPort: any }}
  */
 function taken({ mesh, ports, moves }) {
   ports.world.table.begins(moves.agent);
@@ -268,7 +267,7 @@ const fileName = (url) => (url.startsWith("data:") ? "a data: URL" : url.slice(u
 /** @param {number} block @param {string} place where its memory was made */
 const nameBlock = (block, place) => new Keepers(shared.madeAt[block]).setName(place);
 
-/** @param {import("./workers.mjs").Start} start @returns {string} what the thread is, for people */
+/** @param {Start} start @returns {string} what the thread is, for people */
 const threadName = ({ url, isCode }) => (isCode ? "evaluated code" : fileName(url));
 
 /** @returns {string} the thread, before what it prints */
@@ -278,42 +277,22 @@ function printedName() {
   return `${threadName(start)} started at ${placeNames.nameOf(start.where)}`;
 }
 
-/** @param {import("./mesh.mjs").Main} main @returns {import("./workers.mjs").Start} */
-const mainStart = ({ program, args }) =>
-  ({ url: program, isCode: false, workerData: null, argv: args, env: { ...firstEnv }, environment: new Map(), where: "" });
-
 /**
  * Begins the thread's part in a run.
  * @param {Parts} parts
  * @param {import("./graph.mjs").Graph} graph
  */
 function begin(parts, graph) {
-  const { agent } = parts.moves;
-  const { moves, mesh, buffers, ports, threads: all, later, ends, loop } = parts;
-  const { start, parentPort } = agent === 0 ? { start: mainStart(mesh.main), parentPort: null } : taken(parts);
-  const starting = {
-    ports, moves, mesh, buffers, threads: all, here, refuse, later, environment: start.environment,
-    children: parts.children,
-  };
-  furnishThreads({
-    agent, workerData: agent === 0 ? null : ports.unpacked(start.workerData), parentPort, argv: argvOf(start),
-    env: start.env, environment: start.environment,
-  }, {
-    Worker: workerClass(starting), MessageChannel: channelClass(ports),
-    receiveMessageOnPort: receiverOf(ports, moves),
-    BroadcastChannel: broadcastClass({ ports, moves, mesh, buffers, uncaught: (thrown) => ends.uncaught(thrown) }),
-  });
-  graph.begin();
+  const { moves: { agent }, mesh, ends, keepers, loop } = parts;
+  const { start, parentPort } = agent === 0
+    ? { start: surroundings.mainStart(mesh.main), parentPort: null } : taken(parts);
   self.start = start;
-  parts.keepers.setName(start.where === "" ? "" : `${threadName(start)}, started at ${start.where}`);
-  if (agent !== 0) {
-    ends.parentPort = parentPort;
-    ports.send(parentPort, undefined, [], undefined, KIND.ONLINE);
-  }
-  evaluated(start, graph).then(() => {
-    ends.isEvaluated = true;
-  }, (thrown) => {
-    ends.isEvaluated = true;
+  keepers.setName(start.where === "" ? "" : `${threadName(start)}, started at ${start.where}`);
+  if (agent !== 0) ends.parentPort = parentPort;
+  surroundings.begin(parts, start, parentPort);
+  graph.begin();
+  surroundings.evaluated(start, graph, parts).then(() => ends.evaluated(), (thrown) => {
+    ends.evaluated();
     ends.uncaught(thrown);
   });
   loop.begin();
@@ -323,7 +302,8 @@ function begin(parts, graph) {
  * Leaves nothing of a run in the thread, except for what its code has changed in the realm.
  * @param {Parts} parts
  */
-function clear({ buffers, waits, ports, timers, loop, ends, children }) {
+function clear(parts) {
+  const { buffers, waits, ports, timers, loop, ends, children } = parts;
   buffers.clear();
   waits.clear();
   ports.clear();
@@ -331,6 +311,7 @@ function clear({ buffers, waits, ports, timers, loop, ends, children }) {
   loop.clear();
   ends.clear();
   children.clear();
+  surroundings.clear(parts);
   restoreProcess();
 }
 
@@ -363,7 +344,10 @@ function serve(parts, graph) {
 export async function main(load) {
   const numbered = nextMessage();
   await beginLoader(load);
-  const graph = new Graph({ refuse: (/** @type {string} */ what) => refuse(`used ${what}, which isn't simulated`) });
+  const graph = new surroundings.Graph({
+    refuse: (/** @type {string} */ what, /** @type {string} */ place) =>
+      refuse(`used ${what}, which isn't simulated`, place),
+  });
   port.postMessage({ begun: true });
   const { agent, ...given } = await numbered;
   chance.agent = agent;
@@ -379,6 +363,7 @@ export async function main(load) {
     refuse: (/** @type {string} */ name) => refuse(`called ${name}, which isn't simulated`), isPlaying,
     loads: (/** @type {string} */ id) => graph.loads(id),
   });
+  surroundings.furnish(parts, graph);
   parts.after.goHome = () => {
     clear(parts);
     board.turn.goHome(agent);

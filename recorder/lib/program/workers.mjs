@@ -7,28 +7,21 @@ import { isAbsolute, resolve } from "node:path";
 import process from "node:process";
 import threads from "node:worker_threads";
 import { pathToFileURL } from "node:url";
-import { SCRIPT_LIMITS } from "../../script/limits.mjs";
-import { WORD } from "../memory/layout.mjs";
 import { deserializeError } from "./internals.mjs";
-import { toThread } from "./moves.mjs";
 import { KIND } from "./ports.mjs";
+import { startThread } from "./thread-start.mjs";
 import { sent } from "./values.mjs";
 
 const { SHARE_ENV } = /** @type {any} */ (threads);
 
 /**
- * @typedef {object} Starting what workers need of their thread
- * @property {import("./ports.mjs").Ports} ports
- * @property {import("./moves.mjs").Moves} moves
- * @property {import("./mesh.mjs").Mesh} mesh
- * @property {import("./buffers.mjs").Buffers} buffers
- * @property {import("./threads.mjs").Threads} threads
- * @property {() => string} here where the program's code is
- * @property {(why: string) => never} refuse ends the run
+ * @typedef {object} OfNode what else workers of node need of their thread
  * @property {(name: string, act: () => void) => void} later
  * @property {Map<unknown, unknown>} environment what `setEnvironmentData` has set
  * @property {Set<{ refed: boolean, where: string }>} children workers that haven't ended
  */
+
+/** @typedef {import("./thread-start.mjs").Starting & OfNode} Starting */
 
 /**
  * @typedef {object} Start what a thread is to run
@@ -80,31 +73,15 @@ function needsSimulated(options, refuse) {
  * @param {unknown} file
  * @param {any} options
  * @param {Function} called the function that the program's code has called
- * @returns {{ agent: number, port: any, where: string }} its number, the port to it, and where it was started
  */
-function started({ ports, moves, mesh, buffers, threads: all, refuse, environment, here }, file, options, called) {
-  needsSimulated(options, refuse);
-  const url = urlOf(file, options);
-  const workerData = sent(options.workerData, buffers);
-  const { words } = moves.board;
-  const number = moves.send(called, toThread(words[WORD.JOINED]));
-  const agent = words[WORD.JOINED];
-  if (agent === SCRIPT_LIMITS.agents) refuse(`started a Worker more than the ${agent} threads that a run can have`);
-  mesh.needs(agent + 1);
-  buffers.handTo(agent);
-  const { port1, port2 } = ports.channel();
-  const list = [...options.transferList ?? []];
-  const moved = [...list.filter((each) => ports.metaOf(each) !== undefined), port2];
-  const ids = moved.map((each) => ports.known(each).id);
-  const env = { ...(options.env ?? process.env) };
-  const where = here();
+function started(starting, file, options, called) {
+  needsSimulated(options, starting.refuse);
   const start = {
-    url, isCode: options.eval === true, workerData, argv: [...options.argv ?? []].map(String), env, environment, where,
+    url: urlOf(file, options), isCode: options.eval === true, workerData: sent(options.workerData, starting.buffers),
+    argv: [...options.argv ?? []].map(String), env: { ...(options.env ?? process.env) },
+    environment: starting.environment,
   };
-  mesh.hand(agent, { kind: "start", start, number, ports: moved, ids }, [...list, port2]);
-  for (const each of moved) ports.leave(each);
-  all.start(agent);
-  return { agent, port: port1, where };
+  return startThread(starting, start, [...options.transferList ?? []], called);
 }
 
 /** @type {Starting | undefined} a thread has one part in a run */

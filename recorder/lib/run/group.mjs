@@ -33,6 +33,7 @@ import { within } from "./within.mjs";
  * @property {string} module the URL of the agents' module
  * @property {"fail" | "allow"} [stuck] whether a run of a program that is stuck fails
  * @property {boolean} [isProgram] whether the module is a program that starts its threads itself
+ * @property {boolean} [web] whether the program is one for browsers
  * @property {"all" | "none"} [programOutput] of which runs it is shown what a program prints; else of the first one
  * @property {string[]} args for the agents
  * @property {number} [agents] how many

@@ -68,7 +68,8 @@ export class ProgramState {
     blocks.refresh();
     plan.agents = board.words[WORD.JOINED];
     plan.canBlock.length = plan.agents;
-    plan.canBlock.fill(true);
+    // The first one of a program for browsers can't.
+    plan.canBlock.fill(true, 1);
     return this.threads;
   }
 

@@ -17,6 +17,8 @@ import { SourceMap } from "node:module";
  * @property {Map<string, string>} texts the code that the map itself has, by the URLs of its files
  */
 
+const bytesFrom = Buffer.from;
+
 // The last of them counts.
 const MENTION = /\/[/*][#@]\s*sourceMappingURL=([^\s*]+)/g;
 
@@ -25,7 +27,7 @@ function textOfData(url) {
   const comma = url.indexOf(",");
   const rest = url.slice(comma + 1);
   const isBase64 = /;base64$/i.test(url.slice(0, comma));
-  return isBase64 ? Buffer.from(rest, "base64").toString("utf8") : decodeURIComponent(rest);
+  return isBase64 ? bytesFrom(rest, "base64").toString("utf8") : decodeURIComponent(rest);
 }
 
 /**

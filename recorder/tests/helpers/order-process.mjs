@@ -2,22 +2,20 @@
 // prints goes to standard error, and behind it a line with NUL.
 
 import { writeSync } from "node:fs";
-import { pathToFileURL } from "node:url";
 import { defaultsOf } from "../../lib/options/table.mjs";
 import { ProgramGroup } from "../../lib/program/group.mjs";
-import { pathOf } from "../programs/order.mjs";
 
-const [seeds, ...names] = process.argv.slice(2);
+const [seeds, own, ...urls] = process.argv.slice(2);
 
 const STDERR = 2;
-const urlOf = (/** @type {string} */ name) => pathToFileURL(pathOf(name)).href;
 // In node what these programs do takes nearly no time. So no timer of theirs is up while something else can be done.
 const timeouts = 0;
-const options = { ...defaultsOf("record"), timeouts, isProgram: true, seconds: 20, args: [], module: urlOf(names[0]) };
+const always = { ...defaultsOf("record"), timeouts, isProgram: true, seconds: 20, args: [], module: urls[0] };
+const options = { ...always, ...JSON.parse(own) };
 const group = /** @type {ProgramGroup} */ (await ProgramGroup.open(options));
-for (const name of names) {
+for (const url of urls) {
   for (let seed = 1; seed <= Number(seeds); seed += 1) {
-    group.enter(urlOf(name));
+    group.enter(url);
     await group.run([{ seed, whole: false }], ({ ending, detail }) => console.log(JSON.stringify({ ending, detail })));
     writeSync(STDERR, "\0\n");
   }

@@ -20,10 +20,10 @@ const FOLDER = new URL("../programs/", import.meta.url);
 const FIRST_PART = 5;
 
 export class TableRuns {
-  /** @param {string} [strategy] @returns {Promise<TableRuns>} */
-  static async open(strategy) {
+  /** @param {object} [own] options besides @returns {Promise<TableRuns>} */
+  static async open(own = {}) {
     const options = { ...defaultsOf("record"), isProgram: true, seconds: 20, args: [], module: new URL("main.mjs", FOLDER).href };
-    const group = await ProgramGroup.open(strategy === undefined ? options : { ...options, strategy });
+    const group = await ProgramGroup.open({ ...options, ...own });
     return new TableRuns(/** @type {ProgramGroup} */ (group));
   }
 

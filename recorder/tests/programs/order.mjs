@@ -64,10 +64,13 @@ export function runInNode(path, { args = [], whenPrinted = () => {} } = {}) {
  * Runs programs in the recorder, in one process and in the same threads.
  * @param {string[]} names
  * @param {number} seeds how many of each
+ * @param {{ folder?: URL, options?: object }} [how] where they are; what options there are besides
  * @returns {Promise<Map<string, InRecorder[]>>} the runs of each, in the order of the seeds
  */
-export async function runsInRecorder(names, seeds) {
-  const child = spawn(process.execPath, [RECORDING, String(seeds), ...names], { stdio: ["ignore", "pipe", "pipe"] });
+export async function runsInRecorder(names, seeds, { folder = FOLDER, options = {} } = {}) {
+  const urls = names.map((name) => new URL(name, folder).href);
+  const words = [RECORDING, String(seeds), JSON.stringify(options), ...urls];
+  const child = spawn(process.execPath, words, { stdio: ["ignore", "pipe", "pipe"] });
   const texts = { stdout: "", stderr: "" };
   for (const name of /** @type {const} */ (["stdout", "stderr"])) {
     child[name].setEncoding("utf8").on("data", (text) => { texts[name] += text; });

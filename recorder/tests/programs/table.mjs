@@ -22,6 +22,7 @@ import { readFileSync } from "node:fs";
  * @property {boolean} [isOfTime] whether it fails only if a time is up while other threads can go on
  * @property {string[]} [options] that the recorder needs for it
  * @property {boolean} [isEndless] whether it prints "ready" and ends only by Ctrl-C
+ * @property {boolean} [isWeb] whether it is for browsers
  * @property {string} [notYet] what it needs that the recorder doesn't simulate yet, as the recorder names it
  */
 
@@ -48,6 +49,9 @@ const rare = (main, ...findings) => ({ ...wrong(main, ...findings), isRare: true
 
 /** @type {(main: string, ...findings: Finding[]) => Omit<Program, "name">} */
 const ofTime = (main, ...findings) => ({ ...wrong(main, ...findings), isOfTime: true });
+
+/** @type {(...programs: Omit<Program, "name">[]) => Omit<Program, "name">[]} */
+const web = (...programs) => programs.map((program) => ({ ...program, isWeb: true }));
 
 /** @type {(what: string, programs: Omit<Program, "name">[]) => Omit<Program, "name">[]} */
 const notYet = (what, programs) => programs.map((program) => ({ ...program, notYet: what }));
@@ -187,6 +191,18 @@ const ALL = [
     right("wasm-memory/right.mjs"),
     wrong("wasm-memory/lost-update.mjs", failed(/counted [1-5]/, ["lost-update.mjs", THROWS])),
   ]),
+
+  // For browsers.
+  ...web(
+    right("web/right.mjs"),
+    wrong("web/loses-wake-up.mjs", deadlock(["looks-and-sleeps.mjs", "Atomics.wait("])),
+    right("web/pool-right.mjs"),
+    wrong("web/pool-without-lock.mjs",
+      race(["adds-at-once.mjs", "words[0] += 1"], ["adds-at-once.mjs", "words[0] += 1"]),
+      failed(/counted 1/, ["pool-without-lock.mjs", THROWS])),
+    wrong("web/listens-late.mjs", stuck(["listens-late.mjs", "new Worker("])),
+    wrong("web/nobody-listens.mjs", failed(/there is no factor/, ["multiplies.mjs", THROWS])),
+  ),
 
   // What never ends.
   wrong("stuck/never-closes.mjs", stuck(["never-closes.mjs", "new MessageChannel().port1.on"])),

@@ -1,0 +1,66 @@
+// What a program's thread finds if it is one of node: a command line, node's modules, and ports with node's methods.
+// The file `web/surroundings.mjs` has the same for a program of browsers.
+
+import process from "node:process";
+import { broadcastClass } from "./broadcast.mjs";
+import { Ends } from "./ends.mjs";
+import { furnishThreads } from "./furnish.mjs";
+import { Graph } from "./graph.mjs";
+import { PortEvents, servePorts } from "./port-events.mjs";
+import { KIND, channelClass } from "./ports.mjs";
+import { receiverOf } from "./receiving.mjs";
+import { argvOf, evaluated } from "./start.mjs";
+import { workerClass } from "./workers.mjs";
+
+const firstEnv = { ...process.env };
+
+/**
+ * @typedef {object} Surroundings what the code of a program's thread finds besides the language
+ * @property {typeof Graph} Graph makes the thread's modules
+ * @property {boolean} hasPhases whether the event loop has the phases of node's
+ * @property {typeof Ends} Ends
+ * @property {typeof PortEvents} PortEvents
+ * @property {(agent: number) => typeof Atomics} atomics the engine's own functions, for a thread
+ * @property {(events: any) => void} serve puts methods in the place of those that the engine's ports have
+ * @property {(parts: any, graph: any) => void} furnish is called once in a thread, when all else is replaced
+ * @property {(main: import("./mesh.mjs").Main) => any} mainStart what the first thread is to run
+ * @property {(parts: any, start: any, parentPort: any) => void} begin is called for each run
+ * @property {(start: any, graph: any, parts: any) => Promise<unknown>} evaluated evaluates the thread's module
+ * @property {(parts: any) => void} clear leaves nothing of a run
+ */
+
+/**
+ * Gives the thread's code what it is in a run.
+ * @param {import("./worker.mjs").Parts} parts
+ * @param {import("./workers.mjs").Start} start
+ * @param {any} parentPort null in the first thread
+ */
+function begin(parts, start, parentPort) {
+  const { moves, ports, ends, mesh, buffers } = parts;
+  const { environment, env } = start;
+  const { agent } = moves;
+  const workerData = agent === 0 ? null : ports.unpacked(start.workerData);
+  furnishThreads({ agent, workerData, parentPort, argv: argvOf(start), env, environment }, {
+    Worker: workerClass({ ...parts, environment }), MessageChannel: channelClass(ports),
+    receiveMessageOnPort: receiverOf(ports, moves),
+    BroadcastChannel: broadcastClass({ ports, moves, mesh, buffers, uncaught: (thrown) => ends.uncaught(thrown) }),
+  });
+  if (agent !== 0) ports.send(parentPort, undefined, [], undefined, KIND.ONLINE);
+}
+
+/** @type {Surroundings} */
+export const NODE = {
+  Graph,
+  hasPhases: true,
+  Ends,
+  PortEvents,
+  atomics: () => Atomics,
+  serve: servePorts,
+  furnish: () => {},
+  mainStart: ({ program, args }) => ({
+    url: program, isCode: false, workerData: null, argv: args, env: { ...firstEnv }, environment: new Map(), where: "",
+  }),
+  begin,
+  evaluated,
+  clear: () => {},
+};

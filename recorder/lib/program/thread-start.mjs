@@ -1,0 +1,44 @@
+// How a thread of a program starts another one: that one gets what it has to run and the ports that go with it, and joins
+// the run.
+
+import { SCRIPT_LIMITS } from "../../script/limits.mjs";
+import { WORD } from "../memory/layout.mjs";
+import { toThread } from "./moves.mjs";
+
+/**
+ * @typedef {object} Starting what the start of a thread needs of the one that starts it
+ * @property {import("./ports.mjs").Ports} ports
+ * @property {import("./moves.mjs").Moves} moves
+ * @property {import("./mesh.mjs").Mesh} mesh
+ * @property {import("./buffers.mjs").Buffers} buffers
+ * @property {import("./threads.mjs").Threads} threads
+ * @property {() => string} here where the program's code is
+ * @property {(why: string) => never} refuse ends the run
+ */
+
+/**
+ * Starts a thread.
+ * @param {Starting} starting
+ * @param {object} given what it is to run, to which it is added where it was started
+ * @param {any[]} transferList what goes to it for good
+ * @param {Function} called the function that the program's code has called
+ * @returns {{ agent: number, port: any, where: string }} its number, the port to it, and where it was started
+ */
+export function startThread(starting, given, transferList, called) {
+  const { ports, moves, mesh, buffers, threads, here, refuse } = starting;
+  const { words } = moves.board;
+  const number = moves.send(called, toThread(words[WORD.JOINED]));
+  const agent = words[WORD.JOINED];
+  if (agent === SCRIPT_LIMITS.agents) refuse(`started a Worker more than the ${agent} threads that a run can have`);
+  mesh.needs(agent + 1);
+  buffers.handTo(agent);
+  const { port1, port2 } = ports.channel();
+  const moved = [...transferList.filter((each) => ports.metaOf(each) !== undefined), port2];
+  const ids = moved.map((each) => ports.known(each).id);
+  const where = here();
+  const start = { ...given, where };
+  mesh.hand(agent, { kind: "start", start, number, ports: moved, ids }, [...transferList, port2]);
+  for (const each of moved) ports.leave(each);
+  threads.start(agent);
+  return { agent, port: port1, where };
+}

@@ -1,0 +1,111 @@
+// The global object of a thread of a browser: what node has besides is taken away, and what browsers have is put there.
+
+import { apply, deleteProperty, likeEngine, put, setPrototypeOf } from "../../primordials.mjs";
+import { hide } from "./hidden.mjs";
+import { ErrorEvent, PromiseRejectionEvent, putHandler, putMethods } from "./targets.mjs";
+
+const EngineTarget = EventTarget;
+const { TypeError: EngineTypeError, URL: EngineURL } = globalThis;
+
+const OF_NODE = Object.freeze(["__dirname", "__filename", "exports", "module", "process", "require"]);
+
+/** What node's own Response and the like ask for. */
+const FOR_NODE = Object.freeze(["Buffer", "clearImmediate", "global", "setImmediate"]);
+
+/** How many processors the program finds, whatever machine it is on. */
+const PROCESSORS = 4;
+
+const LOCATION = Object.freeze([
+  "href", "origin", "protocol", "host", "hostname", "port", "pathname", "search", "hash",
+]);
+
+class WorkerGlobalScope extends EngineTarget {}
+class DedicatedWorkerGlobalScope extends WorkerGlobalScope {}
+class Window extends EngineTarget {}
+
+/** @type {any} */
+const scope = globalThis;
+
+/** @param {Record<string, unknown>} members that get into the global object */
+function putAll(members) {
+  for (const [name, value] of Object.entries(members)) put(scope, name, value);
+}
+
+/**
+ * Timers with numbers, as browsers have them.
+ * @param {Record<string, Function>} functions those of the run
+ */
+function putTimers(functions) {
+  for (const name of ["setTimeout", "setInterval"]) {
+    const start = functions[name];
+    /** @type {(callback: any, after: unknown, ...given: unknown[]) => number} */
+    const numbered = (callback, after, ...given) => {
+      const called = typeof callback === "function" ? () => apply(callback, scope, given) : callback;
+      return Number(start(called, after));
+    };
+    put(scope, name, likeEngine(numbered, start));
+  }
+}
+
+/**
+ * What a worker's scope has, and a page doesn't.
+ * @param {import("../worker.mjs").Parts & { ends: import("./ends.mjs").WebEnds }} parts
+ * @param {import("./targets.mjs").Targets} targets
+ * @param {(url: string) => void} run runs a script in the global scope
+ */
+function putWorkersScope({ ports, ends }, targets, run) {
+  const postMessage = (/** @type {unknown} */ value, /** @type {unknown} */ transfer) =>
+    ports.send(ends.parentPort, value, transfer, postMessage);
+  const importScripts = (/** @type {unknown[]} */ ...urls) => {
+    if (type === "module") {
+      throw new EngineTypeError("Failed to execute 'importScripts' on 'WorkerGlobalScope': "
+        + "Module scripts don't support importScripts().");
+    }
+    for (const url of urls.map((each) => new EngineURL(`${each}`, scope.location.href))) run(url.href);
+  };
+  putAll({ WorkerGlobalScope, DedicatedWorkerGlobalScope, postMessage, importScripts });
+  for (const name of ["message", "messageerror"]) putHandler(scope, name, targets);
+}
+
+/** What kind of script the thread runs. */
+let type = "module";
+
+/**
+ * Makes the global object that of a browser: once in a thread.
+ * @param {import("../worker.mjs").Parts & { ends: import("./ends.mjs").WebEnds }} parts
+ * @param {import("./targets.mjs").Targets} targets
+ * @param {(url: string) => void} run runs a script in the global scope
+ */
+export function furnishGlobals(parts, targets, run) {
+  const { timers, ends, moves: { agent } } = parts;
+  for (const name of OF_NODE) deleteProperty(scope, name);
+  for (const name of FOR_NODE) hide(scope, name);
+  putTimers(timers.functions);
+  putMethods(scope, targets);
+  for (const name of ["error", "unhandledrejection"]) putHandler(scope, name, targets);
+  putAll({
+    self: scope, ErrorEvent, PromiseRejectionEvent, crossOriginIsolated: true, isSecureContext: true,
+    navigator: Object.freeze({ hardwareConcurrency: PROCESSORS, userAgent: "sabsim", language: "en-US" }),
+    close: () => ends.close(), reportError: (/** @type {unknown} */ thrown) => ends.uncaught(thrown),
+  });
+  if (agent === 0) putAll({ window: scope, Window });
+  else putWorkersScope(parts, targets, run);
+  setPrototypeOf(scope, (agent === 0 ? Window : DedicatedWorkerGlobalScope).prototype);
+}
+
+/** @param {string} href @returns {object} the `location` of a thread's script */
+function locationOf(href) {
+  const url = /** @type {any} */ (new EngineURL(href));
+  const parts = LOCATION.map((name) => [name, url[name]]);
+  return Object.freeze({ ...Object.fromEntries(parts), toString: () => url.href });
+}
+
+/**
+ * Gives the global object what it has in a run.
+ * @param {{ url: string, type: string, name: string }} start
+ * @param {Record<string, unknown>} classes of the run
+ */
+export function beginGlobals(start, classes) {
+  type = start.type;
+  putAll({ ...classes, location: locationOf(start.url), origin: "null", name: start.name });
+}

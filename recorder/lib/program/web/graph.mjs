@@ -1,0 +1,69 @@
+// The modules and scripts of a program for browsers. A file is a module if a module imports it, whatever its name or
+// package says. Node's own modules aren't there.
+
+import { Graph as NodeGraph } from "../graph.mjs";
+import { textOf } from "../module-urls.mjs";
+import { Scripts, placeOfImport } from "./scripts.mjs";
+
+const EngineException = DOMException;
+
+export class Graph extends NodeGraph {
+  #scripts;
+  #refuse;
+
+  /**
+   * One for each thread.
+   * @param {object} given
+   * @param {(what: string, place?: string) => void} given.refuse called with what a program uses that isn't simulated
+   */
+  constructor({ refuse }) {
+    super({ refuse });
+    this.#refuse = refuse;
+    this.#scripts = new Scripts((specifier, parent, attributes) => this.import(specifier, parent, attributes));
+  }
+
+  /** Forgets all modules and scripts, for the next run. */
+  begin() {
+    super.begin();
+    this.#scripts.clear();
+  }
+
+  /** @param {string} specifier @param {string} parent URL of the module that imports it @returns {string} its URL */
+  resolved(specifier, parent) {
+    const url = super.resolved(specifier, parent);
+    if (!url.startsWith("file:") && !url.startsWith("data:")) {
+      const place = placeOfImport(textOf(parent), specifier);
+      this.#refuse(`${url} with --web`, place && `${parent}:${place.line}:${place.column}`);
+    }
+    return url;
+  }
+
+  /** @param {string} url of a module that is there @returns {import("../module-urls.mjs").Format} */
+  formatOf(url) {
+    const format = super.formatOf(url);
+    return format === "json" || format === "builtin" ? format : "module";
+  }
+
+  /** @param {any} meta that a module gets @param {string} url of the module */
+  describe(meta, url) {
+    super.describe(meta, url);
+    delete meta.dirname;
+    delete meta.filename;
+  }
+
+  /** @param {string} url of a file that node would run @returns {"classic" | "module"} what a page would make of it */
+  typeOf(url) {
+    return super.formatOf(url) === "commonjs" ? "classic" : "module";
+  }
+
+  /** @param {string} url of a script that isn't a module @returns {() => void} runs it in the global scope */
+  script(url) {
+    let text;
+    try {
+      text = textOf(url);
+    } catch {
+      throw new EngineException(`The script at '${url}' failed to load.`, "NetworkError");
+    }
+    return this.#scripts.compiled(url, text);
+  }
+}

@@ -1,0 +1,97 @@
+// What a program's thread finds if the program is one for browsers. The first thread stands for a page; each other one
+// is a dedicated worker.
+
+import { apply } from "../../primordials.mjs";
+import { KIND, channelClass } from "../ports.mjs";
+import { webBroadcastClass } from "./broadcast.mjs";
+import { WebEnds } from "./ends.mjs";
+import { beginGlobals, furnishGlobals } from "./globals.mjs";
+import { Graph } from "./graph.mjs";
+import { WebPortEvents, messageOf, serveWebPorts } from "./ports.mjs";
+import { serveWorkers, workerClass } from "./worker-object.mjs";
+
+const { TypeError: EngineTypeError } = globalThis;
+const { wait: engineWait } = Atomics;
+
+/** @typedef {import("./worker-object.mjs").WebStart} WebStart */
+/** @typedef {import("../worker.mjs").Parts & { ends: WebEnds, events: WebPortEvents }} WebParts */
+
+/** @param {number} agent @returns {typeof Atomics} the engine's own; in a page `wait` throws, as the engine's does */
+function atomicsOf(agent) {
+  if (agent !== 0) return Atomics;
+  const own = Object.defineProperties({}, Object.getOwnPropertyDescriptors(Atomics));
+  const wait = (/** @type {any[]} */ ...given) => {
+    // The engine makes its checks first.
+    apply(engineWait, undefined, given);
+    throw new EngineTypeError("Atomics.wait cannot be called in this context");
+  };
+  return /** @type {any} */ (Object.assign(own, { wait }));
+}
+
+/** @param {WebParts} parts @param {Graph} graph */
+function furnish(parts, graph) {
+  const { events: { targets }, ends, later } = parts;
+  Object.assign(ends, { targets, later });
+  furnishGlobals(parts, targets, (url) => graph.script(url)());
+  serveWorkers(targets);
+}
+
+/**
+ * Gives the thread's code what it is in a run.
+ * @param {WebParts} parts
+ * @param {WebStart} start
+ * @param {any} parentPort null in the first thread
+ */
+function begin(parts, start, parentPort) {
+  const { ports, moves, mesh, buffers, ends, events: { targets } } = parts;
+  ends.where = start.where;
+  if (parentPort !== null) {
+    ports.known(parentPort).taker = (envelope) => {
+      if (envelope.kind === KIND.MESSAGE) targets.dispatch(globalThis, messageOf(envelope));
+    };
+  }
+  const casting = { ports, moves, mesh, buffers, uncaught: (/** @type {unknown} */ thrown) => ends.uncaught(thrown) };
+  beginGlobals(start, {
+    Worker: workerClass({ ...parts, targets, base: start.url }), MessageChannel: channelClass(ports),
+    BroadcastChannel: webBroadcastClass(casting, targets),
+  });
+}
+
+/**
+ * Evaluates the thread's script or module. Its messages come from then on, also if it still awaits something.
+ * @param {WebStart} start
+ * @param {Graph} graph
+ * @param {WebParts} parts
+ */
+async function evaluated({ url, type }, graph, { ports, ends }) {
+  const { parentPort } = ends;
+  let hasBegun = false;
+  const begun = () => {
+    hasBegun = true;
+    if (parentPort !== undefined) ports.start(parentPort);
+  };
+  try {
+    if ((type ?? graph.typeOf(url)) === "module") return await graph.enter(url, begun);
+    const run = graph.script(url);
+    begun();
+    run();
+  } catch (thrown) {
+    if (hasBegun || parentPort === undefined) throw thrown;
+    ends.isNotLoaded(thrown);
+  }
+}
+
+/** @type {import("../node-surroundings.mjs").Surroundings} */
+export const WEB = {
+  Graph,
+  hasPhases: false,
+  Ends: WebEnds,
+  PortEvents: WebPortEvents,
+  atomics: atomicsOf,
+  serve: serveWebPorts,
+  furnish,
+  mainStart: ({ program }) => ({ url: program, name: "", where: "" }),
+  begin,
+  evaluated,
+  clear: (/** @type {WebParts} */ { events: { targets } }) => targets.clear(),
+};

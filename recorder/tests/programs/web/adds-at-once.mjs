@@ -1,0 +1,4 @@
+onmessage = ({ data: words }) => {
+  words[0] += 1;
+  postMessage("done");
+};

@@ -1,0 +1,21 @@
+// What the global objects of a page and of workers have.
+const lines = globalThis.lines = [];
+const NAMES = [
+  "Worker", "MessageChannel", "MessagePort", "BroadcastChannel", "importScripts", "onerror", "close", "name", "location",
+  "navigator", "crossOriginIsolated", "isSecureContext", "SharedArrayBuffer", "queueMicrotask", "structuredClone",
+  "setTimeout", "clearInterval", "performance", "addEventListener", "window", "process", "require", "Buffer", "global",
+  "setImmediate", "module", "exports", "__filename", "WorkerGlobalScope", "Window", "ErrorEvent", "fetch", "reportError",
+];
+lines.push(...NAMES.map((name) => `${name} ${typeof globalThis[name]}`));
+lines.push(`${self === globalThis} ${self instanceof Window} ${self instanceof EventTarget} ${crossOriginIsolated}`);
+lines.push(`${typeof new MessageChannel().port1.on} ${typeof new BroadcastChannel("a").unref}`);
+for (const type of ["module", "classic"]) {
+  const worker = new Worker("../parts/scope.js?some#part", { type, name: `a ${type} worker` });
+  worker.postMessage([...NAMES, "postMessage"]);
+  lines.push(...await new Promise((done) => { worker.onmessage = ({ data }) => done(data); }));
+}
+for (const make of [() => new Worker("x", { type: "shared" }), () => new Worker("http://:"), () => Worker("x")]) {
+  try { make(); } catch (error) { lines.push(`${error.name} ${error instanceof Error}`); }
+}
+lines.push("end");
+console.log(lines.join("\n"));

@@ -1,0 +1,1 @@
+const { name: nameOfLock = "none" } = new Lock(); postMessage(nameOfLock);

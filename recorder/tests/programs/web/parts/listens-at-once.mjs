@@ -1,0 +1,2 @@
+await null;
+addEventListener("message", ({ data }) => postMessage(data));

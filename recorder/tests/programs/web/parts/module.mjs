@@ -1,0 +1,1 @@
+export const word = import.meta.url.split("/").at(-1);
