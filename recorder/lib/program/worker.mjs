@@ -291,14 +291,12 @@ function begin(parts, graph) {
   const { agent } = parts.moves;
   const { moves, mesh, buffers, ports, threads: all, later, ends, loop } = parts;
   const { start, parentPort } = agent === 0 ? { start: mainStart(mesh.main), parentPort: null } : taken(parts);
+  /** @type {any} */
+  const { workerData, environment } = ports.unpacked({ workerData: start.workerData, environment: start.environment });
   const starting = {
-    ports, moves, mesh, buffers, threads: all, here, refuse, later, environment: start.environment,
-    children: parts.children,
+    ports, moves, mesh, buffers, threads: all, here, refuse, later, environment, children: parts.children,
   };
-  furnishThreads({
-    agent, workerData: agent === 0 ? null : ports.unpacked(start.workerData), parentPort, argv: argvOf(start),
-    env: start.env, environment: start.environment,
-  }, {
+  furnishThreads({ agent, workerData, parentPort, argv: argvOf(start), env: start.env, environment }, {
     Worker: workerClass(starting), MessageChannel: channelClass(ports),
     receiveMessageOnPort: receiverOf(ports, moves),
     BroadcastChannel: broadcastClass({ ports, moves, mesh, buffers, uncaught: (thrown) => ends.uncaught(thrown) }),

@@ -82,10 +82,11 @@ function needsSimulated(options, refuse) {
  * @param {Function} called the function that the program's code has called
  * @returns {{ agent: number, port: any, where: string }} its number, the port to it, and where it was started
  */
-function started({ ports, moves, mesh, buffers, threads: all, refuse, environment, here }, file, options, called) {
+function started({ ports, moves, mesh, buffers, threads: all, refuse, environment: set, here }, file, options, called) {
   needsSimulated(options, refuse);
   const url = urlOf(file, options);
-  const workerData = sent(options.workerData, buffers);
+  /** @type {any} in node these are one message, so what is in both is one thing */
+  const { workerData, environment } = sent({ workerData: options.workerData, environment: set }, buffers);
   const { words } = moves.board;
   const number = moves.send(called, toThread(words[WORD.JOINED]));
   const agent = words[WORD.JOINED];
