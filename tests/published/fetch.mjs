@@ -1,0 +1,15 @@
+// Fetches the published code of table.mjs into a folder outside the repository (folder.mjs).
+//
+// usage: node tests/published/fetch.mjs [NAME ..]
+//
+// Debian's packages come by apt-get. Its sources need lines for `deb-src` in apt's own list.
+
+import { fetchSource } from "./fetching.mjs";
+import { PRODUCTS } from "./table.mjs";
+
+const names = process.argv.slice(2);
+const wanted = PRODUCTS.filter(({ name }) => names.length === 0 || names.includes(name));
+for (const source of new Set(wanted.map((product) => product.source))) {
+  fetchSource(source);
+  console.log(`fetched: ${source.folder}`);
+}

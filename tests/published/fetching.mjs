@@ -1,0 +1,69 @@
+// Fetches published code, and from each archive keeps only the files that are used.
+
+import { spawnSync } from "node:child_process";
+import { existsSync, mkdirSync, mkdtempSync, readdirSync, rmSync, writeFileSync } from "node:fs";
+import { dirname, join } from "node:path";
+import { fileURLToPath } from "node:url";
+import { FETCHED } from "./folder.mjs";
+
+/** @typedef {import("./table.mjs").Source} Source */
+
+/** @param {Source} source @returns {string} the folder of its files */
+const folderOf = ({ folder }) => fileURLToPath(new URL(`${folder}/`, FETCHED));
+
+/** @param {string} command @param {string[]} words @param {string} cwd */
+function run(command, words, cwd) {
+  const { status, stderr, error } = spawnSync(command, words, { cwd, encoding: "utf8" });
+  if (status !== 0) throw new Error(`${command} ${words.join(" ")}: ${error?.message ?? stderr.trim()}`);
+}
+
+/** @param {string} folder @param {RegExp} name @returns {string} the path of the one file with such a name */
+function onlyOne(folder, name) {
+  const found = readdirSync(folder).filter((each) => name.test(each));
+  if (found.length !== 1) throw new Error(`one file ${name} was expected, and there are ${found.length}`);
+  return join(folder, found[0]);
+}
+
+/** @param {Source} source @param {string} into */
+function fetchNode({ files }, into) {
+  const natives = /** @type {any} */ (process).binding("natives");
+  for (const name of files) {
+    const path = join(into, `${name}.js`);
+    mkdirSync(dirname(path), { recursive: true });
+    writeFileSync(path, natives[name]);
+  }
+}
+
+/** @type {Record<Source["kind"], (source: Source, into: string, room: string) => void>} */
+const FETCH = {
+  node: fetchNode,
+  deb: ({ name, files }, into, room) => {
+    run("apt-get", ["download", name ?? ""], room);
+    run("sh", ["-c", `dpkg-deb --fsys-tarfile *.deb | tar x -C "$0" "$@"`, into, ...files], room);
+  },
+  source: ({ name, files }, into, room) => {
+    run("apt-get", ["source", "--download-only", "--tar-only", name ?? ""], room);
+    const archive = onlyOne(room, /\.orig\.tar\.\w+$/);
+    const wanted = files.map((file) => `*/${file}`);
+    run("tar", ["xf", archive, "-C", into, "--strip-components=1", "--wildcards", ...wanted], room);
+  },
+};
+
+/** @param {Source} source @returns {boolean} whether its files are there */
+export function isFetched(source) {
+  const folder = folderOf(source);
+  return existsSync(folder) && readdirSync(folder).length > 0;
+}
+
+/** @param {Source} source whose files are fetched anew */
+export function fetchSource(source) {
+  const into = folderOf(source);
+  rmSync(into, { recursive: true, force: true });
+  mkdirSync(into, { recursive: true });
+  const room = mkdtempSync(fileURLToPath(new URL("archive-", FETCHED)));
+  try {
+    FETCH[source.kind](source, into, room);
+  } finally {
+    rmSync(room, { recursive: true, force: true });
+  }
+}
