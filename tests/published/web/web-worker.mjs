@@ -4,4 +4,6 @@ import { parentPort, workerData } from "node:worker_threads";
 import { runFile, scopeOf } from "./web.mjs";
 
 const { script, site } = workerData;
-runFile(await scopeOf(site, parentPort), new URL(script, site.base));
+const scope = await scopeOf(site, parentPort);
+scope.location = new URL(script, site.base);
+runFile(scope, scope.location);

@@ -9,8 +9,8 @@ import threads from "node:worker_threads";
 /**
  * @typedef {object} Site what the scripts are part of
  * @property {string} base the URL of the folder that they are in
- * @property {string} more the URL of a module: its `globals` returns what else a browser gives, and its `names` are the
- *   variables of scripts that other scripts use
+ * @property {string} more the URL of a module: its `globals` returns what else a browser gives, its `names` are the
+ *   variables of scripts that other scripts use, and its `textOf`, if it has one, returns the text of a script's file
  */
 
 /** Has an object take messages, as a page or a worker does. @param {any} scope @param {any} port */
@@ -38,7 +38,7 @@ export function run(scope, text, filename, lineOffset = 0) {
 }
 
 /** @param {any} scope @param {URL} url of a file */
-export const runFile = (scope, url) => run(scope, readFileSync(url, "utf8"), fileURLToPath(url));
+export const runFile = (scope, url) => run(scope, scope.textOf(url), fileURLToPath(url));
 
 /**
  * @param {Site} site
@@ -46,10 +46,9 @@ export const runFile = (scope, url) => run(scope, readFileSync(url, "utf8"), fil
  * @returns {Promise<any>} the global object of a page's scripts, or of a worker's
  */
 export async function scopeOf({ base, more }, port) {
-  const { globals, names } = await import(more);
+  const { globals, names, textOf = (url) => readFileSync(url, "utf8") } = await import(more);
   const scope = Object.create(globalThis);
-  scope.self = scope;
-  scope.names = names;
+  Object.assign(scope, { self: scope, globalThis: scope, names, textOf });
   scope.location = new URL("index.html", base);
   scope.Worker = class {
     constructor(url) {
