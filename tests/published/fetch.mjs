@@ -2,13 +2,14 @@
 //
 // usage: node tests/published/fetch.mjs [NAME ..]
 //
-// Debian's packages come by apt-get. Its sources need lines for `deb-src` in apt's own list.
+// Debian's packages come by apt-get. Its sources need lines for `deb-src` in apt's own list, for bookworm and sid. What
+// is larger than 100 MB is fetched only if it is named. TypeScript needs tsc.
 
 import { fetchSource } from "./fetching.mjs";
 import { PRODUCTS } from "./table.mjs";
 
 const names = process.argv.slice(2);
-const wanted = PRODUCTS.filter(({ name }) => names.length === 0 || names.includes(name));
+const wanted = PRODUCTS.filter(({ name, source }) => (names.length === 0 ? !source.isLarge : names.includes(name)));
 for (const source of new Set(wanted.map((product) => product.source))) {
   fetchSource(source);
   console.log(`fetched: ${source.folder}`);

@@ -34,6 +34,22 @@ function fetchNode({ files }, into) {
   }
 }
 
+/** How TypeScript is turned into JavaScript: the types of what isn't there are left out. */
+const TSC = ["--target", "es2022", "--module", "es2022", "--isolatedModules", "--noResolve", "--inlineSourceMap"];
+
+/**
+ * Turns the files in TypeScript into modules, in the folder `made`, and puts others beside them.
+ * @param {Source} source
+ * @param {string} into
+ */
+function compile({ files, made = {} }, into) {
+  const out = join(into, "made");
+  const typed = files.filter((file) => file.endsWith(".ts"));
+  const { error } = spawnSync("tsc", [...TSC, "--outDir", out, ...typed], { cwd: into });
+  if (error !== undefined) throw new Error(`tsc is needed for ${into}: ${error.message}`);
+  for (const [name, text] of Object.entries(made)) writeFileSync(join(out, name), text);
+}
+
 /** @type {Record<Source["kind"], (source: Source, into: string, room: string) => void>} */
 const FETCH = {
   node: fetchNode,
@@ -41,11 +57,13 @@ const FETCH = {
     run("apt-get", ["download", name ?? ""], room);
     run("sh", ["-c", `dpkg-deb --fsys-tarfile *.deb | tar x -C "$0" "$@"`, into, ...files], room);
   },
-  source: ({ name, files }, into, room) => {
+  source: (source, into, room) => {
+    const { name, files } = source;
     run("apt-get", ["source", "--download-only", "--tar-only", name ?? ""], room);
     const archive = onlyOne(room, /\.orig\.tar\.\w+$/);
     const wanted = files.map((file) => `*/${file}`);
     run("tar", ["xf", archive, "-C", into, "--strip-components=1", "--wildcards", ...wanted], room);
+    if (source.made !== undefined) compile(source, into);
   },
 };
 

@@ -7,3 +7,4 @@ const { script, site } = workerData;
 const scope = await scopeOf(site, parentPort);
 scope.location = new URL(script, site.base);
 runFile(scope, scope.location);
+scope.begin();

@@ -13,16 +13,32 @@ import threads from "node:worker_threads";
  *   variables of scripts that other scripts use, and its `textOf`, if it has one, returns the text of a script's file
  */
 
-/** Has an object take messages, as a page or a worker does. @param {any} scope @param {any} port */
-function listen(scope, port) {
+/**
+ * Gives an object what a page or a worker has for messages.
+ * @param {any} scope
+ * @param {any} port
+ * @returns {() => void} begins to deliver them: to a worker when its first script has run
+ */
+export function listen(scope, port) {
   const listeners = new Set();
   scope.onmessage = null;
   scope.postMessage = (value, transfer) => port.postMessage(value, transfer);
   scope.addEventListener = (name, listener) => name === "message" && listeners.add(listener);
-  port.on("message", (data) => {
+  return () => port.on("message", (data) => {
     for (const listener of [scope.onmessage, ...listeners]) listener?.({ data });
   });
 }
+
+/**
+ * @param {URL} first the file with which its threads begin
+ * @param {Site} [site]
+ * @returns {Function} the Worker of browsers
+ */
+export const workerClass = (first, site) => class {
+  constructor(url) {
+    listen(this, new threads.Worker(first, { workerData: { script: `${url}`, site } }))();
+  }
+};
 
 /**
  * Runs a script.
@@ -50,12 +66,7 @@ export async function scopeOf({ base, more }, port) {
   const scope = Object.create(globalThis);
   Object.assign(scope, { self: scope, globalThis: scope, names, textOf });
   scope.location = new URL("index.html", base);
-  scope.Worker = class {
-    constructor(url) {
-      const workerData = { script: `${url}`, site: { base, more } };
-      listen(this, new threads.Worker(new URL("web-worker.mjs", import.meta.url), { workerData }));
-    }
-  };
-  if (port !== undefined) listen(scope, port);
+  scope.Worker = workerClass(new URL("web-worker.mjs", import.meta.url), { base, more });
+  if (port !== undefined) scope.begin = listen(scope, port);
   return Object.assign(scope, globals(scope));
 }
