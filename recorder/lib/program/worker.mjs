@@ -43,6 +43,7 @@ import { PortEvents, servePorts } from "./port-events.mjs";
 import { PortTable } from "../board/port-table.mjs";
 import { KIND, Ports, channelClass } from "./ports.mjs";
 import { printAtOnce } from "./printing.mjs";
+import { envOf } from "./process-env.mjs";
 import { receiverOf } from "./receiving.mjs";
 import { furnishRefusals } from "./refusals.mjs";
 import { argvOf, evaluated } from "./start.mjs";
@@ -279,8 +280,10 @@ function printedName() {
 }
 
 /** @param {import("./mesh.mjs").Main} main @returns {import("./workers.mjs").Start} */
-const mainStart = ({ program, args }) =>
-  ({ url: program, isCode: false, workerData: null, argv: args, env: { ...firstEnv }, environment: new Map(), where: "" });
+const mainStart = ({ program, args }) => ({
+  url: program, isCode: false, workerData: null, argv: args, env: { ...firstEnv }, sharesEnv: false,
+  environment: new Map(), where: "",
+});
 
 /**
  * Begins the thread's part in a run.
@@ -296,7 +299,8 @@ function begin(parts, graph) {
   const starting = {
     ports, moves, mesh, buffers, threads: all, here, refuse, later, environment, children: parts.children,
   };
-  furnishThreads({ agent, workerData, parentPort, argv: argvOf(start), env: start.env, environment }, {
+  const env = envOf(start.env, start.sharesEnv, refuse);
+  furnishThreads({ agent, workerData, parentPort, argv: argvOf(start), env, environment }, {
     Worker: workerClass(starting), MessageChannel: channelClass(ports),
     receiveMessageOnPort: receiverOf(ports, moves),
     BroadcastChannel: broadcastClass({ ports, moves, mesh, buffers, uncaught: (thrown) => ends.uncaught(thrown) }),

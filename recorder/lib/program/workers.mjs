@@ -12,6 +12,7 @@ import { WORD } from "../memory/layout.mjs";
 import { deserializeError } from "./internals.mjs";
 import { toThread } from "./moves.mjs";
 import { KIND } from "./ports.mjs";
+import { sharedEnv } from "./process-env.mjs";
 import { sent } from "./values.mjs";
 
 const { SHARE_ENV } = /** @type {any} */ (threads);
@@ -37,6 +38,7 @@ const { SHARE_ENV } = /** @type {any} */ (threads);
  * @property {any} workerData
  * @property {string[]} argv
  * @property {Record<string, string | undefined>} env
+ * @property {boolean} sharesEnv whether it is that of the thread that starts it
  * @property {Map<unknown, unknown>} environment
  * @property {string} where it was started
  */
@@ -70,7 +72,6 @@ function needsSimulated(options, refuse) {
   for (const name of REFUSED) {
     if (options[name]) refuse(`started a Worker with the option ${name}, which isn't simulated`);
   }
-  if (options.env === SHARE_ENV) refuse("started a Worker with SHARE_ENV, which isn't simulated");
   if (options.execArgv?.length > 0) refuse("started a Worker with execArgv, which isn't simulated");
 }
 
@@ -97,10 +98,12 @@ function started({ ports, moves, mesh, buffers, threads: all, refuse, environmen
   const list = [...options.transferList ?? []];
   const moved = [...list.filter((each) => ports.metaOf(each) !== undefined), port2];
   const ids = moved.map((each) => ports.known(each).id);
-  const env = { ...(options.env ?? process.env) };
+  const sharesEnv = options.env === SHARE_ENV;
+  const env = sharesEnv ? sharedEnv() : { ...(options.env ?? process.env) };
   const where = here();
   const start = {
-    url, isCode: options.eval === true, workerData, argv: [...options.argv ?? []].map(String), env, environment, where,
+    url, isCode: options.eval === true, workerData, argv: [...options.argv ?? []].map(String), env, sharesEnv,
+    environment, where,
   };
   mesh.hand(agent, { kind: "start", start, number, ports: moved, ids }, [...list, port2]);
   for (const each of moved) ports.leave(each);
