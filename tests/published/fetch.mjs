@@ -9,8 +9,9 @@ import { fetchSource } from "./fetching.mjs";
 import { PRODUCTS } from "./table.mjs";
 
 const names = process.argv.slice(2);
-const wanted = PRODUCTS.filter(({ name, source }) => (names.length === 0 ? !source.isLarge : names.includes(name)));
-for (const source of new Set(wanted.map((product) => product.source))) {
+const wanted = PRODUCTS.filter(({ name, sources }) =>
+  (names.length === 0 ? !sources.some(({ isLarge }) => isLarge) : names.includes(name)));
+for (const source of new Set(wanted.flatMap(({ sources }) => sources))) {
   fetchSource(source);
   console.log(`fetched: ${source.folder}`);
 }

@@ -53,9 +53,10 @@ function compile({ files, made = {} }, into) {
 /** @type {Record<Source["kind"], (source: Source, into: string, room: string) => void>} */
 const FETCH = {
   node: fetchNode,
-  deb: ({ name, files }, into, room) => {
+  deb: ({ name, files, strip = 0 }, into, room) => {
     run("apt-get", ["download", name ?? ""], room);
-    run("sh", ["-c", `dpkg-deb --fsys-tarfile *.deb | tar x -C "$0" "$@"`, into, ...files], room);
+    const words = ["-C", into, `--strip-components=${strip}`, ...files];
+    run("sh", ["-c", `dpkg-deb --fsys-tarfile *.deb | tar x "$@"`, "sh", ...words], room);
   },
   source: (source, into, room) => {
     const { name, files } = source;

@@ -80,8 +80,8 @@ const names = process.argv.slice(2);
 const counts = { passed: 0, failed: 0, refused: 0 };
 for (const product of PRODUCTS.filter(({ name }) => names.length === 0 || names.includes(name))) {
   // The user's own node is there.
-  if (product.source.kind === "node") fetchSource(product.source);
-  if (!isFetched(product.source)) {
+  product.sources.filter(({ kind }) => kind === "node").forEach(fetchSource);
+  if (!product.sources.every(isFetched)) {
     console.log(`${product.name}: skipped: fetch it by node tests/published/fetch.mjs ${product.name}`);
     continue;
   }
