@@ -14,13 +14,13 @@ export function sqlite3Of() {
   const view = new DataView(memory.buffer);
   let top = 16;
   const scopedAlloc = (size) => {
-    top += size + (-size & 7);
-    return top - size - (-size & 7);
+    const at = top;
+    top += (size + 7) & -8;
+    return at;
   };
   const scopedAllocCString = (text) => {
-    const bytes = new TextEncoder().encode(`${text}\0`);
-    const at = scopedAlloc(bytes.length);
-    memory.set(bytes, at);
+    const at = scopedAlloc(4 * text.length + 1);
+    new TextEncoder().encodeInto(`${text}\0`, memory.subarray(at));
     return at;
   };
   const setters = { i32: "setInt32", i64: "setBigInt64", double: "setFloat64" };

@@ -9,10 +9,8 @@ class FileHandle extends Handle {
 
   async createSyncAccessHandle() {
     return {
-      getSize: async () => this.bytes.length,
-      truncate: async (size) => this.#resize(size),
-      flush: async () => {},
-      close: async () => {},
+      getSize: async () => this.bytes.length, truncate: async (size) => this.#resize(size),
+      async flush() {}, async close() {},
       read: (view, { at }) => {
         const read = this.bytes.subarray(at, at + view.length);
         view.set(read);
@@ -44,13 +42,8 @@ class DirectoryHandle extends Handle {
     return this.entries.get(name);
   }
 
-  async getFileHandle(name, options) {
-    return this.#entry(name, FileHandle, options);
-  }
-
-  async getDirectoryHandle(name, options) {
-    return this.#entry(name, DirectoryHandle, options);
-  }
+  getFileHandle = async (name, options) => this.#entry(name, FileHandle, options);
+  getDirectoryHandle = async (name, options) => this.#entry(name, DirectoryHandle, options);
 
   async removeEntry(name, { recursive = false } = {}) {
     const entry = this.#entry(name);
