@@ -6,11 +6,11 @@
 // is larger than 100 MB is fetched only if it is named. TypeScript needs tsc.
 
 import { fetchSource } from "./fetching.mjs";
-import { PRODUCTS } from "./table.mjs";
+import { productsOf } from "./table.mjs";
 
 const names = process.argv.slice(2);
-const wanted = PRODUCTS.filter(({ name, sources }) =>
-  (names.length === 0 ? !sources.some(({ isLarge }) => isLarge) : names.includes(name)));
+const isWanted = (product) => names.length > 0 || !product.sources.some(({ isLarge }) => isLarge);
+const wanted = productsOf(names).filter(isWanted);
 for (const source of new Set(wanted.flatMap(({ sources }) => sources))) {
   fetchSource(source);
   console.log(`fetched: ${source.folder}`);

@@ -9,7 +9,7 @@
 import { spawnSync } from "node:child_process";
 import { fileURLToPath } from "node:url";
 import { fetchSource, isFetched } from "./fetching.mjs";
-import { PRODUCTS } from "./table.mjs";
+import { productsOf } from "./table.mjs";
 
 const RECORDER = fileURLToPath(new URL("../../recorder/record.mjs", import.meta.url));
 
@@ -76,9 +76,8 @@ function tried(product) {
   };
 }
 
-const names = process.argv.slice(2);
 const counts = { passed: 0, failed: 0, refused: 0 };
-for (const product of PRODUCTS.filter(({ name }) => names.length === 0 || names.includes(name))) {
+for (const product of productsOf(process.argv.slice(2))) {
   // The user's own node is there.
   product.sources.filter(({ kind }) => kind === "node").forEach(fetchSource);
   if (!product.sources.every(isFetched)) {
