@@ -15,7 +15,7 @@ const RECORDER = fileURLToPath(new URL("../../recorder/record.mjs", import.meta.
 
 /** @typedef {import("./table.mjs").Product} Product */
 /** @typedef {import("../../recorder/summary.d.mts").Summary} Summary */
-/** @typedef {{ text: string, runs: number, first: number }} Finding what runs fail by, and the least of their seeds */
+/** @typedef {{ text: string, runs: number, early: number, first: number }} Finding what runs have in common that fail */
 
 /** @param {Product} product @returns {Summary} of its runs */
 function summaryOf({ main, seeds, options = [] }) {
@@ -51,7 +51,11 @@ const wrongIn = (findings, bugs) => [
  */
 const foundIn = (findings, bugs) => bugs.flatMap(({ what, says }) => {
   const found = findings.filter(({ text }) => says.test(text));
-  return found.length === 0 ? [] : [`found: ${what}, seed ${Math.min(...found.map(({ first }) => first))} the first`];
+  if (found.length === 0) return [];
+  // A run that fails without the early end of a timed wait shows more.
+  const sure = found.filter(({ runs, early }) => runs > early);
+  const first = Math.min(...(sure.length > 0 ? sure : found).map((finding) => finding.first));
+  return [`found: ${what}, seed ${first} the first`];
 });
 
 /**
