@@ -21,7 +21,8 @@ const RECORDER = fileURLToPath(new URL("../../recorder/record.mjs", import.meta.
 function summaryOf({ main, seeds, options = [] }) {
   const program = fileURLToPath(new URL(main, import.meta.url));
   const words = ["--program", program, "--seeds", `1..${seeds}`, "--format", "json", "--program-output", "none"];
-  const { stdout, stderr } = spawnSync(process.execPath, [RECORDER, ...words, ...options], { encoding: "utf8" });
+  const how = /** @type {const} */ ({ encoding: "utf8", maxBuffer: 2 ** 28 });
+  const { stdout, stderr } = spawnSync(process.execPath, [RECORDER, ...words, ...options], how);
   if (!stdout.startsWith("{")) throw new Error(stderr);
   return JSON.parse(stdout);
 }
