@@ -22,8 +22,9 @@ function summaryOf({ main, seeds, options = [] }) {
   const program = fileURLToPath(new URL(main, import.meta.url));
   const words = ["--program", program, "--seeds", `1..${seeds}`, "--format", "json", "--program-output", "none"];
   const how = /** @type {const} */ ({ encoding: "utf8", maxBuffer: 2 ** 28 });
-  const { stdout, stderr } = spawnSync(process.execPath, [RECORDER, ...words, ...options], how);
-  if (!stdout.startsWith("{")) throw new Error(stderr);
+  const { status, stdout, stderr } = spawnSync(process.execPath, [RECORDER, ...words, ...options], how);
+  // It ends by another status if it was refused, or if something can't be relied on.
+  if (status !== 0 && status !== 1) throw new Error(stderr);
   return JSON.parse(stdout);
 }
 
