@@ -1,7 +1,7 @@
 // Fetches published code, and from each archive keeps only the files that are used.
 
 import { spawnSync } from "node:child_process";
-import { existsSync, mkdirSync, mkdtempSync, readdirSync, rmSync, writeFileSync } from "node:fs";
+import { existsSync, mkdirSync, mkdtempSync, readFileSync, readdirSync, rmSync, writeFileSync } from "node:fs";
 import { dirname, join } from "node:path";
 import { fileURLToPath } from "node:url";
 import { FETCHED } from "./folder.mjs";
@@ -24,11 +24,16 @@ function onlyOne(folder, name) {
   return join(folder, found[0]);
 }
 
-/** @param {Source} source @param {string} into */
+/**
+ * Writes those of node's files that aren't there yet, or that are another node's: a run may read the others.
+ * @param {Source} source
+ * @param {string} into
+ */
 function fetchNode({ files }, into) {
   const natives = /** @type {any} */ (process).binding("natives");
   for (const name of files) {
     const path = join(into, `${name}.js`);
+    if (existsSync(path) && readFileSync(path, "utf8") === natives[name]) continue;
     mkdirSync(dirname(path), { recursive: true });
     writeFileSync(path, natives[name]);
   }
@@ -74,10 +79,10 @@ export function isFetched(source) {
   return existsSync(folder) && readdirSync(folder).length > 0;
 }
 
-/** @param {Source} source whose files are fetched anew */
+/** @param {Source} source whose files are fetched anew, except node's own, if they are there */
 export function fetchSource(source) {
   const into = folderOf(source);
-  rmSync(into, { recursive: true, force: true });
+  if (source.kind !== "node") rmSync(into, { recursive: true, force: true });
   mkdirSync(into, { recursive: true });
   const room = mkdtempSync(fileURLToPath(new URL("archive-", FETCHED)));
   try {

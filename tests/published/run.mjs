@@ -15,7 +15,7 @@ const RECORDER = fileURLToPath(new URL("../../recorder/record.mjs", import.meta.
 
 /** @typedef {import("./table.mjs").Product} Product */
 /** @typedef {import("../../recorder/summary.d.mts").Summary} Summary */
-/** @typedef {{ text: string, runs: number, early: number, first: number }} Finding what runs have in common that fail */
+/** @typedef {{ text: string, runs: number, early: number, first: number }} Finding what failing runs have in common */
 
 /** @param {Product} product @returns {Summary} of its runs */
 function summaryOf({ main, seeds, options = [] }) {
