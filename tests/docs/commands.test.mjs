@@ -45,6 +45,7 @@ const COMMANDS = [
   ["npm install ./sabsim-0.1.0.tgz", { by: INSTALLS, words: '"--no-fund", `./sabsim-${version}.tgz`' }],
   ["node --test", { by: INSTALLS, words: '"node", ["--test", "--test-reporter=tap", "readme.mjs"]' }],
   ["npm test", { notRun: "tests/recorder runs the same tests" }],
+  ["npm run published", { notRun: "most of the programs have to be fetched first" }],
   ["node recorder/record.mjs recorder/tests/agents/naive-mutex.mjs --seeds 1..200", { status: 1 }],
   ["node recorder/record.mjs recorder/tests/known/ring-frees-first.mjs --seeds 1..200", { status: 1 }],
   ["node recorder/record.mjs recorder/tests/known/ring-frees-first.mjs --seeds 1..200 --out found", { status: 1 }],

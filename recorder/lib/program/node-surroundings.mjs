@@ -8,6 +8,7 @@ import { furnishThreads } from "./furnish.mjs";
 import { Graph } from "./graph.mjs";
 import { PortEvents, servePorts } from "./port-events.mjs";
 import { KIND, channelClass } from "./ports.mjs";
+import { envOf } from "./process-env.mjs";
 import { receiverOf } from "./receiving.mjs";
 import { argvOf, evaluated } from "./start.mjs";
 import { workerClass } from "./workers.mjs";
@@ -36,10 +37,11 @@ const firstEnv = { ...process.env };
  * @param {any} parentPort null in the first thread
  */
 function begin(parts, start, parentPort) {
-  const { moves, ports, ends, mesh, buffers } = parts;
-  const { environment, env } = start;
+  const { moves, ports, ends, mesh, buffers, refuse } = parts;
   const { agent } = moves;
-  const workerData = agent === 0 ? null : ports.unpacked(start.workerData);
+  /** @type {any} */
+  const { workerData, environment } = ports.unpacked({ workerData: start.workerData, environment: start.environment });
+  const env = envOf(start.env, start.sharesEnv, refuse);
   furnishThreads({ agent, workerData, parentPort, argv: argvOf(start), env, environment }, {
     Worker: workerClass({ ...parts, environment }), MessageChannel: channelClass(ports),
     receiveMessageOnPort: receiverOf(ports, moves),
@@ -58,7 +60,8 @@ export const NODE = {
   serve: servePorts,
   furnish: () => {},
   mainStart: ({ program, args }) => ({
-    url: program, isCode: false, workerData: null, argv: args, env: { ...firstEnv }, environment: new Map(), where: "",
+    url: program, isCode: false, workerData: null, argv: args, env: { ...firstEnv }, sharesEnv: false,
+    environment: new Map(), where: "",
   }),
   begin,
   evaluated,

@@ -9,6 +9,7 @@ import threads from "node:worker_threads";
 import { pathToFileURL } from "node:url";
 import { deserializeError } from "./internals.mjs";
 import { KIND } from "./ports.mjs";
+import { sharedEnv } from "./process-env.mjs";
 import { startThread } from "./thread-start.mjs";
 import { sent } from "./values.mjs";
 
@@ -30,6 +31,7 @@ const { SHARE_ENV } = /** @type {any} */ (threads);
  * @property {any} workerData
  * @property {string[]} argv
  * @property {Record<string, string | undefined>} env
+ * @property {boolean} sharesEnv whether it is that of the thread that starts it
  * @property {Map<unknown, unknown>} environment
  * @property {string} where it was started
  */
@@ -63,7 +65,6 @@ function needsSimulated(options, refuse) {
   for (const name of REFUSED) {
     if (options[name]) refuse(`started a Worker with the option ${name}, which isn't simulated`);
   }
-  if (options.env === SHARE_ENV) refuse("started a Worker with SHARE_ENV, which isn't simulated");
   if (options.execArgv?.length > 0) refuse("started a Worker with execArgv, which isn't simulated");
 }
 
@@ -76,10 +77,13 @@ function needsSimulated(options, refuse) {
  */
 function started(starting, file, options, called) {
   needsSimulated(options, starting.refuse);
+  const given = { workerData: options.workerData, environment: starting.environment };
+  /** @type {any} in node these are one message, so what is in both is one thing */
+  const { workerData, environment } = sent(given, starting.buffers);
+  const sharesEnv = options.env === SHARE_ENV;
   const start = {
-    url: urlOf(file, options), isCode: options.eval === true, workerData: sent(options.workerData, starting.buffers),
-    argv: [...options.argv ?? []].map(String), env: { ...(options.env ?? process.env) },
-    environment: starting.environment,
+    url: urlOf(file, options), isCode: options.eval === true, workerData, argv: [...options.argv ?? []].map(String),
+    env: sharesEnv ? sharedEnv() : { ...(options.env ?? process.env) }, sharesEnv, environment,
   };
   return startThread(starting, start, [...options.transferList ?? []], called);
 }

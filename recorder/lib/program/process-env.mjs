@@ -1,0 +1,46 @@
+// `process.env` of a thread of a program. As in node its values are texts. Threads that share it by SHARE_ENV have a copy
+// each, and from then on what changes it ends the run: so the copies stay the same.
+
+import process from "node:process";
+import { hasOwn } from "../primordials.mjs";
+
+const { defineProperty, deleteProperty, get, set } = Reflect;
+
+/** @typedef {Record<string, string | undefined>} Values */
+
+/** Whether the thread shares its `process.env` with another one. */
+let isShared = false;
+
+/**
+ * @param {Values} values
+ * @param {boolean} shared whether the thread that has started this one shares it
+ * @param {(why: string) => never} refuse ends the run
+ * @returns {Values} the `process.env` of this thread
+ */
+export function envOf(values, shared, refuse) {
+  isShared = shared;
+  const change = () => {
+    if (isShared) refuse("changed process.env, which threads share by SHARE_ENV, which isn't simulated");
+  };
+  return new Proxy(values, {
+    set: (env, key, value) => {
+      const text = `${value}`;
+      if (get(env, key) !== text) change();
+      return set(env, key, text);
+    },
+    deleteProperty: (env, key) => {
+      if (hasOwn(env, key)) change();
+      return deleteProperty(env, key);
+    },
+    defineProperty: (env, key, descriptor) => {
+      change();
+      return defineProperty(env, key, descriptor);
+    },
+  });
+}
+
+/** @returns {Values} the environment of a thread that shares that of this one */
+export function sharedEnv() {
+  isShared = true;
+  return { ...process.env };
+}

@@ -1,0 +1,14 @@
+// esbuild's synchronous calls: main hands each to a thread and sleeps, and that thread asks a process of its own.
+
+import { createRequire } from "node:module";
+import { fileURLToPath } from "node:url";
+import { FETCHED } from "./folder.mjs";
+
+const fetched = (path) => fileURLToPath(new URL(`esbuild/usr/${path}`, FETCHED));
+process.env.ESBUILD_BINARY_PATH = fetched("bin/esbuild");
+const esbuild = createRequire(import.meta.url)(fetched("lib/x86_64-linux-gnu/nodejs/esbuild/lib/main.js"));
+
+for (const [text, code] of [["let x: number = 1", "let x = 1;\n"], ["let y: string", "let y;\n"]]) {
+  const made = esbuild.transformSync(text, { loader: "ts" }).code;
+  if (made !== code) throw new Error(`esbuild made ${made} of ${text}`);
+}

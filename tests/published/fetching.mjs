@@ -1,0 +1,93 @@
+// Fetches published code, and from each archive keeps only the files that are used.
+
+import { spawnSync } from "node:child_process";
+import { existsSync, mkdirSync, mkdtempSync, readFileSync, readdirSync, rmSync, writeFileSync } from "node:fs";
+import { dirname, join } from "node:path";
+import { fileURLToPath } from "node:url";
+import { FETCHED } from "./folder.mjs";
+
+/** @typedef {import("./table.mjs").Source} Source */
+
+/** @param {Source} source @returns {string} the folder of its files */
+const folderOf = ({ folder }) => fileURLToPath(new URL(`${folder}/`, FETCHED));
+
+/** @param {string} command @param {string[]} words @param {string} cwd */
+function run(command, words, cwd) {
+  const { status, stderr, error } = spawnSync(command, words, { cwd, encoding: "utf8" });
+  if (status !== 0) throw new Error(`${command} ${words.join(" ")}: ${error?.message ?? stderr.trim()}`);
+}
+
+/** @param {string} folder @param {RegExp} name @returns {string} the path of the one file with such a name */
+function onlyOne(folder, name) {
+  const found = readdirSync(folder).filter((each) => name.test(each));
+  if (found.length !== 1) throw new Error(`one file ${name} was expected, and there are ${found.length}`);
+  return join(folder, found[0]);
+}
+
+/**
+ * Writes those of node's files that aren't there yet, or that are another node's: a run may read the others.
+ * @param {Source} source
+ * @param {string} into
+ */
+function fetchNode({ files }, into) {
+  const natives = /** @type {any} */ (process).binding("natives");
+  for (const name of files) {
+    const path = join(into, `${name}.js`);
+    if (existsSync(path) && readFileSync(path, "utf8") === natives[name]) continue;
+    mkdirSync(dirname(path), { recursive: true });
+    writeFileSync(path, natives[name]);
+  }
+}
+
+/** How TypeScript is turned into JavaScript: the types of what isn't there are left out. */
+const TSC = ["--target", "es2022", "--module", "es2022", "--isolatedModules", "--noResolve", "--inlineSourceMap"];
+
+/**
+ * Turns the files in TypeScript into modules, in the folder `made`, and puts others beside them.
+ * @param {Source} source
+ * @param {string} into
+ */
+function compile({ files, made = {} }, into) {
+  const out = join(into, "made");
+  const typed = files.filter((file) => file.endsWith(".ts"));
+  const { error } = spawnSync("tsc", [...TSC, "--outDir", out, ...typed], { cwd: into });
+  if (error !== undefined) throw new Error(`tsc is needed for ${into}: ${error.message}`);
+  for (const [name, text] of Object.entries(made)) writeFileSync(join(out, name), text);
+}
+
+/** @type {Record<Source["kind"], (source: Source, into: string, room: string) => void>} */
+const FETCH = {
+  node: fetchNode,
+  deb: ({ name, files, strip = 0 }, into, room) => {
+    run("apt-get", ["download", name ?? ""], room);
+    const words = ["-C", into, `--strip-components=${strip}`, ...files];
+    run("sh", ["-c", `dpkg-deb --fsys-tarfile *.deb | tar x "$@"`, "sh", ...words], room);
+  },
+  source: (source, into, room) => {
+    const { name, files } = source;
+    run("apt-get", ["source", "--download-only", "--tar-only", name ?? ""], room);
+    const archive = onlyOne(room, /\.orig\.tar\.\w+$/);
+    const wanted = files.map((file) => `*/${file}`);
+    run("tar", ["xf", archive, "-C", into, "--strip-components=1", "--wildcards", ...wanted], room);
+    if (source.made !== undefined) compile(source, into);
+  },
+};
+
+/** @param {Source} source @returns {boolean} whether its files are there */
+export function isFetched(source) {
+  const folder = folderOf(source);
+  return existsSync(folder) && readdirSync(folder).length > 0;
+}
+
+/** @param {Source} source whose files are fetched anew, except node's own, if they are there */
+export function fetchSource(source) {
+  const into = folderOf(source);
+  if (source.kind !== "node") rmSync(into, { recursive: true, force: true });
+  mkdirSync(into, { recursive: true });
+  const room = mkdtempSync(fileURLToPath(new URL("archive-", FETCHED)));
+  try {
+    FETCH[source.kind](source, into, room);
+  } finally {
+    rmSync(room, { recursive: true, force: true });
+  }
+}

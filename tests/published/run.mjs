@@ -1,0 +1,98 @@
+// Tries the published programs of table.mjs that are fetched, and prints a line for each.
+//
+// usage: npm run published [-- NAME ..]
+//
+// A program fails here if a run of a right one fails, if the known bug of another isn't found, or if a run fails by
+// anything else. What isn't fetched is skipped, and what the recorder refuses isn't counted. The last line is
+// `N passed, M failed`. The status is 0 if none failed.
+
+import { spawnSync } from "node:child_process";
+import { fileURLToPath } from "node:url";
+import { fetchSource, isFetched } from "./fetching.mjs";
+import { productsOf } from "./table.mjs";
+
+const RECORDER = fileURLToPath(new URL("../../recorder/record.mjs", import.meta.url));
+
+/** @typedef {import("./table.mjs").Product} Product */
+/** @typedef {import("../../recorder/summary.d.mts").Summary} Summary */
+/** @typedef {{ text: string, runs: number, early: number, first: number }} Finding what failing runs have in common */
+
+/** @param {Product} product @returns {Summary} of its runs */
+function summaryOf({ main, seeds, options = [] }) {
+  const program = fileURLToPath(new URL(main, import.meta.url));
+  const words = ["--program", program, "--seeds", `1..${seeds}`, "--format", "json", "--program-output", "none"];
+  const how = /** @type {const} */ ({ encoding: "utf8", maxBuffer: 2 ** 28 });
+  const { status, stdout, stderr } = spawnSync(process.execPath, [RECORDER, ...words, ...options], how);
+  // It ends by another status if it was refused, or if something can't be relied on.
+  if (status !== 0 && status !== 1) throw new Error(stderr);
+  return JSON.parse(stdout);
+}
+
+/** @param {Summary} summary @returns {Finding[]} */
+const findingsOf = ({ failures, races }) => [
+  ...failures.listed.map(({ message, sources, ...rest }) => ({ ...rest, text: [...message, ...sources].join(" ") })),
+  ...races.pairs.listed.map(({ lines, ...rest }) => ({ ...rest, text: `unordered: ${lines.join(" and ")}` })),
+];
+
+/**
+ * @param {Finding[]} findings
+ * @param {import("./table.mjs").Bug[]} bugs that are known
+ * @returns {string[]} what isn't as it should be
+ */
+const wrongIn = (findings, bugs) => [
+  ...bugs.filter(({ says, rare }) => !rare && !findings.some(({ text }) => says.test(text)))
+    .map(({ what }) => `not found: ${what}`),
+  ...findings.filter(({ text }) => !bugs.some(({ says }) => says.test(text)))
+    .map(({ text, first }) => `not known, seed ${first} the first: ${text}`),
+];
+
+/**
+ * @param {Finding[]} findings
+ * @param {import("./table.mjs").Bug[]} bugs that are known
+ * @returns {string[]} those that were found
+ */
+const foundIn = (findings, bugs) => bugs.flatMap(({ what, says }) => {
+  const found = findings.filter(({ text }) => says.test(text));
+  if (found.length === 0) return [];
+  // A run that fails without the early end of a timed wait shows more.
+  const sure = found.filter(({ runs, early }) => runs > early);
+  const first = Math.min(...(sure.length > 0 ? sure : found).map((finding) => finding.first));
+  return [`found: ${what}, seed ${first} the first`];
+});
+
+/**
+ * Tries a program.
+ * @param {Product} product
+ * @returns {{ verdict: "passed" | "failed" | "refused", says: string }}
+ */
+function tried(product) {
+  const begun = performance.now();
+  const summary = summaryOf(product);
+  const speed = (1_000 * summary.runs / (performance.now() - begun)).toPrecision(2);
+  const findings = findingsOf(summary);
+  if (product.refused !== undefined && findings.length === 1 && product.refused.test(findings[0].text)) {
+    return { verdict: "refused", says: findings[0].text };
+  }
+  const wrong = wrongIn(findings, product.bugs ?? []);
+  if (summary.runs !== product.seeds) wrong.push(`only ${summary.runs} runs were made`);
+  const count = `${summary.failed} of ${summary.runs} runs failed, ${speed} runs a second`;
+  return {
+    verdict: wrong.length === 0 ? "passed" : "failed",
+    says: [count, ...foundIn(findings, product.bugs ?? []), ...wrong].join("; "),
+  };
+}
+
+const counts = { passed: 0, failed: 0, refused: 0 };
+for (const product of productsOf(process.argv.slice(2))) {
+  // The user's own node is there.
+  product.sources.filter(({ kind }) => kind === "node").forEach(fetchSource);
+  if (!product.sources.every(isFetched)) {
+    console.log(`${product.name}: skipped: fetch it by node tests/published/fetch.mjs ${product.name}`);
+    continue;
+  }
+  const { verdict, says } = tried(product);
+  counts[verdict] += 1;
+  console.log(`${product.name}: ${verdict}: ${says}`);
+}
+console.log(`${counts.passed} passed, ${counts.failed} failed`);
+process.exitCode = counts.failed === 0 ? 0 : 1;
