@@ -16,10 +16,9 @@ export function record(options: RecordOptions): Promise<Outcome>;
 /**
  * Runs the agents of a module, or a program, under the schedules of many seeds, by workers that are kept from seed to
  * seed. The outcomes come in the order of the seeds. Runs that fail, and one in `checkEvery` of the others, have all
- * members, and are checked by the simulator. Runs are made only so far ahead of the loop; and when no more is asked
- * for, as after a `break`, all workers and processes are ended. Throws `Refused` for options that can't be, and
- * `NoSabsim`; fails with `Refused` for a module that can't be, with a `Difference`, with `LostJob`, with `KeepsGlobals`
- * for a program alone, and with its signal's reason.
+ * members, and are checked by the simulator. When no more is asked for, as after a `break`, all workers and processes
+ * are ended. Throws `Refused` for options that can't be, and `NoSabsim`; fails with `Refused` for a module that can't
+ * be, with a `Difference`, with `LostJob`, with `KeepsGlobals` for a program alone, and with its signal's reason.
  */
 export function explore(options: ExploreOptions): AsyncGenerator<Outcome, void, void>;
 
