@@ -1,17 +1,13 @@
 // ESLint on four files, by two threads. Each takes the next file by a shared counter, and main gathers what they found.
 
-import { mkdirSync, writeFileSync } from "node:fs";
 import { createRequire } from "node:module";
-import { basename, join } from "node:path";
+import { basename } from "node:path";
 import { fileURLToPath } from "node:url";
 import { FETCHED } from "./folder.mjs";
 
 const NAMES = ["a", "b", "c", "d"];
 
-const cwd = fileURLToPath(new URL("linted/", FETCHED));
-mkdirSync(cwd, { recursive: true });
-for (const name of NAMES) writeFileSync(join(cwd, `${name}.js`), `let ${name} = 1;\nif (${name} == 1) unknown();\n`);
-
+const cwd = fileURLToPath(new URL("linted/", import.meta.url));
 const { ESLint } = createRequire(new URL("chromium/third_party/node/node_modules/main.js", FETCHED))("eslint");
 const rules = { "no-undef": "error", eqeqeq: "error" };
 const eslint = new ESLint({ cwd, concurrency: 2, overrideConfigFile: true, overrideConfig: { rules } });

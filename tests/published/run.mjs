@@ -17,14 +17,13 @@ const RECORDER = fileURLToPath(new URL("../../recorder/record.mjs", import.meta.
 /** @typedef {import("../../recorder/summary.d.mts").Summary} Summary */
 /** @typedef {{ text: string, runs: number, early: number, first: number }} Finding what failing runs have in common */
 
-/** @param {Product} product @returns {Summary} of its runs */
+/** @param {Product} product @returns {Summary | string} of its runs, or why it can't be relied on */
 function summaryOf({ main, seeds, options = [] }) {
   const program = fileURLToPath(new URL(main, import.meta.url));
   const words = ["--program", program, "--seeds", `1..${seeds}`, "--format", "json", "--program-output", "none"];
   const how = /** @type {const} */ ({ encoding: "utf8", maxBuffer: 2 ** 28 });
   const { status, stdout, stderr } = spawnSync(process.execPath, [RECORDER, ...words, ...options], how);
-  // It ends by another status if it was refused, or if something can't be relied on.
-  if (status !== 0 && status !== 1) throw new Error(stderr);
+  if (status !== 0 && status !== 1) return stderr.trim();
   return JSON.parse(stdout);
 }
 
@@ -68,6 +67,7 @@ const foundIn = (findings, bugs) => bugs.flatMap(({ what, says }) => {
 function tried(product) {
   const begun = performance.now();
   const summary = summaryOf(product);
+  if (typeof summary === "string") return { verdict: "failed", says: summary };
   const speed = (1_000 * summary.runs / (performance.now() - begun)).toPrecision(2);
   const findings = findingsOf(summary);
   if (product.refused !== undefined && findings.length === 1 && product.refused.test(findings[0].text)) {

@@ -1,0 +1,2 @@
+let b = 1;
+if (b == 1) unknown();

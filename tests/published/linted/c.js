@@ -1,0 +1,2 @@
+let c = 1;
+if (c == 1) unknown();

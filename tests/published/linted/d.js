@@ -1,0 +1,2 @@
+let d = 1;
+if (d == 1) unknown();
