@@ -1,7 +1,6 @@
 // What an outcome has of a run's script: the script and its report, or why there is none, and what its calls returned.
 
 import { reportText } from "../../script/report.mjs";
-import { ownCalls } from "./transcript.mjs";
 
 /** @typedef {import("./outcome.mjs").Outcome} Outcome */
 /** @typedef {import("./fitting.mjs").Fitted} Fitted */
@@ -15,8 +14,8 @@ import { ownCalls } from "./transcript.mjs";
  */
 export function addAnswers(outcome, { transcript }, bytes, agents) {
   outcome.bytes = bytes;
-  const own = Array.from({ length: agents }, (_, agent) => ownCalls(transcript, agent));
-  outcome.answers = own.map((calls) => calls.map(({ answer }) => answer));
+  const own = Array.from({ length: agents }, (_, agent) => transcript.calls[agent].filter(({ isOwn }) => isOwn));
+  outcome.answers = own.map((calls) => calls.map((call) => (call.standsFor ?? call).answer));
 }
 
 /**
