@@ -192,7 +192,7 @@ export interface Outcome {
   /** Why there is no script. */
   noScript?: string;
   /** Of a program's run that shares more memory than a script can have: which bytes of its buffers stand where. */
-  windows?: Window[];
+  windows?: MemoryWindow[];
   /** What sabsim must answer. */
   report?: string;
   /**
@@ -247,7 +247,7 @@ export interface Outcome {
 }
 
 /** Bytes of a program's buffer, from `from` to `to` - 1, that stand in a block of the script and of the trace. */
-export interface Window {
+export interface MemoryWindow {
   /** The number by which texts call the buffer, and the line where it was made; empty if that isn't known. */
   buffer: number;
   name: string;

@@ -3,7 +3,7 @@
 import { explore, record, Difference, KeepsGlobals, LostJob, NoSabsim, Refused } from "sabsim";
 import type { Accesses, Agent, AgentRun, Ending, ExploreOptions, Outcome, Race, RaceSide } from "sabsim";
 import type { Kind, NamedPart, NamedPlace, OnlyByTime, RecordOptions, Setup, Shortened, Standing } from "sabsim";
-import type { ManyRuns, OfModule, OfProgram, OneRun, RunOptions, Summary, WithBuffers } from "sabsim";
+import type { ManyRuns, MemoryWindow, OfModule, OfProgram, OneRun, RunOptions, Summary, WithBuffers } from "sabsim";
 
 const kind: Kind = "Uint8";
 const slots: NamedPlace = [kind, 1];
@@ -66,6 +66,9 @@ const waitText = ({ agent, line, milliseconds, block, byte }: OnlyByTime): strin
 const standingText = ({ agent, does, call, place, block, byte, file, line, column }: Standing): string =>
   [agent, does === "waits", call ?? "none", place ?? "unnamed", block, byte, file ?? "unknown", line, column].join(" ");
 
+const windowText = ({ buffer, name, from, to, block, byte }: MemoryWindow): string =>
+  [buffer, name, from, to, block, byte].join(" ");
+
 const accessText = ({ arrays, made }: Accesses): string => [
   ...arrays.map(({ name, kind, block, offset, length }) => `${name} ${kind} ${block} ${offset} ${length}`),
   ...made.map(([event, array, value]) => `${event} ${array} ${value ?? "none"}`),
@@ -84,7 +87,7 @@ function summary(outcome: Outcome): string {
   const stands = standing.map(standingText);
   const tasks = (outcome.tasks ?? []).map(({ event, agent, text, source }) => `${event} ${agent} ${text} ${source ?? "unknown"}`);
   return [...numbers, ...texts, ...bytes, ...answered, ...stands, script?.length, scriptHolds, noScript, report, trace,
-    ...unrecorded, ...tasks, ...(outcome.threads ?? []), remembers?.seed, remembers?.differs, remembers?.was, remembers?.is, remembers?.threw].join(" ");
+    ...unrecorded, ...tasks, ...(outcome.threads ?? []), ...(outcome.windows ?? []).map(windowText), remembers?.seed, remembers?.differs, remembers?.was, remembers?.is, remembers?.threw].join(" ");
 }
 
 export async function told(): Promise<string> {
