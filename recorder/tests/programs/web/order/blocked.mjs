@@ -10,8 +10,8 @@ const next = () => new Promise((done) => { worker.onmessage = ({ data }) => done
 worker.postMessage(words);
 lines.push(await next());
 worker.postMessage("go on");
-Atomics.store(words, 0, 1);
-Atomics.notify(words, 0);
+// The worker may not sleep yet.
+while (Atomics.notify(words, 0) === 0) await new Promise((done) => setTimeout(done, 1));
 lines.push(await next());
 lines.push(await next());
 try { Atomics.wait(words, 0, 1, 0); } catch (error) { lines.push(`${error.name}: ${error.message}`); }
