@@ -198,7 +198,7 @@ describe("a notify in a script", () => {
         const wait = () => Atomics.waitAsync(words, 0, 0).value;
         const waits = [wait(), wait()];
         new Worker(new URL("./worker.mjs", import.meta.url), { workerData: words });
-        // The worker sleeps when nothing else can move; and whoever is woken has gone on before the next notify.
+        // The worker sleeps when nothing else can move. A thread that is woken goes on before the next notify.
         const others = () => new Promise((done) => setTimeout(done, 5_000));
         await others();
         waits.push(wait());
@@ -260,7 +260,7 @@ describe("how many helpers there can be", () => {
   });
 });
 
-describe("what is told of a run with helpers", () => {
+describe("what texts say about a run with helpers", () => {
   const FILES = {
     "main.mjs": `import { Worker } from "node:worker_threads";
 const words = new Int32Array(new SharedArrayBuffer(16));

@@ -28,7 +28,7 @@ export class Cases {
     this.options = { ...checked, checks: true, checkEvery: 1, sabsim: CHECKER, fresh: false };
   }
 
-  /** @param {number} at which case @returns {Promise<Checked>} what its run comes to, checked by the simulator */
+  /** @param {number} at which case @returns {Promise<Checked>} the outcome of its run, checked by the simulator */
   outcomeOf(at) {
     const outcome = this.#rest.then(() => this.#tried(at));
     this.#rest = outcome.catch(() => {});

@@ -74,7 +74,7 @@ export class WebEnds extends Ends {
   }
 
   /**
-   * An error comes to this thread's global object.
+   * Dispatches an error at this thread's global object.
    * @param {Problem} problem
    * @param {unknown} error as the listeners get it
    * @param {boolean} [isTask] whether a task brings it, and no code of the program runs

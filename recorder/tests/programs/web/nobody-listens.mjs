@@ -1,4 +1,4 @@
-// Wrong: the worker throws if it is asked before it is told the factor, and nobody listens to its errors.
+// Wrong: the worker throws if a question comes before the factor, and nobody listens to its errors.
 const worker = new Worker("multiplies.mjs", { type: "module" });
 const told = new BroadcastChannel("factors");
 worker.onmessage = ({ data }) => {
