@@ -383,14 +383,14 @@ describe("windows", () => {
   it("have views with names of their own, of at most 23 characters", () => {
     const window = (/** @type {number} */ buffer, /** @type {number} */ from) =>
       ({ buffer, from, to: from + 64, block: 0, byte: 8 });
-    const called = ["../lib/ring.mjs:12", "init.mjs:3, number 2", "", "a-very-long-name-of-a-file.mjs:104"];
+    const called = ["../lib/ring.mjs:12", "init.mjs:3, number 2", "", "a-very-long-name-of-a-file.mjs:104", "waitAsync_2_of:3"];
     const names = windowNames(new Map([
       [window(0, 0), [4, 5]], [window(0, 640), [8]], [window(1, 0), [1]], [window(2, 64), [1]],
-      [window(3, 1_048_512), [1]],
+      [window(3, 1_048_512), [1]], [window(4, 0), [1]],
     ]), called);
     assert.deepEqual(names.map(({ name, kind, length }) => [name, kind, length]), [
       ["ring_mjs_12", 4, 32], ["ring_mjs_12_2", 5, 16], ["ring_mjs_12_at640", 8, 8], ["mjs_3_n2", 1, 64],
-      ["buffer_2_at64", 1, 64], ["file_mjs_104_at1048512", 1, 64],
+      ["buffer_2_at64", 1, 64], ["file_mjs_104_at1048512", 1, 64], ["2_of_3", 1, 64],
     ]);
     assert.ok(names.every(({ offset, block }) => offset === 8 && block === 0));
   });

@@ -5,7 +5,7 @@ import { SIZES } from "../../script/kinds.mjs";
 import { MOST_CHARACTERS } from "../options/names.mjs";
 
 /** What the names of other views begin with, and what is left of a word that was cut. */
-const OF_OTHERS = /^(?:_|ordinary_|init_)+/;
+const OF_OTHERS = /^(?:_|ordinary_|init_|waitAsync_)+/;
 
 /** @typedef {import("../options/names.mjs").Name} Name */
 /** @typedef {import("./windows.mjs").Window} Window */
