@@ -383,7 +383,9 @@ describe("windows", () => {
   it("have views with names of their own, of at most 23 characters", () => {
     const window = (/** @type {number} */ buffer, /** @type {number} */ from) =>
       ({ buffer, from, to: from + 64, block: 0, byte: 8 });
-    const called = ["../lib/ring.mjs:12", "init.mjs:3, number 2", "", "a-very-long-name-of-a-file.mjs:104", "waitAsync_2_of:3"];
+    const called = [
+      "../lib/ring.mjs:12", "init.mjs:3, number 2", "", "a-very-long-name-of-a-file.mjs:104", "waitAsync_2_of:3",
+    ];
     const names = windowNames(new Map([
       [window(0, 0), [4, 5]], [window(0, 640), [8]], [window(1, 0), [1]], [window(2, 64), [1]],
       [window(3, 1_048_512), [1]], [window(4, 0), [1]],
