@@ -1,10 +1,14 @@
-// Which threads of a program are kept for the next run: all whose code is at no call when they end. Others are replaced.
+// Which threads of a program are kept for the next run: all that can leave their code. Others are replaced. When a thread
+// ends, none of its code runs any more.
 
 import assert from "node:assert/strict";
-import { describe, it } from "node:test";
+import { readFileSync } from "node:fs";
+import { join } from "node:path";
+import { after, before, describe, it } from "node:test";
 import { pathToFileURL } from "node:url";
 import { defaultsOf } from "../lib/options/table.mjs";
 import { ProgramGroup } from "../lib/program/group.mjs";
+import { temporaryFolder } from "./helpers/common.mjs";
 import { programOf } from "./helpers/whole-programs.mjs";
 
 const MAIN = `import { Worker } from "node:worker_threads";
@@ -13,7 +17,18 @@ const started = () => new Worker(new URL("./worker.mjs", import.meta.url), { wor
 `;
 const WORKER = 'import { parentPort, workerData } from "node:worker_threads";\n';
 const EXITS = { "main.mjs": `${MAIN}started();`, "worker.mjs": "process.exit(3);" };
+const LEAVES_TICK = { ...EXITS, "worker.mjs": "process.nextTick(() => {});\nprocess.exit(3);" };
 const ANSWERS = `${WORKER}parentPort.on("message", (value) => parentPort.postMessage(value));`;
+
+/**
+ * @param {string} module the URL of a program
+ * @param {{ seconds?: number, web?: boolean }} [options]
+ * @returns {Promise<ProgramGroup>}
+ */
+async function opened(module, { seconds = 20, web = false } = {}) {
+  const options = { ...defaultsOf("record"), isProgram: true, seconds, args: [], web, module };
+  return /** @type {ProgramGroup} */ (await ProgramGroup.open(options));
+}
 
 /**
  * Opens a group for a program, has something done with it, and closes it.
@@ -21,12 +36,11 @@ const ANSWERS = `${WORKER}parentPort.on("message", (value) => parentPort.postMes
  * @param {import("node:test").TestContext} context
  * @param {Record<string, string>} files
  * @param {(group: ProgramGroup) => Promise<T>} act
+ * @param {{ seconds?: number, web?: boolean }} [options]
  * @returns {Promise<T>}
  */
-async function withGroup(context, files, act) {
-  const module = pathToFileURL(programOf(context, files)).href;
-  const options = { ...defaultsOf("record"), isProgram: true, seconds: 20, args: [], module };
-  const group = /** @type {ProgramGroup} */ (await ProgramGroup.open(options));
+async function withGroup(context, files, act, options = {}) {
+  const group = await opened(pathToFileURL(programOf(context, files)).href, options);
   try {
     return await act(group);
   } finally {
@@ -38,17 +52,65 @@ async function withGroup(context, files, act) {
  * Makes a run, and says which threads are others afterwards.
  * @param {import("node:test").TestContext} context
  * @param {Record<string, string>} files
- * @param {{ ending?: string, isFresh?: boolean }} [how]
+ * @param {{ ending?: string, isFresh?: boolean, seconds?: number }} [how]
  * @returns {Promise<number[]>} their numbers
  */
-function replacedIn(context, files, { ending = "finished", isFresh = false } = {}) {
+function replacedIn(context, files, { ending = "finished", isFresh = false, ...options } = {}) {
   return withGroup(context, files, async (group) => {
     const before = [...group.agents];
     const { outcome } = await group.one({ seed: 1, whole: false, isSilent: true, isFresh });
     assert.equal(outcome.ending, ending, outcome.detail);
     return before.flatMap((thread, agent) => (group.agents[agent] === thread ? [] : [agent]));
-  });
+  }, options);
 }
+
+/** What a worker leaves undone when it ends, each of which would write a letter. `end` ends it. */
+const LEFT = {
+  "a catch": "try { end(); } catch { write('a'); }",
+  "a finally": "try { end(); } finally { write('b'); }",
+  "an iterator's return": "for (const _ of { [Symbol.iterator]() { return this; }, next: () => ({ done: false }), " +
+    "return: () => { write('c'); return {}; } }) end();",
+  "a callback of the language's own functions": "[2, 1].sort(() => { end(); write('d'); });",
+  "a promise's job": "Promise.resolve().then(() => write('e')); end();",
+  "jobs behind the one that ends": "const [one, other] = [Promise.resolve(), Promise.resolve()]; " +
+    "one.then(() => end()); other.then(() => write('f')); await other; write('g');",
+  "a tick": "process.nextTick(() => write('h')); end();",
+  "a tick behind the one that ends": "process.nextTick(() => end()); process.nextTick(() => write('i'));",
+  "what queueMicrotask calls": "queueMicrotask(() => write('j')); end();",
+  "a rejection": "process.on('unhandledRejection', () => write('k')); Promise.reject(new Error()); end();",
+  "a listener behind the one that ends": "parentPort.on('message', () => end()); " +
+    "parentPort.on('message', () => write('l'));",
+  "a listener in whose microtask it ends": "parentPort.on('message', async () => { await 1; end(); write('m'); });",
+  "a timer": "setTimeout(() => write('n'), 1); end();",
+  "an import": "import('./other.mjs').then(() => write('o')); end();",
+};
+
+/** How a worker ends. */
+const BY = {
+  "process.exit": "process.exit(3)",
+  "what nobody catches, in a task of its own": "(setImmediate(() => { throw new Error('wrong'); }), Atomics.wait(words, 0, 0))",
+  "a wait for good": "Atomics.wait(words, 0, 0)",
+};
+
+const LEAVING_MAIN = `import { Worker } from "node:worker_threads";
+const words = new Int32Array(new SharedArrayBuffer(4));
+const worker = new Worker(new URL("./worker.mjs", import.meta.url), { workerData: words, argv: process.argv.slice(2) });
+worker.on("error", () => {});
+worker.on("exit", () => clearTimeout(end));
+worker.postMessage(1);
+const end = setTimeout(() => worker.terminate(), 2_000);`;
+
+/** @param {string} body @param {string} end @returns {Record<string, string>} */
+const leaving = (body, end) => ({
+  "main.mjs": LEAVING_MAIN,
+  "other.mjs": "",
+  "worker.mjs": `import { appendFileSync } from "node:fs";
+import { parentPort, workerData as words } from "node:worker_threads";
+const write = (letter) => appendFileSync(process.argv[2], letter);
+const end = () => ${end};
+write("<");
+${body}`,
+});
 
 describe("a thread is kept", { concurrency: 3 }, () => {
   it("if it ends by itself", async (context) => {
@@ -69,6 +131,28 @@ describe("a thread is kept", { concurrency: 3 }, () => {
     assert.deepEqual(await replacedIn(context, { "main.mjs": main, "worker.mjs": ANSWERS }), []);
   });
 
+  it("if it is terminated while it waits", async (context) => {
+    const main = `${MAIN}const worker = started();\nworker.on("message", () => worker.terminate());`;
+    const worker = `${WORKER}parentPort.postMessage("waits");\nAtomics.wait(workerData, 0, 0);`;
+    assert.deepEqual(await replacedIn(context, { "main.mjs": main, "worker.mjs": worker }), []);
+  });
+
+  it("if the run ends in a deadlock, with all others that are at a call", async (context) => {
+    const wait = "Atomics.wait(words, 0, 0);";
+    const files = { "main.mjs": `${MAIN}started();\n${wait}`, "worker.mjs": `${WORKER}const words = workerData;\n${wait}` };
+    assert.deepEqual(await replacedIn(context, files, { ending: "deadlock" }), []);
+  });
+
+  it("if it exits by process.exit", async (context) => {
+    assert.deepEqual(await replacedIn(context, EXITS), []);
+  });
+
+  it("if it throws", async (context) => {
+    const main = `${MAIN}started().on("error", () => { throw new Error("so do I"); });`;
+    const files = { "main.mjs": main, "worker.mjs": "throw new Error('wrong');" };
+    assert.deepEqual(await replacedIn(context, files, { ending: "failed" }), []);
+  });
+
   it("if the first thread ends before it", async (context) => {
     const main = `${MAIN}const worker = started();\nworker.unref();\nworker.postMessage(1);`;
     assert.deepEqual(await replacedIn(context, { "main.mjs": main, "worker.mjs": ANSWERS }), []);
@@ -76,20 +160,18 @@ describe("a thread is kept", { concurrency: 3 }, () => {
 });
 
 describe("a thread is replaced", { concurrency: 3 }, () => {
-  it("if it is terminated while it waits", async (context) => {
-    const main = `${MAIN}const worker = started();\nworker.on("message", () => worker.terminate());`;
-    const worker = `${WORKER}parentPort.postMessage("waits");\nAtomics.wait(workerData, 0, 0);`;
-    assert.deepEqual(await replacedIn(context, { "main.mjs": main, "worker.mjs": worker }), [1]);
+  it("if it has left a tick", async (context) => {
+    assert.deepEqual(await replacedIn(context, LEAVES_TICK), [1]);
   });
 
-  it("if the run ends in a deadlock, with all others that are at a call", async (context) => {
-    const wait = "Atomics.wait(words, 0, 0);";
-    const files = { "main.mjs": `${MAIN}started();\n${wait}`, "worker.mjs": `${WORKER}const words = workerData;\n${wait}` };
-    assert.deepEqual(await replacedIn(context, files, { ending: "deadlock" }), [0, 1]);
+  it("if it has left what queueMicrotask calls", async (context) => {
+    const worker = "setImmediate(() => { queueMicrotask(() => {}); process.exit(3); });";
+    assert.deepEqual(await replacedIn(context, { ...EXITS, "worker.mjs": worker }), [1]);
   });
 
-  it("if it exits by process.exit", async (context) => {
-    assert.deepEqual(await replacedIn(context, EXITS), [1]);
+  it("if its code makes no call", async (context) => {
+    const files = { ...EXITS, "worker.mjs": "for (;;);" };
+    assert.deepEqual(await replacedIn(context, files, { ending: "bound", seconds: 1 }), [1]);
   });
 
   it("before a run that wants fresh threads, also if it takes no part", async (context) => {
@@ -110,7 +192,7 @@ describe("a group has begun", { concurrency: 3 }, () => {
   it("none that stands ready to take a place, until all were lost three times", async (context) => {
     // Besides those with a number there is the referee's.
     const ready = (group) => group.threads.size - group.agents.length - 1;
-    await withGroup(context, EXITS, async (group) => {
+    await withGroup(context, LEAVES_TICK, async (group) => {
       const found = [ready(group)];
       for (let seed = 1; seed <= 11; seed += 1) {
         await group.one({ seed, whole: false, isSilent: true });
@@ -119,5 +201,54 @@ describe("a group has begun", { concurrency: 3 }, () => {
       // Each run loses one of three threads. From the tenth on three have begun, of which one is taken.
       assert.deepEqual(found, [...Array(10).fill(0), 2, 2]);
     });
+  });
+});
+
+/** In a browser the jobs of promises come between two listeners. What goes on after the end spoils the next run. */
+const WEB = {
+  "main.mjs": `const worker = new Worker("./worker.js");
+worker.postMessage(new Int32Array(new SharedArrayBuffer(4)));
+setTimeout(() => worker.terminate(), 100);`,
+  "worker.js": `if (Array.isSpoilt) throw new Error("it has gone on");
+addEventListener("message", ({ data }) => Promise.resolve().then(() => Atomics.wait(data, 0, 0)));
+addEventListener("message", () => { Array.isSpoilt = true; });`,
+};
+
+describe("when a worker ends, it leaves undone", () => {
+  /** @type {ProgramGroup} in whose threads all of these are run */
+  let group;
+  before(async () => { group = await opened("file:///nothing.mjs"); });
+  after(() => group.close());
+
+  it("a listener behind the one in whose job it ends, in a browser", async (context) => {
+    await withGroup(context, WEB, async (group) => {
+      for (let seed = 1; seed <= 3; seed += 1) {
+        const { outcome } = await group.one({ seed, whole: false, isSilent: true });
+        assert.equal(outcome.ending, "finished", outcome.detail);
+      }
+    }, { web: true });
+  });
+
+  /** @param {import("node:test").TestContext} context @param {string} body @param {string} end @returns {Promise<string>} */
+  async function written(context, body, end) {
+    const file = join(temporaryFolder(context), "written");
+    group.enter(pathToFileURL(programOf(context, leaving(body, end))).href, [file]);
+    for (let seed = 1; seed <= 3; seed += 1) await group.one({ seed, whole: false, isSilent: true });
+    return readFileSync(file, "utf8");
+  }
+
+  for (const [by, end] of Object.entries(BY)) {
+    for (const [what, body] of Object.entries(LEFT)) {
+      it(`${what}, by ${by}, while its module is evaluated and in a task`, async (context) => {
+        assert.equal(await written(context, body, end), "<<<");
+        assert.equal(await written(context, `setImmediate(async () => { ${body} });`, end), "<<<");
+      });
+    }
+  }
+
+  it("nothing of the next run", async (context) => {
+    const body = "setImmediate(() => queueMicrotask(() => process.nextTick(() => { write('p'); end(); })));";
+    assert.equal(await written(context, body, "process.exit(3)"), "<p<p<p");
+    assert.equal(await written(context, body, "Atomics.wait(words, 0, 0)"), "<p<p<p");
   });
 });

@@ -2,6 +2,7 @@
 
 declare module "node:v8" {
   interface PromiseHooks {
+    onBefore(hook: (promise: Promise<unknown>) => void): () => void;
     onInit(hook: (promise: Promise<unknown>, parent: Promise<unknown> | undefined) => void): void;
     onSettled(hook: (promise: Promise<unknown>) => void): void;
   }

@@ -77,7 +77,7 @@ declare module "node:inspector" {
     connect(): void;
     disconnect(): void;
     on(event: string, listener: (message: { params: any }) => void): this;
-    post(method: string, params: object, done?: (error: Error | null) => void): void;
+    post(method: string, params?: object, done?: (error: Error | null) => void): void;
   }
   const inspector: { url(): string | undefined };
   export default inspector;
@@ -159,9 +159,11 @@ declare module "node:assert" {
 
 declare module "node:async_hooks" {
   interface Hooks {
-    init(id: number, type: string, trigger: number, resource: object): void;
+    init?(id: number, type: string, trigger: number, resource: object): void;
+    before?(id: number): void;
   }
-  export function createHook(hooks: Hooks): { enable(): void };
+  export function createHook(hooks: Hooks): { enable(): void; disable(): void };
+  export function executionAsyncResource(): object;
   export const AsyncResource: { prototype: any };
 }
 

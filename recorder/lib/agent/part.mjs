@@ -171,7 +171,7 @@ export class Part {
   outOfStack() {
     const { board } = this.table;
     if (!board.turn.isInCall(this.agent) && !board.end.hasEnded()) board.turn.sleep(this.agent);
-    if (board.end.hasEnded() || board.end.isOver()) this.over();
+    if (board.end.hasEnded() || board.isOverFor(this.agent)) this.over();
     this.end("failed", `agent ${this.agent} ran out of stack in a call of Atomics`);
   }
 
@@ -196,7 +196,8 @@ export class Part {
   /** @returns {never} */
   over() {
     if (this.isOver) this.caught += 1;
-    if (this.caught > MOST_CAUGHT || this.table.parks === true) this.table.board.turn.park(this.agent);
+    this.table.leave?.();
+    if (this.caught > MOST_CAUGHT) this.table.board.turn.park(this.agent);
     this.isOver = true;
     this.isInside = false;
     throw new RunIsOver();

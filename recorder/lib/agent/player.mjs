@@ -359,7 +359,7 @@ export class Player {
   untilTurn() {
     const { board } = this.table;
     if (!board.pass(this.agent)) board.turn.sleep(this.agent);
-    if (board.end.isOver()) this.part.sentHome();
+    if (board.isOverFor(this.agent)) this.part.sentHome();
   }
 
   /** @param {string | undefined} problem why the agent's code ended, where it didn't come to its end */

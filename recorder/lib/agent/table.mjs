@@ -15,7 +15,7 @@
  * @property {boolean} canBlock
  * @property {"watch" | "store" | "refuse"} ordinary
  * @property {boolean} [goesBeyond] whether its run may have more calls, views and text than a script can have
- * @property {boolean} [parks] whether its thread sleeps for good when its run is over
+ * @property {() => never} [leave] breaks off the code of a program's thread when its part in a run is over
  */
 
 export {};

@@ -110,6 +110,11 @@ export class Board {
     }
   }
 
+  /** @param {number} agent @returns {boolean} whether its part is over: the run is, or another thread has ended it */
+  isOverFor(agent) {
+    return this.end.isOver() || this.line.phase(agent) === PHASE.FINISHED;
+  }
+
   /** @returns {number} one of `ORDER`: what agents are started for */
   ordered() {
     return load(this.words, WORD.ORDER);

@@ -97,16 +97,6 @@ export class Turn {
     notify(words, word);
   }
 
-  /**
-   * An agent never goes on, and its worker can't begin again: it has come to its end, or another one has ended it.
-   * @param {number} agent
-   */
-  lay(agent) {
-    const word = wordOf(agent, AGENT_WORD.STATUS);
-    store(this.words, word, STATUS.PARKED);
-    notify(this.words, word);
-  }
-
   /** @param {number} agent that sleeps */
   wake(agent) {
     const word = wordOf(agent, AGENT_WORD.GO);

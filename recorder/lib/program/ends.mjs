@@ -20,6 +20,7 @@ const LISTENER_THREW = 7;
  * @property {import("./ports.mjs").Ports} ports
  * @property {import("./threads.mjs").Threads} threads
  * @property {() => string} here where the program's code is
+ * @property {() => never} leave leaves all code of the program that runs now
  */
 
 /** @typedef {"uncaughtException" | "unhandledRejection"} Origin */
@@ -160,12 +161,11 @@ export class Ends {
 
   /** @param {number} code @param {string} text @returns {never} the program's code doesn't go on */
   #go(code, text) {
-    const { agent, player: { part, table: { board } } } = this.leaving;
+    const { agent, player: { part, table: { board } }, leave } = this.leaving;
     if (agent !== 0) {
       this.#depart(code);
-      board.turn.lay(agent);
       board.pass(agent);
-      return board.turn.park(agent);
+      return leave();
     }
     part.enter();
     if (code === 0) part.end("finished", "");

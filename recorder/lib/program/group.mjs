@@ -1,6 +1,6 @@
 // A group of threads that run a program, and the thread of their referee. Some stand ready; a run that needs more gets
-// more. A thread that ended amid its code can't begin again: another one takes its place. If that comes again and
-// again, others have begun before.
+// more. A thread that can't leave its code can't begin again: another one takes its place. If that comes again and again,
+// others have begun before.
 
 import { MessageChannel } from "node:worker_threads";
 import { SCRIPT_LIMITS } from "../../script/limits.mjs";

@@ -8,7 +8,7 @@ import { WORD } from "../memory/layout.mjs";
 import { Random } from "../memory/random.mjs";
 import { foreignWork } from "./refusals.mjs";
 
-const { setImmediate: turnLater } = timers;
+const { setImmediate: turnLater, clearImmediate: turnNever } = timers;
 /** @type {any} node's, with more than is written down of it */
 const own = process;
 /** @type {() => string[]} */
@@ -38,6 +38,7 @@ const HASTY = 0.5;
  * @property {import("./ends.mjs").Ends} ends
  * @property {import("../memory/keepers.mjs").Keepers} keepers
  * @property {(why: string) => never} refuse ends the run
+ * @property {() => never} leave leaves all code of the run
  * @property {() => void} goHome is called when the thread's part in the run is over, and none of its code goes on
  * @property {Set<{ refed: boolean, where: string }>} children workers that this thread has started
  * @property {import("../memory/task-notes.mjs").TaskNotes} notes of tasks that are taken up
@@ -54,6 +55,12 @@ export class Loop {
 
   /** Whether what waits in ports is looked at anew: it comes before the immediates. In a module the loop has begun. */
   #looks = false;
+
+  /** @type {any} when it turns next */
+  #next = undefined;
+
+  /** Whether the code of the run is being left. */
+  #isHalted = false;
 
   /** @type {Map<object, number>} how many messages of each port come before the next immediate */
   #before = new Map();
@@ -88,6 +95,7 @@ export class Loop {
     this.#isTurning = this.served.hasPhases;
     this.#looks = false;
     this.#before = new Map();
+    this.#isHalted = false;
   }
 
   /** Begins when the real loop turns. */
@@ -95,7 +103,13 @@ export class Loop {
     const { board, agent } = this.served.moves;
     this.random.seed(board.clock.seed());
     this.random.branch(TASKS + agent);
-    turnLater(this.#turn);
+    this.#next = turnLater(this.#turn);
+  }
+
+  /** The thread's part in the run is over amid its code. */
+  halt() {
+    this.#isHalted = true;
+    turnNever(this.#next);
   }
 
   #turn = () => {
@@ -104,8 +118,8 @@ export class Loop {
       this.drain();
       if (ends.isDone()) return this.served.goHome();
       const active = resources();
-      if (active.some((each) => READING.has(each))) {
-        turnLater(this.#turn);
+      if (isReading(active)) {
+        this.#next = turnLater(this.#turn);
         return;
       }
       const foreign = foreignWork(active);
@@ -136,6 +150,15 @@ export class Loop {
         again = !this.served.ends.isOver;
       }
     }
+    // Of code in a microtask the engine has left the microtask alone.
+    if (this.#isHalted) this.served.leave();
+  }
+
+  /** Runs ticks and microtasks of node's. @returns {boolean} whether node has nothing else under way for the thread */
+  isSwept() {
+    runTicks();
+    const active = resources();
+    return !isReading(active) && foreignWork(active) === undefined;
   }
 
   /** Nothing keeps the thread alive. @returns {boolean} whether it has ended */
@@ -274,6 +297,9 @@ export class Loop {
     if (likelihood > 0 && this.random.fraction() < likelihood) clock.pass(left);
   }
 }
+
+/** @param {string[]} active resources of node's @returns {boolean} */
+const isReading = (active) => active.some((each) => READING.has(each));
 
 /** @param {import("./timers.mjs").Described} timer @returns {string} */
 function taskText({ kind, milliseconds, repeats }) {

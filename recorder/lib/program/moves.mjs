@@ -220,7 +220,7 @@ export class Moves {
     const { board, agent, player: { part } } = this;
     this.count();
     if (!board.pass(agent)) board.turn.sleep(agent);
-    if (board.end.isOver() || board.line.phase(agent) === PHASE.FINISHED) {
+    if (board.isOverFor(agent)) {
       part.isPlaying = false;
       return false;
     }

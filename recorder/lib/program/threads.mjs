@@ -43,12 +43,8 @@ export class Threads {
     if (this.board.line.waitsInBlock(agent)) this.table.cut();
     this.closePorts(agent);
     this.endChildren(agent);
-    const { line, turn } = this.board;
-    // If its code is at no call, or hasn't begun, its thread can begin again.
-    const isKept = line.isIdle(agent) || !this.hasBegun(agent);
-    line.become(agent, PHASE.FINISHED);
-    if (isKept) turn.wake(agent);
-    else turn.lay(agent);
+    this.board.line.become(agent, PHASE.FINISHED);
+    this.board.turn.wake(agent);
     return true;
   }
 

@@ -1,6 +1,6 @@
 // One thread of a program. It stands ready, with all replaced that shows a program the world, until a run begins or
-// another thread starts it. Then it evaluates its module, made anew, and goes on by its event loop until it ends. If it
-// ends amid its code, it never begins again.
+// another thread starts it. Then it evaluates its module, made anew, and goes on by its event loop until it ends, or
+// amid its code until that is broken off.
 
 import buffer from "node:buffer";
 import crypto from "node:crypto";
@@ -45,6 +45,7 @@ import { refuseRest } from "./surface.mjs";
 import { Threads } from "./threads.mjs";
 import { Timers } from "./timers.mjs";
 import { putTwins } from "./twins.mjs";
+import { Unwinding } from "./unwinding.mjs";
 import { WaitAsync } from "./wait-async.mjs";
 import { WEB } from "./web/surroundings.mjs";
 
@@ -169,7 +170,6 @@ function playerOf(agent) {
     canBlock: plan.canBlock[agent],
     ordinary: "watch",
     goesBeyond: true,
-    parks: true,
   });
   return { player, blocks: new Blocks(shared.blocks, shared.copies, memory, plan.buffers) };
 }
@@ -197,7 +197,22 @@ function partsOf(player, blocks, mesh) {
   const late = {};
   const later = (/** @type {string} */ name, /** @type {() => void} */ act) => late.loop?.later(name, act);
   const ports = new Ports({ agent, table, moves, buffers, mesh, here, refuse, later });
-  const ends = new surroundings.Ends({ agent, player, ports, threads: all, here });
+  /** @type {Unwinding} */
+  const unwinding = new Unwinding({
+    stop: () => {
+      ends.isOver = true;
+      player.part.isPlaying = false;
+      // Nothing of the program listens to what ticks find.
+      restoreProcess();
+      loop.halt();
+    },
+    isSwept: () => loop.isSwept(),
+    goHome: () => after.goHome(),
+    park: () => board.turn.park(agent),
+  });
+  const { leave } = unwinding;
+  player.table.leave = leave;
+  const ends = new surroundings.Ends({ agent, player, ports, threads: all, here, leave });
   const drain = () => late.loop?.drain();
   const events = new surroundings.PortEvents({ ports, uncaught: (thrown) => ends.uncaught(thrown), drain });
   const timers = new Timers({ now: () => board.clock.now(), changed: () => {}, here: sourceOfCall });
@@ -208,7 +223,7 @@ function partsOf(player, blocks, mesh) {
   const waits = new WaitAsync({ moves, buffers, isPlaying, refuse });
   const loop = new Loop({
     moves, ports, events, timers, waits, ends, keepers, children, refuse, goHome: () => after.goHome(),
-    notes: new TaskNotes(shared.tasks), here: sourceHere, hasPhases: surroundings.hasPhases,
+    notes: new TaskNotes(shared.tasks), here: sourceHere, hasPhases: surroundings.hasPhases, leave,
   });
   late.loop = loop;
   return {

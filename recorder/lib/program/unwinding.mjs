@@ -1,0 +1,74 @@
+// How the code of a program's thread is broken off when its part in a run is over. The engine unwinds the stack as if it
+// terminated the thread: no `catch` and no `finally` of the program runs. What the code has left to be done later is
+// dropped. Then the thread can begin again. If node can't drop something, the thread sleeps for good.
+
+import { createHook, executionAsyncResource } from "node:async_hooks";
+import { Session } from "node:inspector";
+import timers from "node:timers";
+import { promiseHooks } from "node:v8";
+import { clearAsyncIdStack } from "./internals.mjs";
+
+const { setImmediate: turnLater } = timers;
+
+/** @param {any} resource of node's @returns {boolean} whether it stands for code that a program has left for later */
+const isTask = (resource) => typeof resource.callback === "function";
+
+/**
+ * @typedef {object} Unwound
+ * @property {() => void} stop nothing of the thread is recorded from now on, or begins
+ * @property {() => boolean} isSwept runs ticks and microtasks, and returns whether node has nothing else under way
+ * @property {() => void} goHome the thread can begin again
+ * @property {() => never} park the thread never goes on
+ */
+
+export class Unwinding {
+  /** @type {Session | undefined} by which the engine is asked to unwind */
+  #session = undefined;
+
+  /** @type {(() => void) | undefined} ends that each promise's job is broken off; none, if the code isn't being left */
+  #release = undefined;
+
+  /** Whether node's loop will sweep. */
+  #isNext = false;
+
+  /** @param {Unwound} unwound */
+  constructor(unwound) {
+    this.unwound = unwound;
+    // The code of a tick or of `queueMicrotask` can't be dropped. This never returns, so it doesn't run.
+    this.hook = createHook({ before: () => void (isTask(executionAsyncResource()) && unwound.park()) });
+  }
+
+  /** Leaves all code of the program that runs now. */
+  leave = /** @returns {never} */ () => {
+    this.unwound.stop();
+    // A job that the engine unwinds takes all others of its queue with it. This hook comes before the other one's.
+    this.#release ??= promiseHooks.onBefore(this.leave);
+    this.hook.enable();
+    if (!this.#isNext) turnLater(this.#sweep);
+    this.#isNext = true;
+    // What is unwound has left contexts of async_hooks open.
+    clearAsyncIdStack();
+    this.#unwind();
+  };
+
+  /** Nothing of the program is on the stack. */
+  #sweep = () => {
+    this.#isNext = false;
+    if (!this.unwound.isSwept()) this.unwound.park();
+    this.hook.disable();
+    this.#release?.();
+    this.#release = undefined;
+    this.unwound.goHome();
+  };
+
+  /** @returns {never} */
+  #unwind() {
+    if (this.#session === undefined) {
+      this.#session = new Session();
+      this.#session.connect();
+    }
+    this.#session.post("Runtime.terminateExecution");
+    // The engine looks for what it is asked each time round.
+    for (;;);
+  }
+}
