@@ -233,7 +233,10 @@ describe("when a worker ends, it leaves undone", () => {
   async function written(context, body, end) {
     const file = join(temporaryFolder(context), "written");
     group.enter(pathToFileURL(programOf(context, leaving(body, end))).href, [file]);
-    for (let seed = 1; seed <= 3; seed += 1) await group.one({ seed, whole: false, isSilent: true });
+    for (let seed = 1; seed <= 3; seed += 1) {
+      const { outcome } = await group.one({ seed, whole: false, isSilent: true });
+      assert.equal(outcome.ending, "finished", outcome.detail);
+    }
     return readFileSync(file, "utf8");
   }
 

@@ -78,6 +78,11 @@ export class Ends {
     this.isEvaluated = true;
   }
 
+  /** The thread's part in the run is over amid its code. */
+  halt() {
+    this.isOver = true;
+  }
+
   /** @returns {boolean} whether the thread takes up nothing more */
   isDone() {
     return this.isOver;

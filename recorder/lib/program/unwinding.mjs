@@ -55,6 +55,8 @@ export class Unwinding {
   #sweep = () => {
     this.#isNext = false;
     if (!this.unwound.isSwept()) this.unwound.park();
+    // A promise's job was broken off meanwhile, so it sweeps once more.
+    if (this.#isNext) return;
     this.hook.disable();
     this.#release?.();
     this.#release = undefined;

@@ -179,6 +179,26 @@ const nextMessage = () => new Promise((done) => {
   port.once("message", done);
 });
 
+/** @typedef {{ loop?: Loop, ends?: import("./ends.mjs").Ends, goHome?: () => void }} Late what is made later */
+
+/** @param {Player} player @param {Late} late @returns {() => never} what leaves all code of the program that runs */
+function leaveOf({ agent, part, table }, late) {
+  const { leave } = new Unwinding({
+    stop: () => {
+      part.isPlaying = false;
+      // Nothing of the program listens to what ticks find.
+      restoreProcess();
+      late.ends?.halt();
+      late.loop?.halt();
+    },
+    isSwept: () => late.loop?.isSwept() ?? true,
+    goHome: () => late.goHome?.(),
+    park: () => table.board.turn.park(agent),
+  });
+  table.leave = leave;
+  return leave;
+}
+
 /**
  * What the thread has of a run.
  * @param {Player} player
@@ -193,41 +213,25 @@ function partsOf(player, blocks, mesh) {
   const buffers = new Buffers(blocks, mesh, { seen, refuse, named: nameBlock, began });
   const table = new PortTable(shared.ports);
   const all = new Threads(agent, board, table, moves);
-  /** @type {{ loop?: Loop }} */
+  /** @type {Late} */
   const late = {};
   const later = (/** @type {string} */ name, /** @type {() => void} */ act) => late.loop?.later(name, act);
   const ports = new Ports({ agent, table, moves, buffers, mesh, here, refuse, later });
-  /** @type {Unwinding} */
-  const unwinding = new Unwinding({
-    stop: () => {
-      ends.isOver = true;
-      player.part.isPlaying = false;
-      // Nothing of the program listens to what ticks find.
-      restoreProcess();
-      loop.halt();
-    },
-    isSwept: () => loop.isSwept(),
-    goHome: () => after.goHome(),
-    park: () => board.turn.park(agent),
-  });
-  const { leave } = unwinding;
-  player.table.leave = leave;
+  const leave = leaveOf(player, late);
   const ends = new surroundings.Ends({ agent, player, ports, threads: all, here, leave });
   const drain = () => late.loop?.drain();
   const events = new surroundings.PortEvents({ ports, uncaught: (thrown) => ends.uncaught(thrown), drain });
   const timers = new Timers({ now: () => board.clock.now(), changed: () => {}, here: sourceOfCall });
   const children = new Set();
   const keepers = new Keepers(shared.keepers[agent]);
-  /** @type {{ goHome: () => void }} */
-  const after = { goHome: () => {} };
   const waits = new WaitAsync({ moves, buffers, isPlaying, refuse });
   const loop = new Loop({
-    moves, ports, events, timers, waits, ends, keepers, children, refuse, goHome: () => after.goHome(),
+    moves, ports, events, timers, waits, ends, keepers, children, refuse, goHome: () => late.goHome?.(),
     notes: new TaskNotes(shared.tasks), here: sourceHere, hasPhases: surroundings.hasPhases, leave,
   });
-  late.loop = loop;
+  Object.assign(late, { loop, ends });
   return {
-    moves, waits, buffers, ports, ends, events, timers, loop, children, threads: all, mesh, later, after, keepers, here,
+    moves, waits, buffers, ports, ends, events, timers, loop, children, threads: all, mesh, later, late, keepers, here,
     refuse,
   };
 }
@@ -379,7 +383,7 @@ export async function main(load) {
     loads: (/** @type {string} */ id) => graph.loads(id),
   });
   surroundings.furnish(parts, graph);
-  parts.after.goHome = () => {
+  parts.late.goHome = () => {
     clear(parts);
     board.turn.goHome(agent);
     turnLater(() => serve(parts, graph));
