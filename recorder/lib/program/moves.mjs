@@ -69,16 +69,19 @@ export class Moves {
    * Asks for the turn to read the length of a block that grows, or to change it. Each block has a word for its length,
    * which is read or changed by Atomics.
    * @param {number} block
-   * @param {boolean} writes
    * @param {Function} called the function that the program's code has called
+   * @param {() => boolean} [isChanged] whether it is changed; it is called when the thread has the turn
    */
-  touchLength(block, writes, called) {
+  touchLength(block, called, isChanged) {
+    const view = { kind: INT32, block: MESSAGES, offset: 0, length: MESSAGE_PLACES };
+    const reads = { call: CALL_NUMBERS.load, ...view, index: block % MESSAGE_PLACES, operands: [], limit: undefined };
+    /** @type {Call} */
+    const call = isChanged === undefined ? reads : { ...reads, call: CALL_NUMBERS.add, operands: [0] };
     this.count();
-    this.player.make({
-      call: writes ? CALL_NUMBERS.add : CALL_NUMBERS.load, kind: INT32, block: MESSAGES, offset: 0, length: MESSAGE_PLACES,
-      index: block % MESSAGE_PLACES, operands: writes ? [0] : [], limit: undefined,
-    }, this.view, called);
-    if (writes) this.board.spins.news();
+    this.player.make(call, this.view, called, () => {
+      if (isChanged?.() === false) Object.assign(call, reads);
+    });
+    if (call.call === CALL_NUMBERS.add) this.board.spins.news();
   }
 
   /** @param {number} message that is received now */

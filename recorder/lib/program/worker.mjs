@@ -117,7 +117,7 @@ const watching = {
   },
   lengthAsked: ({ block }) => {
     const number = self.buffers?.blockOf(block) ?? -1;
-    if (number >= 0 && isPlaying()) self.moves?.touchLength(number, false, isPlaying);
+    if (number >= 0 && isPlaying()) self.moves?.touchLength(number, isPlaying);
   },
   isCalledByAgents,
   // There is no other way to watch a program.
