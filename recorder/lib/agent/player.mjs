@@ -344,8 +344,10 @@ export class Player {
   /** @param {Call} call that the agent asks for */
   #ask(call) {
     const { board } = this.table;
-    const from = isWithin(call) ? placeNumber(call.block, byteOf(call)) : 0;
-    board.strategy.asks(this.agent, from, isWithin(call) ? from + SIZES[call.kind] : 0, flagsAsked(call));
+    const byte = byteOf(call);
+    const from = isWithin(call) ? placeNumber(call.block, byte) : 0;
+    const to = isWithin(call) ? from + SIZES[call.kind] : 0;
+    board.strategy.asks(this.agent, from, to, flagsAsked(call), board.places.placeOf(call.block, byte));
     board.line.become(this.agent, PHASE.ASKS);
   }
 

@@ -2,10 +2,14 @@
 // ordinary access to such a byte. There it matters who moves first. Pilots are runs of fixed seeds, so that each group
 // learns the same, whatever runs it makes afterwards.
 
-import { KnownPlaces, PLACES, placeNumber } from "../memory/known-places.mjs";
+import { MAKE } from "../board/journal.mjs";
+import { HELD, MESSAGES } from "../memory/blocks.mjs";
+import { PLACES } from "../memory/known-places.mjs";
 import { FLAG, READ } from "../memory/log.mjs";
+import { MessageOrder } from "./message-order.mjs";
 
 /** @typedef {import("../memory/log.mjs").Log} Log */
+/** @typedef {import("../memory/known-places.mjs").KnownPlaces} KnownPlaces */
 
 /** How many pilots there are. */
 export const PILOTS = 8;
@@ -18,6 +22,9 @@ export const PILOT_SECONDS = 2;
 const MANY_EVENTS = 50_000;
 const MANY_ACCESSES = 200_000;
 
+/** Of a program's calls so many have to be private in each pilot, or nothing is gained by the next one. */
+const WORTH = 0.25;
+
 /** An agent's last call, and whether it has touched a shared byte by ordinary accesses since. */
 class Beside {
   constructor() {
@@ -28,9 +35,15 @@ class Beside {
 }
 
 export class Pilots {
-  /** @param {number} agents how many */
-  constructor(agents) {
+  /**
+   * @param {number} agents how many
+   * @param {KnownPlaces} places that will learn all of it
+   * @param {boolean} [isProgram] whether the last block is for messages
+   */
+  constructor(agents, places, isProgram = false) {
     this.agents = agents;
+    this.places = places;
+    this.isProgram = isProgram;
     /** For each place, which agents use it and which of them write, as bits. */
     this.users = new Uint16Array(PLACES);
     this.writers = new Uint16Array(PLACES);
@@ -38,6 +51,7 @@ export class Pilots {
     this.used = [];
     /** The places where agents meet, though by these bits they don't. */
     this.marked = new Uint8Array(PLACES);
+    this.order = new MessageOrder(agents);
   }
 
   /**
@@ -45,6 +59,7 @@ export class Pilots {
    * @param {Log} log
    */
   add(log) {
+    this.order.begin(this.used);
     for (let event = 0; event < log.length; event += 1) this.#count(log, event);
     const beside = Array.from({ length: this.agents }, () => new Beside());
     for (let event = 0; event < log.length; event += 1) this.#mark(log, event, beside[log.agentAt(event)]);
@@ -59,13 +74,28 @@ export class Pilots {
     return log.length > MANY_EVENTS || accesses > MANY_ACCESSES;
   }
 
-  /** @param {KnownPlaces} known that learns all of it */
-  teach(known) {
+  /** @param {Log} log of the last pilot @returns {boolean} whether many of its calls need no draw, as far as is known */
+  areWorth(log) {
+    let all = 0;
+    let own = 0;
+    for (let event = 0; event < log.length; event += 1) {
+      if (log.whatAt(event) >= READ || this.#isMessage(log, event)) continue;
+      const place = this.places.placeOf(log.blockAt(event), log.fromAt(event));
+      all += 1;
+      if (place < PLACES && !this.#isMeeting(place)) own += 1;
+    }
+    return own > all * WORTH;
+  }
+
+  /** Teaches the places all of it. */
+  teach() {
+    const { places } = this;
     for (const place of this.used) {
       const users = this.users[place];
-      if (this.#isShared(place) || this.marked[place] === 1) known.share(place);
-      else if ((users & (users - 1)) === 0) known.giveTo(place, 31 - Math.clz32(users));
-      else known.setReadAlone(place);
+      if (this.#isMeeting(place)) places.share(place);
+      else if ((users & (users - 1)) === 0) places.giveTo(place, 31 - Math.clz32(users));
+      else if (this.writers[place] === 0) places.setReadAlone(place);
+      else places.setOrdered(place);
     }
   }
 
@@ -73,23 +103,31 @@ export class Pilots {
   #count(log, event) {
     const flags = log.flagsAt(event);
     // A call that threw has touched nothing, and its index may be anything.
-    if (flags === 0) return;
-    const agent = 1 << log.agentAt(event);
+    if (flags === 0 || log.kindAt(event) === HELD) return;
+    const agent = log.agentAt(event);
     const block = log.blockAt(event);
+    if (this.#isMessage(log, event)) {
+      this.order.pass(agent, log.fromAt(event));
+      return;
+    }
+    const isNotify = flags === FLAG.WAITERS && log.whatAt(event) === MAKE && this.places.canBePrivate(flags);
     const to = log.toAt(event);
     for (let byte = log.fromAt(event); byte < to; byte += 1) {
-      const place = placeNumber(block, byte);
+      const place = this.places.placeOf(block, byte);
+      if (place >= PLACES) continue;
       if (this.users[place] === 0) this.used.push(place);
-      this.users[place] |= agent;
-      if ((flags & FLAG.WRITES) !== 0) this.writers[place] |= agent;
-      if ((flags & FLAG.WAITERS) !== 0) this.marked[place] = 1;
+      this.users[place] |= 1 << agent;
+      this.order.use(agent, place);
+      if ((flags & FLAG.WRITES) !== 0 || isNotify) this.writers[place] |= 1 << agent;
+      if ((flags & FLAG.WAITERS) !== 0 && !isNotify) this.marked[place] = 1;
     }
   }
 
   /** @param {Log} log @param {number} event @param {Beside} beside of its agent */
   #mark(log, event, beside) {
+    if (log.kindAt(event) === HELD) return;
     const hasThrown = log.flagsAt(event) === 0;
-    const from = hasThrown ? 0 : placeNumber(log.blockAt(event), log.fromAt(event));
+    const from = hasThrown ? 0 : this.places.placeOf(log.blockAt(event), log.fromAt(event));
     const to = hasThrown ? 0 : from + log.toAt(event) - log.fromAt(event);
     if (log.whatAt(event) < READ) {
       if (beside.isShared) this.marked.fill(1, from, to);
@@ -102,6 +140,11 @@ export class Pilots {
     }
   }
 
+  /** @param {Log} log @param {number} event @returns {boolean} whether it sends or receives a message */
+  #isMessage(log, event) {
+    return this.isProgram && log.blockAt(event) === MESSAGES && log.flagsAt(event) === FLAG.WAITERS;
+  }
+
   /** @param {number} from @param {number} to */
   #isAnyShared(from, to) {
     for (let place = from; place < to; place += 1) {
@@ -110,9 +153,17 @@ export class Pilots {
     return false;
   }
 
-  /** @param {number} place @returns {boolean} whether several agents use it, and one writes */
+  /** @param {number} place @returns {boolean} whether it matters there who moves first */
+  #isMeeting(place) {
+    return this.#isShared(place) || this.marked[place] === 1;
+  }
+
+  /**
+   * @param {number} place
+   * @returns {boolean} whether several agents use it, and one writes, and that in an order that no messages give
+   */
   #isShared(place) {
     const users = this.users[place];
-    return (users & (users - 1)) !== 0 && this.writers[place] !== 0;
+    return (users & (users - 1)) !== 0 && this.writers[place] !== 0 && !this.order.isOrdered(place);
   }
 }
