@@ -25,9 +25,17 @@ const MANY_ACCESSES = 200_000;
 /** Of a program's calls so many have to be private in each pilot, or nothing is gained by the next one. */
 const WORTH = 0.25;
 
+/** All agents, as bits. */
+const ALL = 0xffff;
+
+/** @param {number} agents as bits @returns {boolean} whether that is one at the most */
+const isOne = (agents) => (agents & (agents - 1)) === 0;
+
 /** An agent's last call, and whether it has touched a shared byte by ordinary accesses since. */
 class Beside {
-  constructor() {
+  /** @param {number} marks the agents whose calls at a place matter if this one's does, as bits */
+  constructor(marks) {
+    this.marks = marks;
     this.from = 0;
     this.to = 0;
     this.isShared = false;
@@ -49,8 +57,8 @@ export class Pilots {
     this.writers = new Uint16Array(PLACES);
     /** @type {number[]} the places that any agent uses: few of all that there are */
     this.used = [];
-    /** The places where agents meet, though by these bits they don't. */
-    this.marked = new Uint8Array(PLACES);
+    /** The places where agents meet, though by these bits they don't: of which agents the calls matter there, as bits. */
+    this.marked = new Uint16Array(PLACES);
     this.order = new MessageOrder(agents);
   }
 
@@ -61,7 +69,8 @@ export class Pilots {
   add(log) {
     this.order.begin(this.used);
     for (let event = 0; event < log.length; event += 1) this.#count(log, event);
-    const beside = Array.from({ length: this.agents }, () => new Beside());
+    // A program's agents often use a place in order, and only of some the calls stand beside what others do.
+    const beside = Array.from({ length: this.agents }, (_, agent) => new Beside(this.isProgram ? 1 << agent : ALL));
     for (let event = 0; event < log.length; event += 1) this.#mark(log, event, beside[log.agentAt(event)]);
   }
 
@@ -82,7 +91,7 @@ export class Pilots {
       if (log.whatAt(event) >= READ || this.#isMessage(log, event)) continue;
       const place = this.places.placeOf(log.blockAt(event), log.fromAt(event));
       all += 1;
-      if (place < PLACES && !this.#isMeeting(place)) own += 1;
+      if (place < PLACES && this.#alone(place) !== 0) own += 1;
     }
     return own > all * WORTH;
   }
@@ -91,9 +100,9 @@ export class Pilots {
   teach() {
     const { places } = this;
     for (const place of this.used) {
-      const users = this.users[place];
-      if (this.#isMeeting(place)) places.share(place);
-      else if ((users & (users - 1)) === 0) places.giveTo(place, 31 - Math.clz32(users));
+      const alone = this.#alone(place);
+      if (alone === 0) places.share(place);
+      else if (isOne(alone)) places.giveTo(place, 31 - Math.clz32(alone));
       else if (this.writers[place] === 0) places.setReadAlone(place);
       else places.setOrdered(place);
     }
@@ -119,7 +128,7 @@ export class Pilots {
       this.users[place] |= 1 << agent;
       this.order.use(agent, place);
       if ((flags & FLAG.WRITES) !== 0 || isNotify) this.writers[place] |= 1 << agent;
-      if ((flags & FLAG.WAITERS) !== 0 && !isNotify) this.marked[place] = 1;
+      if ((flags & FLAG.WAITERS) !== 0 && !isNotify) this.marked[place] = ALL;
     }
   }
 
@@ -130,14 +139,19 @@ export class Pilots {
     const from = hasThrown ? 0 : this.places.placeOf(log.blockAt(event), log.fromAt(event));
     const to = hasThrown ? 0 : from + log.toAt(event) - log.fromAt(event);
     if (log.whatAt(event) < READ) {
-      if (beside.isShared) this.marked.fill(1, from, to);
+      if (beside.isShared) this.#markAll(from, to, beside.marks);
       beside.from = from;
       beside.to = to;
       beside.isShared = false;
     } else if (!beside.isShared && this.#isAnyShared(from, to)) {
-      this.marked.fill(1, beside.from, beside.to);
+      this.#markAll(beside.from, beside.to, beside.marks);
       beside.isShared = true;
     }
+  }
+
+  /** @param {number} from @param {number} to @param {number} marks of agents, as bits */
+  #markAll(from, to, marks) {
+    for (let place = from; place < to && place < PLACES; place += 1) this.marked[place] |= marks;
   }
 
   /** @param {Log} log @param {number} event @returns {boolean} whether it sends or receives a message */
@@ -153,9 +167,11 @@ export class Pilots {
     return false;
   }
 
-  /** @param {number} place @returns {boolean} whether it matters there who moves first */
-  #isMeeting(place) {
-    return this.#isShared(place) || this.marked[place] === 1;
+  /** @param {number} place @returns {number} the agents for whose calls it doesn't matter there who moves first, as bits */
+  #alone(place) {
+    const alone = this.#isShared(place) ? 0 : this.users[place] & ~this.marked[place];
+    // What is known of a place is that of one agent, or of all.
+    return isOne(alone) || this.marked[place] === 0 ? alone : 0;
   }
 
   /**
@@ -163,7 +179,6 @@ export class Pilots {
    * @returns {boolean} whether several agents use it, and one writes, and that in an order that no messages give
    */
   #isShared(place) {
-    const users = this.users[place];
-    return (users & (users - 1)) !== 0 && this.writers[place] !== 0 && !this.order.isOrdered(place);
+    return !isOne(this.users[place]) && this.writers[place] !== 0 && !this.order.isOrdered(place);
   }
 }
