@@ -113,7 +113,7 @@ export class ProgramGroup extends Group {
 
   /** @param {Wanted} wanted @returns {boolean} whether it goes by what pilots show, and none were made yet */
   #needsPilots({ seed, row }) {
-    const { ways = [] } = this.rules ?? {};
+    const ways = this.rules?.ways ?? [];
     return !this.#hasPilots && row === undefined && !ways[seed % ways.length].everywhere;
   }
 

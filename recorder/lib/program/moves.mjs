@@ -45,7 +45,9 @@ export class Moves {
   send(called, to) {
     const { words } = this.board;
     // Others may send some before it is this one's turn, so its number is known then.
-    const call = this.#edge(to);
+    const call = this.#edge(to === TO_CHANNELS ? LOOP_PLACES : to);
+    // It goes to the event loop of each thread that has such a channel.
+    if (to === TO_CHANNELS) call.bytes = 4 * (TO_CHANNELS + 1 - LOOP_PLACES);
     this.count();
     this.player.make(call, this.view, called, () => {
       call.index = words[WORD.MESSAGES] % MESSAGE_PLACES;

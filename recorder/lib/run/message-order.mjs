@@ -19,7 +19,10 @@ export class MessageOrder {
     this.unordered = new Uint8Array(PLACES);
   }
 
-  /** A run begins. @param {number[]} used the places that were used in those before */
+  /**
+   * A run begins.
+   * @param {number[]} used the places that were used in those before
+   */
   begin(used) {
     for (const clock of this.clocks) clock.fill(0);
     this.clocks.forEach((clock, agent) => {
@@ -37,7 +40,7 @@ export class MessageOrder {
   pass(agent, message) {
     const clock = this.clocks[agent];
     const before = this.sent.get(message);
-    if (before !== undefined) before.forEach((time, other) => {
+    before?.forEach((time, other) => {
       clock[other] = Math.max(clock[other], time);
     });
     this.sent.set(message, clock.slice());
