@@ -39,8 +39,8 @@ describe("memory that pilots have shown", () => {
     places.name(0, "grows", 8, true);
     assert.deepEqual([places.placeOf(0, 8), places.placeOf(0, -1), places.placeOf(100_000, 0)], [PLACES, PLACES, PLACES]);
     places.name(1, "long", PLACES - 8, true);
-    places.name(2, "too long", 1, true);
-    assert.deepEqual([places.placeOf(1, 0), places.placeOf(2, 0)], [8, PLACES]);
+    places.name(2, "too long", 2, true);
+    assert.deepEqual([places.placeOf(1, 0), places.placeOf(2, 1)], [8, PLACES]);
   });
 
   it("is forgotten when another program is run", () => {
@@ -49,7 +49,7 @@ describe("memory that pilots have shown", () => {
     places.giveTo(0, 3);
     places.forget();
     places.name(1, "one", 8, false);
-    assert.deepEqual([places.placeOf(1, 0), places.isPrivate(3, 0, 4, true)], [PLACES, false]);
+    assert.deepEqual([places.placeOf(1, 0), places.isPrivate(3, 0, 1, true)], [PLACES, false]);
   });
 });
 
@@ -90,6 +90,7 @@ describe("what pilots show", () => {
     const early = [handed[0], handed[1], handed[3], handed[2]];
     assert.deepEqual(privateCalls([early], uses), [false, false]);
     assert.deepEqual(privateCalls([[...handed, [1, "add", 0]]], uses), [false, false]);
+    assert.deepEqual(privateCalls([[handed[1], handed[0], handed[2], handed[3]]], uses), [false, false]);
     assert.deepEqual(privateCalls([handed, early, handed], uses), [false, false]);
   });
 
@@ -109,6 +110,7 @@ describe("what pilots show", () => {
     const locks = [[1, "add", 0], [1, "notify", 0]];
     assert.deepEqual(privateCalls([locks], locks), [true, true]);
     assert.deepEqual(privateCalls([[...locks, [2, "notify", 0]]], locks), [false, false]);
+    assert.deepEqual(privateCalls([[locks[1], [2, "notify", 0]]], [locks[1]]), [false]);
     assert.deepEqual(privateCalls([[[1, "wait", 0], ...locks]], [...locks, [1, "wait", 0]]), [false, false, false]);
   });
 

@@ -4,7 +4,7 @@
 
 import { CALL_NUMBERS, CONSTRUCTORS, KINDS, SIZES } from "../../script/kinds.mjs";
 import { LEAVE, TIME_UP } from "../board/journal.mjs";
-import { CHANNEL_PLACE, LOOP_PLACES, MESSAGES, MESSAGE_PLACES, PORT_PLACES } from "../memory/blocks.mjs";
+import { LOOP_PLACES, MESSAGES, MESSAGE_PLACES, PORT_PLACES } from "../memory/blocks.mjs";
 import { LOOP, NOWHERE, PHASE, WORD } from "../memory/layout.mjs";
 import { FLAG } from "../memory/log.mjs";
 import { byteOf } from "../memory/memory.mjs";
@@ -21,8 +21,8 @@ export const toThread = (agent) => LOOP_PLACES + agent;
 /** @param {number} port that is under way itself @returns {number} what a message to it goes to */
 export const toPort = (port) => PORT_PLACES + (port % (MESSAGE_PLACES - PORT_PLACES));
 
-/** What a message to all channels of a name goes to. */
-export const TO_CHANNELS = CHANNEL_PLACE;
+/** What a message to all channels of a name goes to: the event loop of any thread may have one. */
+export const TO_CHANNELS = -1;
 
 export class Moves {
   /**
@@ -46,8 +46,7 @@ export class Moves {
     const { words } = this.board;
     // Others may send some before it is this one's turn, so its number is known then.
     const call = this.#edge(to === TO_CHANNELS ? LOOP_PLACES : to);
-    // It goes to the event loop of each thread that has such a channel.
-    if (to === TO_CHANNELS) call.bytes = 4 * (TO_CHANNELS + 1 - LOOP_PLACES);
+    if (to === TO_CHANNELS) call.bytes = 4 * (PORT_PLACES - LOOP_PLACES);
     this.count();
     this.player.make(call, this.view, called, () => {
       call.index = words[WORD.MESSAGES] % MESSAGE_PLACES;

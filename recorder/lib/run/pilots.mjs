@@ -127,7 +127,7 @@ export class Pilots {
       if (this.users[place] === 0) this.used.push(place);
       this.users[place] |= 1 << agent;
       this.order.use(agent, place);
-      if ((flags & FLAG.WRITES) !== 0 || isNotify) this.writers[place] |= 1 << agent;
+      if ((flags & FLAG.WRITES) !== 0) this.writers[place] |= 1 << agent;
       if ((flags & FLAG.WAITERS) !== 0 && !isNotify) this.marked[place] = ALL;
     }
   }
