@@ -63,7 +63,7 @@ export class ProgramGroup extends Group {
   /** @type {number | undefined} the seed whose run prints */
   #loud = undefined;
 
-  /** Whether pilots of the program were asked for. */
+  /** Whether pilots of the program were asked for: they are made before the first run that goes by what they show. */
   #hasPilots = false;
 
   /** The program that the group was opened with: places in the code are named from its folder. */

@@ -57,7 +57,7 @@ export class Pilots {
     this.writers = new Uint16Array(PLACES);
     /** @type {number[]} the places that any agent uses: few of all that there are */
     this.used = [];
-    /** The places where agents meet, though by these bits they don't: of which agents the calls matter there, as bits. */
+    /** Of places where agents meet, though by these bits they don't: whose calls matter there, as bits. */
     this.marked = new Uint16Array(PLACES);
     this.order = new MessageOrder(agents);
   }
@@ -83,7 +83,7 @@ export class Pilots {
     return log.length > MANY_EVENTS || accesses > MANY_ACCESSES;
   }
 
-  /** @param {Log} log of the last pilot @returns {boolean} whether many of its calls need no draw, as far as is known */
+  /** @param {Log} log of the last pilot @returns {boolean} whether many of its calls need no draw, as far as shown */
   areWorth(log) {
     let all = 0;
     let own = 0;
@@ -167,7 +167,7 @@ export class Pilots {
     return false;
   }
 
-  /** @param {number} place @returns {number} the agents for whose calls it doesn't matter there who moves first, as bits */
+  /** @param {number} place @returns {number} the agents whose calls there need no draw, as bits */
   #alone(place) {
     const alone = this.#isShared(place) ? 0 : this.users[place] & ~this.marked[place];
     // What is known of a place is that of one agent, or of all.

@@ -65,7 +65,7 @@ export class ProgramState {
     this.places.begin();
   }
 
-  /** The next runs are of another program. */
+  /** Nothing is known of its memory. */
   forget() {
     this.places.forget();
   }

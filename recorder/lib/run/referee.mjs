@@ -84,7 +84,10 @@ class Referee {
     this.port.once("message", (work) => this.record(work));
   }
 
-  /** Learns by pilots where agents meet. The agents have other workers afterwards, so no module remembers pilots. */
+  /**
+   * Learns by pilots where agents meet. A module's agents have other workers afterwards, so that it doesn't remember
+   * pilots. A program's threads are kept from run to run, and so from pilots.
+   */
   async #learn() {
     const { maker, maker: { board, log }, plan } = this;
     const isProgram = this.options.isProgram === true;
@@ -102,7 +105,7 @@ class Referee {
     }
     board.words[WORD.IS_PILOT] = 0;
     if (isSeen) pilots.teach();
-    // A program's threads are kept from run to run.
+    else maker.program?.forget();
     if (!isProgram) await maker.replace(maker.agents);
   }
 
