@@ -37,7 +37,8 @@ describe("memory that pilots have shown", () => {
   it("has no places behind its end, as where it grows, and where there is no room", () => {
     const places = newPlaces();
     places.name(0, "grows", 8, true);
-    assert.deepEqual([places.placeOf(0, 8), places.placeOf(0, -1), places.placeOf(100_000, 0)], [PLACES, PLACES, PLACES]);
+    const beyond = [places.placeOf(0, 8), places.placeOf(0, -1), places.placeOf(100_000, 0)];
+    assert.deepEqual(beyond, [PLACES, PLACES, PLACES]);
     places.name(1, "long", PLACES - 8, true);
     places.name(2, "too long", 2, true);
     assert.deepEqual([places.placeOf(1, 0), places.placeOf(2, 1)], [8, PLACES]);
@@ -73,7 +74,8 @@ function privateCalls(pilots, calls) {
     learning.add(logByWords(events));
   }
   learning.teach();
-  const asked = { load: FLAG.READS, add: FLAG.READS | FLAG.WRITES, notify: FLAG.WAITERS, wait: FLAG.READS | FLAG.WAITERS };
+  const { READS, WRITES, WAITERS } = FLAG;
+  const asked = { load: READS, add: READS | WRITES, notify: WAITERS, wait: READS | WAITERS };
   return calls.map(([agent, does, word]) => places.canBePrivate(asked[does])
     && places.isPrivate(agent, places.placeOf(0, word * 4), places.placeOf(0, word * 4) + 4, does !== "load"));
 }
@@ -128,7 +130,7 @@ describe("what pilots show", () => {
   });
 });
 
-test("of a program's mixed runs that of seed 1, and some others, draw before each call, and no other strategy is drawn", () => {
+test("of a program's mixed runs that of seed 1, and some others, draw before each call, by the same strategies", () => {
   const ways = programWaysOf("mixed", false);
   assert.deepEqual(ways.flatMap(({ everywhere }, at) => (everywhere ? [at] : [])), [1, 9, 17, 25, 31]);
   const plain = ({ name, likelihood }) => `${name} ${likelihood}`;
