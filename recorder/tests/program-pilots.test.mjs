@@ -141,7 +141,10 @@ test("of a program's mixed runs that of seed 1, and some others, draw before eac
 
 const WORK = 100;
 
-/** Each worker makes memory that isn't zero, shares it, and adds to it; so the numbers of blocks depend on the seed. */
+/**
+ * Each worker makes two words that aren't zero, shares them, and adds to one, and main to the other. So the numbers of
+ * blocks depend on the seed.
+ */
 const OWN_WORK = {
   "main.mjs": `import { appendFileSync } from "node:fs";
 import { once } from "node:events";
@@ -149,13 +152,18 @@ import { Worker } from "node:worker_threads";
 if (process.argv[2] !== undefined) appendFileSync(process.argv[2], "x");
 const workers = [0, 1].map(() => new Worker(new URL("./worker.mjs", import.meta.url)));
 const all = [];
-for (const worker of workers) worker.on("message", (own) => all.push(own));
+for (const worker of workers) {
+  worker.on("message", ([own, both]) => {
+    all.push(own);
+    Atomics.add(both, 0, 1);
+  });
+}
 await Promise.all(workers.map((worker) => once(worker, "exit")));
 if (all.some((own) => Atomics.load(own, 0) !== ${7 + WORK})) throw new Error("they have " + all);`,
   "worker.mjs": `import { parentPort } from "node:worker_threads";
-const own = new Int32Array(new SharedArrayBuffer(4));
-own[0] = 7;
-parentPort.postMessage(own);
+const [own, both] = [0, 1].map(() => new Int32Array(new SharedArrayBuffer(4)).fill(7));
+parentPort.postMessage([own, both]);
+Atomics.add(both, 0, 1);
 for (let step = 0; step < ${WORK}; step += 1) Atomics.add(own, 0, 1);`,
 };
 

@@ -3,7 +3,7 @@
 // learns the same, whatever runs it makes afterwards.
 
 import { MAKE } from "../board/journal.mjs";
-import { HELD, MESSAGES } from "../memory/blocks.mjs";
+import { MESSAGES } from "../memory/blocks.mjs";
 import { PLACES } from "../memory/known-places.mjs";
 import { FLAG, READ } from "../memory/log.mjs";
 import { MessageOrder } from "./message-order.mjs";
@@ -112,7 +112,7 @@ export class Pilots {
   #count(log, event) {
     const flags = log.flagsAt(event);
     // A call that threw has touched nothing, and its index may be anything.
-    if (flags === 0 || log.kindAt(event) === HELD) return;
+    if (flags === 0) return;
     const agent = log.agentAt(event);
     const block = log.blockAt(event);
     if (this.#isMessage(log, event)) {
@@ -134,7 +134,6 @@ export class Pilots {
 
   /** @param {Log} log @param {number} event @param {Beside} beside of its agent */
   #mark(log, event, beside) {
-    if (log.kindAt(event) === HELD) return;
     const hasThrown = log.flagsAt(event) === 0;
     const from = hasThrown ? 0 : this.places.placeOf(log.blockAt(event), log.fromAt(event));
     const to = hasThrown ? 0 : from + log.toAt(event) - log.fromAt(event);
