@@ -54,12 +54,13 @@ describe("memory that pilots have shown", () => {
   });
 });
 
-/** A log of events: agent, what is done, and the word, or the number of the message. */
+/** A log of events: agent, what is done (`reads` is ordinary), and the word, or the number of the message. */
 const logByWords = (/** @type {[number, string, number][]} */ events) => logOf(events.map(([agent, does, word]) => {
   const isMessage = does === "sends" || does === "receives";
   return {
-    agent, block: isMessage ? 3 : 0, byte: word * 4, size: 4, source: 0, atomic: !isMessage && does !== "notify",
-    read: does === "load" || does === "wait", write: does === "add",
+    agent, block: isMessage ? 3 : 0, byte: word * 4, size: 4, source: 0,
+    atomic: !isMessage && does !== "notify" && does !== "reads",
+    read: does === "load" || does === "wait" || does === "reads", write: does === "add",
     waiters: isMessage || does === "notify" || does === "wait",
   };
 }));
@@ -106,6 +107,12 @@ describe("what pilots show", () => {
   it("a word that another thread uses first in another pilot needs a draw", () => {
     assert.deepEqual(privateCalls([[[1, "add", 0]], [[1, "add", 0]]], [[1, "add", 0]]), [true]);
     assert.deepEqual(privateCalls([[[1, "add", 0]], [[2, "add", 0]]], [[1, "add", 0], [2, "add", 0]]), [false, false]);
+  });
+
+  it("a call beside an ordinary access to a shared word needs a draw, and another thread's at its place doesn't", () => {
+    const shared = [[1, "add", 5], [2, "add", 5]];
+    assert.deepEqual(privateCalls([[...shared, ...handed, [0, "reads", 5]]], uses), [true, false]);
+    assert.deepEqual(privateCalls([[...shared, ...handed, [0, "reads", 6]]], uses), [true, true]);
   });
 
   it("a thread's own lock is private with its notifies, and isn't if anybody waits there or notifies, too", () => {
