@@ -113,6 +113,9 @@ describe("what pilots show", () => {
     const shared = [[1, "add", 5], [2, "add", 5]];
     assert.deepEqual(privateCalls([[...shared, ...handed, [0, "reads", 5]]], uses), [true, false]);
     assert.deepEqual(privateCalls([[...shared, ...handed, [0, "reads", 6]]], uses), [true, true]);
+    const onward = [...handed, [0, "sends", 8], [2, "receives", 8], [2, "load", 0], [2, "reads", 5]];
+    // What is known of a word is that of one thread, or of all.
+    assert.deepEqual(privateCalls([[...shared, ...onward]], [...uses, [2, "load", 0]]), [false, false, false]);
   });
 
   it("a thread's own lock is private with its notifies, and isn't if anybody waits there or notifies, too", () => {
