@@ -57,6 +57,8 @@ export interface RunOptions {
   args?: string[];
   /** Who moves next; else "mixed". */
   strategy?: "mixed" | "uniform" | "partial-order" | `switch:${number}`;
+  /** Whether agents are switched before each call, also where pilots have shown that none can meet another. */
+  everywhere?: boolean;
   /**
    * From 0 to 1: in how many of the draws the early end of a timed wait is offered while something else can move. 0:
    * time passes only if nothing else can move. "never": no timed wait ends by itself. Else 0.05.
@@ -90,8 +92,6 @@ export interface OfModule {
   buffers?: number[];
   /** The agents that can't block; else what the module's `setup` says, and else none. */
   noBlock?: number[];
-  /** Whether agents are switched before each call, also where pilots have shown that none can meet another. */
-  everywhere?: boolean;
   /** What is done with ordinary reads and writes; else "watch". */
   ordinary?: "watch" | "store" | "refuse";
   /**

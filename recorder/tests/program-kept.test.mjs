@@ -73,7 +73,9 @@ describe("threads that are kept", () => {
       "main.mjs": `globalThis.runs = (globalThis.runs ?? 0) + 1;
         for (let left = globalThis.runs % 7; left > 0; left -= 1) await new Promise((done) => setImmediate(done));`,
     });
-    const options = { ...defaultsOf("record"), isProgram: true, seconds: 20, args: [], module: pathToFileURL(main).href };
+    const module = pathToFileURL(main).href;
+    // Pilots would be runs of these threads, too.
+    const options = { ...defaultsOf("record"), isProgram: true, seconds: 20, args: [], module, everywhere: true };
     const group = await ProgramGroup.open(options);
     context.after(() => group.close());
     const moves = [];

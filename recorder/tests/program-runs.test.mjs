@@ -218,8 +218,9 @@ describe("threads that are kept", () => {
         Atomics.add(workerData, 0, 1);`,
       "count.mjs": "let counted = 0;\nexport const count = () => (counted += 1);",
       "counted.cjs": "let counted = 0;\nexports.counted = () => (counted += 1);",
-    }, { seeds: seedsTo(4) });
+    }, { seeds: seedsTo(4), options: { everywhere: true } });
     // The realm's globals show that the thread is the same. Each run is made twice, the second time to learn its lines.
+    // Pilots would be runs of the thread, too.
     assert.deepEqual(endingsOf(outcomes), ["finished: "]);
     assert.deepEqual(outcomes.map(({ state: { shown: [bytes] } }) => Number(bytes.slice(8, 10))), [1, 3, 5, 7]);
   });

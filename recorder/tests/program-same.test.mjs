@@ -8,7 +8,7 @@ import { startJob } from "../lib/seeds/start-job.cjs";
 import { PROGRAMS, urlOf } from "./programs/table.mjs";
 
 /** Programs with messages, timers, waits and ordinary accesses; some of their runs fail. */
-const NAMES = ["pool/right", "queue/wakes-wrong-kind", "deadline/ignored", "terminate/in-the-middle"];
+const NAMES = ["pool/right", "queue/wakes-wrong-kind", "deadline/ignored", "terminate/in-the-middle", "amid-work/two-steps"];
 const COMPARED = [1, 2, 3];
 
 /** Which seeds each job is given, in this order: others come before and between those that are compared. */

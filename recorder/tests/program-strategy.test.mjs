@@ -6,9 +6,12 @@ import { readFileSync } from "node:fs";
 import { describe, it } from "node:test";
 import { Board } from "../lib/board/board.mjs";
 import { waysOf } from "../lib/board/strategy/ways.mjs";
-import { loopPlace } from "../lib/memory/blocks.mjs";
+import { placesAsked } from "../lib/agent/effects.mjs";
+import { MESSAGES, MESSAGE_BYTES, loopPlace } from "../lib/memory/blocks.mjs";
+import { placeNumber } from "../lib/memory/known-places.mjs";
 import { LOOP, PHASE } from "../lib/memory/layout.mjs";
 import { FLAG } from "../lib/memory/log.mjs";
+import { Moves, TO_CHANNELS, toPort } from "../lib/program/moves.mjs";
 import { runsOf } from "./helpers/whole-programs.mjs";
 
 const { WAITERS } = FLAG;
@@ -61,6 +64,25 @@ describe("what conflicts", () => {
     assert.equal(board.line.notify(LOOP, 2, 1), 1);
     assert.equal(conflicts(board, 0, 2), true);
     assert.equal(conflicts(board, 1, 2), false);
+  });
+
+  it("a message to all channels of a name conflicts with a task of each thread, a message to one and to channels", () => {
+    const board = asking();
+    /** @type {any[]} */
+    const made = [];
+    const part = { accesses: { count: 0 } };
+    const player = /** @type {any} */ ({ agent: 0, table: { board }, part, make: (call) => made.push(call) });
+    new Moves(player, new SharedArrayBuffer(MESSAGE_BYTES)).send(it, TO_CHANNELS);
+    const [from, to] = placesAsked(made[0]);
+    board.strategy.asks(0, from, to, WAITERS);
+    board.asksForTask(2);
+    ask(board, 1, loopPlace(15));
+    assert.deepEqual([conflicts(board, 0, 2), conflicts(board, 0, 1), conflicts(board, 1, 2)], [true, true, false]);
+    board.strategy.asks(1, from, to, WAITERS);
+    assert.equal(conflicts(board, 0, 1), true);
+    // A port that is under way is no thread's.
+    ask(board, 1, placeNumber(MESSAGES, 4 * toPort(0)));
+    assert.equal(conflicts(board, 0, 1), false);
   });
 
   it("an agent that was woken in a call has nothing to be decided", () => {

@@ -174,6 +174,55 @@ while (grows.byteLength < 16);`,
     assert.match(detail, /spins at main\.mjs:4:14/);
   });
 
+  describe("only reads its length if `grow` changes nothing", () => {
+    for (const length of [4, 17, 8]) {
+      it(`to ${length} bytes, so that nothing is ordered by it`, async (context) => {
+        const outcomes = await runsOf(context, {
+          "main.mjs": `${MAIN}const grows = new SharedArrayBuffer(8, { maxByteLength: 16 });
+const words = new Int32Array(grows);
+new Worker(new URL("./worker.mjs", import.meta.url), { workerData: grows });
+if (grows.byteLength !== 8) throw new Error("it has grown");
+const found = words[1];`,
+          "worker.mjs": `import { workerData as grows } from "node:worker_threads";
+new Int32Array(grows)[1] = 5;
+try { grows.grow(${length}); } catch (error) { if (!(error instanceof RangeError)) throw error; }`,
+        }, { seeds: SEEDS });
+        assert.deepEqual([...new Set(outcomes.map(({ ending }) => ending))], ["race"]);
+      });
+    }
+
+    it("and what came before the length that it reads is ordered", async (context) => {
+      const outcomes = await runsOf(context, {
+        "main.mjs": `${MAIN}const grows = new SharedArrayBuffer(8, { maxByteLength: 16 });
+const words = new Int32Array(grows);
+new Worker(new URL("./worker.mjs", import.meta.url), { workerData: grows });
+words[1] = 5;
+grows.grow(16);`,
+        "worker.mjs": `import { workerData as grows } from "node:worker_threads";
+const words = new Int32Array(grows);
+try { grows.grow(8); } catch (error) { if (words[1] !== 5) throw new Error("it is " + words[1]); }`,
+      }, { seeds: SEEDS });
+      assert.deepEqual(endingsOf(outcomes), ["finished: "]);
+      assert.ok(outcomes.some(({ ordinary }) => ordinary > 1) && outcomes.some(({ ordinary }) => ordinary === 1));
+    });
+
+    it("and doesn't even do that if no buffer could have the length", async (context) => {
+      /** @param {string} length @returns {Promise<number>} how many calls a run has that asks for it */
+      const callsWith = async (length) => {
+        const [{ calls, ending }] = await runsOf(context, {
+          "main.mjs": `${MAIN}const grows = new SharedArrayBuffer(8, { maxByteLength: 16 });
+new Worker(new URL("./worker.mjs", import.meta.url), { workerData: grows });
+try { grows.grow(${length}); } catch {}`,
+          "worker.mjs": "",
+        });
+        assert.equal(ending, "finished");
+        return calls;
+      };
+      const [none, ...others] = await Promise.all(["-1", "2 ** 60", "12n", "4", "8", "12"].map(callsWith));
+      assert.deepEqual(others.map((calls) => calls - none), [0, 0, 1, 1, 1]);
+    });
+  });
+
   it("is refused as too long by the engine, in the thread that does it alone", async (context) => {
     const outcomes = await runsOf(context, {
       "main.mjs": `${MAIN}const grows = new SharedArrayBuffer(8, { maxByteLength: 16 });

@@ -85,7 +85,7 @@ describe("programs for browsers with known answers in the recorder", () => {
 describe("rare programs, if each thread that can go on is as likely", () => {
   /** @type {TableRuns} */
   let runs;
-  before(async () => { runs = await TableRuns.open({ strategy: "uniform" }); });
+  before(async () => { runs = await TableRuns.open({ strategy: "uniform", everywhere: true }); });
   after(() => runs.close());
 
   for (const program of PROGRAMS.filter(({ isRare, notYet }) => isRare && notYet === undefined)) {

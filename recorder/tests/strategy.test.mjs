@@ -217,10 +217,10 @@ function logByWords(events) {
 
 /** What is known of the calls of agents after some pilots: whether each is the agent's own affair. */
 function known(pilots, calls) {
-  const learnt = new Pilots(3);
-  for (const events of pilots) learnt.add(logByWords(events));
   const places = new KnownPlaces(KnownPlaces.memory());
-  learnt.teach(places);
+  const learnt = new Pilots(3, places);
+  for (const events of pilots) learnt.add(logByWords(events));
+  learnt.teach();
   return calls.map(([agent, does, word]) => {
     return places.isPrivate(agent, placeNumber(0, word * 4), placeNumber(0, word * 4) + 4, does === "write");
   });
@@ -249,7 +249,7 @@ test("calls that threw show nothing of places, whatever their index was", () => 
     { agent: 0, block: 0, byte: 0, size: 4, read: true, write: false, atomic: true, waiters: false, source: 0 },
   ]);
   log.events[0] &= 0xffff;
-  const pilots = new Pilots(1);
+  const pilots = new Pilots(1, new KnownPlaces(KnownPlaces.memory()));
   pilots.add(log);
   assert.deepEqual([...pilots.users.slice(0, 5)], [1, 1, 1, 1, 0]);
 });

@@ -6,6 +6,7 @@ import { loopPlace } from "../memory/blocks.mjs";
 import { KnownPlaces } from "../memory/known-places.mjs";
 import { LOOP, ORDER, PHASE, WORD, wordsFor } from "../memory/layout.mjs";
 import { FLAG } from "../memory/log.mjs";
+import { NamedPlaces } from "../memory/named-places.mjs";
 import { Random } from "../memory/random.mjs";
 import { AsyncWaiters } from "./async-waiters.mjs";
 import { Clock } from "./clock.mjs";
@@ -36,6 +37,7 @@ const TEXT_BYTES = 16_384;
  * @property {SharedArrayBuffer} places
  * @property {import("./row.mjs").RowMemory} row
  * @property {SharedArrayBuffer} [waiters] of a program: for the waits of Atomics.waitAsync
+ * @property {SharedArrayBuffer} [names] of a program: by which pilots know its memory
  */
 
 export class Board {
@@ -65,7 +67,8 @@ export class Board {
     this.line = new Line(this.words, agents, this.waiters);
     this.journal = new Journal(this.words, new Float64Array(memory.views), agents);
     this.clock = new Clock(memory.times);
-    this.places = new KnownPlaces(memory.places);
+    const { places, names } = memory;
+    this.places = names === undefined ? new KnownPlaces(places) : new NamedPlaces(places, names);
     this.spins = new Spins(this.words, agents);
     this.deadlines = new Deadlines(memory.early, this.words, this.clock, this.spins, agents);
     this.row = new Row(memory.row, this.deadlines, this.words, agents);

@@ -99,9 +99,10 @@ export class Strategy {
    * @param {number} from the first place
    * @param {number} to the place behind the last one; where the call touches nothing, both are 0
    * @param {number} how the call's flags, as in the log
+   * @param {number} [known] the number of the first place as pilots know it
    */
-  asks(agent, from, to, how) {
-    this.asked.note(agent, from, to, how, this.#way().everywhere);
+  asks(agent, from, to, how, known = from) {
+    this.asked.note(agent, from, to, how, known, this.#way().everywhere);
   }
 
   /** @returns {number} the next agent that hasn't been started, or `NOBODY_MOVES` */

@@ -18,6 +18,7 @@ import { moduleUrlOf } from "./module-url.mjs";
  * @typedef {object} RunOptions what each run may have
  * @property {string[]} [args] for the agents, or for the program
  * @property {"mixed" | "uniform" | "partial-order" | `switch:${number}`} [strategy] who moves next; else "mixed"
+ * @property {boolean} [everywhere] whether agents are switched before each call, also where none can meet another
  * @property {number | "never"} [timeouts] from 0 to 1: in how many of the draws the early end of a timed wait is
  * offered while something else can move; "never": no timed wait ends by itself; else 0.05
  * @property {number} [maxMoves] at most 100,000
@@ -36,7 +37,6 @@ import { moduleUrlOf } from "./module-url.mjs";
  * @property {number} [agents] how many; else what the module's `setup` says
  * @property {number[]} [buffers] the bytes of each buffer; else what the module's `setup` says
  * @property {number[]} [noBlock] the agents that can't block; else what the module's `setup` says, and else none
- * @property {boolean} [everywhere] whether agents are switched before each call, also where none can meet another
  * @property {"watch" | "store" | "refuse"} [ordinary] what is done with ordinary reads and writes; else "watch"
  * @property {"fail" | "allow"} [unrecorded] whether a run fails in which agents use shared memory that isn't recorded;
  * else "fail"

@@ -17,12 +17,11 @@ export const MESSAGE_PLACES = MESSAGE_BYTES / 4;
 
 /**
  * The places by which strategies know what a move of an event loop or a message conflicts with, before the message has a
- * number. They are in the block for messages: one for each thread's event loop, one for all channels that have names,
- * and the rest for ports that are under way in a message.
+ * number. They are in the block for messages: one for each thread's event loop, and the rest for ports that are under way
+ * in a message.
  */
 export const LOOP_PLACES = 0;
-export const CHANNEL_PLACE = SCRIPT_LIMITS.agents;
-export const PORT_PLACES = CHANNEL_PLACE + 1;
+export const PORT_PLACES = LOOP_PLACES + SCRIPT_LIMITS.agents;
 
 /** @param {number} agent @returns {number} the place of its event loop, as strategies know it */
 export const loopPlace = (agent) => placeNumber(MESSAGES, 4 * (LOOP_PLACES + agent));

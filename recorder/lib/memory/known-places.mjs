@@ -2,10 +2,12 @@
 // it matter who moves first. A byte of which nothing is known counts as one where they can.
 
 import { SCRIPT_LIMITS } from "../../script/limits.mjs";
+import { FLAG } from "./log.mjs";
 
 const { Uint8Array, SharedArrayBuffer } = globalThis;
 
 // What is known of a byte. 0: nothing. 1 to 16: only agent n - 1 uses it.
+const ORDERED = 253;
 const READ_ALONE = 254;
 const SHARED = 255;
 
@@ -37,6 +39,16 @@ export class KnownPlaces {
     this.known = new Uint8Array(memory);
   }
 
+  /** @param {number} block @param {number} byte @returns {number} the number by which what is known of it is found */
+  placeOf(block, byte) {
+    return placeNumber(block, byte);
+  }
+
+  /** @param {number} how what a call does, as flags @returns {boolean} whether it can be private: waits can't */
+  canBePrivate(how) {
+    return (how & FLAG.WAITERS) === 0;
+  }
+
   /** @param {number} place that one agent uses alone @param {number} agent */
   giveTo(place, agent) {
     this.known[place] = agent + 1;
@@ -45,6 +57,11 @@ export class KnownPlaces {
   /** @param {number} place that several agents read, and nobody writes */
   setReadAlone(place) {
     this.known[place] = READ_ALONE;
+  }
+
+  /** @param {number} place that agents use in an order that their messages give */
+  setOrdered(place) {
+    this.known[place] = ORDERED;
   }
 
   /** @param {number} place where several agents meet */
@@ -62,7 +79,8 @@ export class KnownPlaces {
   isPrivate(agent, from, to, writes) {
     const { known } = this;
     for (let place = from; place < to; place += 1) {
-      if (known[place] !== agent + 1 && (writes || known[place] !== READ_ALONE)) return false;
+      const isOwn = known[place] === agent + 1 || known[place] === ORDERED;
+      if (!isOwn && (writes || known[place] !== READ_ALONE)) return false;
     }
     return from < to;
   }

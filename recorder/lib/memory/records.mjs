@@ -18,6 +18,7 @@ const { asIntN, asUintN } = BigInt;
  * @property {number} offset the byte at which its view begins
  * @property {number} length how many elements its view has
  * @property {number} index
+ * @property {number} [bytes] how many its places have, for strategies, if it touches more than one element
  * @property {(number | bigint)[]} operands
  * @property {number | undefined} limit the timeout of a wait, or the count of a notify
  * @property {number} [milliseconds] the timeout of a wait that has one, with its fraction; it isn't recorded

@@ -7,8 +7,8 @@ const NOT_YET = "it isn't there for programs yet";
 
 /** Options that say something of agents and their buffers, or that aren't there for programs yet; and why. */
 const WITHOUT = Object.freeze({
-  agents: AGENTS_ONLY, buffers: AGENTS_ONLY, noBlock: AGENTS_ONLY, everywhere: AGENTS_ONLY, unrecorded: AGENTS_ONLY,
-  init: AGENTS_ONLY, check: AGENTS_ONLY, ordinary: NOT_YET, clock: NOT_YET, untilCovered: NOT_YET,
+  agents: AGENTS_ONLY, buffers: AGENTS_ONLY, noBlock: AGENTS_ONLY, unrecorded: AGENTS_ONLY, init: AGENTS_ONLY,
+  check: AGENTS_ONLY, ordinary: NOT_YET, clock: NOT_YET, untilCovered: NOT_YET,
 });
 
 /** Options that say something of programs alone; and why. */

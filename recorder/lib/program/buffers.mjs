@@ -5,9 +5,9 @@
 import { learn } from "../agent/ordinary/context.mjs";
 import { HELD } from "../memory/blocks.mjs";
 import { FIRST_MORE } from "../memory/more-blocks.mjs";
-import { isGrowable, sharedLengthOf, weakGet, weakSet } from "../primordials.mjs";
+import { isGrowable, mapGet, mapSet, sharedLengthOf, weakGet, weakSet } from "../primordials.mjs";
 
-const { SharedArrayBuffer: EngineShared, Uint8Array, WeakMap: EngineWeakMap } = globalThis;
+const { Map: EngineMap, SharedArrayBuffer: EngineShared, Uint8Array, WeakMap: EngineWeakMap } = globalThis;
 const { load, store } = Atomics;
 
 /** From here on are the numbers of buffers that are no blocks yet. */
@@ -15,7 +15,13 @@ const FIRST_OWN = 2 ** 24;
 
 const NO_BLOCK = -1;
 
-/** @typedef {{ block: number, own: number, place: string | undefined }} Known a buffer: its block, or its own number */
+/**
+ * @typedef {object} Known a buffer
+ * @property {number} block or -1
+ * @property {number} own its own number
+ * @property {string} [place] where it was made
+ * @property {number} [count] as the how manyth there
+ */
 
 /**
  * Whether two buffers have the same memory. Nobody else writes meanwhile.
@@ -46,7 +52,8 @@ function hasBytes(buffer) {
  * @typedef {object} Shown
  * @property {(place: import("../agent/ordinary/context.mjs").Place, from: number, to: number, writes: boolean) => void}
  * seen gets an ordinary access that is about to be made
- * @property {(block: number, place: string) => void} named gets where the memory of a new block was made
+ * @property {(block: number, place: string, count: number) => void} named gets where the memory of a new block was made,
+ * and as the how manyth there
  * @property {(block: number) => void} began gets a new block that no script can have as it is
  * @property {(why: string) => never} refuse ends the run
  */
@@ -57,6 +64,9 @@ export class Buffers {
 
   /** @type {Known[]} those that were made here, by their own numbers less the first one */
   #own = [];
+
+  /** @type {Map<string | undefined, number>} how many were made at each place */
+  #counts = new EngineMap();
 
   /** @type {(own: number, block: number) => void} called when a buffer of this thread has become a block */
   onBlock = () => {};
@@ -79,8 +89,10 @@ export class Buffers {
    * @param {string | undefined} place where
    */
   made(buffer, place) {
-    const known = { block: NO_BLOCK, own: FIRST_OWN + this.#own.length, place };
+    const count = mapGet(this.#counts, place) ?? 0;
+    const known = { block: NO_BLOCK, own: FIRST_OWN + this.#own.length, place, count };
     this.#own[this.#own.length] = known;
+    mapSet(this.#counts, place, count + 1);
     weakSet(this.#known, buffer, known);
   }
 
@@ -111,7 +123,7 @@ export class Buffers {
     const block = blocks.add(buffer, place);
     if (block < 0) this.#refuseMore(length, place);
     known.block = block;
-    if (block < FIRST_MORE) shown.named(block, place);
+    shown.named(block, place, known.count ?? 0);
     mesh.handAll({ kind: "block", block, buffer });
     if (block >= FIRST_MORE) shown.began(block);
     else if (hasBytes(buffer)) {
@@ -167,6 +179,7 @@ export class Buffers {
   clear() {
     this.#known = new EngineWeakMap();
     this.#own = [];
+    this.#counts = new EngineMap();
     this.blocks.clear();
   }
 

@@ -5,7 +5,7 @@
 import { MessageChannel } from "node:worker_threads";
 import { SCRIPT_LIMITS } from "../../script/limits.mjs";
 import { Board } from "../board/board.mjs";
-import { waysOf } from "../board/strategy/ways.mjs";
+import { programWaysOf } from "../board/strategy/ways.mjs";
 import { WORD } from "../memory/layout.mjs";
 import { Refused } from "../options/refused.mjs";
 import { FIRST_THREADS } from "../processes/first-workers.cjs";
@@ -63,6 +63,9 @@ export class ProgramGroup extends Group {
   /** @type {number | undefined} the seed whose run prints */
   #loud = undefined;
 
+  /** Whether pilots of the program were asked for: they are made before the first run that goes by what they show. */
+  #hasPilots = false;
+
   /** The program that the group was opened with: places in the code are named from its folder. */
   #origin = "";
 
@@ -71,10 +74,10 @@ export class ProgramGroup extends Group {
     const referee = this.thread(REFEREE_MODULE);
     this.referee = referee;
     referee.give(REFEREE_MODULE);
-    const { module, strategy, timeouts, maxMoves, web = false } = this.options;
+    const { module, strategy, everywhere, timeouts, maxMoves, web = false } = this.options;
     this.#origin = module;
     const plan = programPlan(SCRIPT_LIMITS.agents, !web);
-    const ways = waysOf(strategy, true);
+    const ways = programWaysOf(strategy, everywhere);
     this.plan = plan;
     this.rules = { agents: plan.agents, starts: 1, soon: SOON_MILLISECONDS, ways, timeouts, maxMoves };
     this.memory = programMemory(plan, this.options.logEvents);
@@ -96,12 +99,22 @@ export class ProgramGroup extends Group {
     // Of several jobs the one prints that makes the first run of all.
     this.#loud ??= /** @type {{ first?: number }} */ (this.options).first ?? seeds[0]?.seed;
     const all = seeds.map((wanted) => {
+      const learns = this.#needsPilots(wanted);
       this.#made += 1;
-      const isFresh = wanted.isFresh || this.options.fresh || this.#made % MOST_RUNS === 0;
+      // The first run of all is made in fresh threads.
+      const isFirst = this.#made === 1 && wanted.seed === this.#loud;
+      const isFresh = wanted.isFresh || this.options.fresh || this.#made % MOST_RUNS === 0 || (learns && isFirst);
+      this.#hasPilots ||= learns;
       // A script alone doesn't make a program's run again: that needs its row.
-      return { ...wanted, isFresh, isSilent: !this.#isShown(wanted), wantsRow: true };
+      return { ...wanted, learns, isFresh, isSilent: !this.#isShown(wanted), wantsRow: true };
     });
     return super.run(all, onOutcome, onFailing);
+  }
+
+  /** @param {Wanted} wanted @returns {boolean} whether it goes by what pilots show, and none were made yet */
+  #needsPilots({ seed, row }) {
+    const ways = this.rules?.ways ?? [];
+    return !this.#hasPilots && row === undefined && !ways[seed % ways.length].everywhere;
   }
 
   /** @param {Wanted} wanted @returns {boolean} whether it is shown what the run prints */
@@ -122,6 +135,7 @@ export class ProgramGroup extends Group {
   enter(module, args = []) {
     Object.assign(this.options, { module, args });
     this.#loud = undefined;
+    this.#hasPilots = false;
     this.#controls[0].postMessage({ main: { program: module, args } });
   }
 

@@ -1,10 +1,27 @@
 // Shared buffers that grow. To grow one, and to ask for its length, are moves of the run: what a thread has done before it
-// made the buffer longer comes before what is done by one that finds it longer.
+// made the buffer longer comes before what is done by one that finds it longer. A call of `grow` that changes nothing,
+// as one that is refused, only reads the length (ECMA-262, SharedArrayBuffer.prototype.grow).
 
 import { replace, replaceGetter } from "../agent/ordinary/patch.mjs";
-import { apply } from "../primordials.mjs";
+import { apply, mostLengthOf, sharedLengthOf } from "../primordials.mjs";
 
 const { prototype: shared } = SharedArrayBuffer;
+const { trunc } = Math;
+const NO_BLOCK = -1;
+const { MAX_SAFE_INTEGER } = Number;
+
+/** @param {unknown} length @returns {boolean} whether it is refused before the buffer's own length is looked at */
+function isNoLength(length) {
+  if (typeof length === "bigint" || typeof length === "symbol") return true;
+  const index = trunc(Number(length));
+  return index < 0 || index > MAX_SAFE_INTEGER;
+}
+
+/** @param {any} buffer @param {unknown} length @returns {boolean} whether it gets longer by that */
+const getsLonger = (buffer, length) => {
+  const index = trunc(Number(length));
+  return index > sharedLengthOf(buffer) && index <= mostLengthOf(buffer);
+};
 
 /**
  * @param {import("./buffers.mjs").Buffers} buffers of the thread
@@ -13,14 +30,14 @@ const { prototype: shared } = SharedArrayBuffer;
  */
 export function furnishGrowing(buffers, moves, isPlaying) {
   /** @param {unknown} buffer @returns {number} its block, if it is one of a run and grows; else -1 */
-  const blockOf = (buffer) => (isPlaying() ? buffers.growingBlock(buffer) : -1);
+  const blockOf = (buffer) => (isPlaying() ? buffers.growingBlock(buffer) : NO_BLOCK);
   replace(shared, "grow", (engine) => {
     const { grow } = {
       /** @param {unknown} length */
       grow(length) {
         const bytes = typeof length === "object" ? Number(length) : length;
-        const block = blockOf(this);
-        if (block >= 0) moves.touchLength(block, true, grow);
+        const block = isNoLength(bytes) ? NO_BLOCK : blockOf(this);
+        if (block >= 0) moves.touchLength(block, grow, () => getsLonger(this, bytes));
         apply(engine, this, [bytes]);
         if (block >= 0) buffers.blocks.grew(block);
       },
@@ -30,7 +47,7 @@ export function furnishGrowing(buffers, moves, isPlaying) {
   replaceGetter(shared, "byteLength", (engine) => ({
     get asked() {
       const block = blockOf(this);
-      if (block >= 0) moves.touchLength(block, false, engine);
+      if (block >= 0) moves.touchLength(block, engine);
       return apply(engine, this, []);
     },
   }));

@@ -4,7 +4,7 @@
 
 import { CALL_NUMBERS, CONSTRUCTORS, KINDS, SIZES } from "../../script/kinds.mjs";
 import { LEAVE, TIME_UP } from "../board/journal.mjs";
-import { CHANNEL_PLACE, LOOP_PLACES, MESSAGES, MESSAGE_PLACES, PORT_PLACES } from "../memory/blocks.mjs";
+import { LOOP_PLACES, MESSAGES, MESSAGE_PLACES, PORT_PLACES } from "../memory/blocks.mjs";
 import { LOOP, NOWHERE, PHASE, WORD } from "../memory/layout.mjs";
 import { FLAG } from "../memory/log.mjs";
 import { byteOf } from "../memory/memory.mjs";
@@ -21,8 +21,8 @@ export const toThread = (agent) => LOOP_PLACES + agent;
 /** @param {number} port that is under way itself @returns {number} what a message to it goes to */
 export const toPort = (port) => PORT_PLACES + (port % (MESSAGE_PLACES - PORT_PLACES));
 
-/** What a message to all channels of a name goes to. */
-export const TO_CHANNELS = CHANNEL_PLACE;
+/** What a message to all channels of a name goes to: the event loop of any thread may have one. */
+export const TO_CHANNELS = -1;
 
 export class Moves {
   /**
@@ -45,7 +45,8 @@ export class Moves {
   send(called, to) {
     const { words } = this.board;
     // Others may send some before it is this one's turn, so its number is known then.
-    const call = this.#edge(to);
+    const call = this.#edge(to === TO_CHANNELS ? LOOP_PLACES : to);
+    if (to === TO_CHANNELS) call.bytes = 4 * (PORT_PLACES - LOOP_PLACES);
     this.count();
     this.player.make(call, this.view, called, () => {
       call.index = words[WORD.MESSAGES] % MESSAGE_PLACES;
@@ -69,16 +70,19 @@ export class Moves {
    * Asks for the turn to read the length of a block that grows, or to change it. Each block has a word for its length,
    * which is read or changed by Atomics.
    * @param {number} block
-   * @param {boolean} writes
    * @param {Function} called the function that the program's code has called
+   * @param {() => boolean} [isChanged] whether it is changed; it is called when the thread has the turn
    */
-  touchLength(block, writes, called) {
+  touchLength(block, called, isChanged) {
+    const view = { kind: INT32, block: MESSAGES, offset: 0, length: MESSAGE_PLACES };
+    const reads = { call: CALL_NUMBERS.load, ...view, index: block % MESSAGE_PLACES, operands: [], limit: undefined };
+    /** @type {Call} */
+    const call = isChanged === undefined ? reads : { ...reads, call: CALL_NUMBERS.add, operands: [0] };
     this.count();
-    this.player.make({
-      call: writes ? CALL_NUMBERS.add : CALL_NUMBERS.load, kind: INT32, block: MESSAGES, offset: 0, length: MESSAGE_PLACES,
-      index: block % MESSAGE_PLACES, operands: writes ? [0] : [], limit: undefined,
-    }, this.view, called);
-    if (writes) this.board.spins.news();
+    this.player.make(call, this.view, called, () => {
+      if (isChanged?.() === false) Object.assign(call, reads);
+    });
+    if (call.call === CALL_NUMBERS.add) this.board.spins.news();
   }
 
   /** @param {number} message that is received now */

@@ -6,6 +6,7 @@ import { memoryOf } from "../board/group-memory.mjs";
 import { MAKE, MOVES } from "../board/journal.mjs";
 import { Blocks, MESSAGE_BYTES, MOST_BLOCKS, MOST_BYTES } from "../memory/blocks.mjs";
 import { Keepers } from "../memory/keepers.mjs";
+import { NamedPlaces } from "../memory/named-places.mjs";
 import { Records } from "../memory/records.mjs";
 import { TaskNotes } from "../memory/task-notes.mjs";
 import { PortTable } from "../board/port-table.mjs";
@@ -33,7 +34,7 @@ export function programMemory(plan, logEvents) {
   const memory = memoryOf(plan, logEvents);
   return {
     ...memory,
-    board: { ...memory.board, waiters: AsyncWaiters.memory() },
+    board: { ...memory.board, waiters: AsyncWaiters.memory(), names: NamedPlaces.names() },
     records: Array.from({ length: plan.agents }, () => Records.memory(MOST_CALLS)),
     blocks: Blocks.memory(),
     ports: PortTable.memory(),

@@ -20,6 +20,8 @@ import { Keepers } from "../memory/keepers.mjs";
 import { WORD } from "../memory/layout.mjs";
 import { Log } from "../memory/log.mjs";
 import { Memory } from "../memory/memory.mjs";
+import { FIRST_MORE } from "../memory/more-blocks.mjs";
+import { NamedPlaces } from "../memory/named-places.mjs";
 import { Records } from "../memory/records.mjs";
 import { Sources } from "../memory/sources.mjs";
 import { Stores } from "../memory/stores.mjs";
@@ -118,7 +120,7 @@ const watching = {
   },
   lengthAsked: ({ block }) => {
     const number = self.buffers?.blockOf(block) ?? -1;
-    if (number >= 0 && isPlaying()) self.moves?.touchLength(number, false, isPlaying);
+    if (number >= 0 && isPlaying()) self.moves?.touchLength(number, isPlaying);
   },
   isCalledByAgents,
   // There is no other way to watch a program.
@@ -210,7 +212,9 @@ function partsOf(player, blocks, mesh) {
   const moves = new Moves(player, shared.buffers[MESSAGES]);
   const seen = watching.seen;
   const began = (/** @type {number} */ block) => blocks.begins(block, agent, log.length);
-  const buffers = new Buffers(blocks, mesh, { seen, refuse, named: nameBlock, began });
+  /** @type {import("./buffers.mjs").Shown["named"]} */
+  const named = (block, place, count) => nameBlock(player, block, place, count);
+  const buffers = new Buffers(blocks, mesh, { seen, refuse, named, began });
   const table = new PortTable(shared.ports);
   const all = new Threads(agent, board, table, moves);
   /** @type {Late} */
@@ -283,8 +287,18 @@ function taken({ mesh, ports, moves }) {
 /** @param {string} url @returns {string} the last part of its path */
 const fileName = (url) => (url.startsWith("data:") ? "a data: URL" : url.slice(url.lastIndexOf("/") + 1));
 
-/** @param {number} block @param {string} place where its memory was made */
-const nameBlock = (block, place) => new Keepers(shared.madeAt[block]).setName(place);
+/**
+ * A block gets the names by which people and pilots know it.
+ * @param {Player} player
+ * @param {number} block
+ * @param {string} place where its memory was made
+ * @param {number} count as the how manyth there
+ */
+function nameBlock({ agent, table: { board, lengths } }, block, place, count) {
+  if (block < FIRST_MORE) new Keepers(shared.madeAt[block]).setName(place);
+  if (place === "" || !(board.places instanceof NamedPlaces)) return;
+  board.places.name(block, `${agent} ${place} ${count}`, lengths[block], board.words[WORD.IS_PILOT] === 1);
+}
 
 /** @param {Start} start @returns {string} what the thread is, for people */
 const threadName = ({ url, isCode }) => (isCode ? "evaluated code" : fileName(url));

@@ -66,6 +66,7 @@
  * @property {boolean} [wantsActs] whether the outcome has a digest of all that was done
  * @property {boolean} [isSilent] whether nothing is printed of what the agents print
  * @property {boolean} [isShown] whether what a program prints is shown, though the run isn't the first one
+ * @property {boolean} [learns] whether pilots of a program are made before, of which nothing is known yet
  * @property {boolean} [isFresh] whether the agents' workers are started anew before
  */
 

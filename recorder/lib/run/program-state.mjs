@@ -52,6 +52,8 @@ export class ProgramState {
     this.madeAt = shared.madeAt.map((each) => new Keepers(each));
     this.ports = new PortTable(shared.ports);
     this.tasks = new TaskNotes(shared.tasks);
+    /** What pilots know of its memory. */
+    this.places = /** @type {import("../memory/named-places.mjs").NamedPlaces} */ (board.places);
   }
 
   /** A run begins. */
@@ -60,6 +62,12 @@ export class ProgramState {
     for (const texts of [...this.keepers, ...this.madeAt]) texts.clear();
     this.ports.begin();
     this.tasks.begin();
+    this.places.begin();
+  }
+
+  /** Nothing is known of its memory. */
+  forget() {
+    this.places.forget();
   }
 
   /** A run has ended: its plan is known. @returns {number[]} the threads that took part */

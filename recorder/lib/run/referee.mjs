@@ -2,6 +2,7 @@
 // wanted, the run is made once more by the same seed, and then each access notes its line.
 
 import { workerData } from "node:worker_threads";
+import { SCRIPT_LIMITS } from "../../script/limits.mjs";
 import { WORD } from "../memory/layout.mjs";
 import { Log } from "../memory/log.mjs";
 import { onceMore } from "../processes/garbage.mjs";
@@ -58,6 +59,7 @@ class Referee {
     const { port } = this;
     if (learns) await this.#learn();
     for (const wanted of seeds) {
+      if (wanted.learns) await this.#learn();
       if (wanted.isFresh) await this.#startAnew();
       await this.#send(await (wanted.isTrial ? this.#tried(wanted) : this.#one(wanted)));
       this.sinceFresh += 1;
@@ -82,20 +84,29 @@ class Referee {
     this.port.once("message", (work) => this.record(work));
   }
 
-  /** Learns by pilots where agents meet. The agents have other workers afterwards, so no module remembers pilots. */
+  /**
+   * Learns by pilots where agents meet. A module's agents have other workers afterwards, so that it doesn't remember
+   * pilots. A program's threads are kept from run to run, and so from pilots.
+   */
   async #learn() {
     const { maker, maker: { board, log }, plan } = this;
-    const pilots = new Pilots(plan.agents);
+    const isProgram = this.options.isProgram === true;
+    maker.program?.forget();
+    const pilots = new Pilots(isProgram ? SCRIPT_LIMITS.agents : plan.agents, board.places, isProgram);
     let isSeen = true;
     let isLong = false;
     for (let seed = 0; seed < PILOTS && isSeen && !isLong; seed += 1) {
       isSeen = await maker.pilot(seed);
       pilots.add(log);
       isLong = Pilots.isLong(log, maker.accessCount());
+      // What is shared in one pilot is so in all.
+      isSeen &&= !isProgram || pilots.areWorth(log);
+      this.sinceFresh += 1;
     }
     board.words[WORD.IS_PILOT] = 0;
-    if (isSeen) pilots.teach(board.places);
-    await maker.replace(maker.agents);
+    if (isSeen) pilots.teach();
+    else maker.program?.forget();
+    if (!isProgram) await maker.replace(maker.agents);
   }
 
   /** @param {Wanted} wanted @returns {Promise<Sent>} the outcome of a seed */

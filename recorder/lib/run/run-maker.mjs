@@ -166,8 +166,12 @@ export class RunMaker {
     board.words[WORD.IS_PILOT] = 1;
     if (options.init !== undefined && (await this.#asked("init")) !== "") return false;
     board.words[WORD.NOTES_SOURCES] = 0;
+    board.words[WORD.IS_SILENT] = 1;
     board.begin(seed, true);
-    const isSilent = board.turn.awaitEnd(Math.min(options.seconds, PILOT_SECONDS));
+    // A program may well make no call for a while, and what is known mustn't depend on how fast it is.
+    const seconds = this.program === undefined ? Math.min(options.seconds, PILOT_SECONDS) : options.seconds;
+    const isSilent = board.turn.awaitEnd(seconds);
+    if (this.program !== undefined) this.agents = this.program.learn();
     await this.replace(this.#sentHome());
     // If ordinary reads aren't seen, nobody knows what an agent does between its calls.
     const isHidden = options.ordinary !== "watch" && board.words[WORD.STORES] > 0;

@@ -124,6 +124,12 @@ const ALL = [
   right("buffers/right.mjs"),
   rare("buffers/laps-reader.mjs", failed(/a torn pair/, ["threads.mjs", THROWS])),
 
+  // Many calls on words of the thread's own between those that matter.
+  right("amid-work/right.mjs"),
+  wrong("amid-work/lost-wake-up.mjs", deadlock(["lost-wake-up.mjs", "Atomics.wait("])),
+  rare("amid-work/lock-order.mjs", deadlock(["lock-order.mjs", "Atomics.wait("])),
+  wrong("amid-work/two-steps.mjs", failed(/counted 1/, ["two-steps.mjs", THROWS])),
+
   // More memory than a script can have: many blocks, and a large one.
   right("shards/right.mjs"),
   wrong("shards/wrong-lock.mjs",

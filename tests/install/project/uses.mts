@@ -36,7 +36,7 @@ export const many: ExploreOptions[] = [seeds, { ...rest, seeds: 20 }, { ...rest,
 
 const program: OfProgram = { program: "./main.mjs", stuck: "allow", web: true, programOutput: "none" };
 const few: ManyRuns = { seeds: 5 };
-export const ofProgram: RecordOptions = { ...program, args: ["fast"], seed: 3, trace: true };
+export const ofProgram: RecordOptions = { ...program, args: ["fast"], seed: 3, trace: true, everywhere: true };
 export const manyOfProgram: ExploreOptions = { ...program, ...few };
 
 // @ts-expect-error: there can't be a program beside a module of agents

@@ -29,12 +29,13 @@ export class Asked {
    * @param {number} from the first place that it touches
    * @param {number} to the place behind the last one; where the call touches nothing, both are 0
    * @param {number} how its flags, as in the log
+   * @param {number} known the number of the first place, as it is found in what is known
    * @param {boolean} everywhere whether a draw is made before each call
    */
-  note(agent, from, to, how, everywhere) {
-    const { words } = this;
-    const isPrivate = !everywhere && (how & FLAG.WAITERS) === 0
-      && this.places.isPrivate(agent, from, to, (how & FLAG.WRITES) !== 0);
+  note(agent, from, to, how, known, everywhere) {
+    const { words, places } = this;
+    const isPrivate = !everywhere && places.canBePrivate(how)
+      && places.isPrivate(agent, known, known + to - from, how !== FLAG.READS);
     const row = wordOf(agent, AGENT_WORD.PRIVATE_CALLS);
     words[row] = isPrivate ? words[row] + 1 : 0;
     words[wordOf(agent, AGENT_WORD.ASKS_FROM)] = from;

@@ -38,6 +38,9 @@ const MIXED = Object.freeze([
 /** Those of pilots: whatever the runs are to do, pilots look at all that the agents may do. */
 export const PILOT_WAYS = Object.freeze(MIXED.map(({ name, likelihood }) => way(name, likelihood, true)));
 
+/** Of a program's mixed runs one in so many draws before each call. */
+const OF_PROGRAM = 8;
+
 /** What names a strategy: P is a likelihood. */
 export const STRATEGY_WORDS = Object.freeze(["mixed", ...Object.entries(STRATEGIES).map(([name, { hasLikelihood }]) => {
   return hasLikelihood ? `${name}:P` : name;
@@ -55,3 +58,13 @@ export function waysOf(strategy, everywhere) {
   const isRight = STRATEGIES[name].hasLikelihood ? Number(likelihood) <= 1 : likelihood === undefined;
   return isRight ? [way(name, Number(likelihood ?? 0), everywhere)] : [];
 }
+
+/**
+ * The same of a program. The run of seed 1 needs no pilots.
+ * @param {string} strategy
+ * @param {boolean} everywhere
+ * @returns {readonly Way[]}
+ */
+export const programWaysOf = (strategy, everywhere) => waysOf(strategy, everywhere).map((one, at, all) => {
+  return all.length > 1 && at % OF_PROGRAM === 1 ? way(one.name, one.likelihood, true) : one;
+});
