@@ -26,7 +26,8 @@ const ANSWERS = `${WORKER}parentPort.on("message", (value) => parentPort.postMes
  * @returns {Promise<ProgramGroup>}
  */
 async function opened(module, { seconds = 20, web = false } = {}) {
-  const options = { ...defaultsOf("record"), isProgram: true, seconds, args: [], web, module };
+  // Pilots would be further runs.
+  const options = { ...defaultsOf("record"), isProgram: true, everywhere: true, seconds, args: [], web, module };
   return /** @type {ProgramGroup} */ (await ProgramGroup.open(options));
 }
 

@@ -6,6 +6,7 @@ import { createHook, executionAsyncResource } from "node:async_hooks";
 import { Session } from "node:inspector";
 import timers from "node:timers";
 import { promiseHooks } from "node:v8";
+import { restoreProcess } from "./furnish.mjs";
 import { clearAsyncIdStack } from "./internals.mjs";
 
 const { setImmediate: turnLater } = timers;
@@ -73,4 +74,34 @@ export class Unwinding {
     // The engine looks for what it is asked each time round.
     for (;;);
   }
+}
+
+/**
+ * What a thread has that is made later.
+ * @typedef {object} Late
+ * @property {import("./loop.mjs").Loop} [loop]
+ * @property {import("./ends.mjs").Ends} [ends]
+ * @property {() => void} [goHome] leaves nothing of the run, so that the thread can begin again
+ */
+
+/**
+ * @param {import("../agent/player.mjs").Player} player
+ * @param {Late} late
+ * @returns {() => never} leaves all code of the program that runs in this thread
+ */
+export function leaveOf({ agent, part, table }, late) {
+  const { leave } = new Unwinding({
+    stop: () => {
+      part.isPlaying = false;
+      // Nothing of the program listens to what ticks find.
+      restoreProcess();
+      late.ends?.halt();
+      late.loop?.halt();
+    },
+    isSwept: () => late.loop?.isSwept() ?? true,
+    goHome: () => late.goHome?.(),
+    park: () => table.board.turn.park(agent),
+  });
+  table.leave = leave;
+  return leave;
 }

@@ -47,7 +47,7 @@ import { refuseRest } from "./surface.mjs";
 import { Threads } from "./threads.mjs";
 import { Timers } from "./timers.mjs";
 import { putTwins } from "./twins.mjs";
-import { Unwinding } from "./unwinding.mjs";
+import { leaveOf } from "./unwinding.mjs";
 import { WaitAsync } from "./wait-async.mjs";
 import { WEB } from "./web/surroundings.mjs";
 
@@ -181,26 +181,6 @@ const nextMessage = () => new Promise((done) => {
   port.once("message", done);
 });
 
-/** @typedef {{ loop?: Loop, ends?: import("./ends.mjs").Ends, goHome?: () => void }} Late what is made later */
-
-/** @param {Player} player @param {Late} late @returns {() => never} what leaves all code of the program that runs */
-function leaveOf({ agent, part, table }, late) {
-  const { leave } = new Unwinding({
-    stop: () => {
-      part.isPlaying = false;
-      // Nothing of the program listens to what ticks find.
-      restoreProcess();
-      late.ends?.halt();
-      late.loop?.halt();
-    },
-    isSwept: () => late.loop?.isSwept() ?? true,
-    goHome: () => late.goHome?.(),
-    park: () => table.board.turn.park(agent),
-  });
-  table.leave = leave;
-  return leave;
-}
-
 /**
  * What the thread has of a run.
  * @param {Player} player
@@ -217,7 +197,7 @@ function partsOf(player, blocks, mesh) {
   const buffers = new Buffers(blocks, mesh, { seen, refuse, named, began });
   const table = new PortTable(shared.ports);
   const all = new Threads(agent, board, table, moves);
-  /** @type {Late} */
+  /** @type {import("./unwinding.mjs").Late} */
   const late = {};
   const later = (/** @type {string} */ name, /** @type {() => void} */ act) => late.loop?.later(name, act);
   const ports = new Ports({ agent, table, moves, buffers, mesh, here, refuse, later });
