@@ -9,8 +9,9 @@ import { SCRIPT_LIMITS } from "./limits.mjs";
  * @property {number} block
  * @property {number} offset
  * @property {number} length
- * @property {string} [text] the view as a script has it, if that was made already
  */
+
+/** @typedef {View & { text?: string }} SpelledView with what a script has of it, if that was made already */
 
 /**
  * @typedef {object} Done a call that has begun
@@ -29,7 +30,7 @@ import { SCRIPT_LIMITS } from "./limits.mjs";
  * @typedef {object} Transcript
  * @property {number[]} lengths of the blocks
  * @property {boolean[]} canBlock of each agent
- * @property {View[]} views
+ * @property {SpelledView[]} views
  * @property {Done[][]} calls of each agent
  * @property {Move[]} moves
  */
@@ -39,7 +40,7 @@ const MOVES_ON_A_LINE = 24;
 /** A move of each agent, behind another move of its line. */
 const NEXT_MOVES = Array.from({ length: SCRIPT_LIMITS.agents }, (_, agent) => `, ${agent}`);
 
-/** @param {View} view @returns {string} the view as a script has it */
+/** @param {SpelledView} view @returns {string} the view as a script has it */
 export function viewText({ name, kind, block, offset, length, text }) {
   return text ?? `{"name": "${name}", "kind": "${kind}", "block": ${block}, "offset": ${offset}, "length": ${length}}`;
 }

@@ -6,12 +6,13 @@ import { viewText } from "../../script/text.mjs";
 import { FINGERPRINT } from "../memory/records.mjs";
 
 /** @typedef {import("../../script/text.mjs").Done} Done */
-/** @typedef {import("../../script/text.mjs").View} View */
+/** @typedef {import("../../script/text.mjs").SpelledView} SpelledView */
 
 /**
  * @typedef {object} KnownCall
  * @property {Done} done
- * @property {View} [view] that a script with the call needs; undefined: it has a name, and so stands in each script
+ * @property {SpelledView} [view] that a script with the call needs; undefined: it has a name, and so stands in each
+ * script
  */
 
 // When there are more, all are forgotten.

@@ -19,7 +19,7 @@ import { KnownCalls } from "./known-calls.mjs";
 /** @typedef {import("../../script/text.mjs").Done} Done */
 /** @typedef {import("../../script/text.mjs").Move} Move */
 /** @typedef {import("../../script/text.mjs").Transcript} Transcript */
-/** @typedef {import("../../script/text.mjs").View} View */
+/** @typedef {import("../../script/text.mjs").SpelledView} SpelledView */
 
 /**
  * @typedef {object} Run what a transcript is made from
@@ -38,7 +38,7 @@ import { KnownCalls } from "./known-calls.mjs";
 export const UNSEEN = "ordinary_unseen";
 const NO_ELEMENT = Object.freeze({ kind: KINDS.indexOf("Uint8"), block: 0, offset: 0, length: 0 });
 
-/** @param {string} name @param {Range} range @returns {View} */
+/** @param {string} name @param {Range} range @returns {SpelledView} */
 function viewOf(name, { kind, block, offset, length }) {
   return { name, kind: KINDS[kind], block, offset, length };
 }
@@ -55,7 +55,7 @@ class Writer {
     this.helpers = new Helpers(canBlock.length);
     this.names = names;
     this.known = known;
-    /** @type {Map<string, View>} */
+    /** @type {Map<string, SpelledView>} */
     this.views = new Map();
     /** @type {Done[][]} */
     this.calls = canBlock.map(() => []);
@@ -71,7 +71,7 @@ class Writer {
     for (const view of names.list) this.addView(viewOf(view.name, view));
   }
 
-  /** @param {View} view */
+  /** @param {SpelledView} view */
   addView(view) {
     if (!this.views.has(view.name)) this.views.set(view.name, view);
   }
