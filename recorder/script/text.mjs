@@ -1,5 +1,7 @@
 // The text of a run's script. It has one layout, so the same run is the same text.
 
+import { SCRIPT_LIMITS } from "./limits.mjs";
+
 /**
  * @typedef {object} View as a script has it
  * @property {string} name
@@ -8,6 +10,8 @@
  * @property {number} offset
  * @property {number} length
  */
+
+/** @typedef {View & { text?: string }} SpelledView with what a script has of it, if that was made already */
 
 /**
  * @typedef {object} Done a call that has begun
@@ -26,16 +30,19 @@
  * @typedef {object} Transcript
  * @property {number[]} lengths of the blocks
  * @property {boolean[]} canBlock of each agent
- * @property {View[]} views
+ * @property {SpelledView[]} views
  * @property {Done[][]} calls of each agent
  * @property {Move[]} moves
  */
 
 const MOVES_ON_A_LINE = 24;
 
-/** @param {View} view */
-function viewText({ name, kind, block, offset, length }) {
-  return `{"name": "${name}", "kind": "${kind}", "block": ${block}, "offset": ${offset}, "length": ${length}}`;
+/** A move of each agent, behind another move of its line. */
+const NEXT_MOVES = Array.from({ length: SCRIPT_LIMITS.agents }, (_, agent) => `, ${agent}`);
+
+/** @param {SpelledView} view @returns {string} the view as a script has it */
+export function viewText({ name, kind, block, offset, length, text }) {
+  return text ?? `{"name": "${name}", "kind": "${kind}", "block": ${block}, "offset": ${offset}, "length": ${length}}`;
 }
 
 /** @param {Done[]} calls @param {boolean} canBlock */
@@ -50,9 +57,9 @@ export function scheduleText(moves) {
   let text = "[";
   for (let at = 0; at < moves.length; at += 1) {
     const { agent, timeUp } = moves[at];
-    if (at > 0) text += at % MOVES_ON_A_LINE === 0 ? "," : ", ";
-    if (at % MOVES_ON_A_LINE === 0) text += "\n    ";
-    text += timeUp ? `{"timeout": ${agent}}` : agent;
+    const move = timeUp ? `, {"timeout": ${agent}}` : NEXT_MOVES[agent];
+    if (at % MOVES_ON_A_LINE > 0) text += move;
+    else text += `${at === 0 ? "" : ","}\n    ${move.slice(", ".length)}`;
   }
   return `${text}\n  ]`;
 }

@@ -4,10 +4,11 @@ import assert from "node:assert/strict";
 import { test } from "node:test";
 import { Log } from "../lib/memory/log.mjs";
 import { Records } from "../lib/memory/records.mjs";
-import { viewName } from "../lib/memory/spelling.mjs";
+import { callText, viewName } from "../lib/memory/spelling.mjs";
 import { Names } from "../lib/options/names.mjs";
 import { KnownCalls } from "../lib/run/known-calls.mjs";
 import { transcriptOf } from "../lib/run/transcript.mjs";
+import { KINDS } from "../script/kinds.mjs";
 import { reportText } from "../script/report.mjs";
 import { scriptText } from "../script/text.mjs";
 
@@ -90,6 +91,19 @@ for (const [what, names] of [["without names", []], ["with a name", NAMES]]) {
     }
   });
 }
+
+test("a call that is remembered has its own text and its own view", () => {
+  const known = new KnownCalls();
+  for (const made of [...MADE, ...MADE]) {
+    const { call } = made;
+    const [script] = textsOf({ ...runOf([made]), known });
+    const { views, agents: [{ calls }] } = JSON.parse(script);
+    const { kind, block, offset, length } = call;
+    const name = viewName(LENGTHS, call);
+    assert.deepEqual(views, [{ name, kind: KINDS[kind], block, offset, length }]);
+    assert.deepEqual(calls, [JSON.parse(callText(name, call))]);
+  }
+});
 
 test("views come in the order of a run's own first calls, whatever other runs have used", () => {
   const known = new KnownCalls();

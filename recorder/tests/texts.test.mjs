@@ -5,10 +5,12 @@ import { readFileSync, readdirSync } from "node:fs";
 import { test } from "node:test";
 import { fileURLToPath } from "node:url";
 import { callText, textRoom, viewKey, viewName } from "../lib/memory/spelling.mjs";
+import { traceText } from "../lib/run/trace.mjs";
 import { KINDS } from "../script/kinds.mjs";
 import { firstDifference, reportText } from "../script/report.mjs";
-import { scriptText } from "../script/text.mjs";
+import { scheduleText, scriptText } from "../script/text.mjs";
 import { groupOf } from "./helpers/groups.mjs";
+import { logOf } from "./helpers/logs.mjs";
 
 const EXAMPLES = new URL("../../examples/", import.meta.url);
 const kind = (name) => KINDS.indexOf(name);
@@ -91,6 +93,36 @@ test("a script names its blocks, and each view's, whether there is one block or 
   assert.deepEqual(JSON.parse(scriptText(empty)), {
     blocks: [0], views: [], agents: [{ block: true, calls: [] }], schedule: [],
   });
+});
+
+test("a schedule has 24 moves on a line, an end of a time among them", () => {
+  const move = { agent: 15, timeUp: false };
+  const end = { agent: 2, timeUp: true };
+  const full = Array(24).fill("15").join(", ");
+  const rows = [
+    [[], "[]"],
+    [[end], '[\n    {"timeout": 2}\n  ]'],
+    [[move, end, move], '[\n    15, {"timeout": 2}, 15\n  ]'],
+    [Array(24).fill(move), `[\n    ${full}\n  ]`],
+    [[...Array(48).fill(move), end], `[\n    ${full},\n    ${full},\n    {"timeout": 2}\n  ]`],
+  ];
+  for (const [moves, text] of rows) assert.equal(scheduleText(moves), text);
+});
+
+test("a trace has a line for each event, however many there are, as JSON.stringify writes it", () => {
+  const sources = [["", 'an "é".mjs:1:2'], ["", "b.mjs:3:4"]];
+  const events = Array.from({ length: 2_500 }, (_, at) => ({
+    agent: at % 2, call: at % 999, block: at % 3, byte: at % 701, size: 1 + (at % 8), read: at % 5 > 0, write: at % 7 > 0,
+    atomic: at % 4 > 1, waiters: at % 11 === 0, source: at % 6 > 2 ? 1 : 0,
+  }));
+  const lines = events.map(({ agent, call, block, byte, size, read, write, atomic, waiters, source }, event) => {
+    const place = sources[agent][source] || null;
+    const all = { event, agent, call, does: "read", block, byte, size, read, write, atomic, waiters, source: place };
+    return `${JSON.stringify(all)}\n`;
+  });
+  for (const count of [0, 1, 1_024, 1_025, 2_500]) {
+    assert.equal(traceText(logOf(events.slice(0, count)), sources), lines.slice(0, count).join(""));
+  }
 });
 
 test("a report has a line for each move, for each block and for each agent", () => {

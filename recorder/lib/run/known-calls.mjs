@@ -1,16 +1,18 @@
 // Calls as scripts and reports have them, remembered from run to run: the same call that came to the same has the same
 // texts. Most programs make few different ones.
 
+import { flat } from "../../script/flat.mjs";
+import { viewText } from "../../script/text.mjs";
 import { FINGERPRINT } from "../memory/records.mjs";
 
-/** @typedef {import("./transcript.mjs").Range} Range */
 /** @typedef {import("../../script/text.mjs").Done} Done */
+/** @typedef {import("../../script/text.mjs").SpelledView} SpelledView */
 
 /**
  * @typedef {object} KnownCall
  * @property {Done} done
- * @property {{ name: string, range: Range }} [view] that a script with the call needs; undefined: it has a name, and so
- * stands in each script
+ * @property {SpelledView} [view] that a script with the call needs; undefined: it has a name, and so stands in each
+ * script
  */
 
 // When there are more, all are forgotten.
@@ -37,6 +39,9 @@ export class KnownCalls {
     const found = alike?.find(({ fingerprint }) => areEqual(fingerprint, asked));
     if (found !== undefined) return found.call;
     const call = make();
+    const { done, view } = call;
+    done.text = flat(done.text);
+    if (view !== undefined) view.text = flat(viewText(view));
     this.#add(key, { fingerprint: asked.slice(), call });
     return call;
   }

@@ -1,6 +1,7 @@
 // The trace of a run: each of its events as an object of JSON, a line each. It is what another program needs to judge
 // anew whether the run has unordered accesses.
 
+import { flat } from "../../script/flat.mjs";
 import { CALLS } from "../../script/kinds.mjs";
 import { SCRIPT_LIMITS } from "../../script/limits.mjs";
 import { LEAVE, TIME_UP } from "../board/journal.mjs";
@@ -14,15 +15,15 @@ function nameOf({ what, method }) {
   return what === WRITE ? "write" : "read";
 }
 
-// What comes again in many lines has its text made once: a string of fewer parts is made faster.
+// What comes again in many lines has its text made once, in one piece.
 
 /** From an agent to the number of its call. */
-const AGENTS = Array.from({ length: SCRIPT_LIMITS.agents }, (_, agent) => `,"agent":${agent},"call":`);
+const AGENTS = Array.from({ length: SCRIPT_LIMITS.agents }, (_, agent) => flat(`,"agent":${agent},"call":`));
 
 /** From what an event does, by its flags, to the place in the code. */
-const EFFECTS = Array.from({ length: 16 }, (_, flags) =>
+const EFFECTS = Array.from({ length: 16 }, (_, flags) => flat(
   `,"read":${(flags & FLAG.READS) !== 0},"write":${(flags & FLAG.WRITES) !== 0},` +
-  `"atomic":${(flags & FLAG.ATOMIC) !== 0},"waiters":${(flags & FLAG.WAITERS) !== 0},"source":`);
+  `"atomic":${(flags & FLAG.ATOMIC) !== 0},"waiters":${(flags & FLAG.WAITERS) !== 0},"source":`));
 
 /** @type {Map<string, string[]>} by what an event is called, from there to its first byte: of each block */
 const DEEDS = new Map();
@@ -32,7 +33,7 @@ function deedOf(event) {
   const name = nameOf(event);
   const known = DEEDS.get(name) ?? [];
   if (known.length === 0) DEEDS.set(name, known);
-  return (known[event.block] ??= `,"does":"${name}","block":${event.block},"byte":`);
+  return (known[event.block] ??= flat(`,"does":"${name}","block":${event.block},"byte":`));
 }
 
 /**
@@ -55,7 +56,7 @@ export const UNSEEN_LINE = `${JSON.stringify({
   unseen: "ordinary accesses may be missing here, so these events don't show whether any are unordered",
 })}\n`;
 
-// So many lines are joined at once: a million strings of many parts each take long to join, and much memory.
+// So many lines are put into one piece at once: the pieces of a million lines take much memory.
 const JOINED = 1_024;
 
 /**
@@ -66,8 +67,9 @@ const JOINED = 1_024;
  */
 export function traceText(log, sources = []) {
   const spelled = sources.map((list) => list.map((source) => JSON.stringify(source || null)));
+  if (log.length <= JOINED) return linesFrom(log, 0, spelled);
   const parts = [];
-  for (let first = 0; first < log.length; first += JOINED) parts.push(linesFrom(log, first, spelled));
+  for (let first = 0; first < log.length; first += JOINED) parts.push(flat(linesFrom(log, first, spelled)));
   return parts.join("");
 }
 
@@ -78,13 +80,13 @@ export function traceText(log, sources = []) {
  * @param {string[][]} spelled the positions of each agent's code, in JSON
  */
 function linesFrom(log, first, spelled) {
-  const lines = [];
   const end = Math.min(first + JOINED, log.length);
+  let lines = "";
   for (let position = first; position < end; position += 1) {
     const event = log.at(position);
-    lines.push(lineOf(position, event, spelled[event.agent]?.[event.source] ?? "null"));
+    lines += lineOf(position, event, spelled[event.agent]?.[event.source] ?? "null");
   }
-  return lines.join("");
+  return lines;
 }
 
 /**

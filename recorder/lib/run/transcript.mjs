@@ -19,7 +19,7 @@ import { KnownCalls } from "./known-calls.mjs";
 /** @typedef {import("../../script/text.mjs").Done} Done */
 /** @typedef {import("../../script/text.mjs").Move} Move */
 /** @typedef {import("../../script/text.mjs").Transcript} Transcript */
-/** @typedef {import("../../script/text.mjs").View} View */
+/** @typedef {import("../../script/text.mjs").SpelledView} SpelledView */
 
 /**
  * @typedef {object} Run what a transcript is made from
@@ -38,7 +38,7 @@ import { KnownCalls } from "./known-calls.mjs";
 export const UNSEEN = "ordinary_unseen";
 const NO_ELEMENT = Object.freeze({ kind: KINDS.indexOf("Uint8"), block: 0, offset: 0, length: 0 });
 
-/** @param {string} name @param {Range} range @returns {View} */
+/** @param {string} name @param {Range} range @returns {SpelledView} */
 function viewOf(name, { kind, block, offset, length }) {
   return { name, kind: KINDS[kind], block, offset, length };
 }
@@ -55,7 +55,7 @@ class Writer {
     this.helpers = new Helpers(canBlock.length);
     this.names = names;
     this.known = known;
-    /** @type {Map<string, View>} */
+    /** @type {Map<string, SpelledView>} */
     this.views = new Map();
     /** @type {Done[][]} */
     this.calls = canBlock.map(() => []);
@@ -68,12 +68,12 @@ class Writer {
     /** @type {Map<string, string[]>} the names of the views of stores, by whose they are: of each block's kinds */
     this.storeNames = new Map();
     // All names are there, so that who reads the script knows them.
-    for (const view of names.list) this.addView(view.name, view);
+    for (const view of names.list) this.addView(viewOf(view.name, view));
   }
 
-  /** @param {string} name @param {Range} range */
-  addView(name, range) {
-    if (!this.views.has(name)) this.views.set(name, viewOf(name, range));
+  /** @param {SpelledView} view */
+  addView(view) {
+    if (!this.views.has(view.name)) this.views.set(view.name, view);
   }
 
   /** @param {number} agent @param {number} count @param {boolean} timeUp whether the first is the end of a time */
@@ -90,7 +90,7 @@ class Writer {
   addStore({ agent, block, byte, kind, bytes }, whose) {
     const named = this.names.at(kind, block, byte);
     const name = named === undefined ? this.#storeName(whose, kind, block) : `${whose}_${named.view.name}`;
-    if (named !== undefined) this.addView(name, { ...named.view, kind: STORED[kind] });
+    if (named !== undefined) this.addView(viewOf(name, { ...named.view, kind: STORED[kind] }));
     BYTES.set(bytes);
     const [value] = ELEMENTS[STORED[kind]];
     const isBig = typeof value === "bigint";
@@ -114,7 +114,7 @@ class Writer {
     if (names[number] === undefined) {
       const range = { kind, block, offset: 0, length: Math.floor(this.lengths[block] / SIZES[kind]) };
       names[number] = `${whose}_${viewName(this.lengths, range)}`;
-      this.addView(names[number], { ...range, kind: STORED[kind] });
+      this.addView(viewOf(names[number], { ...range, kind: STORED[kind] }));
     }
     return names[number];
   }
@@ -131,14 +131,14 @@ class Writer {
     const name = named?.view.name ?? viewName(this.lengths, call);
     const text = callText(name, call, named?.index);
     const done = { text, ...records.doneAt(position), isOwn: true, name: named && nameText(named) };
-    return named === undefined ? { done, view: { name, range: call } } : { done };
+    return named === undefined ? { done, view: viewOf(name, call) } : { done };
   }
 
   /** @param {Run["records"][number]} records @param {number} agent @returns {Done} the agent's next call */
   #next(records, agent) {
     const position = this.own[agent];
     const { done, view } = this.known.at(records, position, () => this.#call(records, position));
-    if (view !== undefined) this.addView(view.name, view.range);
+    if (view !== undefined) this.addView(view);
     this.own[agent] += 1;
     return done;
   }
@@ -181,7 +181,7 @@ class Writer {
     this.calls.push([]);
     this.canBlock.push(true);
     this.plainMoves.push({ agent: helper, timeUp: false });
-    this.addView(this.helpers.nameOf(helper), this.helpers.rangeOf(helper));
+    this.addView(viewOf(this.helpers.nameOf(helper), this.helpers.rangeOf(helper)));
   }
 
   /** @param {number} agent @param {Done} done a call that it makes at once */
@@ -218,7 +218,7 @@ export function transcriptOf(run, stores, initial = []) {
     else writer.addEvent(records[agent], agent, event);
   }
   addStores(Infinity);
-  if (isOrdinary) writer.addView(UNSEEN, NO_ELEMENT);
+  if (isOrdinary) writer.addView(viewOf(UNSEEN, NO_ELEMENT));
   const { views, calls, moves, canBlock: all } = writer;
   return { lengths, canBlock: all, views: [...views.values()], calls, moves };
 }

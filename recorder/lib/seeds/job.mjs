@@ -147,7 +147,7 @@ export class Job {
       const keeps = keepsGlobals(run.outcome, again);
       if (keeps !== undefined) throw keeps;
       const checked = checkedBy(this.#simulator, run, this.#every, this.#repeats);
-      return { ...checked, ...(stray === undefined ? {} : { stray }) };
+      return stray === undefined ? checked : { ...checked, stray };
     } catch (failure) {
       this.#failure = failure;
       return failure instanceof KeepsGlobals ? undefined : { ...run.outcome, checked: false };
