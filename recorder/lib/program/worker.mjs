@@ -262,7 +262,8 @@ function taken({ mesh, ports, moves }) {
 }
 
 /** @param {string} url @returns {string} the last part of its path */
-const fileName = (url) => (url.startsWith("data:") ? "a data: URL" : url.slice(url.lastIndexOf("/") + 1));
+const fileName = (url) =>
+  (/^(?:data|blob):/.test(url) ? `a ${url.slice(0, 5)} URL` : url.slice(url.lastIndexOf("/") + 1));
 
 /** @param {number} block @param {string} place where its memory was made */
 const nameBlock = (block, place) => new Keepers(shared.madeAt[block]).setName(place);
