@@ -1,10 +1,8 @@
-// The browser's file system of a site, in memory.
+// The browser's file system of a site, in memory. A worker has it by this script, and so do those that it starts.
 
-export const names = [];
+class FileSystemHandle {}
 
-class Handle {}
-
-class FileHandle extends Handle {
+class FileSystemFileHandle extends FileSystemHandle {
   bytes = new Uint8Array(0);
 
   async createSyncAccessHandle() {
@@ -31,7 +29,7 @@ class FileHandle extends Handle {
   }
 }
 
-class DirectoryHandle extends Handle {
+class FileSystemDirectoryHandle extends FileSystemHandle {
   entries = new Map();
 
   #entry(name, kind, { create = false } = {}) {
@@ -42,8 +40,8 @@ class DirectoryHandle extends Handle {
     return this.entries.get(name);
   }
 
-  getFileHandle = async (name, options) => this.#entry(name, FileHandle, options);
-  getDirectoryHandle = async (name, options) => this.#entry(name, DirectoryHandle, options);
+  getFileHandle = async (name, options) => this.#entry(name, FileSystemFileHandle, options);
+  getDirectoryHandle = async (name, options) => this.#entry(name, FileSystemDirectoryHandle, options);
 
   async removeEntry(name, { recursive = false } = {}) {
     const entry = this.#entry(name);
@@ -52,11 +50,14 @@ class DirectoryHandle extends Handle {
   }
 }
 
-/** @returns {object} what a browser has for files */
-export function globals() {
-  const root = new DirectoryHandle();
-  return {
-    navigator: { storage: { getDirectory: async () => root } },
-    FileSystemHandle: Handle, FileSystemFileHandle: FileHandle, FileSystemDirectoryHandle: DirectoryHandle,
-  };
-}
+const root = new FileSystemDirectoryHandle();
+var navigator = { ...navigator, storage: { getDirectory: async () => root } };
+
+/** A worker begins with this script, and then runs its own. */
+var Worker = class extends Worker {
+  constructor(url) {
+    const { href, search } = new URL(url, location.href);
+    super(`sqlite-files.js${search}#${href}`);
+  }
+};
+if (location.hash !== "") importScripts(location.hash.slice(1));
