@@ -3,29 +3,24 @@
 class FileSystemHandle {}
 
 class FileSystemFileHandle extends FileSystemHandle {
-  bytes = new Uint8Array(0);
+  #bytes = new ArrayBuffer(0, { maxByteLength: 2 ** 16 });
 
   async createSyncAccessHandle() {
+    const bytes = this.#bytes;
     return {
-      getSize: async () => this.bytes.length, truncate: async (size) => this.#resize(size),
+      getSize: async () => bytes.byteLength, truncate: async (size) => bytes.resize(size),
       async flush() {}, async close() {},
       read: (view, { at }) => {
-        const read = this.bytes.subarray(at, at + view.length);
+        const read = new Uint8Array(bytes).subarray(at, at + view.length);
         view.set(read);
         return read.length;
       },
       write: (view, { at }) => {
-        this.#resize(Math.max(this.bytes.length, at + view.length));
-        this.bytes.set(view, at);
+        if (at + view.length > bytes.byteLength) bytes.resize(at + view.length);
+        new Uint8Array(bytes).set(view, at);
         return view.length;
       },
     };
-  }
-
-  #resize(size) {
-    const before = this.bytes.subarray(0, size);
-    this.bytes = new Uint8Array(size);
-    this.bytes.set(before);
   }
 }
 
