@@ -415,11 +415,12 @@ describe("windows", () => {
     const found = [cut(0, 65_536), cut(0, 40_063), cut(0, 39_999), cut(40_000, 80_063)];
     assert.deepEqual(found, [40_000, 40_000, 0, 80_000]);
     assert.equal(Windows.packed(touched.stretches(), (_, from, to) => cut(from, to)), undefined);
-    const all = [stretch(0, 40_000), stretch(50_048, 90_048), stretch(100_032, 140_032), stretch(150_016, 190_016)];
+    const all = [stretch(0, 60_032), stretch(70_016, 110_016), stretch(120_000, 160_000), stretch(170_048, 210_048)];
     assert.deepEqual(placesOf(Windows.packed(all, (_, from, to) => cut(from, to))), undefined);
     const pages = Windows.packed(all, (_, from, to) => Math.max(from, to - (to % 64)));
+    // The second block and the third have room for 25,536 bytes each.
     assert.deepEqual(placesOf(pages), [
-      [0, 0, 0], [50_048, 1, 0], [100_032, 2, 0], [150_016, 0, 40_000], [175_552, 1, 40_000],
+      [0, 0, 0], [70_016, 1, 0], [120_000, 2, 0], [170_048, 1, 40_000], [195_584, 2, 40_000],
     ]);
   });
 
