@@ -186,6 +186,8 @@ describe("what nobody listens to fails the run", () => {
       /^agent 1 \(w\.js, started at main\.mjs:1:1\) threw Error: no\n +at .*w\.js:1:7/],
     ["a rejection in a worker", { "main.mjs": "new Worker(`w.js`).onerror = () => {};", "w.js": "Promise.reject(5);" },
       /^agent 1 \(w\.js, started at main\.mjs:1:1\) threw \(a rejection that nobody handles\) 5/],
+    ["an error in a blob", { "main.mjs": "new Worker(URL.createObjectURL(new Blob([`\\nthrow Error('no');`])));" },
+      /^agent 1 \(a blob: URL, started at main\.mjs:1:1\) threw Error: no\n +at blob:null\/0-0:2:7/],
     ["a script that isn't there", { "main.mjs": "new Worker(`none.js`);" },
       /^agent 1 \(none\.js, started at main\.mjs:1:1\) can't load its script: NetworkError/],
   ];
@@ -226,6 +228,24 @@ describe("tasks of different sources come in either order", () => {
       const rejected = Promise.reject(new Error("in time"));
       port1.onmessage = () => { rejected.catch(() => {}); };
       port2.postMessage(1);`],
+    ["a message, and a response", `const { port1, port2 } = new MessageChannel();
+      let isThere = false;
+      port1.onmessage = () => { isThere = true; };
+      port2.postMessage(1);
+      await fetch("main.mjs");
+      if (isThere) throw new Error("the message is first");`],
+    ["a message, and the body of a response that is there", `const { port1, port2 } = new MessageChannel();
+      let isThere = false;
+      port1.onmessage = () => { isThere = true; };
+      const response = await fetch("main.mjs");
+      port2.postMessage(1);
+      await response.text();
+      if (isThere) throw new Error("the message is first");`],
+    ["a module that a worker imports, and the end of its URL", `
+      const worker = ${workerOf("onmessage = async ({ data }) => import(data)")};
+      const url = URL.createObjectURL(new Blob([""], { type: "text/javascript" }));
+      worker.postMessage(url);
+      URL.revokeObjectURL(url);`],
   ];
   for (const [what, main] of programs) {
     it(what, async () => {
@@ -233,7 +253,8 @@ describe("tasks of different sources come in either order", () => {
       const failed = outcomes.filter(({ ending }) => ending === "failed");
       assert.ok(failed.length > 0, "no run has failed");
       assert.ok(failed.length < outcomes.length, "each run has failed");
-      for (const { detail } of failed) assert.match(detail, /Error: (?:the timer is first|in time)/);
+      const says = /Error: (?:the (?:timer|message) is first|in time|Failed to)/;
+      for (const { detail } of failed) assert.match(detail, says);
     });
   }
 });
@@ -256,15 +277,23 @@ describe("what browsers don't have", () => {
   });
 
   it("is named with its line if it isn't simulated", async () => {
+    const own = pathToFileURL(join(room, "main.mjs")).href;
     const outcomes = [
-      ["\nfetch(`data.json`);", "agent 0 called fetch, which isn't simulated, at main.mjs:2:1"],
-      ["new Worker(`https://example.org/w.js`);",
-        "agent 0 started a Worker of https://example.org/w.js, which isn't simulated, at main.mjs:1:1"],
+      ["\nfetch(`https://example.org/a`);", "fetched https://example.org/a", "2:1"],
+      ["fetch(`data:,a`).catch(() => {});", "fetched data:,a", "1:1"],
+      ["fetch(new Request(`https://example.org/a`)).catch(() => {});", "fetched https://example.org/a", "1:1"],
+      ["fetch(import.meta.url, { method: `POST` });", `fetched ${own} by POST`, "1:1"],
+      ["new Worker(`https://example.org/w.js`);", "started a Worker of https://example.org/w.js", "1:1"],
+      ["try { new SharedWorker(`w.js`); } catch {}", "called SharedWorker", "1:7"],
+      ["if (navigator.locks) {\n  navigator.locks.request(`a`);\n}", "called navigator.locks.request", "2:19"],
+      ["navigator.locks.query().catch(() => {});", "called navigator.locks.query", "1:17"],
     ];
-    for (const [main, says] of outcomes) {
+    for (const [main, what, place] of outcomes) {
       const [{ ending, detail }] = await webRuns({ "main.mjs": main });
-      assert.deepEqual([ending, detail], ["failed", says]);
+      assert.deepEqual([ending, detail], ["failed", `agent 0 ${what}, which isn't simulated, at main.mjs:${place}`]);
     }
+    const [inWorker] = await webRuns({ "main.mjs": workerOf("\nnavigator.locks.request(`a`, () => {});") });
+    assert.match(inWorker.detail, /^agent 1 \(.*\) called navigator\.locks\.request, which isn't .*, at .*:2:17$/);
   });
 
   it("is still there without --web, and what browsers have isn't", async (context) => {
@@ -274,6 +303,42 @@ describe("what browsers don't have", () => {
     });
     assert.equal(ending, "finished");
   });
+});
+
+test("a page ends a blob: URL of a worker, as the standard has it and Chromium doesn't", async () => {
+  const [{ detail }] = await webRuns({
+    "main.mjs": `const nextOf = (worker) => new Promise((done) => { worker.onmessage = ({ data }) => done(data); });
+      const maker = new Worker("makes.js");
+      const fetcher = new Worker("fetches.js");
+      await nextOf(fetcher);
+      maker.postMessage("");
+      const url = await nextOf(maker);
+      URL.revokeObjectURL(url);
+      fetcher.postMessage(url);
+      const got = await nextOf(fetcher);
+      if (got !== "TypeError") throw new Error(got);`,
+    "makes.js": "onmessage = () => postMessage(URL.createObjectURL(new Blob(['made'])));",
+    "fetches.js": `onmessage = async ({ data }) => {
+      try { postMessage(await (await fetch(data)).text()); } catch (error) { postMessage(error.name); }
+    };
+    postMessage("");`,
+  });
+  assert.equal(detail, "");
+});
+
+test("a thread's first run that fetches goes the same way again: node makes no task of its own", async (context) => {
+  const main = programOf(context, { "main.mjs": `await (await fetch("main.mjs")).text();
+    const words = new Int32Array(new SharedArrayBuffer(4));
+    new Worker("w.js").postMessage(words);
+    for (let at = 0; at < 50; at += 1) Atomics.add(words, 0, 1);`, "w.js": "onmessage = () => {};" });
+  const options = { ...defaultsOf("record"), isProgram: true, web: true, args: [], module: pathToFileURL(main).href };
+  const own = /** @type {ProgramGroup} */ (await ProgramGroup.open(options));
+  try {
+    const wanted = { seed: 1, whole: true, needsTrace: true, isSilent: true };
+    await own.run([wanted], ({ detail, noTrace }) => { assert.deepEqual([detail, noTrace], ["", undefined]); });
+  } finally {
+    await own.close();
+  }
 });
 
 test("what is node's own, and browsers have too, still finds what it needs", async () => {

@@ -183,6 +183,30 @@ if (seen.join() !== "7,1,3,7,7,7,0,5,6") throw new Error("it is " + seen);`,
   });
 });
 
+describe("more pages in a row than a block has", { concurrency: 2 }, () => {
+  /** @type {[string, string, number, number[]][]} by hand: 70,000 bytes are 1,094 pages, and a block has 1,024 */
+  const cuts = [
+    ["between two pages", "", 65_536, [0]],
+    ["before what crosses the two", "new DataView(bytes.buffer).getFloat64(65_532);", 65_472, [63, 64]],
+  ];
+  for (const [where, crosses, cut, behind] of cuts) {
+    it(`are cut ${where}`, async (context) => {
+      const [outcome] = await runsOf(context, filesOf(
+        "const shared = new Uint8Array(new SharedArrayBuffer(200_000));", "bytes", "bytes[65_535] = bytes[65_536] = 3;",
+        `let sum = 0;
+for (let at = 0; at < 70_000; at += 64) sum += bytes[at];
+${crosses}
+Atomics.store(bytes, 65_471, sum);`, "",
+      ));
+      const { blocks, places } = readOf(outcome);
+      assert.deepEqual(places, [[4, 0, cut, 0, 0], [4, cut, 70_016, 1, 0]]);
+      assert.deepEqual(blocks, [cut, 70_016 - cut, 0, 16_384]);
+      assert.equal(outcome.bytes?.[0], hexOf(cut, { 65_471: 3, 65_535: 3 }));
+      assert.equal(outcome.bytes?.[1], hexOf(70_016 - cut, Object.fromEntries(behind.map((byte) => [byte, 3]))));
+    });
+  }
+});
+
 describe("calls that throw", { concurrency: 2 }, () => {
   it("throw the same: by their view's length, by its kind, and by their operand", async (context) => {
     const [outcome] = await runsOf(context, filesOf(
@@ -323,10 +347,23 @@ describe("a kept run", { concurrency: 2 }, () => {
     await ran("--program", main, "--seeds", "1..8", "--out", folder, "--no-shorten");
     const name = readdirSync(folder).find((each) => each.endsWith(".program.json")) ?? "";
     const kept = join(folder, name);
-    writeFileSync(kept, readFileSync(kept, "utf8").replace('"windows":[[', '"windows":[[-1,'));
-    const { status, stderr } = await ran("--replay", kept);
-    assert.notEqual(status, 0);
-    assert.match(stderr, /its script's windows must have five numbers each/);
+    const text = readFileSync(kept, "utf8");
+    const [first, second, ...others] = JSON.parse(text).script.windows;
+    const [buffer, from, to, block, byte] = first;
+    const common = "two of its script's windows have a byte in common";
+    /** @type {[number[][], string][]} */
+    const wrong = [
+      [[[-1, ...first], second], "its script's windows must have five numbers each"],
+      [[first, [buffer, to - 1, to + 63, 2, 65_000]], common],
+      [[[buffer, from, to, block, byte], [second[0], second[1], second[2], block, byte + to - from - 1]], common],
+      [[first, [second[0], second[1], second[1], second[3], second[4]]], "one of its script's windows has no byte"],
+    ];
+    for (const [pair, says] of wrong) {
+      const windows = JSON.stringify([...pair, ...others]);
+      writeFileSync(kept, text.replace(/"windows":\[\[.*?\]\]/, `"windows":${windows}`));
+      const { status, stderr } = await ran("--replay", kept);
+      assert.deepEqual([status, stderr.trim().replace(/.*kept: /, "")], [2, says]);
+    }
   });
 });
 
@@ -366,6 +403,25 @@ describe("windows", () => {
       Array.from({ length }, (_, at) => stretch(128 * at, 128 * at + 64));
     assert.deepEqual(Windows.packed(pages(3_072))?.lengths(), [65_536, 65_536, 65_536, 16_384]);
     assert.equal(Windows.packed(pages(3_073)), undefined);
+  });
+
+  it("are cut where nothing crosses, if no block has room for a stretch", () => {
+    const touched = new TouchedPages([0, 0, 0, 0, 300_000]);
+    touched.add(4, 0, 40_000);
+    touched.add(4, 40_000, 80_000);
+    touched.add(4, 80_064, 200_000);
+    const cut = (/** @type {number[]} */ ...given) => touched.cut(4, given[0], given[1]);
+    // Byte 40,000 begins page 625; 80,000 page 1,250, which nobody touches.
+    const found = [cut(0, 65_536), cut(0, 40_063), cut(0, 39_999), cut(40_000, 80_063)];
+    assert.deepEqual(found, [40_000, 40_000, 0, 80_000]);
+    assert.equal(Windows.packed(touched.stretches(), (_, from, to) => cut(from, to)), undefined);
+    const all = [stretch(0, 60_032), stretch(70_016, 110_016), stretch(120_000, 160_000), stretch(170_048, 210_048)];
+    assert.deepEqual(placesOf(Windows.packed(all, (_, from, to) => cut(from, to))), undefined);
+    const pages = Windows.packed(all, (_, from, to) => Math.max(from, to - (to % 64)));
+    // The second block and the third have room for 25,536 bytes each.
+    assert.deepEqual(placesOf(pages), [
+      [0, 0, 0], [70_016, 1, 0], [120_000, 2, 0], [170_048, 1, 40_000], [195_584, 2, 40_000],
+    ]);
   });
 
   it("lead there and back", () => {

@@ -2,9 +2,10 @@
 
 import { spawnSync } from "node:child_process";
 import { existsSync, mkdirSync, mkdtempSync, readFileSync, readdirSync, rmSync, writeFileSync } from "node:fs";
-import { dirname, join } from "node:path";
+import { basename, dirname, join } from "node:path";
 import { fileURLToPath } from "node:url";
 import { FETCHED } from "./folder.mjs";
+import { make, mended } from "./making/making.mjs";
 
 /** @typedef {import("./table.mjs").Source} Source */
 
@@ -25,17 +26,25 @@ function onlyOne(folder, name) {
 }
 
 /**
- * Writes those of node's files that aren't there yet, or that are another node's: a run may read the others.
+ * Writes a file, unless it is there and has this text: a run may read it.
+ * @param {string} path
+ * @param {string} text
+ */
+function writeAnew(path, text) {
+  if (existsSync(path) && readFileSync(path, "utf8") === text) return;
+  mkdirSync(dirname(path), { recursive: true });
+  writeFileSync(path, text);
+}
+
+/**
+ * Writes those of node's files that aren't there yet, or that are another node's.
  * @param {Source} source
  * @param {string} into
  */
-function fetchNode({ files }, into) {
+function fetchNode({ files, mends = [] }, into) {
   const natives = /** @type {any} */ (process).binding("natives");
   for (const name of files) {
-    const path = join(into, `${name}.js`);
-    if (existsSync(path) && readFileSync(path, "utf8") === natives[name]) continue;
-    mkdirSync(dirname(path), { recursive: true });
-    writeFileSync(path, natives[name]);
+    writeAnew(join(into, `${name}.js`), mended(name, natives[name], mends));
   }
 }
 
@@ -64,11 +73,15 @@ const FETCH = {
     run("sh", ["-c", `dpkg-deb --fsys-tarfile *.deb | tar x "$@"`, "sh", ...words], room);
   },
   source: (source, into, room) => {
-    const { name, files } = source;
+    const { name, files, mends = [], makings = [] } = source;
     run("apt-get", ["source", "--download-only", "--tar-only", name ?? ""], room);
     const archive = onlyOne(room, /\.orig\.tar\.\w+$/);
     const wanted = files.map((file) => `*/${file}`);
     run("tar", ["xf", archive, "-C", into, "--strip-components=1", "--wildcards", ...wanted], room);
+    for (const { file } of mends) {
+      writeFileSync(join(into, file), mended(file, readFileSync(join(into, file), "utf8"), mends));
+    }
+    make(into, makings);
     if (source.made !== undefined) compile(source, into);
   },
 };
@@ -90,4 +103,18 @@ export function fetchSource(source) {
   } finally {
     rmSync(room, { recursive: true, force: true });
   }
+}
+
+/**
+ * The program with which a product is tried. A page is put beside the code, as on a site.
+ * @param {import("./table.mjs").Product} product
+ * @returns {string} its path
+ */
+export function programOf({ main, site }) {
+  const own = new URL(main, import.meta.url);
+  if (site === undefined) return fileURLToPath(own);
+  const into = fileURLToPath(new URL(`${site}/`, FETCHED));
+  const from = dirname(fileURLToPath(own));
+  for (const name of readdirSync(from)) writeAnew(join(into, name), readFileSync(join(from, name), "utf8"));
+  return join(into, basename(main));
 }

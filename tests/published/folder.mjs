@@ -6,3 +6,6 @@ import { pathToFileURL } from "node:url";
 
 /** The folder that `fetch.mjs` fills: `SABSIM_PUBLISHED`, or one in the system's folder for what is temporary. */
 export const FETCHED = pathToFileURL(`${process.env.SABSIM_PUBLISHED ?? join(tmpdir(), "published")}/`);
+
+/** The folder in it with code whose bugs are mended. */
+export const MENDED = new URL("mended/", FETCHED);

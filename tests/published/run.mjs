@@ -8,7 +8,8 @@
 
 import { spawnSync } from "node:child_process";
 import { fileURLToPath } from "node:url";
-import { fetchSource, isFetched } from "./fetching.mjs";
+import { fetchSource, isFetched, programOf } from "./fetching.mjs";
+import { MENDED } from "./folder.mjs";
 import { productsOf } from "./table.mjs";
 
 const RECORDER = fileURLToPath(new URL("../../recorder/record.mjs", import.meta.url));
@@ -18,10 +19,13 @@ const RECORDER = fileURLToPath(new URL("../../recorder/record.mjs", import.meta.
 /** @typedef {{ text: string, runs: number, early: number, first: number }} Finding what failing runs have in common */
 
 /** @param {Product} product @returns {Summary | string} of its runs, or why it can't be relied on */
-function summaryOf({ main, seeds, options = [] }) {
-  const program = fileURLToPath(new URL(main, import.meta.url));
+function summaryOf(product) {
+  const { seeds, options = [], site, isMended } = product;
+  const program = programOf(product);
   const words = ["--program", program, "--seeds", `1..${seeds}`, "--format", "json", "--program-output", "none"];
-  const how = /** @type {const} */ ({ encoding: "utf8", maxBuffer: 2 ** 28 });
+  if (site !== undefined) words.push("--web");
+  const env = isMended ? { ...process.env, SABSIM_PUBLISHED: fileURLToPath(MENDED) } : process.env;
+  const how = /** @type {const} */ ({ encoding: "utf8", maxBuffer: 2 ** 28, env });
   const { status, stdout, stderr } = spawnSync(process.execPath, [RECORDER, ...words, ...options], how);
   if (status !== 0 && status !== 1) return stderr.trim();
   return JSON.parse(stdout);

@@ -105,6 +105,9 @@ function rowFrom(given, refuse) {
 const isWindow = (numbers) =>
   Array.isArray(numbers) && numbers.length === 5 && numbers.every((each) => Number.isSafeInteger(each) && each >= 0);
 
+/** @param {number[]} numbers of a window */
+const windowOf = ([buffer, from, to, block, byte]) => ({ buffer, from, to, block, byte });
+
 /**
  * @param {unknown} given
  * @param {(why: string) => never} refuse
@@ -113,9 +116,10 @@ const isWindow = (numbers) =>
 function windowsFrom(given, refuse) {
   if (given === undefined) return undefined;
   if (!Array.isArray(given) || !given.every(isWindow)) refuse("its script's windows must have five numbers each");
-  /** @type {number[][]} */
-  const list = given;
-  return new Windows(list.map(([buffer, from, to, block, byte]) => ({ buffer, from, to, block, byte })));
+  const windows = new Windows(/** @type {number[][]} */ (given).map(windowOf));
+  if (windows.list.some(({ from, to }) => from >= to)) refuse("one of its script's windows has no byte");
+  if (windows.overlap) refuse("two of its script's windows have a byte in common");
+  return windows;
 }
 
 /**

@@ -127,6 +127,11 @@ export class Graph {
     return resolved(specifier, parent);
   }
 
+  /** @param {string} url of a module that is there @returns {string} */
+  textOf(url) {
+    return textOf(url);
+  }
+
   /** @param {string} url of a module that is there @returns {import("./module-urls.mjs").Format} */
   formatOf(url) {
     return formatOf(url);
@@ -211,7 +216,7 @@ export class Graph {
 
   /** @param {string} url of an ES module */
   #source(url) {
-    const text = textOf(url);
+    const text = this.textOf(url);
     const options = {
       identifier: url,
       initializeImportMeta: (/** @type {any} */ meta) => this.describe(meta, url),

@@ -265,7 +265,8 @@ function taken({ mesh, ports, moves }) {
 }
 
 /** @param {string} url @returns {string} the last part of its path */
-const fileName = (url) => (url.startsWith("data:") ? "a data: URL" : url.slice(url.lastIndexOf("/") + 1));
+const fileName = (url) =>
+  (/^(?:data|blob):/.test(url) ? `a ${url.slice(0, 5)} URL` : url.slice(url.lastIndexOf("/") + 1));
 
 /**
  * A block gets the names by which people and pilots know it.

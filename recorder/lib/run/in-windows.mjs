@@ -68,7 +68,7 @@ export function windowsOf({ log, records, lengths }) {
       touched.add(outside.block, outside.offset, outside.offset + outside.length * SIZES[outside.kind]);
     }
   }
-  return Windows.packed(touched.stretches());
+  return Windows.packed(touched.stretches(), (buffer, from, to) => touched.cut(buffer, from, to));
 }
 
 /** Says where the views, calls and events of a run are in its windows. */

@@ -1,6 +1,7 @@
 // The windows of a program's run: its buffers may be more, or larger, than a script and a trace can have, but a run
 // touches few pages of them. Pages that lie beside each other are a window, and windows are packed into the blocks of
-// the script one after another. Two bytes of the program never get the same byte there.
+// the script one after another. If no block has room for all of these pages, they are cut between two that no access
+// crosses. Two bytes of the program never get the same byte there.
 
 import { MESSAGES, MESSAGE_BYTES, MOST_BLOCKS, MOST_BYTES } from "../memory/blocks.mjs";
 
@@ -20,6 +21,8 @@ const ALIGNED = 8;
 
 /** @typedef {{ block: number, byte: number }} Place in the script */
 
+/** @typedef {(buffer: number, from: number, to: number) => number} Cut see `TouchedPages.cut` */
+
 /** The pages of buffers that were touched. */
 export class TouchedPages {
   /** @param {number[]} lengths of the buffers */
@@ -27,6 +30,8 @@ export class TouchedPages {
     this.lengths = lengths;
     /** @type {Map<number, Uint8Array>} of each buffer, 1 for each touched page */
     this.pages = new Map();
+    /** @type {Map<number, Set<number>>} of each buffer, the pages whose beginning an access crosses */
+    this.crossed = new Map();
   }
 
   /** @param {number} buffer @param {number} from @param {number} to the byte behind the last one that is touched */
@@ -36,7 +41,26 @@ export class TouchedPages {
       pages = new Uint8Array(Math.ceil(this.lengths[buffer] / PAGE_BYTES));
       this.pages.set(buffer, pages);
     }
-    pages.fill(1, Math.floor(from / PAGE_BYTES), Math.ceil(to / PAGE_BYTES));
+    const first = Math.floor(from / PAGE_BYTES);
+    const end = Math.ceil(to / PAGE_BYTES);
+    pages.fill(1, first, end);
+    if (end - first < 2) return;
+    const crossed = this.crossed.get(buffer) ?? new Set();
+    this.crossed.set(buffer, crossed);
+    for (let page = first + 1; page < end; page += 1) crossed.add(page);
+  }
+
+  /**
+   * Where a stretch can be cut.
+   * @param {number} buffer
+   * @param {number} from
+   * @param {number} to the cut comes here at the latest
+   * @returns {number} the last byte that begins a page which no access crosses; `from`: there is none
+   */
+  cut(buffer, from, to) {
+    let page = Math.floor(to / PAGE_BYTES);
+    while (page * PAGE_BYTES > from && this.crossed.get(buffer)?.has(page)) page -= 1;
+    return Math.max(page * PAGE_BYTES, from);
   }
 
   /** @returns {Generator<Stretch>} the longest ones, in the order of the buffers and of their bytes */
@@ -53,6 +77,15 @@ export class TouchedPages {
   }
 }
 
+/**
+ * @param {{ of: number, from: number, to: number }[]} ranges each a part of something
+ * @returns {boolean} whether two of them have a byte in common
+ */
+function overlap(ranges) {
+  const sorted = [...ranges].sort((one, other) => one.of - other.of || one.from - other.from);
+  return sorted.some(({ of, from }, at) => at > 0 && sorted[at - 1].of === of && from < sorted[at - 1].to);
+}
+
 export class Windows {
   /** @param {Window[]} list in the order of the buffers and of their bytes */
   constructor(list) {
@@ -67,22 +100,35 @@ export class Windows {
   }
 
   /**
-   * Packs stretches of buffers: each into the first block that has room for it.
+   * Packs stretches of buffers: each into the first block that has room for it. If none has, as much of it as can be
+   * goes into the one that has most.
    * @param {Iterable<Stretch>} stretches
+   * @param {Cut} [cut] without it, none can be cut
    * @returns {Windows | undefined} undefined: there is no room for all
    */
-  static packed(stretches) {
+  static packed(stretches, cut = (_, from) => from) {
     const used = Array.from({ length: MOST_BLOCKS }, () => 0);
     /** @type {Window[]} */
     const list = [];
-    for (const stretch of stretches) {
-      const length = stretch.to - stretch.from;
-      const block = used.findIndex((bytes) => bytes + length <= MOST_BYTES);
-      if (block < 0) return undefined;
-      list.push({ ...stretch, block, byte: used[block] });
-      used[block] += Math.ceil(length / ALIGNED) * ALIGNED;
+    for (const { buffer, from: first, to: end } of stretches) {
+      for (let from = first; from < end;) {
+        const fitting = used.findIndex((bytes) => bytes + end - from <= MOST_BYTES);
+        const block = fitting < 0 ? used.indexOf(Math.min(...used)) : fitting;
+        const to = fitting < 0 ? cut(buffer, from, from + MOST_BYTES - used[block]) : end;
+        if (to === from) return undefined;
+        list.push({ buffer, from, to, block, byte: used[block] });
+        used[block] += Math.ceil((to - from) / ALIGNED) * ALIGNED;
+        from = to;
+      }
     }
     return new Windows(list);
+  }
+
+  /** @returns {boolean} whether two of them have the same byte of the program, or of the script */
+  get overlap() {
+    const ofBuffers = this.list.map(({ buffer, from, to }) => ({ of: buffer, from, to }));
+    const ofBlocks = this.list.map(({ block, byte, from, to }) => ({ of: block, from: byte, to: byte + to - from }));
+    return overlap(ofBuffers) || overlap(ofBlocks);
   }
 
   /** @returns {number[]} the lengths of the script's blocks; the last one is for messages, and stays as it is */

@@ -22,7 +22,7 @@ import { ErrorEvent, PromiseRejectionEvent } from "./targets.mjs";
  */
 
 /** A frame of a stack with the place in a file. */
-const PLACE = /((?:file|data):[^\s()]+):(\d+):(\d+)\)?$/m;
+const PLACE = /((?:file|data|blob):[^\s()]+):(\d+):(\d+)\)?$/m;
 
 /** @param {unknown} thrown @returns {Omit<Problem, "text" | "isListenedTo">} */
 function placed(thrown) {

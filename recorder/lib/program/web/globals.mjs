@@ -5,6 +5,7 @@ import { hide } from "./hidden.mjs";
 import { ErrorEvent, PromiseRejectionEvent, putHandler, putMethods } from "./targets.mjs";
 
 const EngineTarget = EventTarget;
+const EngineException = DOMException;
 const { TypeError: EngineTypeError, URL: EngineURL } = globalThis;
 
 const OF_NODE = Object.freeze(["__dirname", "__filename", "exports", "module", "process", "require"]);
@@ -47,6 +48,16 @@ function putTimers(functions) {
   }
 }
 
+/** @param {string} given @returns {string} the URL of a script that a script imports */
+function scriptUrl(given) {
+  try {
+    return new EngineURL(given, scope.location.href).href;
+  } catch {
+    const text = `Failed to execute 'importScripts' on 'WorkerGlobalScope': The URL '${given}' is invalid.`;
+    throw new EngineException(text, "SyntaxError");
+  }
+}
+
 /**
  * What a worker's scope has, and a page doesn't.
  * @param {import("../worker.mjs").Parts & { ends: import("./ends.mjs").WebEnds }} parts
@@ -61,7 +72,7 @@ function putWorkersScope({ ports, ends }, targets, run) {
       throw new EngineTypeError("Failed to execute 'importScripts' on 'WorkerGlobalScope': "
         + "Module scripts don't support importScripts().");
     }
-    for (const url of urls.map((each) => new EngineURL(`${each}`, scope.location.href))) run(url.href);
+    for (const url of urls.map((each) => scriptUrl(`${each}`))) run(url);
   };
   putAll({ WorkerGlobalScope, DedicatedWorkerGlobalScope, postMessage, importScripts });
   for (const name of ["message", "messageerror"]) putHandler(scope, name, targets);
@@ -77,7 +88,14 @@ let type = "module";
  * @param {(url: string) => void} run runs a script in the global scope
  */
 export function furnishGlobals(parts, targets, run) {
-  const { timers, ends, moves: { agent } } = parts;
+  const { timers, ends, refuse, moves: { agent } } = parts;
+  /** What isn't simulated is there, and ends the run when it is called. */
+  const refusing = (/** @type {string} */ name) => function () {
+    refuse(`called ${name}, which isn't simulated`);
+  };
+  const locks = Object.freeze({
+    request: refusing("navigator.locks.request"), query: refusing("navigator.locks.query"),
+  });
   for (const name of OF_NODE) deleteProperty(scope, name);
   for (const name of FOR_NODE) hide(scope, name);
   putTimers(timers.functions);
@@ -85,10 +103,10 @@ export function furnishGlobals(parts, targets, run) {
   for (const name of ["error", "unhandledrejection"]) putHandler(scope, name, targets);
   putAll({
     self: scope, ErrorEvent, PromiseRejectionEvent, crossOriginIsolated: true, isSecureContext: true,
-    navigator: Object.freeze({ hardwareConcurrency: PROCESSORS, userAgent: "sabsim", language: "en-US" }),
+    navigator: Object.freeze({ hardwareConcurrency: PROCESSORS, userAgent: "sabsim", language: "en-US", locks }),
     close: () => ends.close(), reportError: (/** @type {unknown} */ thrown) => ends.uncaught(thrown),
   });
-  if (agent === 0) putAll({ window: scope, Window });
+  if (agent === 0) putAll({ window: scope, Window, SharedWorker: refusing("SharedWorker") });
   else putWorkersScope(parts, targets, run);
   setPrototypeOf(scope, (agent === 0 ? Window : DedicatedWorkerGlobalScope).prototype);
 }

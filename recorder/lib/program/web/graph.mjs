@@ -2,14 +2,23 @@
 // package says. Node's own modules aren't there.
 
 import { Graph as NodeGraph } from "../graph.mjs";
-import { textOf } from "../module-urls.mjs";
 import { Scripts, placeOfImport } from "./scripts.mjs";
 
 const EngineException = DOMException;
+const { TextDecoder: EngineDecoder, TypeError: EngineTypeError } = /** @type {any} */ (globalThis);
+
+/** The types of modules in a blob. */
+const JAVASCRIPT = /^(?:text|application)\/(?:x-)?(?:java|ecma)script\s*(?:;|$)/i;
 
 export class Graph extends NodeGraph {
   #scripts;
   #refuse;
+
+  /** @type {import("./blobs.mjs").Blobs | undefined} */
+  blobs = undefined;
+
+  /** @type {{ url: string, content?: import("./blobs.mjs").Content } | undefined} what the thread begins with */
+  first = undefined;
 
   /**
    * One for each thread.
@@ -30,12 +39,23 @@ export class Graph extends NodeGraph {
 
   /** @param {string} specifier @param {string} parent URL of the module that imports it @returns {string} its URL */
   resolved(specifier, parent) {
+    if (specifier.startsWith("blob:")) return specifier;
     const url = super.resolved(specifier, parent);
     if (!url.startsWith("file:") && !url.startsWith("data:")) {
-      const place = placeOfImport(textOf(parent), specifier);
+      const place = placeOfImport(this.textOf(parent), specifier);
       this.#refuse(`${url} with --web`, place && `${parent}:${place.line}:${place.column}`);
     }
     return url;
+  }
+
+  /** @param {string} url of a module that is there @returns {string} */
+  textOf(url) {
+    if (!url.startsWith("blob:")) return super.textOf(url);
+    const content = this.#contentOf(url);
+    if (content === undefined || !JAVASCRIPT.test(content.type)) {
+      throw new EngineTypeError(`Failed to fetch dynamically imported module: ${url}`);
+    }
+    return decoded(content);
   }
 
   /** @param {string} url of a module that is there @returns {import("../module-urls.mjs").Format} */
@@ -58,12 +78,32 @@ export class Graph extends NodeGraph {
 
   /** @param {string} url of a script that isn't a module @returns {() => void} runs it in the global scope */
   script(url) {
-    let text;
-    try {
-      text = textOf(url);
-    } catch {
-      throw new EngineException(`The script at '${url}' failed to load.`, "NetworkError");
-    }
+    const text = this.#scriptText(url);
+    if (text === undefined) throw new EngineException(`The script at '${url}' failed to load.`, "NetworkError");
     return this.#scripts.compiled(url, text);
   }
+
+  /** @param {string} url @returns {string | undefined} undefined: there is no such script */
+  #scriptText(url) {
+    if (url.startsWith("blob:")) {
+      const content = this.#contentOf(url);
+      return content && decoded(content);
+    }
+    try {
+      return super.textOf(url);
+    } catch {
+      return undefined;
+    }
+  }
+
+  /** @param {string} url @returns {import("./blobs.mjs").Content | undefined} what the thread began with it has once */
+  #contentOf(url) {
+    const { first } = this;
+    if (first?.url !== url) return this.blobs?.at(url);
+    this.first = undefined;
+    return first.content;
+  }
 }
+
+/** @param {import("./blobs.mjs").Content} content @returns {string} */
+const decoded = ({ bytes }) => new EngineDecoder().decode(bytes);

@@ -2,9 +2,12 @@
 // is a dedicated worker.
 
 import { apply } from "../../primordials.mjs";
+import { member } from "../member.mjs";
 import { KIND, channelClass } from "../ports.mjs";
+import { Blobs } from "./blobs.mjs";
 import { webBroadcastClass } from "./broadcast.mjs";
 import { WebEnds } from "./ends.mjs";
+import { fetchOf } from "./fetch.mjs";
 import { beginGlobals, furnishGlobals } from "./globals.mjs";
 import { Graph } from "./graph.mjs";
 import { WebPortEvents, messageOf, serveWebPorts } from "./ports.mjs";
@@ -14,7 +17,8 @@ const { TypeError: EngineTypeError } = globalThis;
 const { wait: engineWait } = Atomics;
 
 /** @typedef {import("./worker-object.mjs").WebStart} WebStart */
-/** @typedef {import("../worker.mjs").Parts & { ends: WebEnds, events: WebPortEvents }} WebParts */
+/** @typedef {{ ends: WebEnds, events: WebPortEvents, blobs: Blobs }} OfWeb */
+/** @typedef {import("../worker.mjs").Parts & OfWeb} WebParts */
 
 /** @param {number} agent @returns {typeof Atomics} the engine's own; in a page `wait` throws, as the engine's does */
 function atomicsOf(agent) {
@@ -31,8 +35,13 @@ function atomicsOf(agent) {
 /** @param {WebParts} parts @param {Graph} graph */
 function furnish(parts, graph) {
   const { events: { targets }, ends, later } = parts;
+  const blobs = new Blobs(parts);
   Object.assign(ends, { targets, later });
+  Object.assign(parts, { blobs });
+  Object.assign(graph, { blobs });
+  blobs.furnish();
   furnishGlobals(parts, targets, (url) => graph.script(url)());
+  member(globalThis, "fetch", fetchOf(parts));
   serveWorkers(targets);
 }
 
@@ -63,8 +72,9 @@ function begin(parts, start, parentPort) {
  * @param {Graph} graph
  * @param {WebParts} parts
  */
-async function evaluated({ url, type }, graph, { ports, ends }) {
+async function evaluated({ url, type, content }, graph, { ports, ends }) {
   const { parentPort } = ends;
+  graph.first = { url, content };
   let hasBegun = false;
   const begun = () => {
     hasBegun = true;
@@ -93,5 +103,8 @@ export const WEB = {
   mainStart: ({ program }) => ({ url: program, name: "", where: "" }),
   begin,
   evaluated,
-  clear: (/** @type {WebParts} */ { events: { targets } }) => targets.clear(),
+  clear: (/** @type {WebParts} */ { events: { targets }, blobs }) => {
+    targets.clear();
+    blobs.clear();
+  },
 };

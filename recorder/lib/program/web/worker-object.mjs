@@ -1,5 +1,6 @@
 // The Worker of a program for browsers: a thread by the URL of a script or a module, with the interface of the DOM.
-// What the thread has sent before `terminate`, and nobody has got yet, is lost.
+// What the thread has sent before `terminate`, and nobody has got yet, is lost. It runs what a `blob:` URL has when the
+// Worker is made, also if the URL is revoked meanwhile.
 
 import { put } from "../../primordials.mjs";
 import { KIND } from "../ports.mjs";
@@ -18,6 +19,7 @@ const TYPES = Object.freeze(["classic", "module"]);
  * @property {string} url
  * @property {string} type of the script, as a Worker has it
  * @property {string} name
+ * @property {import("./blobs.mjs").Content} [content] of a `blob:` URL
  * @property {string} where it was started
  */
 
@@ -25,6 +27,7 @@ const TYPES = Object.freeze(["classic", "module"]);
  * @typedef {object} OfWeb what else workers of browsers need of their thread
  * @property {import("./ends.mjs").WebEnds} ends
  * @property {import("./targets.mjs").Targets} targets
+ * @property {import("./blobs.mjs").Blobs} blobs
  * @property {string} base the URL from which others are taken
  */
 
@@ -48,7 +51,7 @@ function urlOf(given) {
   } catch {
     throw new EngineException(`Failed to construct 'Worker': '${given}' is not a valid URL.`, "SyntaxError");
   }
-  if (!/^(?:file|data):/.test(href)) refuse(`started a Worker of ${href}, which isn't simulated`);
+  if (!/^(?:file|data|blob):/.test(href)) refuse(`started a Worker of ${href}, which isn't simulated`);
   return href;
 }
 
@@ -66,11 +69,13 @@ class Worker extends EngineTarget {
     if (!TYPES.includes(type)) {
       throw new EngineTypeError(`Failed to construct 'Worker': '${type}' is no valid enum value of type WorkerType.`);
     }
-    const start = { url: urlOf(url), type, name: `${name}` };
+    const { ports, blobs } = world();
+    const href = urlOf(url);
+    const start = { url: href, type, name: `${name}`, content: blobs.at(href) };
     const { agent, port } = startThread(world(), start, [], new.target);
+    blobs.handTo(agent);
     this.#agent = agent;
     this.#port = port;
-    const { ports } = world();
     ports.known(port).taker = (envelope) => this.#take(envelope);
     ports.known(port).keeps = false;
     ports.start(port);

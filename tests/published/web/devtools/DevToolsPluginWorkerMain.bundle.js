@@ -1,8 +1,6 @@
 // The worker of DevTools' extension, with what stands in for its backend, a debugger in WebAssembly.
 
-import { parentPort } from "node:worker_threads";
-import { FETCHED } from "../folder.mjs";
-import { listen } from "./web.mjs";
+import "./DevToolsPluginWorkerMain.js";
 
 const NOT_FOUND = 1;
 const HEAP8 = new Uint8Array(16);
@@ -36,7 +34,3 @@ const backend = {
   RawLocation: class { delete() {} },
 };
 globalThis.createSymbolsBackend = async () => backend;
-globalThis.self = globalThis;
-const begin = listen(globalThis, parentPort);
-await import(new URL("chromium/made/DevToolsPluginWorkerMain.js", FETCHED).href);
-begin();

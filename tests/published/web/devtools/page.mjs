@@ -1,18 +1,13 @@
 // DevTools' extension for C++: its half in the page answers what its worker asks for, while that sleeps.
 
-import { FETCHED } from "../folder.mjs";
-import { workerClass } from "./web.mjs";
-
 const VALUES = [10, 11, 12];
 const valueOf = async (index) => ({ type: "i32", value: VALUES[index] });
 const languageServices = {
   getWasmLocal: valueOf, getWasmGlobal: valueOf, getWasmOp: valueOf,
   getWasmLinearMemory: async (offset, length) => Uint8Array.from({ length }, (_, at) => offset + at).buffer,
 };
-Object.assign(globalThis, {
-  chrome: { devtools: { languageServices } }, Worker: workerClass(new URL("devtools-worker.mjs", import.meta.url)),
-});
-const { WorkerPlugin } = await import(new URL("chromium/made/DevToolsPluginHost.js", FETCHED).href);
+window.chrome = { devtools: { languageServices } };
+const { WorkerPlugin } = await import("./DevToolsPluginHost.js");
 
 const plugin = await WorkerPlugin.create();
 await plugin.addRawModule("id", "", { url: "http://site/main.wasm", code: new ArrayBuffer(8) });
@@ -21,4 +16,4 @@ for (const expression of ["local", "global", "operand", "memory"]) {
   // Its backend finds what it was told, and then no value.
   if (await plugin.evaluate(expression, location, 1) !== null) throw new Error(`${expression} has a value`);
 }
-process.exit();
+close();

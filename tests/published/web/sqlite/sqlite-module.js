@@ -9,7 +9,7 @@ const CODES = {
 };
 
 /** @returns {any} SQLite's module, as far as the file system uses it */
-export function sqlite3Of() {
+function sqlite3Of() {
   const memory = new Uint8Array(65_536);
   const view = new DataView(memory.buffer);
   let top = 16;

@@ -1,11 +1,8 @@
-// What SQLite's own preprocessor makes of its scripts, and the browser's file system.
+// What SQLite's own preprocessor makes of its scripts: each line that is left out stays as an empty one, so that the
+// others keep their numbers.
 
 import { readFileSync } from "node:fs";
-import { globals as filesOf } from "./sqlite-web.mjs";
-
-export const names = [];
-
-export const globals = () => ({ ...filesOf(), WorkerGlobalScope: Object });
+import { dirname, join } from "node:path";
 
 /** @param {string} condition @param {Map<string, string>} defined */
 function holds(condition, defined) {
@@ -14,10 +11,14 @@ function holds(condition, defined) {
   return (defined.get(condition) ?? "0") !== "0";
 }
 
-/** @param {string} path of a script @param {Map<string, string>} defined @returns {string} without its directives */
-function made(path, defined) {
+/**
+ * @param {string} path of a script, whose folder is two below the one from which others are included
+ * @param {Map<string, string>} [defined]
+ * @returns {string} the script without directives
+ */
+export function preprocessed(path, defined = new Map()) {
   const open = [];
-  const lines = readFileSync(path.replace(/(\.c-pp)?\.js$/, ".c-pp.js"), "utf8").split("\n");
+  const lines = readFileSync(path, "utf8").split("\n");
   return lines.map((line) => {
     const [, name, rest] = /^\/\/#(\/?\w*) ?(.*)$/.exec(line) ?? [];
     if (name === "if") open.push({ taken: holds(rest, defined), before: false });
@@ -29,12 +30,9 @@ function made(path, defined) {
     } else if (open.every(({ taken }) => taken)) {
       if (name === "define") defined.set(...`${rest} 1`.split(" ", 2));
       else if (name === "undef") defined.delete(rest);
-      else if (name === "include") return made(path.replace(/api\/[^/]*$/, rest), defined);
+      else if (name === "include") return preprocessed(join(dirname(path), "..", rest), defined);
       else if (name === undefined) return line;
     }
     return "";
   }).join("\n");
 }
-
-/** @param {URL} url of a script @returns {string} */
-export const textOf = ({ pathname }) => made(decodeURIComponent(pathname), new Map());

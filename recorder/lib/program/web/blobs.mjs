@@ -1,0 +1,103 @@
+// The `blob:` URLs of a run. Each thread knows all of them: one that makes or revokes a URL hands that to the others. A
+// URL ends with the thread that has made it.
+
+import { createRequire } from "node:module";
+import { defineProperty } from "../../primordials.mjs";
+
+const { isBlob, kHandle } = createRequire(import.meta.url)("internal/blob");
+const { TypeError: EngineTypeError, Uint8Array: EngineBytes, URL: EngineURL } = globalThis;
+const { concat } = Buffer;
+
+/** @typedef {{ bytes: Uint8Array, type: string, agent: number }} Content of a blob, and who has made its URL */
+
+/** What the bytes of a blob are followed by, as node's reader has it. */
+const END = 0;
+
+/** @param {any} blob in memory @returns {Uint8Array} its bytes, which are there at once */
+function bytesOf(blob) {
+  const reader = blob[kHandle].getReader();
+  /** @type {Uint8Array[]} */
+  const parts = [];
+  for (let status = 1; status !== END;) {
+    status = END;
+    reader.pull((/** @type {number} */ found, /** @type {ArrayBuffer | undefined} */ part) => {
+      status = found;
+      if (part !== undefined) parts.push(new EngineBytes(part));
+    });
+  }
+  return new EngineBytes(concat(parts));
+}
+
+export class Blobs {
+  /** @type {Map<string, Content | undefined>} by URL; undefined: it was revoked */
+  #known = new Map();
+  /** How many URLs this thread has made in the run. */
+  #made = 0;
+
+  /**
+   * One for each thread.
+   * @param {object} parts
+   * @param {import("../mesh.mjs").Mesh} parts.mesh
+   * @param {import("../moves.mjs").Moves} parts.moves
+   * @param {import("../threads.mjs").Threads} parts.threads
+   */
+  constructor({ mesh, moves, threads }) {
+    this.mesh = mesh;
+    this.moves = moves;
+    this.threads = threads;
+    mesh.onItem("blob", ({ url, content }) => {
+      // Another thread may have revoked it since.
+      if (!this.#known.has(url)) this.#known.set(url, content);
+    });
+    mesh.onItem("revoked", ({ url }) => void this.#known.set(url, undefined));
+  }
+
+  /** Puts the functions that make and revoke URLs in the place of node's. */
+  furnish() {
+    const createObjectURL = (/** @type {unknown} */ blob) => this.#make(blob);
+    const revokeObjectURL = (/** @type {unknown} */ url) => this.#revoke(`${url}`);
+    for (const value of [createObjectURL, revokeObjectURL]) {
+      defineProperty(EngineURL, value.name, { value, writable: true, enumerable: true, configurable: true });
+    }
+  }
+
+  /** Nothing of an earlier run is left. */
+  clear() {
+    this.#known.clear();
+    this.#made = 0;
+  }
+
+  /** @param {number} agent that begins, and has to know the URLs that there are */
+  handTo(agent) {
+    for (const [url, content] of this.#known) this.mesh.hand(agent, { kind: "blob", url, content });
+  }
+
+  /** @param {string} url @returns {Content | undefined} undefined: nobody has made it, or it was revoked */
+  at(url) {
+    this.mesh.take();
+    const content = this.#known.get(url);
+    return content !== undefined && this.threads.isAlive(content.agent) ? content : undefined;
+  }
+
+  /** @param {any} blob @returns {string} its URL */
+  #make(blob) {
+    if (!isBlob(blob)) {
+      throw new EngineTypeError("Failed to execute 'createObjectURL' on 'URL': Overload resolution failed.");
+    }
+    const { agent } = this.moves;
+    const url = `blob:null/${agent}-${this.#made}`;
+    this.#made += 1;
+    const content = { bytes: bytesOf(blob), type: blob.type, agent };
+    this.#known.set(url, content);
+    this.mesh.handAll({ kind: "blob", url, content });
+    return url;
+  }
+
+  /** @param {string} url */
+  #revoke(url) {
+    // What others do with the URL comes before or after.
+    this.moves.yield();
+    this.#known.set(url, undefined);
+    this.mesh.handAll({ kind: "revoked", url });
+  }
+}
