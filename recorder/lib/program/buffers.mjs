@@ -138,6 +138,17 @@ export class Buffers {
     weakSet(this.#known, clone, known);
   }
 
+  /**
+   * A WebAssembly.Memory that no other thread can reach has become longer: another buffer has its memory now.
+   * @param {SharedArrayBuffer} before
+   * @param {SharedArrayBuffer} now
+   */
+  grown(before, now) {
+    const known = weakGet(this.#known, before);
+    learn(before, now);
+    weakSet(this.#known, now, known);
+  }
+
   /** @param {number} agent that begins, and has to know the blocks that there are */
   handTo(agent) {
     const { blocks, mesh } = this;

@@ -46,6 +46,7 @@ import { Threads } from "./threads.mjs";
 import { Timers } from "./timers.mjs";
 import { putTwins } from "./twins.mjs";
 import { WaitAsync } from "./wait-async.mjs";
+import { furnishWebAssembly } from "./wasm/modules.mjs";
 import { WEB } from "./web/surroundings.mjs";
 
 const { Error: EngineError } = globalThis;
@@ -228,12 +229,16 @@ function furnish({ moves, buffers, waits, ends, events, timers, later }) {
   simulateChance(chance);
   // Node makes a context of its own when a reader is released first. That isn't the program's, and so comes before.
   new (/** @type {any} */ (globalThis).ReadableStream)().getReader().releaseLock();
+  const atomics = atomicsOf(moves, waits);
+  furnishWebAssembly({
+    buffers, atomics, seen: watching.seen, here: sourceOfCall, refuse, isPlaying, isRelaxed: false,
+  });
   watchRealm(watching);
   putTwins({ later, isPlaying });
-  furnishMemory((buffer) => buffers.made(buffer, sourceOfCall()), refuse);
+  furnishMemory((buffer) => buffers.made(buffer, sourceOfCall()));
   furnishCloning(buffers);
   furnishGrowing(buffers, moves, isPlaying);
-  globalThis.Atomics = atomicsOf(moves, waits);
+  globalThis.Atomics = atomics;
   waits.furnish(Atomics);
   furnishTimers(timers);
   surroundings.serve(events);
