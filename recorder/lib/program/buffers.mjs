@@ -5,17 +5,27 @@
 import { learn } from "../agent/ordinary/context.mjs";
 import { HELD } from "../memory/blocks.mjs";
 import { FIRST_MORE } from "../memory/more-blocks.mjs";
-import { isGrowable, sharedLengthOf, weakGet, weakSet } from "../primordials.mjs";
+import { isGrowable, sharedLengthOf, slotOf, uncurried, weakGet, weakSet } from "../primordials.mjs";
 
 const { SharedArrayBuffer: EngineShared, Uint8Array, WeakMap: EngineWeakMap } = globalThis;
 const { load, store } = Atomics;
+const growMemory = uncurried(WebAssembly.Memory.prototype.grow);
+
+/** @type {(memory: unknown) => any} the buffer of a WebAssembly.Memory, as the engine has it */
+export const bufferIn = slotOf(WebAssembly.Memory.prototype, "buffer");
 
 /** From here on are the numbers of buffers that are no blocks yet. */
 const FIRST_OWN = 2 ** 24;
 
 const NO_BLOCK = -1;
 
-/** @typedef {{ block: number, own: number, place: string | undefined }} Known a buffer: its block, or its own number */
+/**
+ * @typedef {object} Known what is known of a buffer
+ * @property {number} block
+ * @property {number} own its own number, if it isn't a block
+ * @property {string} [place] where it was made
+ * @property {number} [most] how long a WebAssembly.Memory can get that has it
+ */
 
 /**
  * Whether two buffers have the same memory. Nobody else writes meanwhile.
@@ -58,6 +68,9 @@ export class Buffers {
   /** @type {Known[]} those that were made here, by their own numbers less the first one */
   #own = [];
 
+  /** @type {WeakMap<object, SharedArrayBuffer>} the buffer that each WebAssembly.Memory had when it was looked at last */
+  #memories = new EngineWeakMap();
+
   /** @type {(own: number, block: number) => void} called when a buffer of this thread has become a block */
   onBlock = () => {};
 
@@ -77,9 +90,10 @@ export class Buffers {
    * The program has made a buffer.
    * @param {SharedArrayBuffer} buffer
    * @param {string | undefined} place where
+   * @param {number} [most] how long it can get as the buffer of a WebAssembly.Memory
    */
-  made(buffer, place) {
-    const known = { block: NO_BLOCK, own: FIRST_OWN + this.#own.length, place };
+  made(buffer, place, most) {
+    const known = { block: NO_BLOCK, own: FIRST_OWN + this.#own.length, place, most };
     this.#own[this.#own.length] = known;
     weakSet(this.#known, buffer, known);
   }
@@ -106,9 +120,9 @@ export class Buffers {
     const { blocks, mesh, shown } = this;
     const length = sharedLengthOf(buffer);
     const place = known.place ?? "";
-    if (length === 0 && isGrowable(buffer)) this.#refuseEmpty(place);
+    if (length === 0 && isGrowable(buffer)) this.#refuseEmpty("SharedArrayBuffer that grows and", place);
     if (length === 0) return;
-    const block = blocks.add(buffer, place);
+    const block = blocks.add(buffer, place, known.most);
     if (block < 0) this.#refuseMore(length, place);
     known.block = block;
     if (block < FIRST_MORE) shown.named(block, place);
@@ -118,6 +132,13 @@ export class Buffers {
       shown.seen({ block, kind: HELD, offset: 0, length }, 0, length, true);
     }
     this.onBlock(known.own, known.block);
+  }
+
+  /** @param {any} memory a WebAssembly.Memory that another thread can reach from now on */
+  shareMemory(memory) {
+    const buffer = this.bufferOf(memory);
+    if (sharedLengthOf(buffer) === 0) this.#refuseEmpty("WebAssembly.Memory that", weakGet(this.#known, buffer)?.place ?? "");
+    this.share(buffer);
   }
 
   /** @param {unknown} buffer @returns {number} its block, if it is one that grows; else -1 */
@@ -139,14 +160,27 @@ export class Buffers {
   }
 
   /**
-   * A WebAssembly.Memory that no other thread can reach has become longer: another buffer has its memory now.
-   * @param {SharedArrayBuffer} before
-   * @param {SharedArrayBuffer} now
+   * The buffer of a shared WebAssembly.Memory as it is now. It is another one when a thread has made the memory longer.
+   * @param {any} memory
+   * @returns {SharedArrayBuffer}
    */
-  grown(before, now) {
+  bufferOf(memory) {
+    const last = weakGet(this.#memories, memory) ?? bufferIn(memory);
+    const block = this.blockOf(this.numberOf(last));
+    if (block >= 0 && sharedLengthOf(bufferIn(memory)) < this.blocks.lengthOf(block)) growMemory(memory, 0);
+    const now = bufferIn(memory);
+    weakSet(this.#memories, memory, now);
+    if (last !== now) this.#grown(last, now);
+    return now;
+  }
+
+  /** @param {SharedArrayBuffer} before @param {SharedArrayBuffer} now the buffer of the same memory, which is longer */
+  #grown(before, now) {
     const known = weakGet(this.#known, before);
+    if (known === undefined) return;
     learn(before, now);
     weakSet(this.#known, now, known);
+    if (known.block >= 0) this.blocks.adopt(known.block, now);
   }
 
   /** @param {number} agent that begins, and has to know the blocks that there are */
@@ -166,9 +200,10 @@ export class Buffers {
     const { blocks } = this;
     for (const block of blocks.numbers()) {
       const other = blocks.buffers[block];
-      if (other === undefined || sharedLengthOf(other) !== sharedLengthOf(buffer) || !areSame(buffer, other)) continue;
+      if (other === undefined || blocks.lengthOf(block) !== sharedLengthOf(buffer) || !areSame(buffer, other)) continue;
+      if (sharedLengthOf(other) < sharedLengthOf(buffer)) return this.#grown(other, buffer);
       learn(buffer, other);
-      weakSet(this.#known, buffer, { block, own: NO_BLOCK, place: undefined });
+      weakSet(this.#known, buffer, { block, own: NO_BLOCK });
       return;
     }
     this.shown.refuse("got shared memory that isn't a SharedArrayBuffer of the program, which can't be simulated");
@@ -177,6 +212,7 @@ export class Buffers {
   /** Nothing of an earlier run is left. */
   clear() {
     this.#known = new EngineWeakMap();
+    this.#memories = new EngineWeakMap();
     this.#own = [];
     this.blocks.clear();
   }
@@ -193,10 +229,10 @@ export class Buffers {
       + "that several threads reach");
   }
 
-  /** @param {string} place where a buffer was made that grows, has no byte, and that another thread could reach */
-  #refuseEmpty(place) {
+  /** @param {string} what grows and has no byte, and another thread could reach it @param {string} place where it was made */
+  #refuseEmpty(what, place) {
     // Which memory a received buffer has is found by its first byte.
-    this.shown.refuse(`gave another thread a SharedArrayBuffer that grows and has no byte yet${place === "" ? "" : `, made at ${place}`}, `
+    this.shown.refuse(`gave another thread a ${what} has no byte yet${place === "" ? "" : `, made at ${place}`}, `
       + "which isn't simulated yet");
   }
 
@@ -204,6 +240,6 @@ export class Buffers {
   #adopt(block, buffer) {
     if (this.blocks.buffers[block] !== undefined) return;
     this.blocks.adopt(block, buffer);
-    weakSet(this.#known, buffer, { block, own: NO_BLOCK, place: undefined });
+    weakSet(this.#known, buffer, { block, own: NO_BLOCK });
   }
 }

@@ -11,8 +11,7 @@ import { anyWatchedOf } from "../agent/ordinary/watched.mjs";
 import {
   bufferOf, create, defineProperty, getOwnPropertyDescriptor, getPrototypeOf, isArray, mapSet, ownKeys, tagOf, viewBufferOf,
 } from "../primordials.mjs";
-import { Buffers } from "./buffers.mjs";
-import { bufferIn } from "./wasm/accesses.mjs";
+import { Buffers, bufferIn } from "./buffers.mjs";
 
 const { Array: EngineArray, Map: EngineMap } = globalThis;
 /** @type {(value: unknown, options: unknown) => any} */
@@ -23,10 +22,13 @@ const EngineMemory = WebAssembly.Memory;
 /** @param {any} view of the engine's own */
 const bufferBehind = (view) => (tagOf(view) === undefined ? viewBufferOf(view) : bufferOf(view));
 
+/** @param {unknown} inner */
+const isWasmMemory = (inner) => inner instanceof EngineMemory;
+
 /** @param {any} inner @returns {any} the buffer that is a value, or that it has: a view or a WebAssembly.Memory */
 function bufferOfAny(inner) {
   if (isView(inner)) return bufferBehind(inner);
-  return inner instanceof EngineMemory ? bufferIn(inner) : inner;
+  return isWasmMemory(inner) ? bufferIn(inner) : inner;
 }
 
 /** @param {unknown} inner @returns {boolean} whether a value is shared memory, or the engine's own object on it */
@@ -100,7 +102,10 @@ function bare(given, met) {
  * @param {Buffers} buffers
  * @returns {unknown}
  */
-export const sent = (value, buffers) => bare(value, (memory) => buffers.share(bufferOfAny(memory)));
+export const sent = (value, buffers) => bare(value, (memory) => {
+  if (Buffers.isShared(memory)) buffers.share(memory);
+  else buffers.shareMemory(memory);
+});
 
 /**
  * A value as it is received.
@@ -114,6 +119,7 @@ export function received(value, buffers) {
     copyOf: (inner) => {
       const buffer = bufferOfAny(inner);
       buffers.received(buffer);
+      if (isWasmMemory(inner)) buffers.bufferOf(inner);
       if (!isView(inner)) return inner;
       const number = memoryNumber(buffer);
       if (number < 0) return inner;

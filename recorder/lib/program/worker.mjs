@@ -57,6 +57,7 @@ const { Error: EngineError } = globalThis;
  * @property {string} origin the URL of the module from whose folder places in the code are named
  * @property {"watch" | "store" | "refuse"} ordinary
  * @property {boolean} web whether the program is one for browsers
+ * @property {boolean} isRelaxed whether plain aligned accesses of WebAssembly are relaxed ones
  * @property {ReturnType<typeof import("./program-memory.mjs").programMemory>} memory
  * @property {import("../options/plan.mjs").Plan} plan
  * @property {import("../board/strategy.mjs").Rules} rules
@@ -65,7 +66,7 @@ const { Error: EngineError } = globalThis;
 /** @typedef {{ url: string, isCode?: boolean, where: string }} Start */
 /** @typedef {{ start: Start, number: number, ports: any[], ids: number[] }} Handed */
 
-const { port, origin, web, memory: shared, plan, rules } = /** @type {Given} */ (threads.workerData);
+const { port, origin, web, isRelaxed, memory: shared, plan, rules } = /** @type {Given} */ (threads.workerData);
 const { setImmediate: turnLater } = nodeTimers;
 const surroundings = web ? WEB : NODE;
 const chance = new Chance();
@@ -231,7 +232,7 @@ function furnish({ moves, buffers, waits, ends, events, timers, later }) {
   new (/** @type {any} */ (globalThis).ReadableStream)().getReader().releaseLock();
   const atomics = atomicsOf(moves, waits);
   furnishWebAssembly({
-    buffers, atomics, seen: watching.seen, here: sourceOfCall, refuse, isPlaying, isRelaxed: false,
+    buffers, moves, atomics, seen: watching.seen, here: sourceOfCall, refuse, isPlaying, isRelaxed,
   });
   watchRealm(watching);
   putTwins({ later, isPlaying });

@@ -187,10 +187,8 @@ const ALL = [
   // Memory that grows, and WebAssembly's.
   right("growable/right.mjs"),
   wrong("growable/published-first.mjs", failed(/RangeError/, ["published-first.mjs", "const last"])),
-  ...notYet("a shared WebAssembly.Memory", [
-    right("wasm-memory/right.mjs"),
-    wrong("wasm-memory/lost-update.mjs", failed(/counted [1-5]/, ["lost-update.mjs", THROWS])),
-  ]),
+  right("wasm-memory/right.mjs"),
+  wrong("wasm-memory/lost-update.mjs", failed(/counted [1-5]/, ["lost-update.mjs", THROWS])),
 
   // For browsers.
   ...web(

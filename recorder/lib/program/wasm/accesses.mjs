@@ -4,8 +4,8 @@
 import { KINDS, SIZES } from "../../../script/kinds.mjs";
 import { compiled } from "../../agent/frames.mjs";
 import { DATA_VIEW } from "../../agent/ordinary/watched.mjs";
-import { sharedLengthOf, slotOf } from "../../primordials.mjs";
-import { ATOMICS, VARIANTS } from "./slots.mjs";
+import { sharedLengthOf } from "../../primordials.mjs";
+import { ATOMICS, PAGE, VARIANTS } from "./slots.mjs";
 
 const {
   BigInt: EngineBigInt, BigInt64Array, BigUint64Array, Int32Array, Number: EngineNumber, Uint8Array, Uint16Array,
@@ -14,10 +14,6 @@ const {
 const { asUintN } = EngineBigInt;
 const { RuntimeError: EngineTrap } = WebAssembly;
 
-/** @type {(memory: object) => SharedArrayBuffer} the buffer of a WebAssembly.Memory, as it is now */
-export const bufferIn = slotOf(WebAssembly.Memory.prototype, "buffer");
-
-export const PAGE = 65_536;
 
 /** How a plain access is named, by how many bytes it takes; elsewhere it is one of a DataView. */
 const KIND_NAMES = Object.freeze({ 1: "Uint8", 2: "Uint16", 4: "Int32", 8: "BigInt64" });
@@ -31,8 +27,8 @@ const WORDS = Object.freeze({ "ok": 0, "not-equal": 1, "timed-out": 2 });
  * @property {any} atomics those of the run
  * @property {import("../../agent/ordinary/context.mjs").Watching["seen"]} seen
  * @property {import("../buffers.mjs").Buffers} buffers
- * @property {(access: Accesses, pages: number) => number} grow makes a memory longer, and returns how long it was
- * @property {(access: Accesses) => void} lengthAsked is called before a memory's length is used
+ * @property {(memory: any, pages: number) => number} grow makes a memory longer, and returns how many pages it had
+ * @property {(memory: any) => SharedArrayBuffer} ask returns a memory's buffer; that is a move, if the memory can grow
  * @property {boolean} isRelaxed whether plain aligned accesses are relaxed ones
  */
 
@@ -53,9 +49,8 @@ export class Accesses {
     this.renew();
   }
 
-  /** Takes the memory's buffer as it is now. */
-  renew() {
-    const buffer = bufferIn(this.memory);
+  /** Takes the memory's buffer as it is now. @param {SharedArrayBuffer} [buffer] */
+  renew(buffer = this.world.buffers.bufferOf(this.memory)) {
     this.length = sharedLengthOf(buffer);
     this.views = {
       1: new Uint8Array(buffer), 2: new Uint16Array(buffer), 4: new Uint32Array(buffer), 8: new BigUint64Array(buffer),
@@ -94,7 +89,7 @@ export class Accesses {
 
   /** @param {number} end of an access: another thread may have made the memory longer */
   #reach(end) {
-    if (sharedLengthOf(bufferIn(this.memory)) > this.length) this.renew();
+    this.renew(this.world.ask(this.memory));
     if (end > this.length) throw new EngineTrap("memory access out of bounds");
   }
 
@@ -110,7 +105,7 @@ export class Accesses {
   }
 
   #plain() {
-    const { atomics, isRelaxed, grow, lengthAsked } = this.world;
+    const { atomics, isRelaxed, grow, ask } = this.world;
     /** @param {number} at @param {number} size */
     const isAtomic = (at, size) => isRelaxed && size <= 8 && at % size === 0;
     return {
@@ -139,12 +134,11 @@ export class Accesses {
       },
       grow: (/** @type {number} */ pages, /** @type {number} */ where) => {
         compiled.at = where;
-        return grow(this, pages >>> 0);
+        return grow(this.memory, pages >>> 0);
       },
       size: (/** @type {number} */ where) => {
         compiled.at = where;
-        lengthAsked(this);
-        return sharedLengthOf(bufferIn(this.memory)) / PAGE;
+        return sharedLengthOf(ask(this.memory)) / PAGE;
       },
     };
   }

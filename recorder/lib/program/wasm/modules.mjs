@@ -3,26 +3,35 @@
 
 import { createHash } from "node:crypto";
 import { replace, replaceGetter } from "../../agent/ordinary/patch.mjs";
+import { FIRST_MORE } from "../../memory/more-blocks.mjs";
 import {
   apply, construct, create, freeze, mapGet, mapSet, ownKeys, put, uncurried, weakGet, weakSet,
 } from "../../primordials.mjs";
-import { Buffers } from "../buffers.mjs";
-import { Accesses, PAGE, bufferIn } from "./accesses.mjs";
+import { Buffers, bufferIn } from "../buffers.mjs";
+import { Accesses } from "./accesses.mjs";
 import { Reader } from "./bytes.mjs";
 import { glueBytes } from "./glue.mjs";
+import { PAGE } from "./slots.mjs";
 import { DATA, OWN, hasSharedMemory, translated } from "./translate.mjs";
 
 const { Map: EngineMap, Proxy: EngineProxy, Uint8Array: Bytes, WeakMap: EngineWeakMap } = globalThis;
 const { Instance: EngineInstance, Memory: EngineMemory, Module: EngineModule } = WebAssembly;
 const { customSections, exports: exportsOf } = EngineModule;
 const { isView } = ArrayBuffer;
+const { RangeError: EngineRangeError } = globalThis;
+const { min } = Math;
 const growEngine = uncurried(EngineMemory.prototype.grow);
+
+/** By how many bytes a memory can get longer that several threads reach. */
+const MOST_GROWTH = 2 ** 26;
+
 /** @type {readonly unknown[]} */
 const OWN_NAMES = freeze(Object.values(OWN));
 
 /**
  * @typedef {object} Thread what WebAssembly needs of its thread
  * @property {import("../buffers.mjs").Buffers} buffers
+ * @property {import("../moves.mjs").Moves} moves
  * @property {any} atomics those of the run
  * @property {import("./accesses.mjs").World["seen"]} seen
  * @property {() => string | undefined} here where the program's code is
@@ -74,14 +83,25 @@ class Translating {
     this.thread = thread;
     const { atomics, seen, buffers, isRelaxed } = thread;
     /** @type {import("./accesses.mjs").World} */
-    this.world = { atomics, seen, buffers, isRelaxed, grow: (access, pages) => this.grow(access, pages), lengthAsked: () => {} };
+    this.world = {
+      atomics, seen, buffers, isRelaxed, grow: (memory, pages) => this.tryToGrow(memory, pages), ask: (memory) => this.ask(memory),
+    };
   }
 
-  /** @param {any} memory that the program has */
-  made(memory) {
-    const buffer = bufferIn(memory);
+  /** @param {any} memory that the program has @param {number} most how many pages it can have */
+  made(memory, most) {
     const { buffers, here } = this.thread;
-    if (Buffers.isShared(buffer) && buffers.numberOf(buffer) < 0) buffers.made(buffer, here());
+    const buffer = bufferIn(memory);
+    if (!Buffers.isShared(buffer) || buffers.numberOf(buffer) >= 0) return;
+    buffers.made(buffer, here(), min(most * PAGE, buffer.byteLength + MOST_GROWTH));
+    buffers.bufferOf(memory);
+  }
+
+  /** @param {any} memory @returns {number} its block if it can grow, else -1 */
+  #growing(memory) {
+    const { buffers: { blocks }, buffers } = this.thread;
+    const block = buffers.blockOf(buffers.numberOf(buffers.bufferOf(memory)));
+    return block >= FIRST_MORE && blocks.more.grows(block) ? block : -1;
   }
 
   /** @param {any} source @returns {any} what the engine is to compile in its place */
@@ -108,9 +128,9 @@ class Translating {
   complete(instance, module) {
     const { exports } = instance;
     const memory = exports[OWN.MEMORY];
-    this.made(memory);
-    const access = this.#accessesTo(memory);
     const reader = new Reader(new Bytes(customSections(module, DATA)[0]));
+    this.made(memory, reader.number());
+    const access = this.#accessesTo(memory);
     for (let left = reader.number(); left > 0; left -= 1) access.note(reader.number(), reader.number(), true);
     new EngineInstance(glueOf(this.thread.isRelaxed), {
       recorder: /** @type {any} */ (access.functions()), module: { table: exports[OWN.TABLE] },
@@ -122,33 +142,43 @@ class Translating {
   }
 
   /**
-   * Makes a memory longer.
-   * @param {Accesses} access
-   * @param {number} pages
-   * @returns {number} how many it had; -1: it can't be so long
+   * A memory's buffer as it is now. To look at it is a move, if several threads reach it and it can grow.
+   * @param {any} memory
+   * @returns {SharedArrayBuffer}
    */
-  grow(access, pages) {
+  ask(memory) {
+    const block = this.#growing(memory);
+    if (block >= 0 && this.thread.isPlaying()) this.thread.moves.touchLength(block, false, this.ask);
+    return this.thread.buffers.bufferOf(memory);
+  }
+
+  /** @param {any} memory @param {number} pages @returns {number} how many it had; -1: it can't get so long */
+  tryToGrow(memory, pages) {
     try {
-      return this.growMemory(access.memory, pages);
+      return this.grow(memory, pages);
     } catch (problem) {
-      if (problem instanceof RangeError) return -1;
+      if (problem instanceof EngineRangeError) return -1;
       throw problem;
-    } finally {
-      access.renew();
     }
   }
 
-  /** @param {any} memory @param {any} pages @returns {number} how many it had @throws {RangeError} as the engine does */
-  growMemory(memory, pages) {
-    const { buffers, refuse } = this.thread;
-    const buffer = bufferIn(memory);
-    if (pages === 0) return buffer.byteLength / PAGE;
-    const number = buffers.numberOf(buffer);
-    if (number >= 0 && buffers.blockOf(number) >= 0) {
-      refuse("made a WebAssembly.Memory longer that several threads reach, which isn't simulated yet");
-    }
+  /**
+   * Makes a shared memory longer.
+   * @param {any} memory
+   * @param {any} pages
+   * @returns {number} how many it had
+   * @throws {RangeError} as the engine does
+   */
+  grow(memory, pages) {
+    const { buffers, moves, refuse } = this.thread;
+    const block = this.#growing(memory);
+    if (block >= 0) moves.touchLength(block, true, this.grow);
     const before = growEngine(memory, pages);
-    buffers.grown(buffer, bufferIn(memory));
+    const { byteLength } = buffers.bufferOf(memory);
+    if (block < 0) return before;
+    if (byteLength > buffers.blocks.more.mostLength(block)) refuse("made a shared WebAssembly.Memory longer by "
+      + `more than ${MOST_GROWTH} bytes, which isn't simulated`);
+    buffers.blocks.grew(block);
     return before;
   }
 
@@ -182,7 +212,7 @@ export function furnishWebAssembly(thread) {
   const translating = new Translating(thread);
   putClass(EngineMemory, (given, asked) => {
     const memory = construct(EngineMemory, given, asked);
-    translating.made(memory);
+    if (Buffers.isShared(bufferIn(memory))) translating.made(memory, given[0].maximum);
     return memory;
   });
   putClass(EngineModule, ([source, ...rest], asked) =>
@@ -204,7 +234,13 @@ export function furnishWebAssembly(thread) {
     grow(pages) {
       const memory = /** @type {any} */ (this);
       const isShared = memory instanceof EngineMemory && Buffers.isShared(bufferIn(memory));
-      return isShared ? translating.growMemory(memory, pages) : apply(engine, memory, [pages]);
+      return isShared ? translating.grow(memory, pages) : apply(engine, memory, [pages]);
     },
   }).grow);
+  replaceGetter(EngineMemory.prototype, "buffer", (engine) => ({
+    get asked() {
+      const buffer = apply(engine, this, []);
+      return Buffers.isShared(buffer) ? translating.ask(this) : buffer;
+    },
+  }));
 }

@@ -7,6 +7,9 @@
  * @property {string} type its parameters and results, a letter for each
  */
 
+/** How many bytes a page of memory has. */
+export const PAGE = 65_536;
+
 /** The letters of types, with their bytes: numbers of 32 and 64 bits, floating ones of these, and vectors. */
 const TYPES = Object.freeze({ i: 0x7f, l: 0x7e, f: 0x7d, d: 0x7c, v: 0x7b });
 

@@ -8,7 +8,10 @@ import { SLOTS, SLOT_TYPES, slotNamed, slotOfAtomic, typeBytes } from "./slots.m
 /** What the translated module exports besides its own. */
 export const OWN = Object.freeze({ TABLE: "sabsim.table", MEMORY: "sabsim.memory", START: "sabsim.start" });
 
-/** The section in which a translated module has where its data goes when it begins: each position and length. */
+/**
+ * The section in which a translated module has how many pages its own memory can have, and where its data goes when it
+ * begins: each position and length.
+ */
 export const DATA = "sabsim.data";
 
 const ID = Object.freeze({
@@ -48,21 +51,20 @@ function sectionsOf(bytes) {
   return { sections, custom };
 }
 
-/** @param {Reader} reader @returns {boolean} whether the limits that it reads are those of shared memory */
+/** @param {Reader} reader @returns {{ isShared: boolean, most: number }} the limits that it reads, of a memory or table */
 function limits(reader) {
   const flags = reader.number();
-  reader.skipNumber();
-  if ((flags & 1) !== 0) reader.skipNumber();
-  return (flags & SHARED) !== 0;
+  const least = reader.number();
+  return { isShared: (flags & SHARED) !== 0, most: (flags & 1) === 0 ? least : reader.number() };
 }
 
 /** @param {Section | undefined} section @returns {Reader} */
 const readerOf = (section) => new Reader(section?.content ?? new Uint8Array([0]));
 
-/** @param {Map<number, Section>} sections @returns {{ tables: number, isShared: boolean }} what the module has of each */
+/** @param {Map<number, Section>} sections what the module has of each */
 function counted(sections) {
   const imports = readerOf(sections.get(ID.IMPORT));
-  const found = { tables: readerOf(sections.get(ID.TABLE)).number(), isShared: false };
+  const found = { tables: readerOf(sections.get(ID.TABLE)).number(), isShared: false, most: 0 };
   for (let left = imports.number(); left > 0; left -= 1) {
     imports.name();
     imports.name();
@@ -73,14 +75,14 @@ function counted(sections) {
       imports.skipNumber();
       limits(imports);
     }
-    if (kind === KIND.MEMORY) found.isShared = limits(imports) || found.isShared;
+    if (kind === KIND.MEMORY) Object.assign(found, limits(imports));
     if (kind === KIND.GLOBAL || kind === KIND.TAG) {
       imports.skipNumber();
       imports.skipNumber();
     }
   }
   const memories = readerOf(sections.get(ID.MEMORY));
-  for (let left = memories.number(); left > 0; left -= 1) found.isShared = limits(memories) || found.isShared;
+  for (let left = memories.number(); left > 0; left -= 1) Object.assign(found, limits(memories));
   return found;
 }
 
@@ -224,7 +226,7 @@ export function hasSharedMemory(bytes) {
  */
 export function translated(bytes) {
   const { sections, custom } = sectionsOf(bytes);
-  const { tables } = counted(sections);
+  const { tables, most } = counted(sections);
   const types = readerOf(sections.get(ID.TYPE)).number();
   const code = sections.get(ID.CODE);
   const made = new Map([...sections].map(([id, { content }]) => [id, content]));
@@ -239,7 +241,7 @@ export function translated(bytes) {
     const content = made.get(id);
     if (content !== undefined) writer.addSized(content, [id]);
   }
-  const data = new Uint8Array([...name(DATA), ...vector(dataOf(sections.get(ID.DATA)))]);
+  const data = new Uint8Array([...name(DATA), ...number(most), ...vector(dataOf(sections.get(ID.DATA)))]);
   for (const each of [...custom, data]) writer.addSized(each, [ID.CUSTOM]);
   return writer.taken().slice();
 }
