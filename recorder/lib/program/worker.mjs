@@ -205,7 +205,7 @@ function partsOf(player, blocks, mesh) {
   const timers = new Timers({ now: () => board.clock.now(), changed: () => {}, here: sourceOfCall });
   const children = new Set();
   const keepers = new Keepers(shared.keepers[agent]);
-  /** @type {{ goHome: () => void }} */
+  /** @type {{ goHome: () => void, wasm?: { clear: () => void } }} */
   const after = { goHome: () => {} };
   const waits = new WaitAsync({ moves, buffers, isPlaying, refuse });
   const loop = new Loop({
@@ -222,7 +222,7 @@ function partsOf(player, blocks, mesh) {
 /** @typedef {ReturnType<typeof partsOf>} Parts */
 
 /** @param {Parts} parts */
-function furnish({ moves, buffers, waits, ends, events, timers, later }) {
+function furnish({ moves, buffers, waits, ends, events, timers, later, after }) {
   const listAgain = listingOf([globalThis, buffer, crypto, process, util]);
   const { words } = moves.board;
   printAtOnce(() => words[WORD.IS_SILENT] === 0 && isPlaying(), printedName);
@@ -231,7 +231,7 @@ function furnish({ moves, buffers, waits, ends, events, timers, later }) {
   // Node makes a context of its own when a reader is released first. That isn't the program's, and so comes before.
   new (/** @type {any} */ (globalThis).ReadableStream)().getReader().releaseLock();
   const atomics = atomicsOf(moves, waits);
-  furnishWebAssembly({
+  after.wasm = furnishWebAssembly({
     buffers, moves, atomics, seen: watching.seen, here: sourceOfCall, refuse, isPlaying, isRelaxed,
   });
   watchRealm(watching);
@@ -309,8 +309,9 @@ function begin(parts, graph) {
  * @param {Parts} parts
  */
 function clear(parts) {
-  const { buffers, waits, ports, timers, loop, ends, children } = parts;
+  const { buffers, waits, ports, timers, loop, ends, children, after } = parts;
   buffers.clear();
+  after.wasm?.clear();
   waits.clear();
   ports.clear();
   timers.clear();

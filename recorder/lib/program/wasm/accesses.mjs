@@ -32,7 +32,7 @@ const WORDS = Object.freeze({ "ok": 0, "not-equal": 1, "timed-out": 2 });
  * @property {boolean} isRelaxed whether plain aligned accesses are relaxed ones
  */
 
-/** The accesses to a memory. */
+/** The accesses to a memory. They can be used again for another one: to make their functions takes time. */
 export class Accesses {
   /** @type {Record<number, any>} views, by how many bytes an element takes */
   views = {};
@@ -42,10 +42,19 @@ export class Accesses {
 
   length = 0;
 
-  /** @param {object} memory @param {World} world */
-  constructor(memory, world) {
-    this.memory = memory;
+  /** @type {any} */
+  memory = undefined;
+
+  /** @param {World} world */
+  constructor(world) {
     this.world = world;
+    /** What the recorder gives to the module between. */
+    this.functions = { ...this.#plain(), ...this.#waiting(), ...atomicFunctions(this) };
+  }
+
+  /** @param {object} memory whose accesses these are from now on */
+  begin(memory) {
+    this.memory = memory;
     this.renew();
   }
 
@@ -97,11 +106,6 @@ export class Accesses {
   note(at, size, writes) {
     const place = this.places[at % size === 0 ? size : 0] ?? this.places[0];
     if (size > 0) this.world.seen(place, at, at + size, writes);
-  }
-
-  /** @returns {Record<string, Function>} what the recorder gives to the module between */
-  functions() {
-    return { ...this.#plain(), ...this.#waiting(), ...atomicFunctions(this) };
   }
 
   #plain() {

@@ -75,6 +75,11 @@ class Translating {
   /** @type {WeakMap<object, Accesses>} those to each memory */
   #accesses = new EngineWeakMap();
 
+  /** @type {Accesses[]} those that were made, of which the first ones are used in this run */
+  #all = [];
+
+  #used = 0;
+
   /** @type {WeakMap<object, object>} what each translated instance exports, without what is the recorder's */
   exported = new EngineWeakMap();
 
@@ -133,7 +138,7 @@ class Translating {
     const access = this.#accessesTo(memory);
     for (let left = reader.number(); left > 0; left -= 1) access.note(reader.number(), reader.number(), true);
     new EngineInstance(glueOf(this.thread.isRelaxed), {
-      recorder: /** @type {any} */ (access.functions()), module: { table: exports[OWN.TABLE] },
+      recorder: /** @type {any} */ (access.functions), module: { table: exports[OWN.TABLE] },
     });
     const own = create(null);
     for (const name of ownKeys(exports)) if (!OWN_NAMES.includes(name)) own[name] = exports[name];
@@ -184,9 +189,19 @@ class Translating {
 
   /** @param {object} memory */
   #accessesTo(memory) {
-    const known = weakGet(this.#accesses, memory) ?? new Accesses(memory, this.world);
-    weakSet(this.#accesses, memory, known);
-    return known;
+    const known = weakGet(this.#accesses, memory);
+    if (known !== undefined) return known;
+    this.#all[this.#used] ??= new Accesses(this.world);
+    const next = this.#all[this.#used];
+    this.#used += 1;
+    next.begin(memory);
+    weakSet(this.#accesses, memory, next);
+    return next;
+  }
+
+  /** Nothing of a run is left. */
+  clear() {
+    this.#used = 0;
   }
 }
 
@@ -207,6 +222,7 @@ function putClass(engine, make) {
 /**
  * Puts WebAssembly with shared memory in the place of the engine's. Call it before anything else replaces its functions.
  * @param {Thread} thread
+ * @returns {{ clear: () => void }} to be cleared when the thread's part in a run is over
  */
 export function furnishWebAssembly(thread) {
   const translating = new Translating(thread);
@@ -243,4 +259,5 @@ export function furnishWebAssembly(thread) {
       return Buffers.isShared(buffer) ? translating.ask(this) : buffer;
     },
   }));
+  return translating;
 }
