@@ -70,6 +70,13 @@ const FETCH = {
     const wanted = files.map((file) => `*/${file}`);
     run("tar", ["xf", archive, "-C", into, "--strip-components=1", "--wildcards", ...wanted], room);
     if (source.made !== undefined) compile(source, into);
+    try {
+      source.build?.(into);
+    } catch (problem) {
+      // What isn't built isn't there.
+      rmSync(into, { recursive: true });
+      throw problem;
+    }
   },
 };
 

@@ -5,7 +5,7 @@
 enum { THREADS = 3, ROUNDS = 2 };
 
 // What pthread_create makes for a thread: its own structure. The stack is given by the program that starts the threads.
-static struct pthread threads[THREADS + 1];
+static struct pthread threads[THREADS];
 void __set_thread_state(void *, int, int, int);
 
 void begin(int at) {

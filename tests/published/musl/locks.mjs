@@ -6,7 +6,6 @@ import { Worker, isMainThread, workerData } from "node:worker_threads";
 import { FETCHED } from "../folder.mjs";
 
 const [, , lock, which = "right"] = process.argv;
-const THREADS = 3;
 const STACK = 4096;
 const PAGES = 2;
 
@@ -35,12 +34,13 @@ function thread(memory, module, at) {
 if (isMainThread) {
   const memory = new WebAssembly.Memory({ initial: PAGES, maximum: PAGES, shared: true });
   const module = new WebAssembly.Module(readFileSync(new URL(`musl/made/${which}.wasm`, FETCHED)));
-  const { init, [`${lock}_check`]: check } = thread(memory, module, THREADS);
+  const { init, [`${lock}_thread`]: act, [`${lock}_check`]: check } = thread(memory, module, 0);
   init();
-  const ended = Array.from({ length: THREADS }, (_, at) => new Promise((done) => {
+  const ended = [1, 2].map((at) => new Promise((done) => {
     const worker = new Worker(new URL(import.meta.url), { workerData: { memory, module, at }, argv: [lock] });
     worker.on("exit", done);
   }));
+  act(0);
   await Promise.all(ended);
   if (check() === 0) throw new Error(`what the ${lock} protects is wrong`);
 } else {
