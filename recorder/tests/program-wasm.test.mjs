@@ -123,11 +123,27 @@ function addressFor({ size, isAtomic }, draw) {
   return kind < 4 || !isAtomic ? (draw() >>> 5) % 32 : ((draw() >>> 5) % (32 / size)) * size;
 }
 
+/**
+ * Exchanges of a part of a word: what is expected has the same lower bits, and others above them or none.
+ * @returns {(string | number)[][]}
+ */
+const partsExchanged = () => VARIANTS.filter(([value, size]) => size !== (value === "i" ? 4 : 8)).flatMap(([value, size]) => {
+  const shown = (/** @type {bigint} */ number) => (value === "i" ? Number(number) : String(number));
+  const variant = `${value}${size}`;
+  return [1n << (8n * BigInt(size)), 0n].flatMap((above) => [
+    [`store ${variant}`, 16, shown(0x81n)], [`cmpxchg ${variant}`, 16, shown(0x81n + above), shown(0x7fn)],
+  ]);
+});
+
 /** @param {number} seed @returns {(string | number)[][]} names with what is given: each instruction several times */
 function callsOf(seed) {
   const draw = drawing(seed);
   const rounds = Array.from({ length: 3 }, () => EACH).flat();
-  return rounds.map((each) => [each.name, addressFor(each, draw), ...[...each.type.split(">")[0]].slice(1).map((type) => valueOf(draw, type))]);
+  const drawn = rounds.map((each) => {
+    const types = [...each.type.split(">")[0]].slice(1);
+    return [each.name, addressFor(each, draw), ...types.map((type) => valueOf(draw, type))];
+  });
+  return [...drawn, ...partsExchanged()];
 }
 
 describe("instructions that use the memory do what the engine's do", () => {

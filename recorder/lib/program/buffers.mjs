@@ -9,10 +9,11 @@ import { isGrowable, sharedLengthOf, slotOf, uncurried, weakGet, weakSet } from 
 
 const { SharedArrayBuffer: EngineShared, Uint8Array, WeakMap: EngineWeakMap } = globalThis;
 const { load, store } = Atomics;
-const growMemory = uncurried(WebAssembly.Memory.prototype.grow);
+const { prototype: memories } = /** @type {any} */ (WebAssembly.Memory);
+const growMemory = uncurried(memories.grow);
 
 /** @type {(memory: unknown) => any} the buffer of a WebAssembly.Memory, as the engine has it */
-export const bufferIn = slotOf(WebAssembly.Memory.prototype, "buffer");
+export const bufferIn = slotOf(memories, "buffer");
 
 /** From here on are the numbers of buffers that are no blocks yet. */
 const FIRST_OWN = 2 ** 24;
@@ -68,7 +69,7 @@ export class Buffers {
   /** @type {Known[]} those that were made here, by their own numbers less the first one */
   #own = [];
 
-  /** @type {WeakMap<object, SharedArrayBuffer>} the buffer that each WebAssembly.Memory had when it was looked at last */
+  /** @type {WeakMap<object, SharedArrayBuffer>} the buffer of each WebAssembly.Memory, when it was looked at last */
   #memories = new EngineWeakMap();
 
   /** @type {(own: number, block: number) => void} called when a buffer of this thread has become a block */
@@ -137,7 +138,8 @@ export class Buffers {
   /** @param {any} memory a WebAssembly.Memory that another thread can reach from now on */
   shareMemory(memory) {
     const buffer = this.bufferOf(memory);
-    if (sharedLengthOf(buffer) === 0) this.#refuseEmpty("WebAssembly.Memory that", weakGet(this.#known, buffer)?.place ?? "");
+    const place = weakGet(this.#known, buffer)?.place ?? "";
+    if (sharedLengthOf(buffer) === 0) this.#refuseEmpty("WebAssembly.Memory that", place);
     this.share(buffer);
   }
 
@@ -229,7 +231,7 @@ export class Buffers {
       + "that several threads reach");
   }
 
-  /** @param {string} what grows and has no byte, and another thread could reach it @param {string} place where it was made */
+  /** @param {string} what has no byte, and another thread could reach it @param {string} place where it was made */
   #refuseEmpty(what, place) {
     // Which memory a received buffer has is found by its first byte.
     this.shown.refuse(`gave another thread a ${what} has no byte yet${place === "" ? "" : `, made at ${place}`}, `

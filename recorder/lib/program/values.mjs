@@ -120,7 +120,7 @@ export function received(value, buffers) {
       const buffer = bufferOfAny(inner);
       buffers.received(buffer);
       if (isWasmMemory(inner)) buffers.bufferOf(inner);
-      if (!isView(inner)) return inner;
+      if (buffer === inner || isWasmMemory(inner)) return inner;
       const number = memoryNumber(buffer);
       if (number < 0) return inner;
       return tagOf(inner) === undefined ? wrappedView(inner, number) : wrapped(inner, number);

@@ -1,5 +1,5 @@
-// Builds musl's locks for WebAssembly, with threads that try them (locks.c): one module as it is, and one for each edit.
-// All but locks.c is Emscripten's, as published; the compiler and the linker are Debian's clang-14 and lld-14.
+// Builds musl's locks for WebAssembly, with threads that try them (locks.c): one module as it is, one for each edit.
+// All except locks.c is Emscripten's, as published; the compiler and the linker are Debian's clang-14 and lld-14.
 
 import { spawnSync } from "node:child_process";
 import { mkdirSync, readFileSync, writeFileSync } from "node:fs";
@@ -34,7 +34,8 @@ const C = ["-O2", "-DNDEBUG", "-D_XOPEN_SOURCE=700", "-nostdlibinc", "-w", ...IN
 
 const LOCK_NAMES = ["mutex", "condition", "barrier", "rwlock", "semaphore"];
 const EXPORTED = [
-  "begin", "init", "__stack_pointer", "__heap_base", ...LOCK_NAMES.flatMap((name) => [`${name}_thread`, `${name}_check`]),
+  "begin", "init", "__stack_pointer", "__heap_base",
+  ...LOCK_NAMES.flatMap((name) => [`${name}_thread`, `${name}_check`]),
 ];
 const MEMORY = ["--shared-memory", "--import-memory", "--initial-memory=131072", "--max-memory=131072"];
 const LINK = ["--no-entry", "--allow-undefined", ...MEMORY, ...EXPORTED.map((name) => `--export=${name}`)];

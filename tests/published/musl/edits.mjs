@@ -21,8 +21,7 @@ export const EDITS = Object.freeze([
   },
   {
     name: "sleeps-awake", lock: "condition", file: "src/thread/pthread_cond_timedwait.c",
-    from: "\t\tseq = node.barrier = 2;\n\t\tfut = &node.barrier;", to: "\t\tseq = node.barrier = 0;\n\t\tfut = &node.barrier;",
-    says: SLEEPS,
+    from: "seq = node.barrier = 2;", to: "seq = node.barrier = 0;", says: SLEEPS,
   },
   {
     name: "forgets-the-last", lock: "barrier", file: "src/thread/pthread_barrier_wait.c",

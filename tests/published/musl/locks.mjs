@@ -1,5 +1,5 @@
-// musl's locks, as Emscripten has them for WebAssembly, between threads of this program. The first word of the command line
-// says which lock, the second one which module: `right`, or one with an edit of `edits.mjs`.
+// musl's locks, as Emscripten has them for WebAssembly, between threads of this program. The first word of the command
+// line says which lock, the second one which module: `right`, or one with an edit of `edits.mjs`.
 
 import { readFileSync } from "node:fs";
 import { Worker, isMainThread, workerData } from "node:worker_threads";

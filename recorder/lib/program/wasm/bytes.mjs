@@ -4,7 +4,7 @@ const { Uint8Array: Bytes } = globalThis;
 
 /** Reads bytes from a position on. */
 export class Reader {
-  /** @param {Uint8Array} bytes @param {number} [at] the position of the next byte @param {number} [end] behind the last */
+  /** @param {Uint8Array} bytes @param {number} [at] the next byte's position @param {number} [end] behind the last */
   constructor(bytes, at = 0, end = bytes.length) {
     this.bytes = bytes;
     this.at = at;
@@ -76,7 +76,10 @@ export function signed(value) {
 }
 
 /** @param {string} text @returns {number[]} its length and its bytes */
-export const name = (text) => [...number(Buffer.byteLength(text)), ...Buffer.from(text)];
+export function name(text) {
+  const bytes = Buffer.from(text);
+  return [...number(bytes.length), ...bytes];
+}
 
 /** @param {number[][]} items @returns {number[]} their number and the items */
 export const vector = (items) => [...number(items.length), ...items.flat()];

@@ -1,11 +1,12 @@
-// The module between translated code and the recorder: it fills the table of functions. Those that give back what stands
-// on the stack are made here, since the recorder would need a list for more than one result.
+// The module between translated code and the recorder: it fills the table of functions. Those that give back what
+// stands on the stack are made here, since the recorder would need a list for more than one result.
 
 import { Writer, name, number, vector } from "./bytes.mjs";
 import { SLOTS, typeBytes } from "./slots.mjs";
 
 const LOCAL_GET = 0x20;
 const CALL = 0x10;
+const DROP = 0x1a;
 const END = 0x0b;
 const FUNCREF = 0x70;
 
@@ -31,7 +32,8 @@ const call = (called) => [CALL, ...number(GIVEN.indexOf(called))];
 function codeOf(slot, isRelaxed) {
   if (slot === "fill") return [...got([0, 2, 3]), ...call("filled"), ...got([0, 1, 2])];
   if (slot === "copy") return [...got([0, 1, 2, 3]), ...call("copied"), ...got([0, 1, 2])];
-  if (slot === "readBeside") return [...got([0, 2, 3, 4]), CALL, ...number(GIVEN.length), 0x1a, ...got([0, 1])];
+  // The function `read` is the first one behind those that are given.
+  if (slot === "readBeside") return [...got([0, 2, 3, 4]), CALL, ...number(GIVEN.length), DROP, ...got([0, 1])];
   if (!slot.startsWith("write ")) return undefined;
   const bits = BITS[/** @type {keyof typeof BITS} */ (slot.at(-1))];
   const isStore = isRelaxed && bits !== undefined;

@@ -1,5 +1,5 @@
-// WebAssembly of a program's thread. A module with shared memory is translated, so that its accesses are seen. Any other
-// one is the engine's own.
+// WebAssembly of a program's thread. A module with shared memory is translated, so that its accesses are seen. Any
+// other one is the engine's own.
 
 import { createHash } from "node:crypto";
 import { replace, replaceGetter } from "../../agent/ordinary/patch.mjs";
@@ -14,11 +14,12 @@ import { glueBytes } from "./glue.mjs";
 import { PAGE } from "./slots.mjs";
 import { DATA, OWN, hasSharedMemory, translated } from "./translate.mjs";
 
-const { Map: EngineMap, Proxy: EngineProxy, Uint8Array: Bytes, WeakMap: EngineWeakMap } = globalThis;
-const { Instance: EngineInstance, Memory: EngineMemory, Module: EngineModule } = WebAssembly;
+const {
+  Map: EngineMap, Proxy: EngineProxy, RangeError: EngineRangeError, Uint8Array: Bytes, WeakMap: EngineWeakMap,
+} = globalThis;
+const { Instance: EngineInstance, Memory: EngineMemory, Module: EngineModule } = /** @type {any} */ (WebAssembly);
 const { customSections, exports: exportsOf } = EngineModule;
 const { isView } = ArrayBuffer;
-const { RangeError: EngineRangeError } = globalThis;
 const { min } = Math;
 const growEngine = uncurried(EngineMemory.prototype.grow);
 
@@ -59,7 +60,8 @@ function translatedOnce(bytes) {
 }
 
 /** @param {WebAssembly.Module} module @returns {boolean} whether it was translated, perhaps by another thread */
-const isTranslated = (module) => exportsOf(module).some(({ name }) => name === OWN.TABLE);
+const isTranslated = (module) =>
+  exportsOf(module).some((/** @type {{ name: string }} */ { name }) => name === OWN.TABLE);
 
 /** @type {Record<string, WebAssembly.Module>} the modules between, by whether plain accesses are relaxed ones */
 const glues = {};
@@ -89,7 +91,9 @@ class Translating {
     const { atomics, seen, buffers, isRelaxed } = thread;
     /** @type {import("./accesses.mjs").World} */
     this.world = {
-      atomics, seen, buffers, isRelaxed, grow: (memory, pages) => this.tryToGrow(memory, pages), ask: (memory) => this.ask(memory),
+      atomics, seen, buffers, isRelaxed,
+      grow: (memory, pages) => this.tryToGrow(memory, pages),
+      ask: (memory) => this.ask(memory),
     };
   }
 
@@ -220,7 +224,8 @@ function putClass(engine, make) {
 }
 
 /**
- * Puts WebAssembly with shared memory in the place of the engine's. Call it before anything else replaces its functions.
+ * Puts WebAssembly with shared memory in the place of the engine's. Call it before anything else replaces its
+ * functions.
  * @param {Thread} thread
  * @returns {{ clear: () => void }} to be cleared when the thread's part in a run is over
  */

@@ -13,10 +13,10 @@ export const PAGE = 65_536;
 /** The letters of types, with their bytes: numbers of 32 and 64 bits, floating ones of these, and vectors. */
 const TYPES = Object.freeze({ i: 0x7f, l: 0x7e, f: 0x7d, d: 0x7c, v: 0x7b });
 
-/** In which variants there is each atomic access, in their order: the type of its value, and how many bytes it takes. */
+/** The variants of each atomic access, in their order: the type of its value, and how many bytes it takes. */
 export const VARIANTS = Object.freeze(["i4", "l8", "i1", "i2", "l1", "l2", "l4"]);
 
-/** The atomic accesses that have variants, in the order of their numbers, and how many values each one takes. */
+/** The atomic accesses that have variants, in the order of their numbers, and how many values each takes. */
 export const ATOMICS = Object.freeze({
   load: 0, store: 1, add: 1, sub: 1, and: 1, or: 1, xor: 1, exchange: 1, compareExchange: 2,
 });

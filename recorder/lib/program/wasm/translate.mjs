@@ -51,7 +51,7 @@ function sectionsOf(bytes) {
   return { sections, custom };
 }
 
-/** @param {Reader} reader @returns {{ isShared: boolean, most: number }} the limits that it reads, of a memory or table */
+/** @param {Reader} reader @returns {{ isShared: boolean, most: number }} limits of a memory or table, which it reads */
 function limits(reader) {
   const flags = reader.number();
   const least = reader.number();
@@ -106,7 +106,7 @@ function vectorStep(code, offset) {
   return code >= 88 && code <= 91 ? { name: "write v", operands: [offset, lane], stays: true } : undefined;
 }
 
-/** @param {import("./instructions.mjs").Instruction} read @returns {Step | undefined} none: it doesn't use the memory */
+/** @param {import("./instructions.mjs").Instruction} read @returns {Step | undefined} none: it uses no memory */
 function stepOf({ prefix, code, offset }) {
   if (prefix === 0) return plainStep(code, offset);
   if (prefix === 0xfd) return vectorStep(code, offset);
@@ -198,7 +198,7 @@ function dataOf(section) {
   return found;
 }
 
-/** @param {Map<number, Section>} sections @returns {number[][]} what the module exports in addition */
+/** @param {Map<number, Section>} sections @param {number} table @returns {number[][]} what is exported in addition */
 function exported(sections, table) {
   const start = sections.get(ID.START);
   return [
