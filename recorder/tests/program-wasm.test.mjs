@@ -124,7 +124,7 @@ function addressFor({ size, isAtomic }, draw) {
 }
 
 /**
- * Exchanges of a part of a word: what is expected has the same lower bits, and others above them or none.
+ * Exchanges of a part of a word: what is expected has the lower bits that are there, and others above them or none.
  * @returns {(string | number)[][]}
  */
 const partsExchanged = () => VARIANTS.filter(([value, size]) => size !== (value === "i" ? 4 : 8)).flatMap(([value, size]) => {

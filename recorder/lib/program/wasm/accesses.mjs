@@ -18,7 +18,7 @@ const { RuntimeError: EngineTrap } = /** @type {any} */ (WebAssembly);
 /** How a plain access is named, by how many bytes it takes; elsewhere it is one of a DataView. */
 const KIND_NAMES = Object.freeze({ 1: "Uint8", 2: "Uint16", 4: "Int32", 8: "BigInt64" });
 
-/** What a wait returns, by what Atomics.wait returns. @type {Record<string, number>} */
+/** @type {Readonly<Record<string, number>>} what a wait returns, by what Atomics.wait returns */
 const WORDS = Object.freeze({ "ok": 0, "not-equal": 1, "timed-out": 2 });
 
 /** @typedef {import("../../agent/ordinary/context.mjs").Place} Place */

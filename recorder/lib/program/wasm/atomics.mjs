@@ -11,9 +11,6 @@ const { asUintN } = EngineBigInt;
 /** @type {Conversion} */
 const same = (value) => value;
 
-/** @param {number | bigint} value @returns {number | bigint} without its sign */
-const unsigned = (value) => (typeof value === "bigint" ? asUintN(64, value) : value >>> 0);
-
 /**
  * How a variant's values become elements of its view, and these values again.
  * @param {string} variant
@@ -24,7 +21,7 @@ function conversionsOf(variant) {
   if (size === 8) return { size, element: (value) => asUintN(64, value), value: same };
   const bits = 8 * size;
   if (variant[0] === "l") return { size, element: (value) => EngineNumber(asUintN(bits, value)), value: EngineBigInt };
-  return { size, element: size === 4 ? unsigned : (value) => value & (2 ** bits - 1), value: same };
+  return { size, element: size === 4 ? (value) => value >>> 0 : (value) => value & (2 ** bits - 1), value: same };
 }
 
 /**
@@ -52,9 +49,6 @@ function atomicFunction(access, name, variant) {
   }
   return (address, expected, given, offset, where) => {
     const index = access.aligned(address, offset, size, where);
-    // What is expected isn't cut: if it has more bits, nothing is exchanged.
-    const isWider = value(element(expected)) !== unsigned(expected);
-    if (isWider) return value(atomics.load(view(), index));
     return value(atomics.compareExchange(view(), index, element(expected), element(given)));
   };
 }
