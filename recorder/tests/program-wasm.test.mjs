@@ -2,11 +2,13 @@
 // wait and notify do is as the standard says.
 
 import assert from "node:assert/strict";
+import { spawnSync } from "node:child_process";
 import { writeFileSync } from "node:fs";
 import { join } from "node:path";
 import { describe, it } from "node:test";
+import { fileURLToPath } from "node:url";
 import { hasSharedMemory, translated } from "../lib/program/wasm/translate.mjs";
-import { temporaryFolder } from "./helpers/common.mjs";
+import { RECORD, temporaryFolder } from "./helpers/common.mjs";
 import { runsOf } from "./helpers/whole-programs.mjs";
 import { ATOMIC, code, moduleOf } from "./programs/wasm/assembled.mjs";
 import { locks } from "./programs/wasm/locks.mjs";
@@ -17,7 +19,7 @@ const { get, i32, load, store, atomic, loop, again, add } = code;
 const endingsOf = (outcomes) => [...new Set(outcomes.map(({ ending, detail }) => `${ending}: ${detail}`))];
 
 /** @param {Uint8Array} bytes @returns {string} code that makes them */
-const shown = (bytes) => `new Uint8Array(Buffer.from("${Buffer.from(bytes).toString("base64")}", "base64"))`;
+const shown = (bytes) => `Uint8Array.from(atob("${Buffer.from(bytes).toString("base64")}"), (byte) => byte.charCodeAt(0))`;
 
 const MAIN = `import { Worker } from "node:worker_threads";
 const workerOf = (workerData) => new Worker(new URL("./worker.mjs", import.meta.url), { workerData });
@@ -233,6 +235,29 @@ describe("wait and notify", () => {
   });
 });
 
+describe("a program for browsers", () => {
+  it("shares memory and module with a worker, and its page can't sleep", async (context) => {
+    const outcomes = await runsOf(context, {
+      "main.mjs": `const memory = new WebAssembly.Memory({ initial: 1, maximum: 1, shared: true });
+        const { module, instance } = await WebAssembly.instantiate(${shown(WAITING)}, { env: { memory } });
+        try { instance.exports.wait32(16, 0, -1n); throw new Error("it slept"); }
+        catch (error) { if (!(error instanceof WebAssembly.RuntimeError)) throw error; }
+        const worker = new Worker("worker.mjs", { type: "module" });
+        worker.postMessage({ memory, module });
+        await new Promise((done) => { worker.onmessage = done; });
+        if (new Int32Array(memory.buffer)[2] !== 1) throw new Error("not counted");
+        close();`,
+      "worker.mjs": `onmessage = ({ data: { memory, module } }) => {
+        const { exports } = new WebAssembly.Instance(module, { env: { memory } });
+        if (exports.wait32(16, 0, 1000n) !== 2) throw new Error("it didn't sleep");
+        exports.increment(8);
+        postMessage("done");
+      };`,
+    }, { seeds: [1, 2, 3], options: { web: true } });
+    assert.deepEqual(endingsOf(outcomes), ["finished: "]);
+  });
+});
+
 describe("a module's memory, data and start", () => {
   it("a memory of its own is exported, holds its data, and is shared from there", async (context) => {
     const bytes = moduleOf([
@@ -369,6 +394,16 @@ describe("findings", () => {
     });
     assert.equal(outcomes[0].ending, "bound");
     assert.match(outcomes[0].detail, /spins at wasm:spin:1:\d+/);
+  });
+});
+
+describe("--wasm-accesses", () => {
+  it("goes with programs alone", () => {
+    const words = ["agents/naive-mutex.mjs", "--wasm-accesses", "relaxed"];
+    const cwd = fileURLToPath(new URL("./", import.meta.url));
+    const { status, stderr } = spawnSync(process.execPath, [RECORD, ...words], { cwd, encoding: "utf8" });
+    assert.deepEqual([status, stderr], [2, "record: --wasm-accesses needs --program: the shared memory of WebAssembly is "
+      + "recorded in programs alone\n"]);
   });
 });
 

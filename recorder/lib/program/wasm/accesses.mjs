@@ -9,8 +9,8 @@ import { atomicFunctions } from "./atomics.mjs";
 import { PAGE } from "./slots.mjs";
 
 const {
-  BigInt: EngineBigInt, BigInt64Array, BigUint64Array, Int32Array, Number: EngineNumber, Uint8Array, Uint16Array,
-  Uint32Array,
+  BigInt: EngineBigInt, BigInt64Array, BigUint64Array, Int32Array, Number: EngineNumber, TypeError: EngineTypeError,
+  Uint8Array, Uint16Array, Uint32Array,
 } = globalThis;
 const { asUintN } = EngineBigInt;
 const { RuntimeError: EngineTrap } = /** @type {any} */ (WebAssembly);
@@ -169,16 +169,30 @@ export class Accesses {
   /** @returns {Record<string, (...given: any[]) => unknown>} */
   #waiting() {
     const { atomics } = this.world;
-    /** @param {bigint} nanoseconds @returns {number} milliseconds */
-    const timeOf = (nanoseconds) => (nanoseconds < 0n ? Infinity : EngineNumber(nanoseconds) / 1e6);
     return {
       // The count has no sign: -1 wakes all.
       notify: (address, count, offset, where) =>
         atomics.notify(this.words, this.aligned(address, offset, 4, where), count >>> 0),
       "wait i4": (address, value, time, offset, where) =>
-        WORDS[atomics.wait(this.words, this.aligned(address, offset, 4, where), value, timeOf(time))],
+        this.#wait(this.words, this.aligned(address, offset, 4, where), value, time),
       "wait l8": (address, value, time, offset, where) =>
-        WORDS[atomics.wait(this.longs, this.aligned(address, offset, 8, where), value, timeOf(time))],
+        this.#wait(this.longs, this.aligned(address, offset, 8, where), value, time),
     };
+  }
+
+  /**
+   * @param {any} view
+   * @param {number} index
+   * @param {number | bigint} value that is expected
+   * @param {bigint} nanoseconds for which it may sleep; negative: without an end
+   */
+  #wait(view, index, value, nanoseconds) {
+    try {
+      const time = nanoseconds < 0n ? Infinity : EngineNumber(nanoseconds) / 1e6;
+      return WORDS[this.world.atomics.wait(view, index, value, time)];
+    } catch (problem) {
+      // A page can't sleep. Then the engine traps.
+      throw problem instanceof EngineTypeError ? new EngineTrap(problem.message) : problem;
+    }
   }
 }

@@ -1,6 +1,8 @@
 // The bytes of a module of WebAssembly: numbers are read and written in LEB128.
 
 const { Uint8Array: Bytes } = globalThis;
+// Programs for browsers have no Buffer.
+const { from: bufferFrom } = Buffer;
 
 /** Reads bytes from a position on. */
 export class Reader {
@@ -55,7 +57,7 @@ export class Reader {
 
   /** @returns {string} the next name */
   name() {
-    return Buffer.from(this.take(this.number())).toString("utf8");
+    return bufferFrom(this.take(this.number())).toString("utf8");
   }
 }
 
@@ -77,7 +79,7 @@ export function signed(value) {
 
 /** @param {string} text @returns {number[]} its length and its bytes */
 export function name(text) {
-  const bytes = Buffer.from(text);
+  const bytes = bufferFrom(text);
   return [...number(bytes.length), ...bytes];
 }
 

@@ -4,6 +4,8 @@
 import { Writer, name, number, vector } from "./bytes.mjs";
 import { SLOTS, typeBytes } from "./slots.mjs";
 
+const { Set: EngineSet, Uint8Array: Bytes } = globalThis;
+
 const LOCAL_GET = 0x20;
 const CALL = 0x10;
 const DROP = 0x1a;
@@ -52,7 +54,7 @@ export function glueBytes(isRelaxed) {
   const made = SLOTS.filter((_, at) => codes[at] !== undefined);
   const functions = [...GIVEN.map((each, at) => ({ name: each, type: GIVEN_TYPES[at] })), ...imported];
   const all = [...functions, ...made];
-  const types = [...new Set(all.map(({ type }) => type))];
+  const types = [...new EngineSet(all.map(({ type }) => type))];
   const typeOf = (/** @type {{ type: string }} */ { type }) => number(types.indexOf(type));
   const imports = [
     ...functions.map((each) => [...name("recorder"), ...name(each.name), 0, ...typeOf(each)]),
@@ -67,7 +69,7 @@ export function glueBytes(isRelaxed) {
     [10, vector(bodies)], [0, [...name("name"), ...namesOf(all)]],
   ];
   for (const [id, content] of sections) {
-    writer.addSized(new Uint8Array(/** @type {number[]} */ (content)), [/** @type {number} */ (id)]);
+    writer.addSized(new Bytes(/** @type {number[]} */ (content)), [/** @type {number} */ (id)]);
   }
   return writer.taken();
 }

@@ -15,11 +15,12 @@ import { PAGE } from "./slots.mjs";
 import { DATA, OWN, hasSharedMemory, translated } from "./translate.mjs";
 
 const {
-  Map: EngineMap, Proxy: EngineProxy, RangeError: EngineRangeError, Uint8Array: Bytes, WeakMap: EngineWeakMap,
+  ArrayBuffer: EngineBuffer, Map: EngineMap, Proxy: EngineProxy, RangeError: EngineRangeError, Uint8Array: Bytes,
+  WeakMap: EngineWeakMap,
 } = globalThis;
 const { Instance: EngineInstance, Memory: EngineMemory, Module: EngineModule } = /** @type {any} */ (WebAssembly);
 const { customSections, exports: exportsOf } = EngineModule;
-const { isView } = ArrayBuffer;
+const { isView } = EngineBuffer;
 const { min } = Math;
 const growEngine = uncurried(EngineMemory.prototype.grow);
 
@@ -44,7 +45,7 @@ const OWN_NAMES = freeze(Object.values(OWN));
 /** @param {any} source as the engine takes a module @returns {Uint8Array | undefined} a copy of its bytes */
 function bytesOf(source) {
   if (isView(source)) return new Bytes(source.buffer, source.byteOffset, source.byteLength).slice();
-  const isBuffer = source instanceof ArrayBuffer || Buffers.isShared(source);
+  const isBuffer = source instanceof EngineBuffer || Buffers.isShared(source);
   return isBuffer ? new Bytes(source).slice() : undefined;
 }
 

@@ -5,6 +5,8 @@ import { Reader, Writer, name, number, signed, vector } from "./bytes.mjs";
 import { instruction } from "./instructions.mjs";
 import { SLOTS, SLOT_TYPES, slotNamed, slotOfAtomic, typeBytes } from "./slots.mjs";
 
+const { Map: EngineMap, Uint8Array: Bytes } = globalThis;
+
 /** What the translated module exports besides its own. */
 export const OWN = Object.freeze({ TABLE: "sabsim.table", MEMORY: "sabsim.memory", START: "sabsim.start" });
 
@@ -40,7 +42,7 @@ const VECTOR_READS = Object.freeze([16, 8, 8, 8, 8, 8, 8, 1, 2, 4, 8]);
  */
 function sectionsOf(bytes) {
   const reader = new Reader(bytes, HEAD.length);
-  const sections = new Map();
+  const sections = new EngineMap();
   const custom = [];
   while (reader.at < bytes.length) {
     const id = reader.byte();
@@ -59,7 +61,7 @@ function limits(reader) {
 }
 
 /** @param {Section | undefined} section @returns {Reader} */
-const readerOf = (section) => new Reader(section?.content ?? new Uint8Array([0]));
+const readerOf = (section) => new Reader(section?.content ?? new Bytes([0]));
 
 /** @param {Map<number, Section>} sections what the module has of each */
 function counted(sections) {
@@ -229,7 +231,7 @@ export function translated(bytes) {
   const { tables, most } = counted(sections);
   const types = readerOf(sections.get(ID.TYPE)).number();
   const code = sections.get(ID.CODE);
-  const made = new Map([...sections].map(([id, { content }]) => [id, content]));
+  const made = new EngineMap([...sections].map(([id, { content }]) => [id, content]));
   made.set(ID.TYPE, extended(sections.get(ID.TYPE), SLOT_TYPES.map(typeBytes)));
   made.set(ID.TABLE, extended(sections.get(ID.TABLE), [[0x70, 0, ...number(SLOTS.length)]]));
   made.set(ID.EXPORT, extended(sections.get(ID.EXPORT), exported(sections, tables)));
@@ -241,7 +243,7 @@ export function translated(bytes) {
     const content = made.get(id);
     if (content !== undefined) writer.addSized(content, [id]);
   }
-  const data = new Uint8Array([...name(DATA), ...number(most), ...vector(dataOf(sections.get(ID.DATA)))]);
+  const data = new Bytes([...name(DATA), ...number(most), ...vector(dataOf(sections.get(ID.DATA)))]);
   for (const each of [...custom, data]) writer.addSized(each, [ID.CUSTOM]);
   return writer.taken().slice();
 }
