@@ -9,6 +9,7 @@ import { isGrowable, sharedLengthOf, slotOf, uncurried, weakGet, weakSet } from 
 
 const { SharedArrayBuffer: EngineShared, Uint8Array, WeakMap: EngineWeakMap } = globalThis;
 const { load, store } = Atomics;
+const { min } = Math;
 const { prototype: memories } = /** @type {any} */ (WebAssembly.Memory);
 const growMemory = uncurried(memories.grow);
 
@@ -19,6 +20,9 @@ export const bufferIn = slotOf(memories, "buffer");
 const FIRST_OWN = 2 ** 24;
 
 const NO_BLOCK = -1;
+
+/** By how many bytes a WebAssembly.Memory can get longer that several threads reach. */
+export const MOST_GROWTH = 2 ** 26;
 
 /**
  * @typedef {object} Known what is known of a buffer
@@ -123,7 +127,8 @@ export class Buffers {
     const place = known.place ?? "";
     if (length === 0 && isGrowable(buffer)) this.#refuseEmpty("SharedArrayBuffer that grows and", place);
     if (length === 0) return;
-    const block = blocks.add(buffer, place, known.most);
+    const most = known.most === undefined ? undefined : min(known.most, length + MOST_GROWTH);
+    const block = blocks.add(buffer, place, most);
     if (block < 0) this.#refuseMore(length, place);
     known.block = block;
     if (block < FIRST_MORE) shown.named(block, place);

@@ -7,7 +7,7 @@ import { FIRST_MORE } from "../../memory/more-blocks.mjs";
 import {
   apply, construct, create, freeze, mapGet, mapSet, ownKeys, put, uncurried, weakGet, weakSet,
 } from "../../primordials.mjs";
-import { Buffers, bufferIn } from "../buffers.mjs";
+import { Buffers, MOST_GROWTH, bufferIn } from "../buffers.mjs";
 import { Accesses } from "./accesses.mjs";
 import { Reader } from "./bytes.mjs";
 import { glueBytes } from "./glue.mjs";
@@ -21,11 +21,7 @@ const {
 const { Instance: EngineInstance, Memory: EngineMemory, Module: EngineModule } = /** @type {any} */ (WebAssembly);
 const { customSections, exports: exportsOf } = EngineModule;
 const { isView } = EngineBuffer;
-const { min } = Math;
 const growEngine = uncurried(EngineMemory.prototype.grow);
-
-/** By how many bytes a memory can get longer that several threads reach. */
-const MOST_GROWTH = 2 ** 26;
 
 /** @type {readonly unknown[]} */
 const OWN_NAMES = freeze(Object.values(OWN));
@@ -103,7 +99,7 @@ class Translating {
     const { buffers, here } = this.thread;
     const buffer = bufferIn(memory);
     if (!Buffers.isShared(buffer) || buffers.numberOf(buffer) >= 0) return;
-    buffers.made(buffer, here(), min(most * PAGE, buffer.byteLength + MOST_GROWTH));
+    buffers.made(buffer, here(), most * PAGE);
     buffers.bufferOf(memory);
   }
 
@@ -237,8 +233,10 @@ export function furnishWebAssembly(thread) {
     if (Buffers.isShared(bufferIn(memory))) translating.made(memory, given[0].maximum);
     return memory;
   });
-  putClass(EngineModule, ([source, ...rest], asked) =>
-    construct(EngineModule, [translating.source(source), ...rest], asked));
+  putClass(EngineModule, (given, asked) => {
+    given[0] = translating.source(given[0]);
+    return construct(EngineModule, given, asked);
+  });
   putClass(EngineInstance, (given, asked) => {
     const instance = construct(EngineInstance, given, asked);
     if (isTranslated(given[0])) translating.complete(instance, given[0]);
