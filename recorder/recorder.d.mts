@@ -94,10 +94,7 @@ export interface OfModule {
   noBlock?: number[];
   /** What is done with ordinary reads and writes; else "watch". */
   ordinary?: "watch" | "store" | "refuse";
-  /**
-   * Whether a run fails in which agents use shared memory that isn't recorded, as a SharedArrayBuffer that their code
-   * makes itself; else "fail".
-   */
+  /** Whether a run fails in which agents use shared memory that isn't recorded, as they make it; else "fail". */
   unrecorded?: "fail" | "allow";
   /** The time that clocks give agents: the run's own or the machine's; else "run". */
   clock?: "run" | "real";
@@ -121,6 +118,8 @@ export interface OfProgram {
   web?: boolean;
   /** Of which runs it is shown, on standard error, what the program prints; else of the first one. */
   programOutput?: "all" | "none";
+  /** What plain aligned accesses of WebAssembly to shared memory are: C's `volatile` is relaxed; else "ordinary". */
+  wasmAccesses?: "ordinary" | "relaxed";
 }
 
 /** What one run may have besides. */

@@ -83,6 +83,13 @@ const FETCH = {
     }
     make(into, makings);
     if (source.made !== undefined) compile(source, into);
+    try {
+      source.build?.(into);
+    } catch (problem) {
+      // What isn't built isn't there.
+      rmSync(into, { recursive: true });
+      throw problem;
+    }
   },
 };
 

@@ -19,7 +19,11 @@ const MOST_FRAMES = 200;
 // The recorder's own files, and node's.
 const RECORDER = new URL("../../", import.meta.url).href;
 const LIBRARY = `${RECORDER}lib/`;
-const OWN = [LIBRARY, `${RECORDER}script/`, "node:"];
+const OWN = [LIBRARY, `${RECORDER}script/`, "node:", "wasm://wasm/sabsim-"];
+const COMPILED = "wasm:";
+
+/** Where the instruction of WebAssembly stands in its module that has called the recorder last. */
+export const compiled = { at: 0 };
 
 /** @type {(error: Error, frames: NodeJS.CallSite[]) => NodeJS.CallSite[]} */
 const sites = (_error, frames) => frames;
@@ -95,8 +99,23 @@ function farFrame(from) {
  */
 const agentsFrame = (from) => firstOfAgents(framesHere(watching.seen, FEW_FRAMES)) ?? farFrame(from);
 
+/**
+ * Where a frame is. That of WebAssembly is the innermost one, so it is at the instruction that has called the recorder.
+ * @param {NodeJS.CallSite} frame
+ * @returns {[string | null, number | null, number | null]} its file, line and column
+ */
+function positionOf(frame) {
+  const file = /** @type {string | null} */ (frame.getFileName());
+  if (typeof file !== "string" || !begins(file, COMPILED)) return [file, frame.getLineNumber(), frame.getColumnNumber()];
+  return [`${COMPILED}${frame.getFunctionName() ?? "a function without a name"}`, 1, compiled.at];
+}
+
 /** @param {NodeJS.CallSite} [frame] @returns {string | undefined} its file, line and column */
-const placeOf = (frame) => frame && `${frame.getFileName()}:${frame.getLineNumber()}:${frame.getColumnNumber()}`;
+function placeOf(frame) {
+  if (frame === undefined) return undefined;
+  const [file, line, column] = positionOf(frame);
+  return `${file}:${line}:${column}`;
+}
 
 /** @returns {string | undefined} file, line and column of the agent's own code */
 export const sourceHere = () => placeOf(agentsFrame(sourceHere));
@@ -139,5 +158,7 @@ export function numberAbove(sources, called) {
 }
 
 /** @param {Sources} sources @param {NodeJS.CallSite} frame */
-const numberOf = (sources, frame) =>
-  sources.numberOf(frame.getFileName(), frame.getLineNumber(), frame.getColumnNumber());
+function numberOf(sources, frame) {
+  const [file, line, column] = positionOf(frame);
+  return sources.numberOf(file, line, column);
+}

@@ -53,6 +53,8 @@ import { moduleUrlOf } from "./module-url.mjs";
  * @property {"fail" | "allow"} [stuck] whether a run that is stuck fails; else "fail"
  * @property {boolean} [web] whether the program is one for browsers; else it is one of node
  * @property {"all" | "none"} [programOutput] of which runs it is shown what the program prints; else of the first one
+ * @property {"ordinary" | "relaxed"} [wasmAccesses] what plain aligned accesses of WebAssembly to shared memory are: C's
+ * `volatile` is relaxed; else "ordinary"
  */
 
 /**

@@ -90,13 +90,14 @@ export class Blocks {
    * A buffer of this thread becomes a block.
    * @param {SharedArrayBuffer} buffer
    * @param {string} place where it was made; empty: it isn't known
+   * @param {number} [most] how long its memory can get
    * @returns {number} its number; -1: there is no room for it
    */
-  add(buffer, place) {
+  add(buffer, place, most = mostLengthOf(buffer)) {
     const { words } = this;
     const length = sharedLengthOf(buffer);
-    const isMore = words[COUNT] === MOST_BLOCKS || length > MOST_BYTES || isGrowable(buffer);
-    const block = isMore ? this.more.add(length, mostLengthOf(buffer), place) : words[COUNT];
+    const isMore = words[COUNT] === MOST_BLOCKS || length > MOST_BYTES || isGrowable(buffer) || most > length;
+    const block = isMore ? this.more.add(length, most, place) : words[COUNT];
     if (block < 0) return block;
     if (!isMore) {
       words[LENGTHS + block] = length;
@@ -133,6 +134,11 @@ export class Blocks {
   begins(block, agent, position) {
     this.memory.takeAll(block);
     this.more.begins(block, agent, position);
+  }
+
+  /** @param {number} block that this thread knows @returns {number} how long it is now */
+  lengthOf(block) {
+    return block < FIRST_MORE ? this.lengths[block] : this.more.length(block);
   }
 
   /** @param {number} block that this thread has made longer */

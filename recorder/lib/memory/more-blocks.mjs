@@ -159,6 +159,22 @@ export class MoreBlocks {
     this.words[at] = length;
   }
 
+  /** @param {number} block its number @returns {number} how long it is */
+  length(block) {
+    return this.words[this.#at(block) + LENGTH];
+  }
+
+  /** @param {number} block its number @returns {number} how long it can get */
+  mostLength(block) {
+    return this.words[this.#at(block) + MOST_LENGTH];
+  }
+
+  /** @param {number} block its number @returns {boolean} whether it could be longer than it was at first */
+  grows(block) {
+    const at = this.#at(block);
+    return this.words[at + MOST_LENGTH] > this.words[at + START_LENGTH];
+  }
+
   /** @param {number} block its number @returns {string} where its memory was made; empty: it isn't known */
   place(block) {
     const at = this.#at(block);

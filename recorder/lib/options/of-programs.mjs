@@ -14,6 +14,7 @@ const WITHOUT = Object.freeze({
 /** Options that say something of programs alone; and why. */
 const OF_PROGRAMS = Object.freeze({
   stuck: "only programs can be stuck", web: "agents aren't run as in a browser", programOutput: "what agents print is always shown",
+  wasmAccesses: "the shared memory of WebAssembly is recorded in programs alone",
 });
 
 /**

@@ -89,6 +89,9 @@ export const OPTIONS = Object.freeze({
     + "module by its URL"] },
   programOutput: { kind: choice(["all", "none"]), of: ALL,
     help: ["HOW", "what a program prints is shown of all runs or of none (of the first seed's run and the kept one)"] },
+  wasmAccesses: { kind: choice(["ordinary", "relaxed"]), of: ALL, isShared: true, isReplayed: true,
+    help: ["HOW", "what a plain aligned access of WebAssembly to shared memory is: ordinary, or relaxed, as one of C's "
+    + "volatile: then it is taken for a load or store of Atomics, and is in no data race with these (ordinary)"] },
   clock: word(["run", "real"],
     ["WHICH", "the time that clocks give agents: run (the run's own, which comes from the seed) or real (run)"]),
   maxMoves: rule(whole(1, SCRIPT_LIMITS.moves), SCRIPT_LIMITS.moves,

@@ -5,10 +5,18 @@
 import { learn } from "../agent/ordinary/context.mjs";
 import { HELD } from "../memory/blocks.mjs";
 import { FIRST_MORE } from "../memory/more-blocks.mjs";
-import { isGrowable, mapGet, mapSet, sharedLengthOf, weakGet, weakSet } from "../primordials.mjs";
+import {
+  isGrowable, mapGet, mapSet, sharedLengthOf, slotOf, uncurried, weakGet, weakSet,
+} from "../primordials.mjs";
 
 const { Map: EngineMap, SharedArrayBuffer: EngineShared, Uint8Array, WeakMap: EngineWeakMap } = globalThis;
 const { load, store } = Atomics;
+const { min } = Math;
+const { prototype: memories } = /** @type {any} */ (WebAssembly.Memory);
+const growMemory = uncurried(memories.grow);
+
+/** @type {(memory: unknown) => any} the buffer of a WebAssembly.Memory, as the engine has it */
+export const bufferIn = slotOf(memories, "buffer");
 
 /** From here on are the numbers of buffers that are no blocks yet. */
 const FIRST_OWN = 2 ** 24;
@@ -20,7 +28,8 @@ const NO_BLOCK = -1;
  * @property {number} block or -1
  * @property {number} own its own number
  * @property {string} [place] where it was made
- * @property {number} [count] as the how manyth there
+ * @property {number} [count] how many were made there before
+ * @property {number} [most] how long a WebAssembly.Memory can get that has it
  */
 
 /**
@@ -53,7 +62,7 @@ function hasBytes(buffer) {
  * @property {(place: import("../agent/ordinary/context.mjs").Place, from: number, to: number, writes: boolean) => void}
  * seen gets an ordinary access that is about to be made
  * @property {(block: number, place: string, count: number) => void} named gets where the memory of a new block was made,
- * and as the how manyth there
+ * and how many were made there before
  * @property {(block: number) => void} began gets a new block that no script can have as it is
  * @property {(why: string) => never} refuse ends the run
  */
@@ -67,6 +76,9 @@ export class Buffers {
 
   /** @type {Map<string | undefined, number>} how many were made at each place */
   #counts = new EngineMap();
+
+  /** @type {WeakMap<object, SharedArrayBuffer>} the buffer of each WebAssembly.Memory, when it was looked at last */
+  #memories = new EngineWeakMap();
 
   /** @type {(own: number, block: number) => void} called when a buffer of this thread has become a block */
   onBlock = () => {};
@@ -87,10 +99,11 @@ export class Buffers {
    * The program has made a buffer.
    * @param {SharedArrayBuffer} buffer
    * @param {string | undefined} place where
+   * @param {number} [most] how long it can get as the buffer of a WebAssembly.Memory
    */
-  made(buffer, place) {
+  made(buffer, place, most) {
     const count = mapGet(this.#counts, place) ?? 0;
-    const known = { block: NO_BLOCK, own: FIRST_OWN + this.#own.length, place, count };
+    const known = { block: NO_BLOCK, own: FIRST_OWN + this.#own.length, place, count, most };
     this.#own[this.#own.length] = known;
     mapSet(this.#counts, place, count + 1);
     weakSet(this.#known, buffer, known);
@@ -118,9 +131,10 @@ export class Buffers {
     const { blocks, mesh, shown } = this;
     const length = sharedLengthOf(buffer);
     const place = known.place ?? "";
-    if (length === 0 && isGrowable(buffer)) this.#refuseEmpty(place);
+    if (length === 0 && isGrowable(buffer)) this.#refuseEmpty("SharedArrayBuffer that grows and", place);
     if (length === 0) return;
-    const block = blocks.add(buffer, place);
+    const most = known.most === undefined ? undefined : min(known.most, length + MOST_GROWTH);
+    const block = blocks.add(buffer, place, most);
     if (block < 0) this.#refuseMore(length, place);
     known.block = block;
     shown.named(block, place, known.count ?? 0);
@@ -130,6 +144,14 @@ export class Buffers {
       shown.seen({ block, kind: HELD, offset: 0, length }, 0, length, true);
     }
     this.onBlock(known.own, known.block);
+  }
+
+  /** @param {any} memory a WebAssembly.Memory that another thread can reach from now on */
+  shareMemory(memory) {
+    const buffer = this.bufferOf(memory);
+    const place = weakGet(this.#known, buffer)?.place ?? "";
+    if (sharedLengthOf(buffer) === 0) this.#refuseEmpty("WebAssembly.Memory that", place);
+    this.share(buffer);
   }
 
   /** @param {unknown} buffer @returns {number} its block, if it is one that grows; else -1 */
@@ -150,6 +172,30 @@ export class Buffers {
     weakSet(this.#known, clone, known);
   }
 
+  /**
+   * The buffer of a shared WebAssembly.Memory as it is now. It is another one when a thread has made the memory longer.
+   * @param {any} memory
+   * @returns {SharedArrayBuffer}
+   */
+  bufferOf(memory) {
+    const last = weakGet(this.#memories, memory) ?? bufferIn(memory);
+    const block = this.blockOf(this.numberOf(last));
+    if (block >= 0 && sharedLengthOf(bufferIn(memory)) < this.blocks.lengthOf(block)) growMemory(memory, 0);
+    const now = bufferIn(memory);
+    weakSet(this.#memories, memory, now);
+    if (last !== now) this.#grown(last, now);
+    return now;
+  }
+
+  /** @param {SharedArrayBuffer} before @param {SharedArrayBuffer} now the buffer of the same memory, which is longer */
+  #grown(before, now) {
+    const known = weakGet(this.#known, before);
+    if (known === undefined) return;
+    learn(before, now);
+    weakSet(this.#known, now, known);
+    if (known.block >= 0) this.blocks.adopt(known.block, now);
+  }
+
   /** @param {number} agent that begins, and has to know the blocks that there are */
   handTo(agent) {
     const { blocks, mesh } = this;
@@ -167,9 +213,10 @@ export class Buffers {
     const { blocks } = this;
     for (const block of blocks.numbers()) {
       const other = blocks.buffers[block];
-      if (other === undefined || sharedLengthOf(other) !== sharedLengthOf(buffer) || !areSame(buffer, other)) continue;
+      if (other === undefined || blocks.lengthOf(block) !== sharedLengthOf(buffer) || !areSame(buffer, other)) continue;
+      if (sharedLengthOf(other) < sharedLengthOf(buffer)) return this.#grown(other, buffer);
       learn(buffer, other);
-      weakSet(this.#known, buffer, { block, own: NO_BLOCK, place: undefined });
+      weakSet(this.#known, buffer, { block, own: NO_BLOCK });
       return;
     }
     this.shown.refuse("got shared memory that isn't a SharedArrayBuffer of the program, which can't be simulated");
@@ -178,6 +225,7 @@ export class Buffers {
   /** Nothing of an earlier run is left. */
   clear() {
     this.#known = new EngineWeakMap();
+    this.#memories = new EngineWeakMap();
     this.#own = [];
     this.#counts = new EngineMap();
     this.blocks.clear();
@@ -195,10 +243,10 @@ export class Buffers {
       + "that several threads reach");
   }
 
-  /** @param {string} place where a buffer was made that grows, has no byte, and that another thread could reach */
-  #refuseEmpty(place) {
+  /** @param {string} what has no byte, and another thread could reach it @param {string} place where it was made */
+  #refuseEmpty(what, place) {
     // Which memory a received buffer has is found by its first byte.
-    this.shown.refuse(`gave another thread a SharedArrayBuffer that grows and has no byte yet${place === "" ? "" : `, made at ${place}`}, `
+    this.shown.refuse(`gave another thread a ${what} has no byte yet${place === "" ? "" : `, made at ${place}`}, `
       + "which isn't simulated yet");
   }
 
@@ -206,6 +254,6 @@ export class Buffers {
   #adopt(block, buffer) {
     if (this.blocks.buffers[block] !== undefined) return;
     this.blocks.adopt(block, buffer);
-    weakSet(this.#known, buffer, { block, own: NO_BLOCK, place: undefined });
+    weakSet(this.#known, buffer, { block, own: NO_BLOCK });
   }
 }

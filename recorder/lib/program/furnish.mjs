@@ -12,7 +12,6 @@ import { clonedValue } from "./values.mjs";
 
 const { Proxy: EngineProxy } = globalThis;
 const EngineShared = SharedArrayBuffer;
-const EngineMemory = WebAssembly.Memory;
 const { syncBuiltinESMExports } = nodeModule;
 
 /** @typedef {(why: string) => never} Refuse */
@@ -34,9 +33,8 @@ export function furnishTimers(own) {
 /**
  * Has each shared buffer known that the program makes.
  * @param {(buffer: SharedArrayBuffer) => void} made also gets those that grow
- * @param {Refuse} refuse
  */
-export function furnishMemory(made, refuse) {
+export function furnishMemory(made) {
   const traps = {
     /** @param {Function} target @param {any[]} given @param {Function} asked */
     construct(target, given, asked) {
@@ -49,14 +47,6 @@ export function furnishMemory(made, refuse) {
   const StandIn = new EngineProxy(EngineShared, traps);
   put(EngineShared.prototype, "constructor", StandIn);
   put(globalThis, "SharedArrayBuffer", StandIn);
-  /** @type {any} */
-  const Memory = new EngineProxy(EngineMemory, {
-    construct(target, given) {
-      if (Object(given[0]).shared === true) refuse("made a shared WebAssembly.Memory, which isn't simulated");
-      return construct(target, given);
-    },
-  });
-  put(WebAssembly, "Memory", Memory);
 }
 
 /** @param {import("./buffers.mjs").Buffers} buffers of the thread, which clones of their objects have too */

@@ -81,6 +81,7 @@ export class Unwinding {
  * @typedef {object} Late
  * @property {import("./loop.mjs").Loop} [loop]
  * @property {import("./ends.mjs").Ends} [ends]
+ * @property {{ clear: () => void }} [wasm] what modules of WebAssembly leave
  * @property {() => void} [goHome] leaves nothing of the run, so that the thread can begin again
  */
 

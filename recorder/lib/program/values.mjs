@@ -11,18 +11,28 @@ import { anyWatchedOf } from "../agent/ordinary/watched.mjs";
 import {
   bufferOf, create, defineProperty, getOwnPropertyDescriptor, getPrototypeOf, isArray, mapSet, ownKeys, tagOf, viewBufferOf,
 } from "../primordials.mjs";
-import { Buffers } from "./buffers.mjs";
+import { Buffers, bufferIn } from "./buffers.mjs";
 
 const { Array: EngineArray, Map: EngineMap } = globalThis;
 /** @type {(value: unknown, options: unknown) => any} */
 const engineClone = /** @type {any} */ (globalThis).structuredClone;
 const { isView } = ArrayBuffer;
+const EngineMemory = WebAssembly.Memory;
 
 /** @param {any} view of the engine's own */
 const bufferBehind = (view) => (tagOf(view) === undefined ? viewBufferOf(view) : bufferOf(view));
 
-/** @param {unknown} inner @returns {boolean} whether a value is shared memory, or a view of the engine's own on it */
-const isSharedMemory = (inner) => Buffers.isShared(inner) || (isView(inner) && Buffers.isShared(bufferBehind(inner)));
+/** @param {unknown} inner */
+const isWasmMemory = (inner) => inner instanceof EngineMemory;
+
+/** @param {any} inner @returns {any} the buffer that is a value, or that it has: a view or a WebAssembly.Memory */
+function bufferOfAny(inner) {
+  if (isView(inner)) return bufferBehind(inner);
+  return isWasmMemory(inner) ? bufferIn(inner) : inner;
+}
+
+/** @param {unknown} inner @returns {boolean} whether a value is shared memory, or the engine's own object on it */
+const isSharedMemory = (inner) => Buffers.isShared(bufferOfAny(inner));
 
 /** @param {unknown} inner @returns {boolean} */
 const isMemory = (inner) => anyWatchedOf(inner) !== undefined || isSharedMemory(inner);
@@ -70,7 +80,7 @@ const settled = (value, made) => mirrored(value, made, {
 /**
  * A value with the engine's own arrays.
  * @param {unknown} given
- * @param {(buffer: SharedArrayBuffer) => void} met gets each shared buffer in it
+ * @param {(memory: any) => void} met gets each shared buffer in it, and each shared WebAssembly.Memory
  * @returns {unknown}
  */
 function bare(given, met) {
@@ -92,7 +102,10 @@ function bare(given, met) {
  * @param {Buffers} buffers
  * @returns {unknown}
  */
-export const sent = (value, buffers) => bare(value, (buffer) => buffers.share(buffer));
+export const sent = (value, buffers) => bare(value, (memory) => {
+  if (Buffers.isShared(memory)) buffers.share(memory);
+  else buffers.shareMemory(memory);
+});
 
 /**
  * A value as it is received.
@@ -104,9 +117,10 @@ export function received(value, buffers) {
   return mirrored(value, new EngineMap(), {
     isIt: isSharedMemory,
     copyOf: (inner) => {
-      const buffer = isView(inner) ? bufferBehind(inner) : inner;
+      const buffer = bufferOfAny(inner);
       buffers.received(buffer);
-      if (buffer === inner) return inner;
+      if (isWasmMemory(inner)) buffers.bufferOf(inner);
+      if (buffer === inner || isWasmMemory(inner)) return inner;
       const number = memoryNumber(buffer);
       if (number < 0) return inner;
       return tagOf(inner) === undefined ? wrappedView(inner, number) : wrapped(inner, number);
@@ -122,11 +136,12 @@ export function received(value, buffers) {
  * @returns {unknown}
  */
 export function clonedValue(value, options, buffers) {
-  /** @type {SharedArrayBuffer[]} */
+  /** @type {any[]} */
   const met = [];
-  const together = [bare(value, (buffer) => met.push(buffer)), ...met];
+  const together = [bare(value, (memory) => met.push(memory)), ...met];
   if (met.length === 0) return engineClone(value, options);
   const [clone, ...clones] = engineClone(together, options);
-  clones.forEach((/** @type {SharedArrayBuffer} */ each, /** @type {number} */ at) => buffers.cloned(each, met[at]));
+  clones.forEach((/** @type {any} */ each, /** @type {number} */ at) =>
+    buffers.cloned(bufferOfAny(each), bufferOfAny(met[at])));
   return received(clone, buffers);
 }

@@ -49,6 +49,7 @@ import { Timers } from "./timers.mjs";
 import { putTwins } from "./twins.mjs";
 import { leaveOf } from "./unwinding.mjs";
 import { WaitAsync } from "./wait-async.mjs";
+import { furnishWebAssembly } from "./wasm/modules.mjs";
 import { WEB } from "./web/surroundings.mjs";
 
 const { Error: EngineError } = globalThis;
@@ -59,6 +60,7 @@ const { Error: EngineError } = globalThis;
  * @property {string} origin the URL of the module from whose folder places in the code are named
  * @property {"watch" | "store" | "refuse"} ordinary
  * @property {boolean} web whether the program is one for browsers
+ * @property {boolean} isRelaxed whether plain aligned accesses of WebAssembly are relaxed ones
  * @property {ReturnType<typeof import("./program-memory.mjs").programMemory>} memory
  * @property {import("../options/plan.mjs").Plan} plan
  * @property {import("../board/strategy.mjs").Rules} rules
@@ -67,7 +69,7 @@ const { Error: EngineError } = globalThis;
 /** @typedef {{ url: string, isCode?: boolean, where: string }} Start */
 /** @typedef {{ start: Start, number: number, ports: any[], ids: number[] }} Handed */
 
-const { port, origin, web, memory: shared, plan, rules } = /** @type {Given} */ (threads.workerData);
+const { port, origin, web, isRelaxed, memory: shared, plan, rules } = /** @type {Given} */ (threads.workerData);
 const { setImmediate: turnLater } = nodeTimers;
 const surroundings = web ? WEB : NODE;
 const chance = new Chance();
@@ -223,7 +225,7 @@ function partsOf(player, blocks, mesh) {
 /** @typedef {ReturnType<typeof partsOf>} Parts */
 
 /** @param {Parts} parts */
-function furnish({ moves, buffers, waits, ends, events, timers, later }) {
+function furnish({ moves, buffers, waits, ends, events, timers, later, late }) {
   const listAgain = listingOf([globalThis, buffer, crypto, process, util]);
   const { words } = moves.board;
   printAtOnce(() => words[WORD.IS_SILENT] === 0 && isPlaying(), printedName);
@@ -231,12 +233,16 @@ function furnish({ moves, buffers, waits, ends, events, timers, later }) {
   simulateChance(chance);
   // Node makes a context of its own when a reader is released first. That isn't the program's, and so comes before.
   new (/** @type {any} */ (globalThis).ReadableStream)().getReader().releaseLock();
+  const atomics = atomicsOf(moves, waits);
+  late.wasm = furnishWebAssembly({
+    buffers, moves, atomics, seen: watching.seen, here: sourceOfCall, refuse, isPlaying, isRelaxed,
+  });
   watchRealm(watching);
   putTwins({ later, isPlaying });
-  furnishMemory((buffer) => buffers.made(buffer, sourceOfCall()), refuse);
+  furnishMemory((buffer) => buffers.made(buffer, sourceOfCall()));
   furnishCloning(buffers);
   furnishGrowing(buffers, moves, isPlaying);
-  globalThis.Atomics = atomicsOf(moves, waits);
+  globalThis.Atomics = atomics;
   waits.furnish(Atomics);
   furnishTimers(timers);
   surroundings.serve(events);
@@ -317,8 +323,9 @@ function begin(parts, graph) {
  * @param {Parts} parts
  */
 function clear(parts) {
-  const { buffers, waits, ports, timers, loop, ends, children } = parts;
+  const { buffers, waits, ports, timers, loop, ends, children, late } = parts;
   buffers.clear();
+  late.wasm?.clear();
   waits.clear();
   ports.clear();
   timers.clear();

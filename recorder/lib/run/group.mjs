@@ -35,6 +35,7 @@ import { within } from "./within.mjs";
  * @property {boolean} [isProgram] whether the module is a program that starts its threads itself
  * @property {boolean} [web] whether the program is one for browsers
  * @property {"all" | "none"} [programOutput] of which runs it is shown what a program prints; else of the first one
+ * @property {"ordinary" | "relaxed"} [wasmAccesses] what plain aligned accesses of WebAssembly to shared memory are
  * @property {string[]} args for the agents
  * @property {number} [agents] how many
  * @property {number[]} [buffers] their bytes

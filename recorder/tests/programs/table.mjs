@@ -4,7 +4,7 @@
 import { readFileSync } from "node:fs";
 
 /**
- * A line of code: the name of its file, and a text that no other line of that file has.
+ * A line of code: the name of its file, and a text that no other line of that file has; or a function in WebAssembly.
  * @typedef {[file: string, text: string]} Line
  *
  * How a wrong program fails, and what the finding shows of it: each of the lines of code, and the words.
@@ -57,6 +57,9 @@ const web = (...programs) => programs.map((program) => ({ ...program, isWeb: tru
 const notYet = (what, programs) => programs.map((program) => ({ ...program, notYet: what }));
 
 const THROWS = "throw new Error";
+
+/** In place of a file: the text is the name of a function in WebAssembly. */
+const WASM = "wasm";
 const COUNTS = /** @type {Line} */ (["threads.mjs", "words[2] += 1;"]);
 
 const ALL = [
@@ -193,10 +196,17 @@ const ALL = [
   // Memory that grows, and WebAssembly's.
   right("growable/right.mjs"),
   wrong("growable/published-first.mjs", failed(/RangeError/, ["published-first.mjs", "const last"])),
-  ...notYet("a shared WebAssembly.Memory", [
-    right("wasm-memory/right.mjs"),
-    wrong("wasm-memory/lost-update.mjs", failed(/counted [1-5]/, ["lost-update.mjs", THROWS])),
-  ]),
+  right("wasm-memory/right.mjs"),
+  wrong("wasm-memory/lost-update.mjs", failed(/counted [1-5]/, ["lost-update.mjs", THROWS])),
+  right("wasm-memory/grows.mjs"),
+  wrong("wasm-memory/grown-early.mjs",
+    race(["grown-early.mjs", "const last"], ["grown-early.mjs", "[words.length] = 70"]),
+    failed(/it is 0/, ["grown-early.mjs", THROWS])),
+  ...notYet("a WebAssembly.Memory that has no byte yet", [right("wasm-memory/without-page.mjs")]),
+  right("wasm/right.mjs"),
+  right("wasm/wakes-all.mjs"),
+  wrong("wasm/sleeps-too-long.mjs", deadlock([WASM, "lock"]), deadlock([WASM, "lock"], [WASM, "lock"])),
+  wrong("wasm/without-lock.mjs", race([WASM, "count"], [WASM, "count"])),
 
   // For browsers.
   ...web(
@@ -232,6 +242,7 @@ export const urlOf = ({ main }) => new URL(main, FOLDER);
  */
 export function placesOf(program, { at }) {
   return at.map(([file, text]) => {
+    if (file === WASM) return `wasm:${text}:1`;
     const folder = file === "gate.mjs" ? "./node_modules/small-gate/" : "./";
     const lines = readFileSync(new URL(folder + file, urlOf(program)), "utf8").split("\n");
     const numbers = lines.flatMap((line, index) => (line.includes(text) ? [index + 1] : []));

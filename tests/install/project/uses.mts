@@ -34,7 +34,7 @@ export const seeds = { ...rest, seeds: "1..20", jobs: 1, checkEvery: 5, fresh: f
 const range = { first: 1, last: seed ?? 2 };
 export const many: ExploreOptions[] = [seeds, { ...rest, seeds: 20 }, { ...rest, seeds: range, timeouts: "never" }];
 
-const program: OfProgram = { program: "./main.mjs", stuck: "allow", web: true, programOutput: "none" };
+const program: OfProgram = { program: "./main.mjs", stuck: "allow", web: true, programOutput: "none", wasmAccesses: "relaxed" };
 const few: ManyRuns = { seeds: 5 };
 export const ofProgram: RecordOptions = { ...program, args: ["fast"], seed: 3, trace: true, everywhere: true };
 export const manyOfProgram: ExploreOptions = { ...program, ...few };
