@@ -57,8 +57,9 @@ function waitForDone(finished) {
 
 /** What the tests' own files ask for. */
 const LITTLE = {
-  createIsHTMLDDA: () => ({}), gcparam: nothing, getCoreCount: () => 8, helperThreadCount: () => 8, options: () => "",
-  wasmThreadsEnabled: () => true, monotonicNow: () => performance.now(), quit: (code) => process.exit(code),
+  createIsHTMLDDA: () => ({}), gcparam: nothing, getBuildConfiguration: () => false, getCoreCount: () => 8,
+  helperThreadCount: () => 8, monotonicNow: () => performance.now(), options: () => "",
+  quit: (code) => process.exit(code), wasmThreadsEnabled: () => true,
   sleep: (seconds) => Atomics.wait(new Int32Array(new SharedArrayBuffer(4)), 0, 0, 1_000 * seconds),
   timeout: () => fail("nothing interrupts a thread here"),
   assertEq: (actual, expected) => {

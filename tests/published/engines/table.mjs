@@ -77,7 +77,7 @@ const OF_SPIDERMONKEY = {
       says: /^more than 100000 moves/, why: "it makes 1.5 million calls, and a run has at most 100,000 moves",
     },
     "jit-test/tests/wasm/atomicity.js": {
-      says: /WebAssembly\.Memory/, why: "it shares a WebAssembly.Memory, which is refused",
+      says: /wasmTextToBinary/, why: "its code is WebAssembly's text, which only the shell compiles",
     },
     "tests/non262/TypedArray/sort_modifications_concurrent.js": {
       says: /started a Worker more than the 16 threads/, why: "it starts 60 threads, and a run has at most 16",
