@@ -49,6 +49,34 @@ describe("more than 1,000 calls of a thread", { concurrency: 3 }, () => {
     assert.match(outcome.detail, /^agent 1 \(worker\.mjs, started at main\.mjs:3:1\) spins at worker\.mjs:3:16: it has made 2000 calls, and goes on/);
   });
 
+  it("are no spin while another thread goes on", async (context) => {
+    const act = "for (let at = 0; at < 3_000; at += 1) Atomics.add(words, 0, 1);\nAtomics.store(words, 1, 1);";
+    const files = filesOf(act, "");
+    const main = `${files["main.mjs"]}\nwhile (Atomics.load(words, 1) === 0);`;
+    for (const outcome of await runsOf(context, { ...files, "main.mjs": main }, { seeds: [1, 2, 3, 4, 5] })) {
+      assert.deepEqual([outcome.ending, outcome.detail, outcome.noScript], ["finished", "", BEYOND]);
+    }
+  });
+
+  it("are no spin while another thread sleeps for a time", async (context) => {
+    const files = filesOf("while (Atomics.load(words, 1) === 0);", "");
+    const acts = "for (let at = 0; at < 850; at += 1) Atomics.add(words, 0, 1);\nAtomics.wait(words, 0, 850, 50);";
+    const main = `${files["main.mjs"]}\n${acts}\nAtomics.store(words, 1, 1);`;
+    const seeds = [1, 2, 3, 4, 5, 6, 7, 8];
+    for (const outcome of await runsOf(context, { ...files, "main.mjs": main }, { seeds, options: { timeouts: 0 } })) {
+      assert.deepEqual([outcome.ending, outcome.detail], ["finished", ""]);
+    }
+  });
+
+  it("are a spin if every other thread spins, too", async (context) => {
+    const files = filesOf("while (Atomics.load(words, 1) === 0);", "");
+    const main = `${files["main.mjs"]}\nwhile (Atomics.load(words, 0) === 0);`;
+    for (const outcome of await runsOf(context, { ...files, "main.mjs": main }, { seeds: [1, 2, 3] })) {
+      assert.equal(outcome.ending, "bound");
+      assert.match(outcome.detail, /^agent \d (\(.*\) )?spins at (main\.mjs:6:16|worker\.mjs:2:16): it has made [23]000 calls/);
+    }
+  });
+
   it("are counted in the summary", async (context) => {
     const { stdout } = await recorded(programOf(context, filesOf(ADDS, LOOKS)), "1..3");
     assert.ok(stdout.split("\n").includes(`3 runs have no script, and weren't checked: ${BEYOND}`), stdout);

@@ -116,6 +116,23 @@ test("each module that a worker is given is compiled already", async (context) =
   }
 });
 
+test("a worker begins without the options of the engine and of the process, which no worker takes", async (context) => {
+  const root = pathToFileURL(join(temporaryFolder(context), "root.mjs"));
+  writeFileSync(root, 'import threads from "node:worker_threads";\n'
+    + "export function main() { threads.workerData.port.postMessage(process.execArgv); }\n");
+  const words = ["--expose-gc", "--stack-size=900", "--title=any"];
+  assert.throws(() => begunThread(root, [...words, "--no-warnings"]), { code: "ERR_WORKER_INVALID_EXEC_ARGV" });
+  process.execArgv.push(...words);
+  context.after(() => process.execArgv.splice(-words.length));
+  for (const unknown of [[], ["--no-warnings"]]) {
+    const thread = begunThread(root, [...words, ...unknown]);
+    context.after(() => thread.stop());
+    thread.give(root);
+    assert.deepEqual(await thread.next(), { message: unknown });
+  }
+  assert.throws(() => begunThread(root, [...words, "--no-such-option"]), { code: "ERR_WORKER_INVALID_EXEC_ARGV" });
+});
+
 test("a worker evaluates what is behind its module ahead of its data, and nothing twice", async (context) => {
   const folder = temporaryFolder(context);
   const files = {

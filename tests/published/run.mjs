@@ -3,11 +3,13 @@
 // usage: npm run published [-- NAME ..]
 //
 // A program fails here if a run of a right one fails, if the known bug of another isn't found, or if a run fails by
-// anything else. What isn't fetched is skipped, and what the recorder refuses isn't counted. The last line is
-// `N passed, M failed`. The status is 0 if none failed.
+// anything else. A test of an engine's fails if it isn't as engines/table.mjs has it. What isn't fetched is skipped. What
+// the recorder refuses isn't counted, nor tests that don't pass for a known reason. The last line is `N passed, M failed`.
+// The status is 0 if none failed.
 
 import { spawnSync } from "node:child_process";
 import { fileURLToPath } from "node:url";
+import { tryFamily } from "./engines/run.mjs";
 import { fetchSource, isFetched, programOf } from "./fetching.mjs";
 import { MENDED } from "./folder.mjs";
 import { productsOf } from "./table.mjs";
@@ -92,6 +94,12 @@ for (const product of productsOf(process.argv.slice(2))) {
   product.sources.filter(({ kind }) => kind === "node").forEach(fetchSource);
   if (!product.sources.every(isFetched)) {
     console.log(`${product.name}: skipped: fetch it by node tests/published/fetch.mjs ${product.name}`);
+    continue;
+  }
+  if ("passing" in product) {
+    const { passed, failed } = await tryFamily(product, console.log);
+    counts.passed += passed;
+    counts.failed += failed;
     continue;
   }
   const { verdict, says } = tried(product);

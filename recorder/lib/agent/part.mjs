@@ -129,10 +129,18 @@ export class Part {
       if (this.made >= calls) this.meetsMostCalls();
       return false;
     }
-    if (this.made > 0 && this.made % calls === 0 && this.table.records.endsAlike(this.made)) {
+    if (this.made > 0 && this.made % calls === 0 && this.#spinsForGood()) {
       this.spins(`it has made ${this.made} calls, and goes on`);
     }
     return true;
+  }
+
+  /** @returns {boolean} whether its last calls are the same again and again, and no other agent does anything else */
+  #spinsForGood() {
+    const { board, records } = this.table;
+    if (!records.endsAlike(this.made)) return false;
+    board.spins.watch();
+    return !board.deadlines.othersGoOn(this.agent);
   }
 
   /** @returns {never} */

@@ -121,6 +121,18 @@ export class Deadlines {
   }
 
   /**
+   * @param {number} agent that spins
+   * @returns {boolean} whether another agent can go on, or will when its time is up, and doesn't spin
+   */
+  othersGoOn(agent) {
+    for (let other = 0; other < this.agents; other += 1) {
+      const goesOn = this.isReady(other) || this.isTimed(other);
+      if (other !== agent && goesOn && !this.spins.spins(other)) return true;
+    }
+    return false;
+  }
+
+  /**
    * Whether the time of one wait is up before that of another: the deadline says so, and of two that are the same the
    * one that began first. A wait in a loop that only looks at the same again comes behind all others.
    * @param {number} one

@@ -1,6 +1,6 @@
 // What pilot runs have shown of a program's memory. The program makes it anew in each run, and which number a block has
-// depends on the seed. So memory is known by a name that is the same in all runs: which thread made it, where, and as
-// the how manyth there. Of memory without a name, and of what was added to one that grows, nothing is known.
+// depends on the seed. So memory is known by a name that is the same in all runs: which thread made it, where, and
+// how many were made there before. Of memory without a name, and of what was added to one that grows, nothing is known.
 
 import { FLAG } from "./log.mjs";
 import { KnownPlaces, PLACES } from "./known-places.mjs";

@@ -144,11 +144,28 @@ export class Thread {
 
 const OWN_WORKER = new URL("./own-worker.cjs", import.meta.url);
 
+/** @type {Set<string>} options of the engine and of the whole process: no thread takes them, and each has them anyway */
+const ofProcess = new Set();
+
+/** @param {any} error @param {string} word @returns {boolean} whether it is such an option, as node says */
+const isOfProcess = ({ code, message }, word) => code === "ERR_WORKER_INVALID_EXEC_ARGV"
+  && process.execArgv.includes(word) && `${message.replace(/^.* flags: /, "")}, `.includes(`${word}, `);
+
 /**
  * @param {string[]} [execArgv] words of node's command line; those of this process if it isn't given
  * @returns {Thread} one that awaits its data, with the recorder's modules that it is to evaluate
  */
-const newThread = (execArgv) => new Thread(OWN_WORKER, {}, { ownPort: true, execArgv });
+function newThread(execArgv) {
+  const words = execArgv?.filter((word) => !ofProcess.has(word));
+  try {
+    return new Thread(OWN_WORKER, {}, { ownPort: true, execArgv: words });
+  } catch (error) {
+    const found = words?.filter((word) => isOfProcess(error, word)) ?? [];
+    if (found.length === 0) throw error;
+    for (const word of found) ofProcess.add(word);
+    return newThread(words);
+  }
+}
 
 /** @type {{ root: URL, thread: Thread }[]} those that a process has begun while it loads its modules */
 const begun = [];

@@ -3,6 +3,7 @@
 
 import { uncurried } from "../primordials.mjs";
 import { TO_CHANNELS } from "./moves.mjs";
+import { nodeError } from "./node-error.mjs";
 import { sent } from "./values.mjs";
 
 const { TypeError, structuredClone } = globalThis;
@@ -72,6 +73,7 @@ function world() {
 /** The BroadcastChannel that the program finds. */
 class BroadcastChannel extends EngineTarget {
   #id;
+  #name;
   #isClosed = false;
   /** Where it was made. */
   #where;
@@ -85,7 +87,7 @@ class BroadcastChannel extends EngineTarget {
     const { ports, moves } = world();
     const { table, agent } = ports.world;
     moves.yield();
-    this.name = `${name}`;
+    this.#name = `${name}`;
     this.#where = ports.world.here();
     this.#id = table.addPair(agent);
     ports.adopt(this, this.#id);
@@ -94,8 +96,19 @@ class BroadcastChannel extends EngineTarget {
     meta.refed = true;
     meta.where = this.#where;
     meta.taker = ({ value }) => this[DELIVER](value);
-    table.setName(this.#id, numberOf(this.name));
+    table.setName(this.#id, numberOf(this.#name));
     table.start(this.#id);
+  }
+
+  /** @param {unknown} target on which a method is called: as in node it must be such a channel */
+  static #needs(target) {
+    if (#id in Object(target)) return;
+    throw nodeError("ERR_INVALID_THIS", 'Value of "this" must be of type BroadcastChannel', {}, TypeError);
+  }
+
+  get name() {
+    BroadcastChannel.#needs(this);
+    return this.#name;
   }
 
   get onmessage() {
@@ -112,12 +125,14 @@ class BroadcastChannel extends EngineTarget {
 
   /** @param {unknown} value */
   postMessage(value) {
+    BroadcastChannel.#needs(this);
     if (arguments.length === 0) throw new TypeError("The \"message\" argument must be specified");
     if (this.#isClosed) throw new EngineException("BroadcastChannel is closed.", "InvalidStateError");
     cast(world(), this.#id, value, this.postMessage);
   }
 
   close() {
+    BroadcastChannel.#needs(this);
     if (this.#isClosed) return;
     this.#isClosed = true;
     const { ports } = world();
@@ -127,11 +142,13 @@ class BroadcastChannel extends EngineTarget {
   }
 
   ref() {
+    BroadcastChannel.#needs(this);
     world().ports.known(this).refed = true;
     return this;
   }
 
   unref() {
+    BroadcastChannel.#needs(this);
     world().ports.known(this).refed = false;
     return this;
   }

@@ -23,6 +23,9 @@ const FIRST_OWN = 2 ** 24;
 
 const NO_BLOCK = -1;
 
+/** By how many bytes a WebAssembly.Memory can get longer that several threads reach. */
+export const MOST_GROWTH = 2 ** 26;
+
 /**
  * @typedef {object} Known a buffer
  * @property {number} block or -1

@@ -279,7 +279,7 @@ const fileName = (url) =>
  * @param {Player} player
  * @param {number} block
  * @param {string} place where its memory was made
- * @param {number} count as the how manyth there
+ * @param {number} count how many were made there before
  */
 function nameBlock({ agent, table: { board, lengths } }, block, place, count) {
   if (block < FIRST_MORE) new Keepers(shared.madeAt[block]).setName(place);

@@ -154,7 +154,7 @@ class Translating {
    */
   ask(memory) {
     const block = this.#growing(memory);
-    if (block >= 0 && this.thread.isPlaying()) this.thread.moves.touchLength(block, false, this.ask);
+    if (block >= 0 && this.thread.isPlaying()) this.thread.moves.touchLength(block, this.ask);
     return this.thread.buffers.bufferOf(memory);
   }
 
@@ -178,7 +178,7 @@ class Translating {
   grow(memory, pages) {
     const { buffers, moves, refuse } = this.thread;
     const block = this.#growing(memory);
-    if (block >= 0) moves.touchLength(block, true, this.grow);
+    if (block >= 0) moves.touchLength(block, this.grow, () => true);
     const before = growEngine(memory, pages);
     const { byteLength } = buffers.bufferOf(memory);
     if (block < 0) return before;

@@ -13,6 +13,19 @@ for (const [name, channel] of [["second", second], ["third", third]]) {
     if (heard < 3 && name === "third") setTimeout(() => third.close(), 20);
   };
 }
+for (const target of [{}, [], 5, null]) {
+  for (const act of [
+    () => Reflect.get(BroadcastChannel.prototype, "name", target),
+    ...["postMessage", "close", "ref", "unref"].map((name) => () => BroadcastChannel.prototype[name].call(target, 1)),
+  ]) {
+    try {
+      console.log(act());
+    } catch ({ name, code, message }) {
+      console.log(name, code, message);
+    }
+  }
+}
+console.log(first.name, Object.keys(first));
 first.postMessage({ text: "hello" });
 try {
   first.postMessage(() => {});

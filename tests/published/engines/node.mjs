@@ -1,0 +1,14 @@
+// A test of node's own, with node's own `test/common`.
+
+import { createRequire } from "node:module";
+import { fileURLToPath } from "node:url";
+import { FETCHED } from "../folder.mjs";
+
+const path = fileURLToPath(new URL(`nodejs/test/${process.argv[2]}`, FETCHED));
+// `test/common` sets the mask for the files that tests make, and these make none.
+process.umask = () => 0o022;
+// It knows the globals of node 18, and a later one has more.
+process.env.NODE_TEST_KNOWN_GLOBALS = "0";
+// Some tests ask for the collection of garbage, and find nothing of what it does.
+globalThis.gc ??= () => {};
+createRequire(path)(path);
