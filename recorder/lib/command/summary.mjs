@@ -86,6 +86,9 @@ export class Summary {
     /** In how many runs agents used what isn't recorded. */
     this.unseenRuns = 0;
     this.used = new Tally();
+    /** In how many runs the machine gave answers, and to what. */
+    this.realRuns = 0;
+    this.real = new Tally();
     /** @type {import("../seeds/first-again.mjs").Remembering | undefined} */
     this.remembers = undefined;
     /** @type {Failing | undefined} the first failing run */
@@ -146,6 +149,9 @@ export class Summary {
     this.unseenRuns += data.unrecorded.runs;
     const { used } = data.unrecorded;
     this.used.join(used.listed.map(({ what, ...entry }) => ({ ...entry, ...of(what) })), used.others);
+    this.realRuns += data.real.runs;
+    const { listed: answered, others: further } = data.real.used;
+    this.real.join(answered.map(({ what, ...entry }) => ({ ...entry, ...of(what) })), further);
     if (data.remembers !== null) this.#addRemembering(data.remembers);
     if (data.coverage !== null) this.coverage = Coverage.joined(this.coverage, data.coverage);
     if (firstFailing !== null) this.#addFailing(failingOf(firstFailing));
@@ -177,6 +183,7 @@ export class Summary {
       unrecorded: {
         allowed: this.unrecorded === "allow", runs: this.unseenRuns, used: listedOf(this.used, (what) => ({ what })),
       },
+      real: { runs: this.realRuns, used: listedOf(this.real, (what) => ({ what })) },
       remembers: this.remembers ?? null,
       states: { failing: statesData(this.states.failing), passing: statesData(this.states.passing) },
       sabsim: this.#checksData(),
@@ -211,9 +218,11 @@ export class Summary {
   }
 
   /** @param {Outcome} outcome */
-  #addUnrecorded({ seed, unrecorded = [] }) {
+  #addUnrecorded({ seed, unrecorded = [], real = [] }) {
     if (unrecorded.length > 0) this.unseenRuns += 1;
     for (const what of unrecorded) this.used.add(what, seed);
+    if (real.length > 0) this.realRuns += 1;
+    for (const what of real) this.real.add(what, seed);
   }
 
   /** @param {import("../seeds/first-again.mjs").Remembering} found of several, that of the least seed is kept */

@@ -20,6 +20,8 @@ import { Keepers } from "../memory/keepers.mjs";
 import { WORD } from "../memory/layout.mjs";
 import { Log } from "../memory/log.mjs";
 import { Memory } from "../memory/memory.mjs";
+import { Notes } from "../memory/notes.mjs";
+import { Pids } from "../memory/pids.mjs";
 import { Records } from "../memory/records.mjs";
 import { Sources } from "../memory/sources.mjs";
 import { Stores } from "../memory/stores.mjs";
@@ -27,10 +29,12 @@ import { TaskNotes } from "../memory/task-notes.mjs";
 import { onceMore } from "../processes/garbage.mjs";
 import { SourceNames } from "../run/source-names.mjs";
 import { Buffers } from "./buffers.mjs";
+import { Children } from "./children.mjs";
 import { furnishGrowing } from "./growing.mjs";
 import {
   furnishCloning, furnishMemory, furnishProcess, furnishTimers, keepProcess, restoreProcess,
 } from "./furnish.mjs";
+import { Looking } from "./looking.mjs";
 import { Loop } from "./loop.mjs";
 import { listingOf } from "./member.mjs";
 import { Mesh } from "./mesh.mjs";
@@ -40,6 +44,7 @@ import { beginLoader } from "./node-loader.mjs";
 import { PortTable } from "../board/port-table.mjs";
 import { Ports } from "./ports.mjs";
 import { printAtOnce } from "./printing.mjs";
+import { RealWork } from "./real-work.mjs";
 import { furnishRefusals } from "./refusals.mjs";
 import { refuseRest } from "./surface.mjs";
 import { Threads } from "./threads.mjs";
@@ -205,25 +210,27 @@ function partsOf(player, blocks, mesh) {
   const keepers = new Keepers(shared.keepers[agent]);
   /** @type {{ goHome: () => void }} */
   const after = { goHome: () => {} };
+  const isShown = () => board.words[WORD.IS_SILENT] === 0 && isPlaying();
+  const spawned = new Children(new Pids(shared.pids[agent]), isShown);
+  const real = new RealWork(new Notes(shared.notes[agent]), spawned, here);
   const waits = new WaitAsync({ moves, buffers, isPlaying, refuse });
   const loop = new Loop({
     moves, ports, events, timers, waits, ends, keepers, children, refuse, goHome: () => after.goHome(),
-    notes: new TaskNotes(shared.tasks), here: sourceHere, hasPhases: surroundings.hasPhases,
+    notes: new TaskNotes(shared.tasks), here: sourceHere, hasPhases: surroundings.hasPhases, looking: new Looking(),
   });
   late.loop = loop;
   return {
     moves, waits, buffers, ports, ends, events, timers, loop, children, threads: all, mesh, later, after, keepers, here,
-    refuse,
+    refuse, real, spawned, isShown,
   };
 }
 
 /** @typedef {ReturnType<typeof partsOf>} Parts */
 
 /** @param {Parts} parts */
-function furnish({ moves, buffers, waits, ends, events, timers, later }) {
+function furnish({ moves, buffers, waits, ends, events, timers, later, spawned, isShown }) {
   const listAgain = listingOf([globalThis, buffer, crypto, process, util]);
-  const { words } = moves.board;
-  printAtOnce(() => words[WORD.IS_SILENT] === 0 && isPlaying(), printedName);
+  printAtOnce(isShown, printedName);
   simulateTime(() => (isPlaying() ? playing().look() : 0));
   simulateChance(chance);
   // Node makes a context of its own when a reader is released first. That isn't the program's, and so comes before.
@@ -238,6 +245,7 @@ function furnish({ moves, buffers, waits, ends, events, timers, later }) {
   furnishTimers(timers);
   surroundings.serve(events);
   furnishRefusals(refuse);
+  spawned.furnish();
   furnishProcess((code) => ends.exit(code));
   ends.guard();
   listAgain();
@@ -361,14 +369,16 @@ export async function main(load) {
   furnish(parts);
   refuseRest({
     refuse: (/** @type {string} */ name) => refuse(`called ${name}, which isn't simulated`), isPlaying,
+    used: (/** @type {string} */ name) => parts.real.note(name),
     loads: (/** @type {string} */ id) => graph.loads(id),
   });
   surroundings.furnish(parts, graph);
-  parts.after.goHome = () => {
+  const home = () => {
     clear(parts);
     board.turn.goHome(agent);
     turnLater(() => serve(parts, graph));
   };
+  parts.after.goHome = () => parts.real.leave(home, () => board.turn.park(agent));
   port.postMessage({ ready: true });
   serve(parts, graph);
 }
