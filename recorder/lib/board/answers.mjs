@@ -1,15 +1,16 @@
 // Real answers: what sockets, pipes and child processes bring to a thread of a program. A thread that has nothing else to
 // do, and waits for some, may move: it looks until one has come. To look is no move and takes no time of the run, and a
-// thread that has looked in vain isn't offered again before something else has moved.
+// thread that has looked in vain isn't offered again before something else has moved. If several wait and nothing else can
+// move, each looks for a short while first, so that none holds up another one whose answer is there.
 
 import { AGENT_WORD, NOBODY, PHASE, WORD, wordOf } from "../memory/layout.mjs";
 
-/** How long a look lasts in milliseconds: while others can move; before time passes; if nothing can come otherwise. */
-const EARLY = 5;
+/** How long a look lasts in milliseconds: a short one, which comes while others can move; and one if nothing else can. */
+const SHORT = 5;
 const LONG = 500;
 
 /** The same for what comes by itself, of a child process or as the answer to a request: it may take its time. */
-const EARLY_BY_ITSELF = 50;
+const SHORT_BY_ITSELF = 50;
 const LONG_BY_ITSELF = 5_000;
 
 const NEVER = -1;
@@ -32,6 +33,7 @@ export class Answers {
     words[WORD.EXPECTS] = 0;
     words[WORD.SILENT] = 0;
     words[WORD.SILENT_SINCE] = NEVER;
+    words[WORD.LOOKS_LONG] = 0;
     words[WORD.LOOKS] = 0;
   }
 
@@ -63,10 +65,14 @@ export class Answers {
     words[WORD.SILENT_SINCE] = words[WORD.MOVES];
   }
 
-  /** Nothing else can move: who has looked in vain looks again, if anything has moved since. */
+  /** Nothing else can move: who has looked in vain looks again, if anything has moved since, or for longer. */
   renew() {
     const { words } = this;
-    if (words[WORD.SILENT_SINCE] !== words[WORD.MOVES]) words[WORD.SILENT] = 0;
+    const hasMoved = words[WORD.SILENT_SINCE] !== words[WORD.MOVES];
+    const areSilent = (words[WORD.EXPECTS] & ~words[WORD.SILENT]) === 0;
+    if (!hasMoved && !(areSilent && words[WORD.LOOKS_LONG] === 0)) return;
+    words[WORD.SILENT] = 0;
+    words[WORD.LOOKS_LONG] = hasMoved && this.#areSeveral() ? 0 : 1;
   }
 
   /** @param {number} agent @returns {boolean} whether it may move by looking, and by nothing else now */
@@ -88,7 +94,7 @@ export class Answers {
   }
 
   /**
-   * How long an agent looks that was drawn for it: the shorter the less it holds up.
+   * How long an agent looks that was drawn for it.
    * @param {number} agent
    * @param {boolean} byThemselves whether some come by themselves
    * @returns {number} milliseconds
@@ -96,21 +102,28 @@ export class Answers {
   patience(agent, byThemselves) {
     const { deadlines, deadlines: { clock } } = this;
     for (let other = 0; other < this.agents; other += 1) {
-      if (other !== agent && deadlines.isReady(other) && !deadlines.spins.spins(other)) return this.early(byThemselves);
+      if (other !== agent && deadlines.isReady(other) && !deadlines.spins.spins(other)) return this.short(byThemselves);
     }
+    if (this.words[WORD.LOOKS_LONG] === 0) return this.short(byThemselves);
     const first = deadlines.first();
-    if (first === NOBODY) return this.longest(byThemselves);
+    if (first === NOBODY) return this.long(byThemselves);
     // Time passes no faster than it really does while something may come.
     return Math.max(1, Math.min(LONG, clock.deadline(first) - clock.now()));
   }
 
   /** @param {boolean} byThemselves @returns {number} how long an agent looks while something else can move */
-  early(byThemselves) {
-    return byThemselves ? EARLY_BY_ITSELF : EARLY;
+  short(byThemselves) {
+    return byThemselves ? SHORT_BY_ITSELF : SHORT;
   }
 
   /** @param {boolean} byThemselves @returns {number} how long it looks if nothing else can come */
-  longest(byThemselves) {
+  long(byThemselves) {
     return byThemselves ? LONG_BY_ITSELF : LONG;
+  }
+
+  /** @returns {boolean} whether more than one agent waits for some */
+  #areSeveral() {
+    const expects = this.words[WORD.EXPECTS];
+    return (expects & (expects - 1)) !== 0;
   }
 }

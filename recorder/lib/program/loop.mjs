@@ -116,7 +116,7 @@ export class Loop {
         if (!moves.offer()) return this.served.goHome();
         if (pending.isSome && moves.looksBeforeTask(this.random, pending) && this.#mayLook) return this.#look(true);
       } else {
-        const kept = [...this.#keepers(), ...pending.texts];
+        const kept = [...this.#keepers(), ...moves.silentTexts(pending)];
         if (kept.length === 0) {
           if (this.#endsNow()) return this.served.goHome();
           continue;

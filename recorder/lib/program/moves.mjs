@@ -168,6 +168,15 @@ export class Moves {
   }
 
   /**
+   * @param {import("./real-work.mjs").Pending} pending
+   * @returns {string[]} what keeps a thread alive and brings nothing, if nobody can move any more, in words
+   */
+  silentTexts({ isSome, byThemselves, texts }) {
+    if (!isSome) return [];
+    return [`${[...new Set(texts)].join(", ")} (nothing came for ${this.board.answers.long(byThemselves) / 1_000} s)`];
+  }
+
+  /**
    * Whether the event loop, which has a task, looks for real answers before.
    * @param {import("../memory/random.mjs").Random} random
    * @param {import("./real-work.mjs").Pending} pending
@@ -175,7 +184,7 @@ export class Moves {
   looksBeforeTask(random, { byThemselves }) {
     const { board: { answers, row, strategy }, agent } = this;
     if (!strategy.looksBeforeTask(agent, random)) return false;
-    this.looksFor = row.isForced() ? answers.longest(byThemselves) : answers.early(byThemselves);
+    this.looksFor = row.isForced() ? answers.long(byThemselves) : answers.short(byThemselves);
     return true;
   }
 
@@ -273,7 +282,7 @@ export class Moves {
   /** The thread was drawn to look for real answers: no time passes, and it is no move. @param {boolean} byThemselves */
   #looks(byThemselves) {
     const { board: { answers, row }, agent } = this;
-    this.looksFor = row.isForced() ? answers.longest(byThemselves) : answers.patience(agent, byThemselves);
+    this.looksFor = row.isForced() ? answers.long(byThemselves) : answers.patience(agent, byThemselves);
     this.#goesOn();
   }
 

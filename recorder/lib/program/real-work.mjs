@@ -7,10 +7,10 @@ import { READING } from "./reading.mjs";
 const OURS = new Set(["Immediate", "MessagePort", "Timeout", ...READING]);
 
 /** What node calls the work whose answers the machine gives: open sockets, pipes and processes, and requests. */
-const REAL = /^(?:GetAddrInfo|GetNameInfo|HTTP2|Http2|Pipe|Process|Query|Send|Shutdown|TCP|TLS|UDP|Write)/;
+const REAL = /^(?:Connect|GetAddrInfo|GetNameInfo|Http2|JS|Libuv|Pipe|Process|Query|Send|Shutdown|TCP|TLS|UDP|Write)/;
 
 /** Of these, what another part of the run has to bring about. Else a child process does, or what a request goes to. */
-const FROM_OTHERS = /^(?:TCPServer|TCPSocket|PipeServer|TLS|UDP|HTTP2|Http2)/;
+const FROM_OTHERS = /^(?:Http2|JS|PipeServer|TCP|TLS|UDP)/;
 
 /** @type {Readonly<Record<string, string>>} */
 const TEXTS = Object.freeze({
