@@ -85,6 +85,7 @@
  * @property {string} acts a digest of all that was done in the run itself
  * @property {Pick<Outcome, "ending" | "detail" | "state"> & { acts: string }} again the same run in fresh threads
  * @property {string} [place] where that one first did something else
+ * @property {boolean} [strays] whether that one couldn't go by the row of the first
  */
 
 /**

@@ -173,7 +173,7 @@ class Referee {
     const again = { ...other, acts: reporter.acts(other, made) };
     const place = reporter.placeOf(firstDifferent(before, maker.log));
     await this.#replace(made);
-    return { acts, again, place };
+    return { acts, again, place, strays: made.stray !== undefined };
   }
 
   /** @param {Wanted} wanted @returns {Promise<One>} a run that is made only to see how it ends */
@@ -215,7 +215,8 @@ class Referee {
     // A program's output is shown once.
     const isSilent = wanted.isSilent || this.options.isProgram;
     const again = await maker.made({ ...againAs(wanted, outcome), isSilent }, true);
-    const same = areSame(reporter.brief(wanted, await maker.judgedAgain(again, found)), outcome);
+    const same = areSame(reporter.brief(wanted, await maker.judgedAgain(again, found)), outcome)
+      && again.stray === undefined;
     await this.#replace(again);
     if (same) reporter.addSources(outcome, wantsTrace);
     else if (wantsTrace) outcome.noTrace = outcome.real === undefined ? ANOTHER_WAY : OTHER_INPUT;

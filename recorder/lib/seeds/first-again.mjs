@@ -54,7 +54,8 @@ export const OTHER_INPUT = "its input may have come otherwise";
  * @returns {string} nothing if it is the same there
  */
 export function otherInputText(outcome, made) {
-  const differs = made !== undefined && differenceBetween({ ...outcome, acts: made.acts }, made.again) !== undefined;
+  if (made === undefined) return "";
+  const differs = made.strays || differenceBetween({ ...outcome, acts: made.acts }, made.again) !== undefined;
   return differs ? `made once more in fresh threads, the run went another way: ${OTHER_INPUT}` : "";
 }
 
