@@ -163,6 +163,23 @@ datagrams.close();
 assert.match((await dns.lookup("localhost")).address, /^(127|::1)/);` }));
   });
 
+  it("are closed when their thread ends, by itself or by another one, and others see it", async (context) => {
+    areFinished(await runsOf(context, {
+      "main.mjs": `import { Worker } from "node:worker_threads"; import net from "node:net";
+import { once } from "node:events";
+for (const how of ["exit", "terminate"]) {
+  const worker = new Worker(new URL("worker.mjs", import.meta.url));
+  const [port] = await once(worker, "message");
+  const socket = net.connect(port, "127.0.0.1");
+  socket.on("data", () => (how === "exit" ? worker.postMessage(how) : worker.terminate()));
+  await once(socket, "close");
+}`, "worker.mjs": `import net from "node:net"; import { parentPort } from "node:worker_threads";
+const server = net.createServer((socket) => socket.write("come in")).listen(0, "127.0.0.1", () => {
+  parentPort.postMessage(server.address().port);
+});
+parentPort.on("message", () => process.exit(0));` }, { seeds: upTo(4) }));
+  });
+
   it("are closed when the run is over", async (context) => {
     areFinished(await runsOf(context, { "main.mjs": `import net from "node:net"; import { once } from "node:events";
 await once(net.createServer().listen(${PORT}, "127.0.0.1"), "listening");

@@ -159,9 +159,10 @@ declare module "node:assert" {
 
 declare module "node:async_hooks" {
   interface Hooks {
-    init(id: number, type: string, trigger: number, resource: object): void;
+    init?(id: number, type: string, trigger: number, resource: object): void;
+    before?(id: number): void;
   }
-  export function createHook(hooks: Hooks): { enable(): void };
+  export function createHook(hooks: Hooks): { enable(): void; disable(): void };
   export const AsyncResource: { prototype: any };
 }
 

@@ -1,7 +1,6 @@
 // The child processes of a thread: they are real ones. What they would print goes where the program's own output goes, and
 // standard input is empty. None of them is left when the thread's part in a run is over.
 
-import process from "node:process";
 import timers from "node:timers";
 import { apply } from "../primordials.mjs";
 import { processes } from "./internals.mjs";

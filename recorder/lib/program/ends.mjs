@@ -20,6 +20,7 @@ const LISTENER_THREW = 7;
  * @property {import("./ports.mjs").Ports} ports
  * @property {import("./threads.mjs").Threads} threads
  * @property {() => string} here where the program's code is
+ * @property {() => void} closeSockets has others see that the thread's sockets are closed
  */
 
 /** @typedef {"uncaughtException" | "unhandledRejection"} Origin */
@@ -163,6 +164,7 @@ export class Ends {
     const { agent, player: { part, table: { board } } } = this.leaving;
     if (agent !== 0) {
       this.#depart(code);
+      this.leaving.closeSockets();
       board.turn.lay(agent);
       board.pass(agent);
       return board.turn.park(agent);

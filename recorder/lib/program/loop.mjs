@@ -130,7 +130,10 @@ export class Loop {
     }
   };
 
-  /** Looks for real answers, and goes on then. @param {boolean} hasTask whether there is something else to do */
+  /**
+   * Looks for real answers, and goes on then.
+   * @param {boolean} hasTask whether there is something else to do
+   */
   #look(hasTask) {
     const { looking, moves } = this.served;
     looking.begin({

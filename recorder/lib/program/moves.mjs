@@ -279,7 +279,10 @@ export class Moves {
     return true;
   }
 
-  /** The thread was drawn to look for real answers: no time passes, and it is no move. @param {boolean} byThemselves */
+  /**
+   * The thread was drawn to look for real answers: no time passes, and it is no move.
+   * @param {boolean} byThemselves
+   */
   #looks(byThemselves) {
     const { board: { answers, row }, agent } = this;
     this.looksFor = row.isForced() ? answers.long(byThemselves) : answers.patience(agent, byThemselves);

@@ -1,7 +1,11 @@
 // What a thread of a program asks of the machine, and the machine answers: by sockets, pipes and child processes. It is
 // noted by name and line, since such a run repeats only as far as these answers do.
 
+import process from "node:process";
 import { READING } from "./reading.mjs";
+
+/** @type {() => any[]} */
+const activeHandles = /** @type {any} */ (process)._getActiveHandles.bind(process);
 
 /** What is there in a thread by itself, and isn't work that is under way. */
 const OURS = new Set(["Immediate", "MessagePort", "Timeout", ...READING]);
@@ -81,6 +85,15 @@ export class RealWork {
     if (!this.#used.some(({ what }) => OF_CHILDREN.test(what))) this.note("child_process.spawn");
   }
 
+  /** The thread has ended: others see that its sockets are closed. None of its own code goes on. */
+  close() {
+    for (const handle of this.#used.length === 0 ? [] : activeHandles()) {
+      // Of all that node lists here, only sockets can be destroyed, and only servers and sockets for datagrams have these.
+      if (typeof handle.destroy === "function") handle.destroy();
+      else if (typeof handle.address === "function") handle.close();
+    }
+  }
+
   /**
    * The thread's part in a run is over: nothing of it may get into the next one.
    * @param {() => void} home is called if nothing is left, perhaps later
@@ -88,6 +101,7 @@ export class RealWork {
    */
   leave(home, park) {
     if (this.#used.length === 0) return home();
+    if (this.#isLasting) this.close();
     const isLasting = this.#isLasting;
     this.#used = [];
     this.#isLasting = false;

@@ -120,7 +120,7 @@ function standIn(real, check) {
   return stand;
 }
 
-/** @type {Readonly<Partial<Record<Kind, (name: string, given: Given) => () => void>>>} what is replaced, and how */
+/** @type {Readonly<Record<"refused" | "real", (name: string, given: Given) => () => void>>} what is replaced, and how */
 const REPLACED = Object.freeze({ refused: refusing, real: noting });
 
 /** @param {string} name of a global. Some are read of a module when they are asked for first @param {() => void} check */

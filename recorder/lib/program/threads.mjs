@@ -47,6 +47,7 @@ export class Threads {
     // If its code is at no call, or hasn't begun, its thread can begin again.
     const isKept = line.isIdle(agent) || !this.hasBegun(agent);
     line.become(agent, PHASE.FINISHED);
+    this.board.answers.goesOn(agent);
     if (isKept) turn.wake(agent);
     else turn.lay(agent);
     return true;

@@ -202,7 +202,10 @@ function partsOf(player, blocks, mesh) {
   const late = {};
   const later = (/** @type {string} */ name, /** @type {() => void} */ act) => late.loop?.later(name, act);
   const ports = new Ports({ agent, table, moves, buffers, mesh, here, refuse, later });
-  const ends = new surroundings.Ends({ agent, player, ports, threads: all, here });
+  const isShown = () => board.words[WORD.IS_SILENT] === 0 && isPlaying();
+  const spawned = new Children(new Pids(shared.pids[agent]), isShown);
+  const real = new RealWork(new Notes(shared.notes[agent]), spawned, here);
+  const ends = new surroundings.Ends({ agent, player, ports, threads: all, here, closeSockets: () => real.close() });
   const drain = () => late.loop?.drain();
   const events = new surroundings.PortEvents({ ports, uncaught: (thrown) => ends.uncaught(thrown), drain });
   const timers = new Timers({ now: () => board.clock.now(), changed: () => {}, here: sourceOfCall });
@@ -210,9 +213,6 @@ function partsOf(player, blocks, mesh) {
   const keepers = new Keepers(shared.keepers[agent]);
   /** @type {{ goHome: () => void }} */
   const after = { goHome: () => {} };
-  const isShown = () => board.words[WORD.IS_SILENT] === 0 && isPlaying();
-  const spawned = new Children(new Pids(shared.pids[agent]), isShown);
-  const real = new RealWork(new Notes(shared.notes[agent]), spawned, here);
   const waits = new WaitAsync({ moves, buffers, isPlaying, refuse });
   const loop = new Loop({
     moves, ports, events, timers, waits, ends, keepers, children, refuse, goHome: () => after.goHome(),
