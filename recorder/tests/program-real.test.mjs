@@ -20,7 +20,10 @@ const areFinished = (outcomes) =>
 
 const OTHERWISE = "its input may have come otherwise";
 
-/** @param {string[]} words of the command line @returns {Promise<{ status: number, stdout: string, stderr: string }>} */
+/**
+ * @param {string[]} words of the command line
+ * @returns {Promise<{ status: number, stdout: string, stderr: string }>}
+ */
 const recorded = (words) => new Promise((done) => {
   execFile(process.execPath, [RECORD, ...words], (error, stdout, stderr) => {
     done({ status: Number(error?.code ?? 0), stdout, stderr });
@@ -91,7 +94,8 @@ const begin = () => { const child = spawn("sleep", ["1000"]); child.on("exit", (
   writeFileSync(\`${folder}/\${child.pid}\`, ""); return child; };
 begin(); begin().unref();
 const words = new Int32Array(new SharedArrayBuffer(4));
-const worker = new Worker(\`const { spawn } = require("child_process"); const { workerData } = require("worker_threads");
+const worker = new Worker(\`const { spawn } = require("child_process");
+  const { workerData } = require("worker_threads");
   require("fs").writeFileSync("${folder}/" + spawn("sleep", ["1000"]).pid, ""); Atomics.store(workerData, 0, 1);
   Atomics.notify(workerData, 0); Atomics.wait(workerData, 0, 1);\`, { eval: true, workerData: words });
 Atomics.wait(words, 0, 0);
@@ -101,12 +105,12 @@ process.exit(0);`,
     const pids = readdirSync(folder).map(Number);
     assert.equal(pids.length, 12);
     // A process that nobody has waited for is a zombie: it runs no more.
-    const isAlive = (pid) => existsSync(`/proc/${pid}`) && !/^State:\tZ/m.test(readFileSync(`/proc/${pid}/status`, "utf8"));
-    assert.deepEqual(pids.filter(isAlive), []);
+    const there = pids.map((pid) => `/proc/${pid}/status`).filter((file) => existsSync(file));
+    assert.deepEqual(there.filter((file) => !/^State:\tZ/m.test(readFileSync(file, "utf8"))), []);
   });
 });
 
-const ONE_THREAD = `import http from "node:http"; import assert from "node:assert/strict"; import { once } from "node:events";
+const ONE_THREAD = `import http from "node:http"; import assert from "assert"; import { once } from "node:events";
 const server = http.createServer((asked, answer) => answer.end("hello " + asked.url)).listen(0, "127.0.0.1");
 await once(server, "listening");
 const address = "http://127.0.0.1:" + server.address().port;
@@ -213,7 +217,8 @@ const worker = new Worker(new URL("worker.mjs", import.meta.url), { workerData: 
 await new Promise((done) => worker.once("message", done));
 for (let at = 0; at < 4; at += 1) Atomics.add(words, 1, Atomics.load(words, 0));
 await new Promise((done) => worker.once("exit", done));`,
-  "worker.mjs": `import { exec } from "node:child_process"; import { parentPort, workerData } from "node:worker_threads";
+  "worker.mjs": `import { exec } from "node:child_process";
+import { parentPort, workerData } from "node:worker_threads";
 exec("exit 0", () => Atomics.store(workerData, 0, 1));
 parentPort.postMessage("begun");`,
 };
@@ -262,8 +267,10 @@ const words = new Int32Array(new SharedArrayBuffer(4));
 new Worker(new URL("worker.mjs", import.meta.url), { workerData: words });
 Atomics.wait(words, 0, 0);`, "worker.mjs": LISTENS });
     assert.equal(outcome.ending, "deadlock");
-    assert.match(outcome.detail, new RegExp("^agent 1 \\(worker\\.mjs, started at main\\.mjs:3:1\\) has nothing to do, and is "
-      + "kept alive by a listening socket \\(nothing came for 0\\.5 s\\)\nagent 0 waits"));
+    const [idle, waits] = outcome.detail.split("\n");
+    assert.equal(idle, "agent 1 (worker.mjs, started at main.mjs:3:1) has nothing to do, and is kept alive by "
+      + "a listening socket (nothing came for 0.5 s)");
+    assert.match(waits, /^agent 0 waits at byte 0 of block 0/);
   });
 
   it("is waited for longer if a child process runs", async (context) => {
@@ -277,22 +284,6 @@ const timer = setInterval(() => { ticks += 1; }, 100);
 exec("sleep 0.5", () => { clearInterval(timer); if (ticks > 20) throw new Error("ticks: " + ticks); });` },
     { seeds: [1, 2, 3] }));
   });
-});
-
-/** What isn't done yet: a program, and what is said about it. */
-const REFUSED = {
-  cluster: [`import cluster from "node:cluster";\ncluster.fork();`, "called cluster.fork", "2:9"],
-  "process.stdin": [`\nprocess.stdin.on("data", () => {});`, "read process.stdin", "2:9"],
-  tls: [`import tls from "node:tls";\ntls.createSecurePair();`, "called tls.createSecurePair", "2:5"],
-};
-
-describe("what isn't done yet", () => {
-  for (const [name, [program, says, place]] of Object.entries(REFUSED)) {
-    it(`is refused by name and line: ${name}`, async (context) => {
-      const [{ ending, detail }] = await runsOf(context, { "main.mjs": program });
-      assert.deepEqual([ending, detail], ["failed", `agent 0 ${says}, which isn't simulated, at main.mjs:${place}`]);
-    });
-  }
 });
 
 /**
@@ -320,7 +311,8 @@ describe("a run that can't be repeated", () => {
     const outcomes = [];
     try {
       await job.open({ ...defaultsOf("record"), isProgram: true, seconds: 20, checks: true, checkEvery: 1, module });
-      await job.run(upTo(2).map((seed) => ({ seed, whole: true, isSilent: true })), (outcome) => outcomes.push(outcome));
+      const seeds = upTo(2).map((seed) => ({ seed, whole: true, isSilent: true }));
+      await job.run(seeds, (outcome) => void outcomes.push(outcome));
     } finally {
       await job.close();
     }
@@ -339,12 +331,14 @@ describe("a run that can't be repeated", () => {
     const { status, stdout } = await recorded(["--program", main, "--seeds", "1..3", "--jobs", "1", "--out", out]);
     assert.equal(status, 1);
     const lines = stdout.split("\n");
-    const at = lines.indexOf("3 runs used sockets, pipes or child processes, and repeat only as far as their input does");
-    assert.deepEqual(lines.slice(at + 1, at + 3), [
-      "  seed 1 the first, 3 runs: child_process.execSync at main.mjs:3:22",
+    const used = "3 runs used sockets, pipes or child processes, and repeat only as far as their input does";
+    const at = lines.indexOf(used);
+    assert.deepEqual(lines.slice(at, at + 3), [
+      used, "  seed 1 the first, 3 runs: child_process.execSync at main.mjs:3:22",
       `seed 1 was run once more at the end, and ended otherwise (threw, then finished): ${OTHERWISE}`,
     ]);
-    assert.ok(lines.includes(`not shortened: it couldn't be made again in the same way: ${OTHERWISE}, in 1 run`), stdout);
+    const notShortened = `not shortened: it couldn't be made again in the same way: ${OTHERWISE}, in 1 run`;
+    assert.ok(lines.includes(notShortened), stdout);
     assert.match(stdout, new RegExp(`to learn its lines of code: ${OTHERWISE}$`, "m"));
     const replayed = await recorded(["--program", main, "--replay", join(out, "seed-1.program.json")]);
     assert.equal(replayed.status, 3);
