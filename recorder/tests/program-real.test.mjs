@@ -186,8 +186,9 @@ parentPort.on("message", () => process.exit(0));` }, { seeds: upTo(4) }));
 
   it("are closed when the run is over", async (context) => {
     areFinished(await runsOf(context, { "main.mjs": `import net from "node:net"; import { once } from "node:events";
-await once(net.createServer().listen(${PORT}, "127.0.0.1"), "listening");
-process.exit(0);` }, { seeds: upTo(5) }));
+const server = net.createServer().listen(${PORT}, "127.0.0.1");
+await once(server, "listening");
+server.unref();` }, { seeds: upTo(5) }));
   });
 });
 
@@ -229,6 +230,11 @@ describe("that an answer comes", () => {
     areFinished(outcomes);
     const seen = new Set(outcomes.map(({ bytes }) => Number.parseInt(bytes[0].slice(8, 10), 16)));
     assert.ok(seen.has(0) && [1, 2, 3].some((count) => seen.has(count)), [...seen].join());
+  });
+
+  it("is waited for though its thread has looked in vain before", async (context) => {
+    const worker = RACE["worker.mjs"].replace("exit 0", "sleep 0.2");
+    areFinished(await runsOf(context, { ...RACE, "worker.mjs": worker }, { seeds: upTo(8) }));
   });
 
   it("takes no time of the run, and to look for it is no move", async (context) => {
@@ -299,6 +305,7 @@ import { Worker } from "node:worker_threads";
 const count = Number(execSync("n=$(cat ${file}); echo $n; echo $((n + 1)) > ${file}"));
 const words = new Int32Array(new SharedArrayBuffer(4));
 new Worker("", { eval: true, workerData: words });
+Atomics.store(words, 0, count);
 if (count === ${failing}) throw new Error("it fails");
 Atomics.add(words, 0, 1);` });
 }
