@@ -196,8 +196,7 @@ export interface Outcome {
   report?: string;
   /**
    * What a failing run failed by, in short: the first lines of what was thrown or what agents were at, and the lines of
-   * code. Runs that fail alike have the same lines of code, and the same message up to its numbers. A run that ended as
-   * `race` has its `races`.
+   * code. Runs that fail alike have the same ones, up to the message's numbers. One that ended as `race` has its `races`.
    */
   failure?: { message: string[]; sources: string[] };
   /**
@@ -220,7 +219,7 @@ export interface Outcome {
   tasks?: { event: number; agent: number; text: string; source: string | null }[];
   /** Of a program's run: each thread's file and where it was started; of the first one nothing. */
   threads?: string[];
-  /** Which agent moved with each draw, in order; of the shortest run alone, and of a program. */
+  /** Which agent moved with each draw, in order (plus 16: by a real answer); of the shortest run, and of a program. */
   row?: number[];
   /** Of a failing run in which a timed wait has ended early: what time must pass for that, and before what. */
   onlyIf?: string;
@@ -231,10 +230,11 @@ export interface Outcome {
   onlyByTime?: OnlyByTime[];
   /** Of a run that has timed waits: the places at which agents wait, and that other agents have notified or written. */
   served?: { block: number; byte: number }[];
-  /** Which shared memory and which threads agents used that aren't recorded, if any. */
+  /** Memory and threads that agents used and that aren't recorded; sockets, pipes and child processes of a program. */
   unrecorded?: string[];
+  real?: string[];
   /** Of the last outcome of `explore`: how the run of the first seed differed when it was made once more, if it did. */
-  remembers?: { seed: number; differs: string; was: string; is: string; threw: boolean };
+  remembers?: { seed: number; differs: string; was: string; is: string; threw: boolean; real: boolean };
   /** Whether sabsim has replayed the run and, if it was watched, looked for unordered accesses, and says the same. */
   checked: boolean;
   /** Why it hasn't. */

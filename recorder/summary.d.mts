@@ -151,11 +151,14 @@ export interface Summary {
   races: { allowed: boolean; runs: number; pairs: FailingListed<{ lines: string[] }> };
   /** Shared memory and threads that agents use and that aren't recorded: what it was, and where it was made. */
   unrecorded: { allowed: boolean; runs: number; used: Listed<{ what: string }> };
+  /** Sockets, pipes and child processes: how many runs used some, what it was, and where. */
+  real: { runs: number; used: Listed<{ what: string }> };
   /**
    * How the run of the first seed differed when it was made once more at the end; null: it didn't. `differs` is
    * "ending", "bytes" or "acts". `was` and `is` are the endings. `threw`: one of the two ended by a throw.
+   * `real`: it used sockets, pipes or child processes.
    */
-  remembers: { seed: number; differs: string; was: string; is: string; threw: boolean } | null;
+  remembers: { seed: number; differs: string; was: string; is: string; threw: boolean; real: boolean } | null;
   states: { failing: FailingListed<FinalState>; passing: FailingListed<FinalState> };
   /**
    * Whether runs were to be checked by the simulator; by which ones: "module" with the first 12 digits of its file's

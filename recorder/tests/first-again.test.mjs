@@ -74,7 +74,7 @@ describe("a module that keeps something from run to run", SIDE_BY_SIDE, () => {
   test("is noticed behind the first failing run, too", async (context) => {
     const { summary } = await summaryOf(context, "ending", ["--seeds", "1..9", "--fail-fast"]);
     assert.deepEqual([summary.runs, summary.firstFailing.seed], [2, 2]);
-    assert.deepEqual(summary.remembers, { seed: 1, differs: "ending", was: "finished", is: "failed", threw: true });
+    assert.deepEqual(summary.remembers, { seed: 1, differs: "ending", was: "finished", is: "failed", threw: true, real: false });
   });
 
   test("is noticed in a shard by its own first seed", async (context) => {
@@ -98,7 +98,7 @@ describe("a module that keeps something from run to run", SIDE_BY_SIDE, () => {
     const options = { module: moduleIn(context), seeds: 3, args: ["bytes"], everywhere: true };
     const told = [];
     for await (const { seed, remembers } of explore(options)) told.push([seed, remembers]);
-    const found = { seed: 1, differs: "bytes", was: "finished", is: "finished", threw: false };
+    const found = { seed: 1, differs: "bytes", was: "finished", is: "finished", threw: false, real: false };
     assert.deepEqual(told, [[1, undefined], [2, undefined], [3, found]]);
     for await (const { remembers, fails } of explore({ ...options, args: ["ending"], failFast: true })) {
       assert.equal(remembers?.differs, fails ? "ending" : undefined);
@@ -145,7 +145,7 @@ test("joined summaries tell that of the least seed", (context) => {
   const options = { ordinary: "watch", races: "fail", unrecorded: "fail", preloads: false, args: [] };
   const parts = [6, 4].map((seed) => {
     const summary = new Summary(options);
-    summary.remembers = { seed, differs: "bytes", was: "finished", is: "finished", threw: false };
+    summary.remembers = { seed, differs: "bytes", was: "finished", is: "finished", threw: false, real: false };
     const asked = { module: "m.mjs", digest: "", seeds: [{ first: 1, last: 9 }], shard: null, options };
     const file = join(folder, `${seed}.json`);
     const seeds = [{ first: seed, last: seed + 1 }];

@@ -177,7 +177,7 @@ test("what is no kept run of a program is refused, and so is a program that isn'
     [{ ...right, program: 5 }, /it names no program/], [{ ...right, args: [1] }, /its args must be words$/],
     [{ ...right, seed: -1 }, /its seed must be a whole number$/], [{ ...right, options: [] }, /its options must be an object$/],
     [{ ...right, options: { agents: 2, faster: true } }, /there is no option faster of a run$/],
-    [{ ...right, row: [[16, 1]] }, /its row must have pairs of a thread and a number of draws$/],
+    [{ ...right, row: [[32, 1]] }, /its row must have pairs of a thread and a number of draws$/],
     [{ ...right, row: [[0, 0]] }, /its row must have pairs/], [{ ...right, row: undefined }, /its row must have pairs/],
     [{ ...right, row: [[0, 100_000]] }, /its row has 100000 draws, and there can be 50001$/],
   ];
@@ -185,6 +185,8 @@ test("what is no kept run of a program is refused, and so is a program that isn'
     const text = typeof given === "string" ? given : JSON.stringify(given);
     assert.throws(() => keptProgram(text, file), (error) => error instanceof Refused && why.test(error.message));
   }
+  // The numbers from 16 on are those of agents to which real answers come.
+  assert.deepEqual(keptProgram(JSON.stringify({ ...right, row: [[31, 1], [0, 2]] }), file).row, [31, 0, 0]);
   const { script } = keptProgram(JSON.stringify({ ...right, script: { file: "seed-1.json", row: "another" } }), file);
   assert.equal(script, undefined);
   writeFileSync(file, JSON.stringify(right));

@@ -9,7 +9,7 @@ import { GLOBALS, METHODS, MODULES, SCHEME_MODULES } from "../lib/program/surfac
 import { isTried, kindOf, kindOfGlobal, refuseRest, unknownNames } from "../lib/program/surface.mjs";
 
 const require = createRequire(import.meta.url);
-const KINDS = ["simulated", "harmless", "refused"];
+const KINDS = ["simulated", "harmless", "real", "refused"];
 const words = (text) => text.split(/\s+/).filter((word) => word !== "");
 
 test("node has no module, export or global that the tables don't know", () => {
@@ -17,7 +17,7 @@ test("node has no module, export or global that the tables don't know", () => {
   assert.deepEqual(unknownNames(), []);
 });
 
-test("no name is of two kinds, and each kind is one of three", () => {
+test("no name is of two kinds, and each kind is one of four", () => {
   for (const [id, row] of [...Object.entries(MODULES), ...Object.entries(SCHEME_MODULES), ["globals", GLOBALS]]) {
     if (typeof row === "string") {
       assert.ok(KINDS.includes(row), id);
@@ -45,15 +45,19 @@ test("a name that is new is reported: in a module, as a module, as a global", ()
 });
 
 test("kinds are found with and without node:", () => {
-  assert.equal(kindOf("net", "connect"), "refused");
-  assert.equal(kindOf("node:net", "connect"), "refused");
+  assert.equal(kindOf("net", "connect"), "real");
+  assert.equal(kindOf("node:net", "connect"), "real");
+  assert.equal(kindOf("cluster", "fork"), "refused");
+  assert.equal(kindOf("node:cluster", "fork"), "refused");
   assert.equal(kindOf("node:net", "isIP"), "harmless");
   assert.equal(kindOf("fs", "readFile"), "simulated");
-  assert.equal(kindOf("child_process", "anything"), "refused");
+  assert.equal(kindOf("child_process", "spawn"), "real");
+  assert.equal(kindOf("inspector", "anything"), "refused");
   assert.equal(kindOf("node:test", "test"), "refused");
   assert.equal(kindOf("test", "test"), undefined);
   assert.equal(kindOf("fs", "nothing"), undefined);
-  assert.equal(kindOfGlobal("fetch"), "refused");
+  assert.equal(kindOfGlobal("fetch"), "real");
+  assert.equal(kindOfGlobal("WebSocket"), "refused");
   assert.equal(kindOfGlobal("nothing"), undefined);
 });
 
@@ -62,20 +66,22 @@ test("the versions that were tried are those of node 20", () => {
     [true, true, false, false, false, false]);
 });
 
-/** Runs code in a process of its own in which the rest is refused; `refused` has the names. */
+/** Runs code in a process of its own in which the rest is refused; `used` has the names of what the machine answers. */
 function inProcess(code) {
   const surface = new URL("../lib/program/surface.mjs", import.meta.url).href;
   const all = `
     import { refuseRest, kindOf, kindOfGlobal } from ${JSON.stringify(surface)};
     import Module, { createRequire } from "node:module";
     import { METHODS } from ${JSON.stringify(surface.replace(".mjs", "-table.mjs"))};
-    const require = createRequire(import.meta.url); const refused = []; let playing = true;
+    const require = createRequire(import.meta.url); const used = []; let playing = true;
     class Refused extends Error {}
     const by = (act) => { try { act(); return "did";
     } catch (error) { return error instanceof Refused ? error.message : String(error); } };
     void [process.stdin, process.stdout, process.stderr]; // Made by node of sockets, when they are asked for first.
     const net = require("net"); const { Socket } = net; const socket = new Socket();
-    refuseRest({ refuse: (name) => { throw new Refused(name); }, isPlaying: () => playing });
+    refuseRest({
+      refuse: (name) => { throw new Refused(name); }, used: (name) => used.push(name), isPlaying: () => playing,
+    });
     ${code}`;
   const { stdout, stderr } = spawnSync(process.execPath, ["--no-warnings", "--input-type=module", "--eval", all], {
     encoding: "utf8", timeout: 60_000, cwd: fileURLToPath(new URL(".", import.meta.url)),
@@ -86,8 +92,8 @@ function inProcess(code) {
 
 test("all that is refused calls `refuse` with its name, by require, node: and getBuiltinModule", () => {
   const found = inProcess(`
-    const early = by(() => process.getBuiltinModule("node:dgram").createSocket());
-    const ofMembers = [by(() => require("fs").promises.watch()), by(() => require("dns").promises.lookup())];
+    const early = by(() => process.getBuiltinModule("node:tls").createSecurePair());
+    const ofMembers = by(() => require("fs").promises.watch());
     // What several modules export is refused by one of its names.
     const names = new Map();
     const see = (owner, name, shown) => {
@@ -108,27 +114,41 @@ test("all that is refused calls `refuse` with its name, by require, node: and ge
       const isMade = shown.includes(made) || made === "TypeError: value is not a constructor";
       return shown.includes(called) && isMade ? [] : [[shown, called, made]];
     });
-    console.log(JSON.stringify([wrong, names.size > 150 || names.size, early,
+    console.log(JSON.stringify([wrong, names.size > 90 || names.size, early,
       by(() => require("node:cluster").fork()), by(() => new Blob([]).text()), by(() => crypto.subtle.digest()),
       by(() => WebAssembly.compileStreaming()), by(() => process.umask(0)), by(() => typeof process.umask()),
-      by(() => require("inspector").console.log(1)), by(() => fetch("http://x")),
+      by(() => require("inspector").console.log(1)), by(() => new CompressionStream("gzip")),
       by(() => require("domain")), by(() => require("node:domain")), ofMembers,
       PerformanceObserver === require("perf_hooks").PerformanceObserver,
       CompressionStream === require("stream/web").CompressionStream]));`);
-  assert.deepEqual(found, [[], true, "dgram.createSocket", "cluster.fork", "Blob.text", "SubtleCrypto.digest",
-    "WebAssembly.compileStreaming", "process.umask", "did", "inspector.console.log", "fetch", "domain",
-      "domain", ["fs/promises.watch", "dns/promises.lookup"], true, true]);
+  assert.deepEqual(found, [[], true, "tls.createSecurePair", "cluster.fork", "Blob.text", "SubtleCrypto.digest",
+    "WebAssembly.compileStreaming", "process.umask", "did", "inspector.console.log", "CompressionStream", "domain",
+      "domain", "fs/promises.watch", true, true]);
+});
+
+test("what the machine answers is node's own, and noted by its name if the program calls it itself", () => {
+  const found = inProcess(`
+    const { Resolver } = require("dns").promises; new Resolver();
+    const server = require("http").createServer(); server.listen(0); server.close();
+    require("dgram").createSocket("udp4").close(); require("node:tls").createServer().close();
+    new (require("net").Server)(); require("http2").createServer(); require("https").createServer();
+    playing = false; require("net").createServer(); playing = true;
+    const text = require("child_process").execSync("echo text").toString();
+    const failed = await fetch("http://127.0.0.1:1").catch((error) => error.message);
+    console.log(JSON.stringify([used, text, failed]));`);
+  assert.deepEqual(found, [["dns/promises.Resolver", "http.createServer", "dgram.createSocket", "tls.createServer",
+    "net.Server", "http2.createServer", "https.createServer", "child_process.execSync", "fetch"], "text\n", "fetch failed"]);
 });
 
 test("what is replaced keeps its type, name, length and instances, and classes that extend it", () => {
   const found = inProcess(`
-    const { Socket: Stand } = require("net"); class Own extends Stand {}
+    const { Socket: Stand } = require("net"); class Own extends PerformanceObserver {} class OwnSocket extends Stand {}
     console.log(JSON.stringify([Stand === Socket, socket instanceof Stand, socket.constructor === Socket, typeof Stand, Stand.name,
       Stand.length === Socket.length, Stand.prototype === Socket.prototype, by(() => new Own()),
-        by(() => Stand()), typeof fetch,
+        by(() => PerformanceObserver()), typeof fetch, new OwnSocket() instanceof Socket, used,
       require("child_process").spawn.name]));`);
-  assert.deepEqual(found, [false, true, true, "function", "Socket", true, true, "net.Socket", "net.Socket",
-    "function", "spawn"]);
+  assert.deepEqual(found, [false, true, true, "function", "Socket", true, true, "PerformanceObserver",
+    "PerformanceObserver", "function", true, ["net.Socket"], "spawn"]);
 });
 
 test("nothing is refused until the program plays, and what is harmless works", () => {

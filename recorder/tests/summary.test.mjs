@@ -251,6 +251,7 @@ test("the object of a summary has all that its text has, and what the text leave
       pairs: { listed: [{ lines: ["ring.mjs:12:7", "ring.mjs:20:11"], runs: 1, early: 1, first: 4 }], others: 0 },
     },
     unrecorded: { allowed: false, runs: 0, used: { listed: [], others: 0 } },
+    real: { runs: 0, used: { listed: [], others: 0 } },
     remembers: null,
     states: {
       failing: {

@@ -3,9 +3,8 @@
 // usage: npm run published [-- NAME ..]
 //
 // A program fails here if a run of a right one fails, if the known bug of another isn't found, or if a run fails by
-// anything else. A test of an engine's fails if it isn't as engines/table.mjs has it. What isn't fetched is skipped. What
-// the recorder refuses isn't counted, nor tests that don't pass for a known reason. The last line is `N passed, M failed`.
-// The status is 0 if none failed.
+// anything else. A test of an engine's fails if it isn't as engines/table.mjs has it. What isn't fetched is skipped. Tests
+// that don't pass for a known reason aren't counted. The last line is `N passed, M failed`. The status is 0 if none failed.
 
 import { spawnSync } from "node:child_process";
 import { fileURLToPath } from "node:url";
@@ -68,7 +67,7 @@ const foundIn = (findings, bugs) => bugs.flatMap(({ what, says }) => {
 /**
  * Tries a program.
  * @param {Product} product
- * @returns {{ verdict: "passed" | "failed" | "refused", says: string }}
+ * @returns {{ verdict: "passed" | "failed", says: string }}
  */
 function tried(product) {
   const begun = performance.now();
@@ -76,9 +75,6 @@ function tried(product) {
   if (typeof summary === "string") return { verdict: "failed", says: summary };
   const speed = (1_000 * summary.runs / (performance.now() - begun)).toPrecision(2);
   const findings = findingsOf(summary);
-  if (product.refused !== undefined && findings.length === 1 && product.refused.test(findings[0].text)) {
-    return { verdict: "refused", says: findings[0].text };
-  }
   const wrong = wrongIn(findings, product.bugs ?? []);
   if (summary.runs !== product.seeds) wrong.push(`only ${summary.runs} runs were made`);
   const count = `${summary.failed} of ${summary.runs} runs failed, ${speed} runs a second`;
@@ -88,7 +84,7 @@ function tried(product) {
   };
 }
 
-const counts = { passed: 0, failed: 0, refused: 0 };
+const counts = { passed: 0, failed: 0 };
 for (const product of productsOf(process.argv.slice(2))) {
   // The user's own node is there.
   product.sources.filter(({ kind }) => kind === "node").forEach(fetchSource);

@@ -8,13 +8,14 @@ import { LOOP, ORDER, PHASE, WORD, wordsFor } from "../memory/layout.mjs";
 import { FLAG } from "../memory/log.mjs";
 import { NamedPlaces } from "../memory/named-places.mjs";
 import { Random } from "../memory/random.mjs";
+import { Answers } from "./answers.mjs";
 import { AsyncWaiters } from "./async-waiters.mjs";
 import { Clock } from "./clock.mjs";
 import { Deadlines } from "./deadlines.mjs";
 import { End } from "./end.mjs";
 import { Journal, MOST_MOVES, MOVES } from "./journal.mjs";
 import { Line } from "./line.mjs";
-import { Row, STRAYS } from "./row.mjs";
+import { LOOK, Row, STRAYS } from "./row.mjs";
 import { Spins } from "./spins.mjs";
 import { NOBODY_MOVES, Strategy } from "./strategy.mjs";
 import { NEVER } from "./strategy/ways.mjs";
@@ -71,9 +72,10 @@ export class Board {
     this.places = names === undefined ? new KnownPlaces(places) : new NamedPlaces(places, names);
     this.spins = new Spins(this.words, agents);
     this.deadlines = new Deadlines(memory.early, this.words, this.clock, this.spins, agents);
-    this.row = new Row(memory.row, this.deadlines, this.words, agents);
+    this.answers = new Answers(this.words, this.deadlines, agents);
+    this.row = new Row(memory.row, this.deadlines, this.answers, this.words, agents);
     const random = new Random(new Int32Array(memory.words, WORD.RANDOM * 4, 4));
-    this.strategy = new Strategy(this.words, rules, random, this.places, this.row, this.deadlines);
+    this.strategy = new Strategy(this.words, rules, random, this.places, this.row, this.deadlines, this.answers);
   }
 
   /**
@@ -91,6 +93,7 @@ export class Board {
     this.journal.begin();
     this.clock.begin(seed);
     this.deadlines.begin();
+    this.answers.begin();
     this.strategy.begin(seed, isPilot);
     this.turn.start(this.strategy.nextToStart());
   }
@@ -129,13 +132,13 @@ export class Board {
    * @returns {boolean} whether it moves next itself
    */
   pass(agent) {
-    const { strategy, turn, end, line, rules } = this;
+    const { answers, strategy, turn, end, line, rules } = this;
     const first = strategy.nextToStart();
     if (first !== NOBODY_MOVES) {
       turn.start(first);
       return false;
     }
-    if (!strategy.hasMoves() && this.#anyAgent((each) => line.canMove(each))) {
+    if (!strategy.hasMoves() && this.#anyAgent((each) => line.canMove(each) || answers.mayCome(each))) {
       end.end("bound", `more than ${rules.maxMoves} moves would be made`);
       return false;
     }
@@ -204,6 +207,21 @@ export class Board {
   turned() {
     this.words[WORD.MOVES] += MOST_MOVES;
     this.clock.advance(MOST_MOVES);
+  }
+
+  /** @param {number} agent to which a real answer has come: that is its move */
+  answered(agent) {
+    this.answers.goesOn(agent);
+    this.strategy.moves(agent, agent + LOOK);
+    this.turned();
+  }
+
+  /** @param {number} agent that has looked for a real answer in vain @returns {boolean} whether the run goes on */
+  missed(agent) {
+    this.answers.missed(agent);
+    if (!this.row.misses(agent)) return true;
+    this.end.end("failed", "");
+    return false;
   }
 
   /** @returns {import("./end.mjs").Ended} how a run ends in which nobody can move */

@@ -21,6 +21,15 @@ const codeAt = uncurried(String.prototype.charCodeAt);
 /** What `next` answers where the run strays from its row. */
 export const STRAYS = -2;
 
+/** Is added to an agent's number in a row if its move is that a real answer has come to it. */
+export const LOOK = SCRIPT_LIMITS.agents;
+
+/** @param {number} drawn as a row has it @returns {number} the agent that moves */
+export const moverOf = (drawn) => (drawn < LOOK ? drawn : drawn - LOOK);
+
+/** @param {number} drawn as a row has it @returns {boolean} whether a real answer comes */
+export const isLook = (drawn) => drawn >= LOOK;
+
 // A draw makes two moves at least; and one may be the last thing that is done.
 export const MOST_DRAWS = SCRIPT_LIMITS.moves / 2 + 1;
 
@@ -103,11 +112,13 @@ export class Row {
   /**
    * @param {RowMemory} memory
    * @param {import("./deadlines.mjs").Deadlines} deadlines
+   * @param {import("./answers.mjs").Answers} answers
    * @param {Int32Array} words of the board
    * @param {number} agents how many
    */
-  constructor(memory, deadlines, words, agents) {
+  constructor(memory, deadlines, answers, words, agents) {
     this.deadlines = deadlines;
+    this.answers = answers;
     this.state = new Int32Array(memory.state);
     this.forced = new Uint8Array(memory.forced);
     this.drawn = new Uint8Array(memory.drawn);
@@ -162,16 +173,39 @@ export class Row {
 
   /**
    * Takes note of a draw.
-   * @param {number} agent that moves next
+   * @param {number} drawn who moves next, and whether that is a real answer
    */
-  note(agent) {
+  note(drawn) {
     const { state } = this;
     if (state[HOW] === FREE && state[WANTS] === 0) return;
+    const agent = moverOf(drawn);
     state[ALIKE] = agent === state[LAST] ? state[ALIKE] + 1 : 1;
     state[LAST] = agent;
     if (state[WANTS] === 0) return;
-    this.drawn[state[DRAWN]] = agent;
+    this.drawn[state[DRAWN]] = drawn;
     state[DRAWN] += 1;
+  }
+
+  /** @param {number} agent @returns {boolean} whether a real answer to it comes next by the row, which goes on then */
+  takes(agent) {
+    const { state } = this;
+    if (state[AT] >= state[LENGTH] || this.forced[state[AT]] !== agent + LOOK) return false;
+    state[AT] += 1;
+    return true;
+  }
+
+  /** @param {number} agent that was drawn for a real answer by the row, and is drawn for it once more */
+  takesBack(agent) {
+    const { state } = this;
+    if (state[AT] > 0 && this.forced[state[AT] - 1] === agent + LOOK) state[AT] -= 1;
+  }
+
+  /** @param {number} agent to which no real answer came @returns {boolean} whether the run strays by that */
+  misses(agent) {
+    if (this.state[HOW] !== EXACT) return false;
+    this.state[AT] -= 1;
+    this.#stray("waits", agent);
+    return true;
   }
 
   /**
@@ -196,20 +230,21 @@ export class Row {
       const other = this.#able();
       return other === NOBODY ? NOBODY : this.#stray("goes on", other);
     }
-    const agent = this.forced[state[AT]];
-    if (!this.#canMove(agent)) {
-      return this.#stray(this.#phase(agent) === PHASE.WAITS ? "waits" : "ended", agent);
+    const drawn = this.forced[state[AT]];
+    const agent = moverOf(drawn);
+    if (!this.#canBeDrawn(drawn)) {
+      return this.#stray(this.#phase(agent) === PHASE.FINISHED ? "ended" : "waits", agent);
     }
     state[AT] += 1;
-    return agent;
+    return drawn;
   }
 
   #lenientNext() {
     const { state } = this;
     while (state[AT] < state[LENGTH]) {
-      const agent = this.forced[state[AT]];
+      const drawn = this.forced[state[AT]];
       state[AT] += 1;
-      if (this.#canMove(agent)) return agent;
+      if (this.#canBeDrawn(drawn)) return drawn;
     }
     const last = state[LAST];
     if (last !== NOBODY && state[ALIKE] < MOST_ALIKE && this.#isMoving(last)) return last;
@@ -228,6 +263,8 @@ export class Row {
       if (this.#isMoving(agent)) return agent;
       if (spinning === NOBODY && this.deadlines.isReady(agent)) spinning = agent;
     }
+    const looks = this.answers.first();
+    if (looks !== NOBODY) return looks + LOOK;
     const timed = this.deadlines.first();
     return timed === NOBODY ? spinning : timed;
   }
@@ -237,8 +274,10 @@ export class Row {
     return this.words[wordOf(agent, AGENT_WORD.PHASE)];
   }
 
-  /** @param {number} agent @returns {boolean} whether there is a move for it: also the end of a wait's time */
-  #canMove(agent) {
+  /** @param {number} drawn @returns {boolean} whether there is this move: also the end of a wait's time */
+  #canBeDrawn(drawn) {
+    const agent = moverOf(drawn);
+    if (isLook(drawn)) return this.answers.mayCome(agent);
     return this.deadlines.isReady(agent) || this.deadlines.isTimed(agent);
   }
 

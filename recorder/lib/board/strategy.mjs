@@ -5,6 +5,7 @@
 
 import { AGENT_WORD, PHASE, WORD, wordOf } from "../memory/layout.mjs";
 import { MOST_MOVES } from "./journal.mjs";
+import { isLook, moverOf } from "./row.mjs";
 import { Able } from "./strategy/able.mjs";
 import { Asked } from "./strategy/asked.mjs";
 import { Slow } from "./strategy/slow.mjs";
@@ -26,6 +27,7 @@ const { imul } = Math;
  */
 
 /** @typedef {import("./strategy/ways.mjs").Way} Way */
+/** @typedef {import("../memory/random.mjs").Random} Random */
 
 /** What `next` answers where nobody moves any more. */
 export const NOBODY_MOVES = -1;
@@ -36,6 +38,15 @@ const NOBODY_GOES_ON = -2;
 // What may be changed in how a seed of a program is drawn: short times are up early, and an agent is slow now and then.
 const HASTY = 1;
 const SLOW = 2;
+
+// Set beside HASTY, also if no time is up early: real answers come as easily as anything else moves.
+const EAGER = 4;
+
+/** In how many of the draws of the other seeds real answers may come though something else can move. */
+const EARLY_ANSWERS = 0.05;
+
+/** In how many of the turns of an event loop they come before a task of its own, in the eager seeds. */
+const EAGER_ANSWERS = 0.5;
 
 /** After so many early ends a run hurries no more: else code that tries again when its time is up might never end. */
 const MOST_HASTY = 20;
@@ -53,12 +64,13 @@ export class Strategy {
   /**
    * @param {Int32Array} words of the board
    * @param {Rules} rules
-   * @param {import("../memory/random.mjs").Random} random
+   * @param {Random} random
    * @param {import("../memory/known-places.mjs").KnownPlaces} places
    * @param {import("./row.mjs").Row} row
    * @param {import("./deadlines.mjs").Deadlines} deadlines
+   * @param {import("./answers.mjs").Answers} answers
    */
-  constructor(words, rules, random, places, row, deadlines) {
+  constructor(words, rules, random, places, row, deadlines, answers) {
     this.words = words;
     this.rules = rules;
     this.starts = rules.starts ?? rules.agents;
@@ -66,6 +78,7 @@ export class Strategy {
     this.random = random;
     this.row = row;
     this.deadlines = deadlines;
+    this.answers = answers;
     this.able = new Able(rules.agents);
     this.asked = new Asked(words, places);
     this.slow = new Slow(words, random);
@@ -81,7 +94,8 @@ export class Strategy {
     words[WORD.IS_PILOT] = isPilot ? 1 : 0;
     words[WORD.STRATEGY] = seed % (isPilot ? this.pilotWays : this.ways).length;
     const all = (this.early > 0 ? HASTY : 0) | (this.ways.length > 1 ? SLOW : 0);
-    words[WORD.CHANGES] = this.rules.soon === undefined ? 0 : changesOf(seed) & all;
+    const changes = this.rules.soon === undefined ? 0 : changesOf(seed);
+    words[WORD.CHANGES] = (changes & all) | ((changes & HASTY) === 0 ? 0 : EAGER);
     this.slow.begin();
     this.random.seed(seed);
     this.#way().drawing.begin();
@@ -91,6 +105,21 @@ export class Strategy {
   /** Whether short times are as likely to be up as anything else is to move. */
   get isHasty() {
     return (this.words[WORD.CHANGES] & HASTY) !== 0 && this.words[WORD.EARLY] < MOST_HASTY;
+  }
+
+  /** Whether real answers come as easily as anything else moves. */
+  get isEager() {
+    return (this.words[WORD.CHANGES] & EAGER) !== 0;
+  }
+
+  /**
+   * Whether an event loop looks for real answers before it takes up a task.
+   * @param {number} agent
+   * @param {Random} random its own row
+   */
+  looksBeforeTask(agent, random) {
+    const draws = random.fraction() < (this.isEager ? EAGER_ANSWERS : EARLY_ANSWERS);
+    return this.row.isForced() ? this.row.takes(agent) : draws;
   }
 
   /**
@@ -115,11 +144,21 @@ export class Strategy {
 
   /** @returns {number} who moves next; `NOBODY_MOVES` where nobody can, `STRAYS` where a row can't be followed */
   next() {
-    const next = this.row.isForced() ? this.row.next() : this.#drawn();
+    const { answers, row, words } = this;
+    const next = row.isForced() ? row.next() : this.#drawn();
     if (next < 0) return next;
-    this.row.note(next);
-    this.words[WORD.LAST] = next;
-    return next;
+    const agent = moverOf(next);
+    // What has come is noted when it has.
+    const looks = isLook(next) || (!row.isForced() && answers.areExpected && answers.mayCome(next));
+    words[WORD.LOOKS] = looks ? 1 : 0;
+    if (!looks) this.moves(agent, next);
+    return agent;
+  }
+
+  /** @param {number} agent that moves next @param {number} drawn as the row has it */
+  moves(agent, drawn) {
+    this.row.note(drawn);
+    this.words[WORD.LAST] = agent;
   }
 
   /** @returns {boolean} whether there are moves left for whatever is done next */
@@ -181,8 +220,23 @@ export class Strategy {
       able.add(agent);
       if (this.#goesOn(agent)) return agent;
     }
+    if (this.answers.areExpected && this.#offerAnswers()) return NOBODY_GOES_ON;
     if (timed > 0) this.#offerTimes(timed);
     return NOBODY_GOES_ON;
+  }
+
+  /**
+   * Adds agents to which real answers may come: always if nothing else goes on, and else in some draws.
+   * @returns {boolean} whether they come before the time of any wait is up
+   */
+  #offerAnswers() {
+    const { able, answers } = this;
+    const isMoving = this.#isMoving();
+    if (isMoving && !this.isEager && this.random.fraction() >= EARLY_ANSWERS) return false;
+    if (!isMoving) answers.renew();
+    const before = able.count;
+    for (let agent = 0; agent < this.rules.agents; agent += 1) if (answers.mayCome(agent)) able.add(agent);
+    return !isMoving && able.count > before;
   }
 
   /**
@@ -205,7 +259,8 @@ export class Strategy {
     const { able, deadlines, deadlines: { clock }, rules: { soon = 0 } } = this;
     const until = clock.now() + soon;
     for (let agent = 0; agent < this.rules.agents; agent += 1) {
-      if (deadlines.isTimed(agent) && !clock.isDue(agent) && clock.deadline(agent) < until) able.add(agent);
+      if (!deadlines.isTimed(agent) || clock.isDue(agent) || able.place(agent) >= 0) continue;
+      if (clock.deadline(agent) < until) able.add(agent);
     }
   }
 
@@ -214,7 +269,8 @@ export class Strategy {
     const { able, deadlines } = this;
     const before = able.count;
     for (let agent = 0; agent < this.rules.agents; agent += 1) {
-      if (deadlines.isTimed(agent) && deadlines.clock.isDue(agent) === isDue) able.add(agent);
+      if (!deadlines.isTimed(agent) || able.place(agent) >= 0) continue;
+      if (deadlines.clock.isDue(agent) === isDue) able.add(agent);
     }
     return able.count - before;
   }

@@ -8,6 +8,7 @@ import { Keeper } from "../keeping/keep.mjs";
 import { Refused } from "../options/refused.mjs";
 import { preloads } from "../processes/preloads.mjs";
 import { Job } from "../seeds/job.mjs";
+import { OTHER_INPUT } from "../seeds/first-again.mjs";
 import { Runs } from "../seeds/runs.mjs";
 import { NoLongerTheSame } from "../shorter/differing.mjs";
 import { chosenProgram, simulatorAt } from "../simulator/chosen.mjs";
@@ -66,7 +67,9 @@ export class Replaying {
   async run() {
     const outcome = await this.made();
     const difference = this.differenceOf(outcome);
-    if (difference !== undefined) throw new NoLongerTheSame(difference);
+    if (difference !== undefined) {
+      throw new NoLongerTheSame(outcome.real === undefined ? difference : `${difference}; or ${OTHER_INPUT}`);
+    }
     const { options: { ordinary, races, unrecorded }, sabsim, simulator } = this;
     const checkedBy = sabsim === false ? undefined : simulator.version;
     const summary = new Summary({ ordinary, races, unrecorded, checkedBy, preloads: preloads() });

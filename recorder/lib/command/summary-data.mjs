@@ -43,6 +43,7 @@
  * @property {{ allowed: boolean, runs: number, pairs: FailingListed<{ lines: string[] }> }} races
  * @property {{ allowed: boolean, runs: number, used: Listed<{ what: string }> }} unrecorded shared memory and threads
  * that aren't recorded, and that agents used
+ * @property {{ runs: number, used: Listed<{ what: string }> }} real what programs used that the machine answers
  * @property {import("../seeds/first-again.mjs").Remembering | null} remembers how the run of the first seed differed
  * when it was made once more
  * @property {Record<"failing" | "passing", FailingListed<State & { hash: string }>>} states

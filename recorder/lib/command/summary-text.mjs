@@ -22,7 +22,8 @@ export function summaryText(summary) {
   if (stopped !== null) lines.push(`${stopped.why} after ${digits(runs)} of ${counted(stopped.wanted, "run")}`);
   if (runs > 0) {
     lines.push(endingLine(summary), ...failingLines(summary), ...failureLines(summary), ...raceLines(summary));
-    lines.push(...hiddenLines(summary), ...unrecordedLines(summary), ...rememberingLines(summary));
+    lines.push(...hiddenLines(summary), ...unrecordedLines(summary), ...realLines(summary));
+    lines.push(...rememberingLines(summary));
     lines.push(...stateLines(summary));
     lines.push(...coverageLines(summary), ...checkLines(summary), ...scriptLines(summary), accessLine(summary));
     lines.push(...unseen);
@@ -101,10 +102,21 @@ function raceLines({ races: { allowed, runs, pairs } }) {
 /** @param {SummaryData} summary */
 function unrecordedLines({ unrecorded: { allowed, runs, used } }) {
   if (runs === 0) return [];
+  return [`agents used what isn't recorded${allowed ? ", which is allowed" : ""}: ${counted(runs, "run")}`, ...usedLines(used)];
+}
+
+/** @param {SummaryData} summary @returns {string[]} what the machine has answered to */
+function realLines({ real: { runs, used } }) {
+  if (runs === 0) return [];
+  const title = `${counted(runs, "run")} used sockets, pipes or child processes, and repeat only as far as their input does`;
+  return [runs === 1 ? title.replace(/repeat (.*)their/, "repeats $1its") : title, ...usedLines(used)];
+}
+
+/** @param {Listed<{ what: string }>} used @returns {string[]} */
+function usedLines(used) {
   const lines = listed(used.listed, MOST_LISTED, ({ what, runs: each, first }) =>
     `seed ${first} the first, ${counted(each, "run")}: ${what}`);
-  const title = `agents used what isn't recorded${allowed ? ", which is allowed" : ""}: ${counted(runs, "run")}`;
-  return [title, ...lines.map(indented), ...othersLines(used.others)];
+  return [...lines.map(indented), ...othersLines(used.others)];
 }
 
 /** @param {SummaryData} summary */

@@ -12,6 +12,7 @@ import {
 } from "./summary-data.mjs";
 import { summaryText } from "./summary-text.mjs";
 import { Tally } from "./tally.mjs";
+import { Uses } from "./uses.mjs";
 
 /** @typedef {import("./summary-data.mjs").CheckedBy} CheckedBy */
 /** @typedef {import("./summary-data.mjs").Ending} Ending */
@@ -83,9 +84,8 @@ export class Summary {
     /** @type {Tally<{ lines: string[] }>} */
     this.pairs = new Tally();
     this.scriptless = new Tally();
-    /** In how many runs agents used what isn't recorded. */
-    this.unseenRuns = 0;
-    this.used = new Tally();
+    /** What agents used that isn't recorded, and what programs used that the machine answers. */
+    this.uses = { unrecorded: new Uses(), real: new Uses() };
     /** @type {import("../seeds/first-again.mjs").Remembering | undefined} */
     this.remembers = undefined;
     /** @type {Failing | undefined} the first failing run */
@@ -108,7 +108,8 @@ export class Summary {
     this.#addRaces(outcome);
     this.#addScript(outcome);
     this.onlyByTime.add(outcome);
-    this.#addUnrecorded(outcome);
+    this.uses.unrecorded.add(outcome.unrecorded ?? [], seed);
+    this.uses.real.add(outcome.real ?? [], seed);
     if (!fails) return;
     this.failed += 1;
     if (outcome.onlyIf !== undefined) this.early += 1;
@@ -143,9 +144,8 @@ export class Summary {
     const { parts, none } = data.scripts;
     this.parts += parts;
     this.scriptless.join(none.listed.map(({ why, ...entry }) => ({ ...entry, ...of(why) })), none.others);
-    this.unseenRuns += data.unrecorded.runs;
-    const { used } = data.unrecorded;
-    this.used.join(used.listed.map(({ what, ...entry }) => ({ ...entry, ...of(what) })), used.others);
+    this.uses.unrecorded.join(data.unrecorded);
+    this.uses.real.join(data.real);
     if (data.remembers !== null) this.#addRemembering(data.remembers);
     if (data.coverage !== null) this.coverage = Coverage.joined(this.coverage, data.coverage);
     if (firstFailing !== null) this.#addFailing(failingOf(firstFailing));
@@ -174,9 +174,8 @@ export class Summary {
       races: {
         allowed: this.races === "allow", runs: this.raced, pairs: failingListOf(this.pairs, (_, { lines }) => ({ lines })),
       },
-      unrecorded: {
-        allowed: this.unrecorded === "allow", runs: this.unseenRuns, used: listedOf(this.used, (what) => ({ what })),
-      },
+      unrecorded: { allowed: this.unrecorded === "allow", ...this.uses.unrecorded.data() },
+      real: this.uses.real.data(),
       remembers: this.remembers ?? null,
       states: { failing: statesData(this.states.failing), passing: statesData(this.states.passing) },
       sabsim: this.#checksData(),
@@ -208,12 +207,6 @@ export class Summary {
   #addScript({ seed, noScript, scriptHolds }) {
     if (noScript !== undefined) this.scriptless.add(noScript, seed);
     if (scriptHolds === "touched") this.parts += 1;
-  }
-
-  /** @param {Outcome} outcome */
-  #addUnrecorded({ seed, unrecorded = [] }) {
-    if (unrecorded.length > 0) this.unseenRuns += 1;
-    for (const what of unrecorded) this.used.add(what, seed);
   }
 
   /** @param {import("../seeds/first-again.mjs").Remembering} found of several, that of the least seed is kept */

@@ -5,7 +5,7 @@ import { createHash } from "node:crypto";
 import { isAbsolute, relative, resolve } from "node:path";
 import { fileURLToPath, pathToFileURL } from "node:url";
 import { SCRIPT_LIMITS } from "../../script/limits.mjs";
-import { MOST_DRAWS } from "../board/row.mjs";
+import { MOST_DRAWS, moverOf } from "../board/row.mjs";
 import { Refused } from "../options/refused.mjs";
 import { optionsOf } from "../options/table.mjs";
 import { Windows } from "../run/windows.mjs";
@@ -83,7 +83,7 @@ const areWords = (args) => Array.isArray(args) && args.every((each) => typeof ea
 function isStretch(pair) {
   if (!Array.isArray(pair) || pair.length !== 2 || !pair.every(Number.isInteger)) return false;
   const [agent, draws] = pair;
-  return agent >= 0 && agent < SCRIPT_LIMITS.agents && draws > 0;
+  return agent >= 0 && moverOf(agent) < SCRIPT_LIMITS.agents && draws > 0;
 }
 
 /**

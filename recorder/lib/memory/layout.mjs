@@ -41,6 +41,15 @@ export const WORD = Object.freeze({
   SLOW_FOR: 34,
   /** Of a program for browsers: whether the run is well if nothing can move any more. */
   MAY_REST: 35,
+  /**
+   * Of a program: which threads wait for real answers, and which of them have looked in vain, a bit for each; how many moves
+   * there were then; whether they looked for long; and whether the agent that was drawn is to look.
+   */
+  EXPECTS: 36,
+  SILENT: 37,
+  SILENT_SINCE: 38,
+  LOOKS_LONG: 39,
+  LOOKS: 40,
 });
 
 /** Words of each agent; each agent has a line of the processor's cache for itself. */

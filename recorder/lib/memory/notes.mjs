@@ -9,7 +9,7 @@ const encode = uncurried(TextEncoder.prototype.encodeInto);
 const bufferFrom = Buffer.from;
 const encoder = new TextEncoder();
 
-/** @typedef {"memory" | "wasm" | "given" | "message" | "listener" | "thread"} NoteKind */
+/** @typedef {"memory" | "wasm" | "given" | "message" | "listener" | "thread" | "real"} NoteKind */
 
 /**
  * @typedef {object} Note one thing that an agent did unseen

@@ -21,6 +21,7 @@ const LISTENER_THREW = 7;
  * @property {import("./threads.mjs").Threads} threads
  * @property {() => string} here where the program's code is
  * @property {() => never} leave leaves all code of the program that runs now
+ * @property {() => void} closeSockets has others see that the thread's sockets are closed
  */
 
 /** @typedef {"uncaughtException" | "unhandledRejection"} Origin */
@@ -169,6 +170,7 @@ export class Ends {
     const { agent, player: { part, table: { board } }, leave } = this.leaving;
     if (agent !== 0) {
       this.#depart(code);
+      this.leaving.closeSockets();
       board.pass(agent);
       return leave();
     }

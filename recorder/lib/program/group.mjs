@@ -7,6 +7,7 @@ import { SCRIPT_LIMITS } from "../../script/limits.mjs";
 import { Board } from "../board/board.mjs";
 import { programWaysOf } from "../board/strategy/ways.mjs";
 import { WORD } from "../memory/layout.mjs";
+import { Pids } from "../memory/pids.mjs";
 import { Refused } from "../options/refused.mjs";
 import { FIRST_THREADS } from "../processes/first-workers.cjs";
 import { begunThread } from "../processes/thread.mjs";
@@ -144,11 +145,29 @@ export class ProgramGroup extends Group {
     this.#replaced += 1;
     const [next] = await Promise.all([this.#taken(), this.agents[agent].stop()]);
     this.threads.delete(this.agents[agent]);
+    this.#endChildren(agent);
     await this.#hand(agent, next);
+  }
+
+  async close() {
+    await super.close();
+    for (const agent of this.agents.keys()) this.#endChildren(agent);
   }
 
   /** Nothing shows how many will be needed. */
   beginAhead() {}
+
+  /** @param {number} agent whose thread has been ended: so are the child processes that it has left */
+  #endChildren(agent) {
+    const { pids = [] } = /** @type {ReturnType<typeof programMemory>} */ (this.memory ?? {});
+    for (const pid of pids[agent] === undefined ? [] : new Pids(pids[agent]).take()) {
+      try {
+        process.kill(pid, "SIGKILL");
+      } catch {
+        // It has ended by itself.
+      }
+    }
+  }
 
   /** @param {number} count how many threads are to have begun, and have no number yet */
   #prepare(count) {

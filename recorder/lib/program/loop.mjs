@@ -6,7 +6,8 @@ import process from "node:process";
 import timers from "node:timers";
 import { WORD } from "../memory/layout.mjs";
 import { Random } from "../memory/random.mjs";
-import { foreignWork } from "./refusals.mjs";
+import { READING } from "./reading.mjs";
+import { isForeign, pendingOf } from "./real-work.mjs";
 
 const { setImmediate: turnLater, clearImmediate: turnNever } = timers;
 /** @type {any} node's, with more than is written down of it */
@@ -15,9 +16,6 @@ const own = process;
 const resources = own.getActiveResourcesInfo.bind(own);
 /** @type {() => void} */
 const runTicks = own._tickCallback.bind(own);
-
-/** What is under way while node reads a module. */
-const READING = new Set(["FSReqPromise", "FSReqCallback", "FileHandleCloseReq", "CloseReq"]);
 
 /** From here on are the numbers of the rows by which threads draw tasks. */
 const TASKS = 64;
@@ -43,6 +41,7 @@ const HASTY = 0.5;
  * @property {Set<{ refed: boolean, where: string }>} children workers that this thread has started
  * @property {import("../memory/task-notes.mjs").TaskNotes} notes of tasks that are taken up
  * @property {() => string | undefined} here where the program's code is
+ * @property {import("./looking.mjs").Looking} looking
  * @property {boolean} hasPhases whether timers that are due come before all else in each turn of the loop, as in node
  */
 
@@ -64,6 +63,9 @@ export class Loop {
 
   /** @type {Map<object, number>} how many messages of each port come before the next immediate */
   #before = new Map();
+
+  /** Whether the thread looks for real answers before it takes up a task: it hasn't done so in vain since it rested. */
+  #mayLook = true;
 
   /** @param {Served} served */
   constructor(served) {
@@ -94,6 +96,7 @@ export class Loop {
     this.#tasks = [];
     this.#isTurning = this.served.hasPhases;
     this.#looks = false;
+    this.#mayLook = true;
     this.#before = new Map();
     this.#isHalted = false;
   }
@@ -122,22 +125,43 @@ export class Loop {
         this.#next = turnLater(this.#turn);
         return;
       }
-      const foreign = foreignWork(active);
-      if (foreign !== undefined) this.served.refuse(`waits for ${foreign} of node, which isn't simulated`);
+      const pending = this.#pending(active);
       if (this.#hasTask()) {
         if (!moves.offer()) return this.served.goHome();
+        if (pending.isSome && moves.looksBeforeTask(this.random, pending) && this.#mayLook) return this.#look(true);
       } else {
-        const kept = this.#keepers();
+        const kept = [...this.#keepers(), ...moves.silentTexts(pending)];
         if (kept.length === 0) {
           if (this.#endsNow()) return this.served.goHome();
           continue;
         }
         keepers.write(kept.join("; "));
-        if (!moves.idle(this.#untilTimer())) return this.served.goHome();
+        this.#mayLook = true;
+        if (!moves.idle(this.#untilTimer(), pending)) return this.served.goHome();
+        if (moves.looksFor > 0) return this.#look(false);
       }
       this.#act();
     }
   };
+
+  /**
+   * Looks for real answers, and goes on then.
+   * @param {boolean} hasTask whether there is something else to do
+   */
+  #look(hasTask) {
+    const { looking, moves } = this.served;
+    looking.begin({
+      milliseconds: moves.looksFor,
+      waitsFor: () => this.#pending(resources()).texts.join(),
+      onCome: () => moves.answered(),
+      then: (found) => {
+        this.#mayLook = found === "came";
+        if (!moves.looked(found)) return this.served.goHome();
+        if (found !== "came" && hasTask) this.#act();
+        this.#turn();
+      },
+    });
+  }
 
   /** Runs ticks and microtasks until there are none. */
   drain() {
@@ -157,8 +181,7 @@ export class Loop {
   /** Runs ticks and microtasks of node's. @returns {boolean} whether node has nothing else under way for the thread */
   isSwept() {
     runTicks();
-    const active = resources();
-    return !isReading(active) && foreignWork(active) === undefined;
+    return !resources().some((each) => READING.has(each) || isForeign(each));
   }
 
   /** Nothing keeps the thread alive. @returns {boolean} whether it has ended */
@@ -167,9 +190,14 @@ export class Loop {
     ends.beforeExit();
     this.drain();
     if (ends.isOver) return true;
-    if (this.#hasOwnTask() || this.#keepers().length > 0) return false;
+    if (this.#hasOwnTask() || this.#keepers().length > 0 || this.#pending(resources()).isSome) return false;
     ends.leave();
     return true;
+  }
+
+  /** @param {string[]} active resources of node's @returns {import("./real-work.mjs").Pending} */
+  #pending(active) {
+    return pendingOf(active, (what) => this.served.refuse(`waits for ${what} of node, which isn't simulated`));
   }
 
   #now() {

@@ -25,6 +25,9 @@ export const toPort = (port) => PORT_PLACES + (port % (MESSAGE_PLACES - PORT_PLA
 export const TO_CHANNELS = -1;
 
 export class Moves {
+  /** For how many milliseconds the thread that was drawn is to look for real answers; 0: it has something else to do. */
+  looksFor = 0;
+
   /**
    * @param {import("../agent/player.mjs").Player} player
    * @param {SharedArrayBuffer} messages the memory of the block for messages
@@ -157,12 +160,54 @@ export class Moves {
   /**
    * The event loop waits until there is something to do.
    * @param {number | undefined} milliseconds until a timer is due; undefined: there is none
-   * @returns {boolean} whether the thread goes on: else its run is over, or it was ended
+   * @param {import("./real-work.mjs").Pending} pending what the machine may bring besides
+   * @returns {boolean} whether the thread goes on, perhaps by looking: else its run is over, or it was ended
    */
-  idle(milliseconds) {
+  idle(milliseconds, { isSome, byThemselves }) {
+    const { board, agent } = this;
     this.player.part.enter();
-    this.board.rest(this.agent, LOOP, milliseconds);
-    return this.#resume(milliseconds ?? 0);
+    board.rest(agent, LOOP, milliseconds);
+    if (isSome) board.answers.expect(agent);
+    return this.#resume(milliseconds ?? 0, byThemselves);
+  }
+
+  /**
+   * @param {import("./real-work.mjs").Pending} pending
+   * @returns {string[]} what keeps a thread alive and brings nothing, if nobody can move any more, in words
+   */
+  silentTexts({ isSome, byThemselves, texts }) {
+    if (!isSome) return [];
+    return [`${[...new Set(texts)].join(", ")} (nothing came for ${this.board.answers.long(byThemselves) / 1_000} s)`];
+  }
+
+  /**
+   * Whether the event loop, which has a task, looks for real answers before.
+   * @param {import("../memory/random.mjs").Random} random
+   * @param {import("./real-work.mjs").Pending} pending
+   */
+  looksBeforeTask(random, { byThemselves }) {
+    const { board: { answers, row, strategy }, agent } = this;
+    if (!strategy.looksBeforeTask(agent, random)) return false;
+    this.looksFor = row.isForced() ? answers.long(byThemselves) : answers.short(byThemselves);
+    return true;
+  }
+
+  /** A real answer has come to this thread. */
+  answered() {
+    this.board.answered(this.agent);
+  }
+
+  /**
+   * The thread has looked.
+   * @param {import("./looking.mjs").Found} found
+   * @returns {boolean} whether it goes on
+   */
+  looked(found) {
+    const { board, agent, player: { part } } = this;
+    if (found === "less") board.row.takesBack(agent);
+    if (found !== "nothing" || board.missed(agent)) return true;
+    part.isPlaying = false;
+    return false;
   }
 
   /** @param {number} milliseconds for which nobody can wake this thread; Infinity: nobody ever does */
@@ -219,17 +264,33 @@ export class Moves {
     this.#begin(milliseconds);
   }
 
-  /** @param {number | undefined} milliseconds as above @returns {boolean} whether the thread goes on */
-  #resume(milliseconds) {
+  /**
+   * @param {number | undefined} milliseconds as above
+   * @param {boolean} [byThemselves] whether real answers may come by themselves
+   * @returns {boolean} whether the thread goes on
+   */
+  #resume(milliseconds, byThemselves = false) {
     const { board, agent, player: { part } } = this;
+    this.looksFor = 0;
     this.count();
     if (!board.pass(agent)) board.turn.sleep(agent);
     if (board.isOverFor(agent)) {
       part.isPlaying = false;
       return false;
     }
-    this.#begin(milliseconds);
+    if (board.words[WORD.LOOKS] === 1) this.#looks(byThemselves);
+    else this.#begin(milliseconds);
     return true;
+  }
+
+  /**
+   * The thread was drawn to look for real answers: no time passes, and it is no move.
+   * @param {boolean} byThemselves
+   */
+  #looks(byThemselves) {
+    const { board: { answers, row }, agent } = this;
+    this.looksFor = row.isForced() ? answers.long(byThemselves) : answers.patience(agent, byThemselves);
+    this.#goesOn();
   }
 
   #ask() {
@@ -243,6 +304,7 @@ export class Moves {
   #begin(milliseconds) {
     const { board, agent } = this;
     if (milliseconds !== undefined) board.deadlines.end(agent, milliseconds);
+    board.answers.goesOn(agent);
     board.turned();
     this.#goesOn();
   }

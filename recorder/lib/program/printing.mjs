@@ -46,7 +46,7 @@ export function printAtOnce(isShown, name) {
     const written = new Writable({ write: (_chunk, _encoding, done) => done() });
     /** @type {(chunk: string | Uint8Array, encoding?: any, done?: any) => boolean} */
     const write = (chunk, encoding, done) => {
-      if (isShown()) print(namedLines(textOf(chunk, encoding), name()));
+      if (chunk.length > 0 && isShown()) print(namedLines(textOf(chunk, encoding), name()));
       const callback = typeof encoding === "function" ? encoding : done;
       if (typeof callback === "function") later(callback);
       return true;

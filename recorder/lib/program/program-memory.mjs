@@ -7,6 +7,7 @@ import { MAKE, MOVES } from "../board/journal.mjs";
 import { Blocks, MESSAGE_BYTES, MOST_BLOCKS, MOST_BYTES } from "../memory/blocks.mjs";
 import { Keepers } from "../memory/keepers.mjs";
 import { NamedPlaces } from "../memory/named-places.mjs";
+import { Pids } from "../memory/pids.mjs";
 import { Records } from "../memory/records.mjs";
 import { TaskNotes } from "../memory/task-notes.mjs";
 import { PortTable } from "../board/port-table.mjs";
@@ -39,6 +40,7 @@ export function programMemory(plan, logEvents) {
     blocks: Blocks.memory(),
     ports: PortTable.memory(),
     tasks: TaskNotes.memory(),
+    pids: Array.from({ length: plan.agents }, () => Pids.memory()),
     keepers: Array.from({ length: plan.agents }, () => Keepers.memory()),
     madeAt: Array.from({ length: MOST_BLOCKS }, () => Keepers.memory()),
   };

@@ -1,11 +1,11 @@
 // Whatever node 20 has for a program, and what becomes of it in a run: `simulated` is replaced or done by a synchronous
-// twin, `harmless` stays node's own, `refused` ends the run by its name and line. One word stands
-// for a whole module.
+// twin, `harmless` stays node's own, `real` is answered by the machine and is noted by its name and line, `refused` ends
+// the run by them. One word stands for a whole module.
 
-/** @typedef {"simulated" | "harmless" | "refused"} Kind */
+/** @typedef {"simulated" | "harmless" | "real" | "refused"} Kind */
 /** @typedef {Kind | Partial<Record<Kind, string>>} Row of a module; the names of its exports by kind */
 
-// Modules with an underscore are parts of others. What they open is opened by net, which refuses it.
+// Modules with an underscore are parts of others.
 const PARTS = [
   "_http_agent", "_http_client", "_http_common", "_http_incoming", "_http_outgoing", "_http_server", "_stream_duplex",
   "_stream_passthrough", "_stream_readable", "_stream_transform", "_stream_wrap", "_stream_writable", "_tls_common",
@@ -23,7 +23,10 @@ export const MODULES = Object.freeze({
       INSPECT_MAX_BYTES Blob File`,
     refused: "resolveObjectURL",
   },
-  child_process: "refused",
+  child_process: {
+    real: "ChildProcess exec execFile execFileSync execSync fork spawn spawnSync",
+    refused: "_forkChild",
+  },
   cluster: {
     harmless: `_events _eventsCount _maxListeners isWorker isMaster isPrimary workers settings SCHED_NONE SCHED_RR
       schedulingPolicy`,
@@ -42,20 +45,20 @@ export const MODULES = Object.freeze({
       Hmac KeyObject Sign Verify X509Certificate secureHeapUsed createCipher createDecipher constants fips subtle ECDH`,
     refused: "setEngine setFips",
   },
-  dgram: "refused",
+  dgram: { real: "createSocket Socket", refused: "_createSocketHandle" },
   diagnostics_channel: "harmless",
   dns: {
     harmless: `getDefaultResultOrder setDefaultResultOrder ADDRCONFIG ALL V4MAPPED NODATA FORMERR SERVFAIL NOTFOUND
       NOTIMP REFUSED BADQUERY BADNAME BADFAMILY BADRESP CONNREFUSED TIMEOUT EOF FILE NOMEM DESTRUCTION BADSTR BADFLAGS
       NONAME BADHINTS NOTINITIALIZED LOADIPHLPAPI ADDRGETNETWORKPARAMS CANCELLED getServers promises`,
-    refused: `lookup lookupService Resolver setServers resolve resolve4 resolve6 resolveAny resolveCaa resolveCname
+    real: `lookup lookupService Resolver setServers resolve resolve4 resolve6 resolveAny resolveCaa resolveCname
       resolveMx resolveNaptr resolveNs resolvePtr resolveSoa resolveSrv resolveTxt reverse`,
   },
   "dns/promises": {
     harmless: `getDefaultResultOrder setDefaultResultOrder NODATA FORMERR SERVFAIL NOTFOUND NOTIMP REFUSED BADQUERY
       BADNAME BADFAMILY BADRESP CONNREFUSED TIMEOUT EOF FILE NOMEM DESTRUCTION BADSTR BADFLAGS NONAME BADHINTS
       NOTINITIALIZED LOADIPHLPAPI ADDRGETNETWORKPARAMS CANCELLED getServers`,
-    refused: `lookup lookupService Resolver setServers resolve resolve4 resolve6 resolveAny resolveCaa resolveCname
+    real: `lookup lookupService Resolver setServers resolve resolve4 resolve6 resolveAny resolveCaa resolveCname
       resolveMx resolveNaptr resolveNs resolvePtr resolveSoa resolveSrv resolveTxt reverse`,
   },
   domain: "refused",
@@ -82,14 +85,14 @@ export const MODULES = Object.freeze({
     harmless: `METHODS STATUS_CODES Agent IncomingMessage OutgoingMessage ServerResponse validateHeaderName
       validateHeaderValue setMaxIdleHTTPParsers maxHeaderSize globalAgent _connectionListener WebSocket CloseEvent
       MessageEvent`,
-    refused: "ClientRequest Server createServer get request",
+    real: "ClientRequest Server createServer get request",
   },
   http2: {
     harmless: `constants getDefaultSettings getPackedSettings getUnpackedSettings sensitiveHeaders Http2ServerRequest
       Http2ServerResponse`,
-    refused: "connect createServer createSecureServer performServerHandshake",
+    real: "connect createServer createSecureServer performServerHandshake",
   },
-  https: { harmless: "Agent globalAgent", refused: "Server createServer get request" },
+  https: { harmless: "Agent globalAgent", real: "Server createServer get request" },
   inspector: "refused",
   "inspector/promises": "refused",
   module: {
@@ -104,7 +107,7 @@ export const MODULES = Object.freeze({
     harmless: `_normalizeArgs _setSimultaneousAccepts BlockList SocketAddress isIP isIPv4 isIPv6 _createServerHandle
       getDefaultAutoSelectFamily setDefaultAutoSelectFamily getDefaultAutoSelectFamilyAttemptTimeout
       setDefaultAutoSelectFamilyAttemptTimeout`,
-    refused: "connect createConnection createServer Server Socket Stream",
+    real: "connect createConnection createServer Server Socket Stream",
   },
   os: {
     harmless: `arch availableParallelism cpus endianness freemem getPriority homedir hostname loadavg networkInterfaces
@@ -158,7 +161,8 @@ export const MODULES = Object.freeze({
     harmless: `CLIENT_RENEG_LIMIT CLIENT_RENEG_WINDOW DEFAULT_CIPHERS DEFAULT_ECDH_CURVE DEFAULT_MIN_VERSION
       DEFAULT_MAX_VERSION getCiphers rootCertificates convertALPNProtocols checkServerIdentity createSecureContext
       SecureContext getCACertificates setDefaultCACertificates`,
-    refused: "TLSSocket Server createServer connect createSecurePair",
+    real: "TLSSocket Server createServer connect",
+    refused: "createSecurePair",
   },
   trace_events: "refused",
   tty: { harmless: "isatty", refused: "ReadStream WriteStream" },
@@ -217,7 +221,8 @@ export const GLOBALS = Object.freeze({
     CountQueuingStrategy TextEncoderStream TextDecoderStream atob btoa MessageEvent Blob File Performance
     PerformanceEntry PerformanceMark PerformanceMeasure PerformanceObserverEntryList PerformanceResourceTiming FormData
     Headers Request Response Crypto CryptoKey SubtleCrypto CustomEvent gc`,
-  refused: "fetch CompressionStream DecompressionStream PerformanceObserver WebSocket EventSource CloseEvent",
+  real: "fetch",
+  refused: "CompressionStream DecompressionStream PerformanceObserver WebSocket EventSource CloseEvent",
 });
 
 /**

@@ -2,12 +2,19 @@
 // and `instanceof` say, and reports its name when it is called. Modules of node that took it before keep their own.
 
 import Module from "node:module";
+import { isCalledByAgents } from "../agent/frames.mjs";
 import { GLOBALS, METHODS, MODULES, SCHEME_MODULES } from "./surface-table.mjs";
 import { apply, construct, defineProperty, getOwnPropertyDescriptor, ownKeys } from "../primordials.mjs";
 
 /** @typedef {import("./surface-table.mjs").Kind} Kind */
 /** @typedef {import("./surface-table.mjs").Row} Row */
-/** @typedef {{ refuse: (name: string) => void, isPlaying?: () => boolean, loads?: (id: string) => void }} Given */
+/**
+ * @typedef {object} Given
+ * @property {(name: string) => void} refuse gets names as `net.Stream` and doesn't return
+ * @property {(name: string) => void} [used] gets the name of what the machine answers, if the program calls it itself
+ * @property {() => boolean} [isPlaying] until then nothing is refused
+ * @property {(id: string) => void} [loads] gets each module that a program loads, the first time
+ */
 
 const Modules = /** @type {any} */ (Module);
 const required = Module.createRequire(import.meta.url);
@@ -27,7 +34,7 @@ const words = (names = "") => names.split(/\s+/).filter((name) => name !== "");
 
 /** @param {Partial<Record<Kind, string>>} row @param {string} name @returns {Kind | undefined} */
 const kindIn = (row, name) =>
-  /** @type {Kind[]} */ (["simulated", "harmless", "refused"]).find((kind) => words(row[kind]).includes(name));
+  /** @type {Kind[]} */ (["simulated", "harmless", "real", "refused"]).find((kind) => words(row[kind]).includes(name));
 
 /** @param {string} id with or without `node:` @returns {Row | undefined} */
 const rowOf = (id) => SCHEME_MODULES[id] ?? MODULES[id.replace(/^node:/, "")];
@@ -75,20 +82,29 @@ const standIns = new WeakMap();
 /** @type {WeakSet<Function>} */
 const areStandIns = new WeakSet();
 
+/** @type {(name: string, given: Given) => () => void} is called before what is refused */
+const refusing = (name, { refuse, isPlaying = () => true }) => () => {
+  if (!isPlaying()) return;
+  refuse(name);
+  throw new Error(`${name} isn't simulated`);
+};
+
+/** @type {(name: string, given: Given) => () => void} is called before what the machine answers. Node may use it itself */
+const noting = (name, { used = () => {}, isPlaying = () => true }) => {
+  const note = () => {
+    if (isPlaying() && isCalledByAgents(note)) used(name);
+  };
+  return note;
+};
+
 /**
- * What stands for something that is refused.
+ * What stands for something that is refused, or that is noted.
  * @param {Function} real
- * @param {string} name
- * @param {Given} given
+ * @param {() => void} check is called before each use
  * @returns {Function}
  */
-function standIn(real, name, { refuse, isPlaying = () => true }) {
+function standIn(real, check) {
   if (areStandIns.has(real)) return real;
-  const check = () => {
-    if (!isPlaying()) return;
-    refuse(name);
-    throw new Error(`${name} isn't simulated`);
-  };
   const stand = standIns.get(real) ?? new Proxy(real, {
     apply(target, receiver, all) {
       check();
@@ -104,11 +120,14 @@ function standIn(real, name, { refuse, isPlaying = () => true }) {
   return stand;
 }
 
-/** @param {string} name of a global. Some are read of a module when they are asked for first @param {Given} given */
-function replaceGlobal(name, given) {
+/** @type {Readonly<Record<"refused" | "real", (name: string, given: Given) => () => void>>} what is replaced, and how */
+const REPLACED = Object.freeze({ refused: refusing, real: noting });
+
+/** @param {string} name of a global. Some are read of a module when they are asked for first @param {() => void} check */
+function replaceGlobal(name, check) {
   const found = getOwnPropertyDescriptor(globalThis, name);
   if (found === undefined) return;
-  const value = standIn(/** @type {any} */ (globalThis)[name], name, given);
+  const value = standIn(/** @type {any} */ (globalThis)[name], check);
   defineProperty(globalThis, name, { value, writable: true, enumerable: found.enumerable, configurable: true });
 }
 
@@ -117,18 +136,18 @@ function replaceGlobal(name, given) {
  * @param {any} owner
  * @param {string} name
  * @param {string} shown
- * @param {Given} given
+ * @param {(name: string) => () => void} checkOf what is called before each use, by the name that is shown
  */
-function replace(owner, name, shown, given) {
+function replace(owner, name, shown, checkOf) {
   const found = getOwnPropertyDescriptor(owner, name);
   if (found === undefined || !("value" in found) || !(found.writable || found.configurable)) return;
   const { value } = found;
   if (typeof value === "function") {
-    defineProperty(owner, name, { ...found, value: standIn(value, shown, given) });
+    defineProperty(owner, name, { ...found, value: standIn(value, checkOf(shown)) });
   } else if (value !== null && typeof value === "object") {
     for (const each of ownKeys(value)) {
       const member = getOwnPropertyDescriptor(value, each)?.value;
-      if (typeof each === "string" && typeof member === "function") replace(value, each, `${shown}.${each}`, given);
+      if (typeof each === "string" && typeof member === "function") replace(value, each, `${shown}.${each}`, checkOf);
     }
   }
 }
@@ -156,17 +175,19 @@ function refuseOfProcess({ refuse, isPlaying = () => true }) {
 }
 
 /**
- * Replaces what the tables refuse: of globals and `process` now, of each other module as a program loads it, since
+ * Replaces what the tables refuse, and what the machine answers: of globals and `process` now, of each other module as a program loads it, since
  * some do something when they are loaded. Call it once in a thread. Ask for `process.stdout` and so on before, if they
  * aren't replaced: node makes them of sockets in a first thread.
- * @param {Given} given `refuse` gets names as `net.connect` and doesn't return; until `isPlaying`, nothing is refused;
- * `loads` gets each module that a program loads, the first time
+ * @param {Given} given
  */
 export function refuseRest(given) {
-  for (const name of words(GLOBALS.refused)) replaceGlobal(name, given);
+  for (const kind of /** @type {("refused" | "real")[]} */ (["refused", "real"])) {
+    for (const name of words(GLOBALS[kind])) replaceGlobal(name, REPLACED[kind](name, given));
+  }
   for (const [path, names] of Object.entries(METHODS)) {
+    const refused = (/** @type {string} */ shown) => refusing(shown, given);
     const owner = path.split(".").reduce((from, name) => from[name], /** @type {any} */ (globalThis));
-    for (const name of words(names)) replace(owner, name, `${path}.${name}`.replace(".prototype.", "."), given);
+    for (const name of words(names)) replace(owner, name, `${path}.${name}`.replace(".prototype.", "."), refused);
   }
   refuseOfProcess(given);
   /** @type {Set<string>} */
@@ -180,7 +201,9 @@ export function refuseRest(given) {
     if (MEMBERS[id] !== undefined) refuseOf(MEMBERS[id]);
     const exports = engineLoad(request, undefined, false);
     for (const name of namesIn(exports)) {
-      if (kindOf(id, name) === "refused") replace(exports, name, `${id.replace("node:", "")}.${name}`, given);
+      const checkOf = REPLACED[/** @type {"refused" | "real"} */ (kindOf(id, name))];
+      if (checkOf === undefined) continue;
+      replace(exports, name, `${id.replace("node:", "")}.${name}`, (shown) => checkOf(shown, given));
     }
   };
   const engineLoad = Modules._load;

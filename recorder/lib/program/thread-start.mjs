@@ -16,6 +16,9 @@ import { toThread } from "./moves.mjs";
  * @property {(why: string) => never} refuse ends the run
  */
 
+/** @typedef {{ url: string, isCode?: boolean, where: string }} Start what a thread is to run, and where it was started */
+/** @typedef {{ start: Start, number: number, ports: any[], ids: number[] }} Handed */
+
 /**
  * Starts a thread.
  * @param {Starting} starting
@@ -41,4 +44,21 @@ export function startThread(starting, given, transferList, called) {
   for (const each of moved) ports.leave(each);
   threads.start(agent);
   return { agent, port: port1, where };
+}
+
+/**
+ * What a thread that another one has started was handed.
+ * @param {Pick<Starting, "mesh" | "ports" | "moves">} starting
+ * @returns {{ start: Start, parentPort: any }}
+ */
+export function takenStart({ mesh, ports, moves }) {
+  ports.world.table.begins(moves.agent);
+  /** @type {Handed[]} */
+  const handed = [];
+  mesh.onItem("start", (item) => void handed.push(item));
+  mesh.take();
+  const [{ start, number, ports: moved, ids }] = handed;
+  moved.forEach((each, at) => ports.adopt(each, ids[at]));
+  moves.receive(number);
+  return { start, parentPort: moved[moved.length - 1] };
 }

@@ -44,6 +44,7 @@ export class Threads {
     this.closePorts(agent);
     this.endChildren(agent);
     this.board.line.become(agent, PHASE.FINISHED);
+    this.board.answers.goesOn(agent);
     this.board.turn.wake(agent);
     return true;
   }

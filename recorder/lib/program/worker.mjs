@@ -22,6 +22,8 @@ import { Log } from "../memory/log.mjs";
 import { Memory } from "../memory/memory.mjs";
 import { FIRST_MORE } from "../memory/more-blocks.mjs";
 import { NamedPlaces } from "../memory/named-places.mjs";
+import { Notes } from "../memory/notes.mjs";
+import { Pids } from "../memory/pids.mjs";
 import { Records } from "../memory/records.mjs";
 import { Sources } from "../memory/sources.mjs";
 import { Stores } from "../memory/stores.mjs";
@@ -29,10 +31,12 @@ import { TaskNotes } from "../memory/task-notes.mjs";
 import { onceMore } from "../processes/garbage.mjs";
 import { SourceNames } from "../run/source-names.mjs";
 import { Buffers } from "./buffers.mjs";
+import { Children } from "./children.mjs";
 import { furnishGrowing } from "./growing.mjs";
 import {
   furnishCloning, furnishMemory, furnishProcess, furnishTimers, keepProcess, restoreProcess,
 } from "./furnish.mjs";
+import { Looking } from "./looking.mjs";
 import { Loop } from "./loop.mjs";
 import { listingOf } from "./member.mjs";
 import { Mesh } from "./mesh.mjs";
@@ -42,8 +46,10 @@ import { beginLoader } from "./node-loader.mjs";
 import { PortTable } from "../board/port-table.mjs";
 import { Ports } from "./ports.mjs";
 import { printAtOnce } from "./printing.mjs";
+import { RealWork } from "./real-work.mjs";
 import { furnishRefusals } from "./refusals.mjs";
 import { refuseRest } from "./surface.mjs";
+import { takenStart } from "./thread-start.mjs";
 import { Threads } from "./threads.mjs";
 import { Timers } from "./timers.mjs";
 import { putTwins } from "./twins.mjs";
@@ -66,8 +72,7 @@ const { Error: EngineError } = globalThis;
  * @property {import("../board/strategy.mjs").Rules} rules
  */
 
-/** @typedef {{ url: string, isCode?: boolean, where: string }} Start */
-/** @typedef {{ start: Start, number: number, ports: any[], ids: number[] }} Handed */
+/** @typedef {import("./thread-start.mjs").Start} Start */
 
 const { port, origin, web, isRelaxed, memory: shared, plan, rules } = /** @type {Given} */ (threads.workerData);
 const { setImmediate: turnLater } = nodeTimers;
@@ -203,8 +208,12 @@ function partsOf(player, blocks, mesh) {
   const late = {};
   const later = (/** @type {string} */ name, /** @type {() => void} */ act) => late.loop?.later(name, act);
   const ports = new Ports({ agent, table, moves, buffers, mesh, here, refuse, later });
+  const isShown = () => board.words[WORD.IS_SILENT] === 0 && isPlaying();
+  const spawned = new Children(new Pids(shared.pids[agent]), isShown);
+  const real = new RealWork(new Notes(shared.notes[agent]), spawned, here);
   const leave = leaveOf(player, late);
-  const ends = new surroundings.Ends({ agent, player, ports, threads: all, here, leave });
+  const closeSockets = () => real.close();
+  const ends = new surroundings.Ends({ agent, player, ports, threads: all, here, leave, closeSockets });
   const drain = () => late.loop?.drain();
   const events = new surroundings.PortEvents({ ports, uncaught: (thrown) => ends.uncaught(thrown), drain });
   const timers = new Timers({ now: () => board.clock.now(), changed: () => {}, here: sourceOfCall });
@@ -212,23 +221,22 @@ function partsOf(player, blocks, mesh) {
   const keepers = new Keepers(shared.keepers[agent]);
   const waits = new WaitAsync({ moves, buffers, isPlaying, refuse });
   const loop = new Loop({
-    moves, ports, events, timers, waits, ends, keepers, children, refuse, goHome: () => late.goHome?.(),
-    notes: new TaskNotes(shared.tasks), here: sourceHere, hasPhases: surroundings.hasPhases, leave,
+    moves, ports, events, timers, waits, ends, keepers, children, refuse, goHome: () => late.goHome?.(), leave,
+    notes: new TaskNotes(shared.tasks), here: sourceHere, hasPhases: surroundings.hasPhases, looking: new Looking(),
   });
   Object.assign(late, { loop, ends });
   return {
     moves, waits, buffers, ports, ends, events, timers, loop, children, threads: all, mesh, later, late, keepers, here,
-    refuse,
+    refuse, real, spawned, isShown,
   };
 }
 
 /** @typedef {ReturnType<typeof partsOf>} Parts */
 
 /** @param {Parts} parts */
-function furnish({ moves, buffers, waits, ends, events, timers, later, late }) {
+function furnish({ moves, buffers, waits, ends, events, timers, later, late, spawned, isShown }) {
   const listAgain = listingOf([globalThis, buffer, crypto, process, util]);
-  const { words } = moves.board;
-  printAtOnce(() => words[WORD.IS_SILENT] === 0 && isPlaying(), printedName);
+  printAtOnce(isShown, printedName);
   simulateTime(() => (isPlaying() ? playing().look() : 0));
   simulateChance(chance);
   // Node makes a context of its own when a reader is released first. That isn't the program's, and so comes before.
@@ -247,27 +255,11 @@ function furnish({ moves, buffers, waits, ends, events, timers, later, late }) {
   furnishTimers(timers);
   surroundings.serve(events);
   furnishRefusals(refuse);
+  spawned.furnish();
   furnishProcess((code) => ends.exit(code));
   ends.guard();
   listAgain();
   keepProcess();
-}
-
-/**
- * What a thread that another one has started was handed.
- * @param {Parts} parts
- * @returns {{ start: Start, parentPort: any }}
- */
-function taken({ mesh, ports, moves }) {
-  ports.world.table.begins(moves.agent);
-  /** @type {Handed[]} */
-  const handed = [];
-  mesh.onItem("start", (item) => void handed.push(item));
-  mesh.take();
-  const [{ start, number, ports: moved, ids }] = handed;
-  moved.forEach((each, at) => ports.adopt(each, ids[at]));
-  moves.receive(number);
-  return { start, parentPort: moved[moved.length - 1] };
 }
 
 /** @param {string} url @returns {string} the last part of its path */
@@ -305,7 +297,7 @@ function printedName() {
 function begin(parts, graph) {
   const { moves: { agent }, mesh, ends, keepers, loop } = parts;
   const { start, parentPort } = agent === 0
-    ? { start: surroundings.mainStart(mesh.main), parentPort: null } : taken(parts);
+    ? { start: surroundings.mainStart(mesh.main), parentPort: null } : takenStart(parts);
   self.start = start;
   keepers.setName(start.where === "" ? "" : `${threadName(start)}, started at ${start.where}`);
   if (agent !== 0) ends.parentPort = parentPort;
@@ -382,14 +374,16 @@ export async function main(load) {
   furnish(parts);
   refuseRest({
     refuse: (/** @type {string} */ name) => refuse(`called ${name}, which isn't simulated`), isPlaying,
+    used: (/** @type {string} */ name) => parts.real.note(name),
     loads: (/** @type {string} */ id) => graph.loads(id),
   });
   surroundings.furnish(parts, graph);
-  parts.late.goHome = () => {
+  const home = () => {
     clear(parts);
     board.turn.goHome(agent);
     turnLater(() => serve(parts, graph));
   };
+  parts.late.goHome = () => parts.real.leave(home, () => board.turn.park(agent));
   port.postMessage({ ready: true });
   serve(parts, graph);
 }

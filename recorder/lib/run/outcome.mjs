@@ -38,6 +38,7 @@
  * @property {import("./timed-ends.mjs").OnlyByTime[]} [onlyByTime] waits that have ended only because their time was up
  * @property {import("./timed-ends.mjs").Place[]} [served] places at which agents of the run wait, and which other
  * agents have notified or written; only runs with timed waits have it
+ * @property {string[]} [real] what a program has used that the machine answers, by name and line, if anything
  * @property {string[]} [unrecorded] which shared memory and which threads agents used that aren't recorded, if any
  */
 
@@ -85,6 +86,7 @@
  * @property {string} acts a digest of all that was done in the run itself
  * @property {Pick<Outcome, "ending" | "detail" | "state"> & { acts: string }} again the same run in fresh threads
  * @property {string} [place] where that one first did something else
+ * @property {boolean} [strays] whether that one couldn't go by the row of the first
  */
 
 /**

@@ -25,6 +25,9 @@ import { SourceNames } from "./source-names.mjs";
 const ANOTHER_WAY = "the run went another way when it was made once more to learn its lines of code: its agents do " +
   "something else then, as where a module keeps something in its own variables";
 
+const OTHER_INPUT = "the run went another way when it was made once more to learn its lines of code: its input may have "
+  + "come otherwise";
+
 /** @param {number[]} gone agents that didn't come back, or whose workers died */
 function goneText(gone) {
   const who = gone.length === 1 ? `agent ${gone[0]}` : `the agents ${gone.join(" and ")}`;
@@ -133,14 +136,17 @@ class Referee {
     const judgement = reporter.judgement(outcome, found, taken);
     const isFirst = !found.isUnseen && this.firstFailing.takes(outcome);
     await this.#replace(found);
+    const isReal = outcome.real !== undefined;
+    // A run in fresh threads may get other input, so its lines aren't those of this one.
+    if (isReal) await this.#addSources(wanted, outcome, found, { hasSources, isFirst });
     const again = isFirst && this.#mayRemember(wanted, found)
       ? await this.#inFreshThreads(wanted, outcome, found) : undefined;
     const hasLines = again === undefined ? hasSources : maker.log.hasRoom();
-    await this.#addSources(wanted, outcome, found, { hasSources: hasLines, isFirst });
+    if (!isReal) await this.#addSources(wanted, outcome, found, { hasSources: hasLines, isFirst });
     Object.assign(outcome, covering);
     if (outcome.ending === "race") outcome.detail = outcome.races.map(({ text }) => text).join("\n");
     nameIn(outcome, found);
-    this.notesNext = this.notesAlways || (found.racy && !isCut);
+    this.notesNext = this.notesAlways || ((found.racy || isReal) && !isCut);
     return { outcome, judgement, taken, aside: { ...asideOf(found), ...(again === undefined ? {} : { again }) } };
   }
 
@@ -173,12 +179,12 @@ class Referee {
     const acts = reporter.acts(outcome, found);
     const before = Log.from(maker.log.taken());
     await this.#startAnew();
-    const made = await maker.judged(await maker.made({ ...wanted, isSilent: true }, true));
+    const made = await maker.judged(await maker.made({ ...againAs(wanted, outcome), isSilent: true }, true));
     const other = reporter.brief(wanted, made);
     const again = { ...other, acts: reporter.acts(other, made) };
     const place = reporter.placeOf(firstDifferent(before, maker.log));
     await this.#replace(made);
-    return { acts, again, place };
+    return { acts, again, place, strays: made.stray !== undefined };
   }
 
   /** @param {Wanted} wanted @returns {Promise<One>} a run that is made only to see how it ends */
@@ -219,11 +225,12 @@ class Referee {
     }
     // A program's output is shown once.
     const isSilent = wanted.isSilent || this.options.isProgram;
-    const again = await maker.made({ ...wanted, isSilent }, true);
-    const same = areSame(reporter.brief(wanted, await maker.judgedAgain(again, found)), outcome);
+    const again = await maker.made({ ...againAs(wanted, outcome), isSilent }, true);
+    const same = areSame(reporter.brief(wanted, await maker.judgedAgain(again, found)), outcome)
+      && again.stray === undefined;
     await this.#replace(again);
     if (same) reporter.addSources(outcome, wantsTrace);
-    else if (wantsTrace) outcome.noTrace = ANOTHER_WAY;
+    else if (wantsTrace) outcome.noTrace = outcome.real === undefined ? ANOTHER_WAY : OTHER_INPUT;
   }
 
   /** @param {Made} run after which workers that can't run again are started anew, or all if the option says so */
@@ -236,6 +243,15 @@ class Referee {
     return !isTrial && (this.options.trace || needsTrace || isFirst);
   }
 }
+
+/**
+ * How a run is made once more: by its seed, or by its row if the machine's answers are a part of it.
+ * @param {Wanted} wanted
+ * @param {Outcome} outcome
+ * @returns {Wanted}
+ */
+const againAs = (wanted, { real, row }) =>
+  (real === undefined || row === undefined ? wanted : { ...wanted, row, isExact: true });
 
 /** @param {Outcome} outcome in whose text a program's threads and blocks get their names @param {Made} found */
 function nameIn(outcome, { names }) {

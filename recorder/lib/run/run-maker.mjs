@@ -29,6 +29,7 @@ import { unseenText } from "./unseen.mjs";
  * @property {number[]} asking agents that asked for a call when a run met a limit
  * @property {import("./unseen.mjs").AgentsNote[]} unseen what agents did that nobody saw
  * @property {boolean} [isUnseen] whether it fails for that
+ * @property {import("./unseen.mjs").AgentsNote[]} [real] what agents of a program used that the machine answers
  * @property {import("../board/row.mjs").Stray} [stray] how it has strayed from the row that it was to go by
  * @property {import("./program-names.mjs").ProgramNames} [names] of a program's threads and blocks
  * @property {import("./final-state.mjs").MoreBytes} [more] of a program, in blocks that no script can have
@@ -124,11 +125,13 @@ export class RunMaker {
     const idle = (this.program?.idle(result.ending) ?? []).map((line) => sourceNames.withNames(line));
     const lines = [named, ...idle].filter((line) => line !== "");
     const detail = stray === undefined ? lines.join("\n") : strayText(stray, named);
-    const unseen = this.agents.flatMap((agent) => this.notes[agent].read().map((note) => ({ ...note, agent })));
+    const notes = this.agents.flatMap((agent) => this.notes[agent].read().map((note) => ({ ...note, agent })));
+    const unseen = notes.filter(({ kind }) => kind !== "real");
+    const real = notes.filter(({ kind }) => kind === "real");
     const names = this.program?.names((text) => sourceNames.withNames(text));
     const more = this.program?.moreBytes();
     const { ending } = result;
-    return { ending, detail, bytes, gone, endless, racy, initial, waiting, asking, unseen, stray, names, more };
+    return { ending, detail, bytes, gone, endless, racy, initial, waiting, asking, unseen, real, stray, names, more };
   }
 
   /** @param {Made} found @returns {Promise<Made>} how a run ends, with what is known when its agents are home */

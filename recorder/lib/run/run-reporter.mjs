@@ -17,7 +17,7 @@ import { askingLines, standingsOf, waitText, waitsOf } from "./standing.mjs";
 import { earlyText, onlyByTimeOf, servedOf } from "./timed-ends.mjs";
 import { UNSEEN_LINE, placesIn, traceText } from "./trace.mjs";
 import { transcriptOf } from "./transcript.mjs";
-import { NO_SCRIPT, unrecordedIn } from "./unseen.mjs";
+import { NO_SCRIPT, realIn, unrecordedIn } from "./unseen.mjs";
 
 /** @typedef {import("./outcome.mjs").Outcome} Outcome */
 /** @typedef {import("./run-maker.mjs").Made} Made */
@@ -49,6 +49,7 @@ export class RunReporter {
     const { deadlines, journal, row } = maker.board;
     const draws = row.own();
     const unrecorded = unrecordedIn(found.unseen, this.sourceNames.placeName);
+    const real = realIn(found.real ?? [], this.sourceNames.placeName);
     const isAllowed = (ending === "bound" && options.bounds === "allow") || (ending === "stuck" && options.stuck === "allow");
     const fails = ending !== "finished" && !isAllowed;
     const early = deadlines.early();
@@ -65,6 +66,7 @@ export class RunReporter {
       races: [],
       ...(draws === undefined || (options.isBrief && !fails) ? {} : { row: draws }),
       ...(unrecorded.length === 0 ? {} : { unrecorded }),
+      ...(real.length === 0 ? {} : { real }),
       ...(fails && early !== undefined ? { onlyIf: earlyText(early) } : {}),
       ...(maker.board.spins.isWatching() ? this.#timedEnds(ending) : {}),
     };

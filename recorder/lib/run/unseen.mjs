@@ -32,7 +32,7 @@ function memoryText(note, nameOf) {
     + `hand the class \`buffers[0]\` in place of it; ${ALLOW}`;
 }
 
-/** @type {Record<import("../memory/notes.mjs").NoteKind, (note: AgentsNote, nameOf: Naming) => string>} */
+/** @type {Record<Exclude<import("../memory/notes.mjs").NoteKind, "real">, (note: AgentsNote, nameOf: Naming) => string>} */
 const TEXTS = {
   memory: memoryText,
   wasm: ({ agent, what, place }, nameOf) =>
@@ -63,7 +63,7 @@ export function unseenText(notes, unrecorded, nameOf) {
   const failing = unrecorded === "fail" ? notes : notes.filter(({ kind }) => NEVER_ALLOWED.includes(kind));
   const sorted = [...failing];
   sorted.sort((one, other) => Number(other.waits !== undefined) - Number(one.waits !== undefined));
-  return sorted.map((note) => TEXTS[note.kind](note, nameOf)).join("\n");
+  return sorted.map((note) => TEXTS[/** @type {keyof typeof TEXTS} */ (note.kind)](note, nameOf)).join("\n");
 }
 
 /**
@@ -81,3 +81,12 @@ export function unrecordedIn(notes, nameOf) {
   });
   return [...new Set(texts)].sort();
 }
+
+/**
+ * What a program has used that the machine answers, for a summary.
+ * @param {AgentsNote[]} notes
+ * @param {Naming} nameOf
+ * @returns {string[]} each once
+ */
+export const realIn = (notes, nameOf) =>
+  [...new Set(notes.map(({ what, place }) => `${what} at ${nameOf(place)}`))].sort();

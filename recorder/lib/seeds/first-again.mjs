@@ -11,12 +11,13 @@ import { endingsText, hasThrown } from "../../page/endings.mjs";
  * @property {string} differs `ending`, `bytes` or `acts`
  * @property {string} was how the run ended at first, as JSON has it
  * @property {string} is how it ended when it was made once more
+ * @property {boolean} real whether the machine has given answers to the program, which may have come otherwise
  * @property {boolean} threw whether one of the two ended as `failed` because something was thrown
  */
 
 /**
  * Compares two runs of a seed.
- * @param {Pick<Outcome, "seed" | "ending" | "detail" | "state" | "acts">} first
+ * @param {Pick<Outcome, "seed" | "ending" | "detail" | "state" | "acts" | "real">} first
  * @param {Pick<Outcome, "ending" | "detail" | "state" | "acts">} again
  * @returns {Remembering | undefined} undefined if they are the same
  */
@@ -24,7 +25,7 @@ export function differenceBetween(first, again) {
   const { seed, ending: was, state, acts } = first;
   const is = again.ending;
   const threw = [first, again].some(({ ending, detail }) => hasThrown(ending, detail));
-  const ends = { was, is, threw };
+  const ends = { was, is, threw, real: first.real !== undefined };
   if (was !== is) return { seed, differs: "ending", ...ends };
   if (state.hash !== again.state.hash) return { seed, differs: "bytes", ...ends };
   return acts === again.acts ? undefined : { seed, differs: "acts", ...ends };
@@ -42,6 +43,21 @@ const DIFFERENCES = {
 
 /** @param {Remembering} found @returns {string} */
 const differenceText = (found) => (DIFFERENCES[found.differs] ?? DIFFERENCES.acts)(found);
+
+/** Why a run of a program that gets real answers may be another one when it is made once more. */
+export const OTHER_INPUT = "its input may have come otherwise";
+
+/**
+ * What is added to the text of a failing run that got real answers.
+ * @param {import("../run/outcome.mjs").Outcome} outcome
+ * @param {import("../run/outcome.mjs").Again} [made] what it came to in fresh threads
+ * @returns {string} nothing if it is the same there
+ */
+export function otherInputText(outcome, made) {
+  if (made === undefined) return "";
+  const differs = made.strays || differenceBetween({ ...outcome, acts: made.acts }, made.again) !== undefined;
+  return differs ? `made once more in fresh threads, the run went another way: ${OTHER_INPUT}` : "";
+}
 
 /** A failing run of a program isn't the same in fresh threads: it is no finding. */
 export class KeepsGlobals extends Error {}
@@ -62,5 +78,5 @@ export function keepsGlobals(outcome, made) {
 /** @param {Remembering} found @returns {string} a line of a summary */
 export function rememberingText(found) {
   return `seed ${found.seed} was run once more at the end, and ${differenceText(found)}: `
-    + "the module keeps something in its own variables: --fresh";
+    + (found.real ? OTHER_INPUT : "the module keeps something in its own variables: --fresh");
 }

@@ -8,7 +8,7 @@ import { Group } from "../run/group.mjs";
 import { FirstFailing } from "../run/order.mjs";
 import { simulatorAt } from "../simulator/chosen.mjs";
 import { ModuleSimulator } from "../simulator/module.mjs";
-import { KeepsGlobals, keepsGlobals } from "./first-again.mjs";
+import { KeepsGlobals, keepsGlobals, otherInputText } from "./first-again.mjs";
 
 /** @typedef {import("../run/outcome.mjs").Outcome} Outcome */
 /** @typedef {{ stray?: import("../board/row.mjs").Stray, acts?: string }} Besides `acts` is a digest of what was done */
@@ -143,11 +143,14 @@ export class Job {
   /** @param {import("../run/outcome.mjs").One} run @returns {Checked | undefined} undefined: it is no finding */
   #checked(run) {
     try {
-      const { stray, again } = run.aside;
-      const keeps = keepsGlobals(run.outcome, again);
+      const { outcome, aside: { stray, again } } = run;
+      const isReal = outcome.real !== undefined;
+      const keeps = isReal ? undefined : keepsGlobals(outcome, again);
       if (keeps !== undefined) throw keeps;
       const checked = checkedBy(this.#simulator, run, this.#every, this.#repeats);
-      return stray === undefined ? checked : { ...checked, stray };
+      const besides = isReal ? otherInputText(outcome, again) : "";
+      const detail = [checked.detail, besides].filter((text) => text !== "").join("\n");
+      return { ...checked, detail, ...(stray === undefined ? {} : { stray }) };
     } catch (failure) {
       this.#failure = failure;
       return failure instanceof KeepsGlobals ? undefined : { ...run.outcome, checked: false };

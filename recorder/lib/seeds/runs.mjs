@@ -38,8 +38,8 @@ import { startJob } from "./start-job.cjs";
 /** @typedef {import("../run/group.mjs").GroupOptions & OfRuns} RunsOptions */
 
 /** @param {Outcome} outcome @returns {import("../run/same.mjs").RunSummary} */
-const briefly = ({ seed, ending, detail, moves, calls, state, noScript }) =>
-  ({ seed, ending, detail, moves, calls, state, noScript });
+const briefly = ({ seed, ending, detail, moves, calls, state, noScript, real, row }) =>
+  ({ seed, ending, detail, moves, calls, state, noScript, ...(real === undefined ? {} : { real, row }) });
 
 export class Runs {
   /** @type {Promise<void>[]} of each job, settled when it has made its last run */
@@ -133,7 +133,8 @@ export class Runs {
     } catch (failure) {
       if (!(failure instanceof LostJob)) throw failure;
       const { ending: was, detail } = first.outcome;
-      return { seed, differs: "ending", was, is: "the end of its job's process", threw: hasThrown(was, detail) };
+      const is = "the end of its job's process";
+      return { seed, differs: "ending", was, is, threw: hasThrown(was, detail), real: false };
     }
     return again && differenceBetween(first.outcome, again);
   }

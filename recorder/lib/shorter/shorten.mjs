@@ -49,6 +49,11 @@ const MOST_MILLISECONDS = 10_000;
 
 const NOT_AGAIN = "it couldn't be made again in the same way: its agents do something else when they run once more";
 
+const OTHER_INPUT = "it couldn't be made again in the same way: its input may have come otherwise";
+
+/** @param {Pick<RunSummary, "real">} summary */
+const notAgain = ({ real }) => (real === undefined ? NOT_AGAIN : OTHER_INPUT);
+
 /** @typedef {{ row: number[], isEarly: boolean, changes: number, calls: number }} Measured */
 
 /** @param {Outcome} outcome that has its row @returns {Measured} how long a run is, and whether a wait ends early */
@@ -225,9 +230,10 @@ export async function shorten(group, summary, limits = {}) {
   if (why !== undefined) return asFound(summary, { row: [] }, 0, why);
   const { seed } = summary;
   const all = { most: MOST_RUNS, milliseconds: MOST_MILLISECONDS, onTry: () => {}, isFresh: false, ...limits };
-  const first = await group.one({ seed, whole: true, wantsRow: true, isFresh: all.isFresh });
+  const how = summary.row === undefined ? {} : { row: summary.row, isExact: true };
+  const first = await group.one({ seed, whole: true, wantsRow: true, isFresh: all.isFresh, ...how });
   const isAgain = areSame(first.outcome, summary) && failsAlike(first, first);
-  if (!isAgain) return asFound(summary, first.outcome, 1, NOT_AGAIN);
+  if (!isAgain) return asFound(summary, first.outcome, 1, notAgain(summary));
   const search = new Search(group, first, all, begun);
   await search.run();
   const { best, runs, stopped } = search;
@@ -235,7 +241,7 @@ export async function shorten(group, summary, limits = {}) {
     return asFound(summary, first.outcome, runs - 1, "no shorter one was found", stopped);
   }
   const shortest = await remade(group, first, best);
-  if (shortest === undefined) return asFound(summary, first.outcome, runs, NOT_AGAIN, stopped);
+  if (shortest === undefined) return asFound(summary, first.outcome, runs, notAgain(summary), stopped);
   const changes = { before: changesOf(first.outcome.row ?? []), after: best.changes };
   const shortened = { runs, changes, calls: { before: summary.calls, after: best.calls } };
   return { shortest, shortened: stopped === undefined ? shortened : { ...shortened, stopped } };

@@ -1,6 +1,8 @@
 // Rows as stretches: which agent moves, and for how many draws in a row.
 
-/** @typedef {{ agent: number, draws: number }} Stretch */
+import { moverOf } from "../board/row.mjs";
+
+/** @typedef {{ agent: number, draws: number }} Stretch of an agent; one to which real answers come has another number */
 
 /** @param {number[]} row @returns {Stretch[]} no two neighbours of one agent */
 export function stretchesOf(row) {
@@ -18,7 +20,7 @@ export function stretchesOf(row) {
 export const rowOf = (stretches) => stretches.flatMap(({ agent, draws }) => Array(draws).fill(agent));
 
 /** @param {number[]} row @returns {number} how often another agent moves than before */
-export const changesOf = (row) => Math.max(0, stretchesOf(row).length - 1);
+export const changesOf = (row) => Math.max(0, stretchesOf(row.map(moverOf)).length - 1);
 
 /**
  * @param {Stretch[]} stretches

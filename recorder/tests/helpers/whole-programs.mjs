@@ -84,7 +84,7 @@ class Threads {
     const outcomes = [];
     const wanted = seeds.map((seed) => ({ seed, whole: true, needsTrace: true, isSilent: true }));
     await this.#group.run(wanted, (outcome, judgement, aside) => {
-      const keeps = keepsGlobals(outcome, aside.again);
+      const keeps = outcome.real === undefined ? keepsGlobals(outcome, aside.again) : undefined;
       if (keeps !== undefined) throw keeps;
       outcomes.push(checkedBy(this.#simulator, { outcome, judgement, aside }));
     });
