@@ -2,9 +2,7 @@
 
 import { CALL_NUMBERS, SIZES } from "../../script/kinds.mjs";
 import { END } from "../board/deadlines.mjs";
-import { placeNumber } from "../memory/known-places.mjs";
 import { FLAG } from "../memory/log.mjs";
-import { byteOf } from "../memory/memory.mjs";
 import { engineCall, isEqualElement } from "./engine.mjs";
 
 const { wait: WAIT, notify: NOTIFY, load: LOAD, store: STORE, compareExchange: COMPARE_EXCHANGE } = CALL_NUMBERS;
@@ -14,16 +12,8 @@ const { wait: WAIT, notify: NOTIFY, load: LOAD, store: STORE, compareExchange: C
 /** @param {Call} call @returns {boolean} whether a call's index is one of its view's */
 export const isWithin = (call) => call.index >= 0 && call.index < call.length;
 
-/**
- * @param {Call} call
- * @returns {[from: number, to: number]} the first place that it touches, and the place behind the last one; 0 and 0 if it
- * touches none
- */
-export function placesAsked(call) {
-  if (!isWithin(call)) return [0, 0];
-  const from = placeNumber(call.block, byteOf(call));
-  return [from, from + (call.bytes ?? SIZES[call.kind])];
-}
+/** @param {Call} call @returns {number} how many bytes it touches; 0: none */
+export const bytesAsked = (call) => (isWithin(call) ? call.bytes ?? SIZES[call.kind] : 0);
 
 /** @param {Call} call @returns {number} what a call may do, as flags, before it is done */
 export function flagsAsked(call) {

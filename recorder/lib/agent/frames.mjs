@@ -102,18 +102,21 @@ const agentsFrame = (from) => firstOfAgents(framesHere(watching.seen, FEW_FRAMES
 /**
  * Where a frame is. That of WebAssembly is the innermost one, so it is at the instruction that has called the recorder.
  * @param {NodeJS.CallSite} frame
- * @returns {[string | null, number | null, number | null]} its file, line and column
+ * @returns {{ file: string | null, line: number | null, column: number | null }}
  */
 function positionOf(frame) {
   const file = /** @type {string | null} */ (frame.getFileName());
-  if (typeof file !== "string" || !begins(file, COMPILED)) return [file, frame.getLineNumber(), frame.getColumnNumber()];
-  return [`${COMPILED}${frame.getFunctionName() ?? "a function without a name"}`, 1, compiled.at];
+  if (typeof file !== "string" || !begins(file, COMPILED)) {
+    return { file, line: frame.getLineNumber(), column: frame.getColumnNumber() };
+  }
+  const name = frame.getFunctionName() ?? "a function without a name";
+  return { file: `${COMPILED}${name}`, line: 1, column: compiled.at };
 }
 
 /** @param {NodeJS.CallSite} [frame] @returns {string | undefined} its file, line and column */
 function placeOf(frame) {
   if (frame === undefined) return undefined;
-  const [file, line, column] = positionOf(frame);
+  const { file, line, column } = positionOf(frame);
   return `${file}:${line}:${column}`;
 }
 
@@ -159,6 +162,6 @@ export function numberAbove(sources, called) {
 
 /** @param {Sources} sources @param {NodeJS.CallSite} frame */
 function numberOf(sources, frame) {
-  const [file, line, column] = positionOf(frame);
+  const { file, line, column } = positionOf(frame);
   return sources.numberOf(file, line, column);
 }

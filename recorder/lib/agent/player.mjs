@@ -4,12 +4,13 @@
 import { CALL_NUMBERS, SIZES } from "../../script/kinds.mjs";
 import { END } from "../board/deadlines.mjs";
 import { JOIN, LEAVE, MAKE, TIME_UP } from "../board/journal.mjs";
+import { placeNumber } from "../memory/known-places.mjs";
 import { PHASE, WORD } from "../memory/layout.mjs";
 import { FLAG } from "../memory/log.mjs";
 import { byteOf } from "../memory/memory.mjs";
 import { NOTED } from "./accesses.mjs";
 import { foundBy, leftOpen } from "./answer.mjs";
-import { effectOf, flagsAsked, isOnlyByTime, isWithin, placesAsked } from "./effects.mjs";
+import { bytesAsked, effectOf, flagsAsked, isOnlyByTime, isWithin } from "./effects.mjs";
 import { engineCall } from "./engine.mjs";
 import { numberAbove } from "./frames.mjs";
 import { Part, RunIsOver } from "./part.mjs";
@@ -343,8 +344,10 @@ export class Player {
   /** @param {Call} call that the agent asks for */
   #ask(call) {
     const { board } = this.table;
-    const [from, to] = placesAsked(call);
-    board.strategy.asks(this.agent, from, to, flagsAsked(call), board.places.placeOf(call.block, byteOf(call)));
+    const bytes = bytesAsked(call);
+    const byte = byteOf(call);
+    const from = bytes === 0 ? 0 : placeNumber(call.block, byte);
+    board.strategy.asks(this.agent, from, from + bytes, flagsAsked(call), board.places.placeOf(call.block, byte));
     board.line.become(this.agent, PHASE.ASKS);
   }
 
