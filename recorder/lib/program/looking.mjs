@@ -8,7 +8,7 @@ import { asyncIdOf } from "./internals.mjs";
 const { clearTimeout: clear, setImmediate: turnLater, setTimeout: wake } = timers;
 
 /**
- * What a look comes to: something has come; nothing has, and all is as it was; or something that was waited for is no
+ * How a look ends: something has come; nothing has, and all is as it was; or something that was waited for is no
  * more, since what closes is open until the loop has turned.
  * @typedef {"came" | "nothing" | "less"} Found
  */

@@ -1,5 +1,5 @@
 // Which places agents use only in an order that their messages give: what one has done before it sends a message comes
-// before all that another one does after it has received it. There it is decided who is first, whoever moves.
+// before all that another one does after it has received it. No draw decides who is first there.
 
 import { PLACES } from "../memory/known-places.mjs";
 
