@@ -102,8 +102,9 @@ Atomics.wait(words, 0, 0);
 process.exit(0);`,
     };
     areFinished(await runsOf(context, files, { seeds: upTo(4) }));
+    // A run that has noted no lines of code is made once more, and there may be a pilot.
     const pids = readdirSync(folder).map(Number);
-    assert.equal(pids.length, 12);
+    assert.ok(pids.length >= 12 && pids.length % 3 === 0, `${pids.length} processes`);
     // A process that nobody has waited for is a zombie: it runs no more.
     const there = pids.map((pid) => `/proc/${pid}/status`).filter((file) => existsSync(file));
     assert.deepEqual(there.filter((file) => !/^State:\tZ/m.test(readFileSync(file, "utf8"))), []);
@@ -317,7 +318,9 @@ describe("a run that can't be repeated", () => {
     /** @type {any[]} */
     const outcomes = [];
     try {
-      await job.open({ ...defaultsOf("record"), isProgram: true, seconds: 20, checks: true, checkEvery: 1, module });
+      // Pilots would be further runs.
+      const options = { ...defaultsOf("record"), isProgram: true, everywhere: true, seconds: 20, module };
+      await job.open({ ...options, checks: true, checkEvery: 1 });
       const seeds = upTo(2).map((seed) => ({ seed, whole: true, isSilent: true }));
       await job.run(seeds, (outcome) => void outcomes.push(outcome));
     } finally {
@@ -352,15 +355,20 @@ describe("a run that can't be repeated", () => {
     assert.match(replayed.stderr, new RegExp(`^record: the code no longer does the same: .*; or ${OTHERWISE}$`, "m"));
   });
 
-  it("is replayed with its answers if these come again", async (context) => {
+  it("is replayed with its answers if these come again, and else says that they may not have", async (context) => {
     const main = programOf(context, { ...RACE, "main.mjs": `${RACE["main.mjs"]}
 if (Atomics.load(words, 1) === 2) throw new Error("it fails");` });
     const out = temporaryFolder(context);
     const { status, stdout } = await recorded(["--program", main, "--seeds", "1..60", "--fail-fast", "--out", out]);
     assert.equal(status, 1, stdout);
     const kept = readdirSync(out).find((name) => name.endsWith(".program.json"));
-    const replayed = await recorded(["--program", main, "--replay", join(out, String(kept))]);
-    assert.equal(replayed.status, 1, replayed.stderr);
-    assert.match(replayed.stdout, /^ {2}agent 0 threw Error: it fails$/m);
+    for (let time = 0; time < 3; time += 1) {
+      const replayed = await recorded(["--program", main, "--replay", join(out, String(kept))]);
+      if (replayed.status === 1) assert.match(replayed.stdout, /^ {2}agent 0 threw Error: it fails$/m);
+      else {
+        assert.equal(replayed.status, 3);
+        assert.ok(replayed.stderr.endsWith(`; or ${OTHERWISE}\n`), replayed.stderr);
+      }
+    }
   });
 });
