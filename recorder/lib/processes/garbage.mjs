@@ -5,7 +5,7 @@
 // No flag of the engine differs from its default while a worker begins. Node has its own code compiled ahead, for the
 // default flags alone: with others each worker would compile it anew.
 
-import { getHeapSpaceStatistics, setFlagsFromString } from "node:v8";
+import { setFlagsFromString } from "node:v8";
 import { Script, createContext } from "node:vm";
 import { getEnvironmentData, setEnvironmentData } from "node:worker_threads";
 
@@ -18,9 +18,6 @@ const HIDDEN = "--no-expose-gc";
 
 /** The room for young objects grows no more, until a worker begins. By itself it grows to 16 MB twice. */
 const NO_GROWTH = "--semi-space-growth-factor=1";
-
-/** A job's first thread makes many. It looks through them half as often with 4 MB twice as with the 2 MB at first. */
-const ENOUGH_FOR_JOB = 2 ** 23;
 const ASKED = /--expose[-_]gc/;
 
 /** The same in a worker: 2 MB twice, and as much for large objects. */
@@ -54,12 +51,6 @@ export function collectGarbage() {
 /** If this process is the recorder's own, its first thread gets no more room for young objects. */
 export function stopGrowth() {
   if (isOwn) setFlagsFromString(NO_GROWTH);
-}
-
-/** The same in the process of a job, as soon as there is room enough. */
-export function stopGrowthInTime() {
-  const room = getHeapSpaceStatistics().find(({ space_name: name }) => name === "new_space");
-  if (room === undefined || room.space_size >= ENOUGH_FOR_JOB) stopGrowth();
 }
 
 /** @returns {{ maxYoungGenerationSizeMb?: number }} the limits of the workers of this process */

@@ -1,6 +1,6 @@
 // The process of a job. It ends with the process that has started it, however that one ends.
 
-import { onceMore, stopGrowthInTime } from "../processes/garbage.mjs";
+import { onceMore, stopGrowth } from "../processes/garbage.mjs";
 import { endGroup } from "../processes/group-end.mjs";
 import { Job } from "./job.mjs";
 import { packed } from "./remote-job.mjs";
@@ -23,7 +23,7 @@ function sendOutcome(outcome) {
 async function answerTo(request) {
   if (request.open !== undefined) await job.open(request.open);
   // Its first workers have begun.
-  stopGrowthInTime();
+  stopGrowth();
   if (request.run !== undefined) await job.run(request.run, sendOutcome, (failing) => send({ failing }));
   return request.shorten && job.shorten(request.shorten, (tried) => send({ tried }));
 }
