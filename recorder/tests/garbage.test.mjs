@@ -12,11 +12,9 @@ const GARBAGE = new URL("../lib/processes/garbage.mjs", import.meta.url).href;
 /** Code that prints what it sees of an object that nobody has any more. */
 const PRINTING = `console.log(...await (${WATCHING})(onceMore));`;
 
-const IMPORTED = "collectGarbage, onceMore, stopGrowth, stopGrowthInTime";
-
 /** What a process prints. @param {string} code */
 function printed(code) {
-  const words = ["--input-type=module", "--eval", `import { ${IMPORTED} } from "${GARBAGE}";\n${code}`];
+  const words = ["--input-type=module", "--eval", `import { collectGarbage, onceMore } from "${GARBAGE}";\n${code}`];
   const { stdout, stderr } = spawnSync(process.execPath, words, { encoding: "utf8" });
   assert.equal(stderr, "");
   return stdout;
@@ -32,22 +30,6 @@ test("a process that asks for it collects its garbage once in 2,048 times, and s
   `;
   assert.equal(printed(`collectGarbage();\n${starting}`), "true false\n");
   assert.equal(printed(starting), "true true\n");
-});
-
-test("the room for young objects grows to 4 MB twice in a job, and else not at all", () => {
-  /** How many MB of room there are after many objects that stay for a while. @param {string} stop */
-  const roomAfter = (stop) => Number(printed(`
-    import { getHeapSpaceStatistics } from "node:v8";
-    collectGarbage();
-    for (let time = 0, kept = []; time < 200; time += 1) {
-      ${stop}
-      kept = [...kept.slice(-9), Array.from({ length: 10_000 }, () => ({}))];
-    }
-    console.log(getHeapSpaceStatistics().find(({ space_name }) => space_name === "new_space").space_size / 2 ** 20);
-  `));
-  assert.equal(roomAfter("stopGrowthInTime();"), 8);
-  assert.ok(roomAfter("stopGrowth();") < 8);
-  assert.ok(roomAfter("") > 8);
 });
 
 test("the process of a job collects garbage in the workers that it begins before it has loaded its module", () => {
