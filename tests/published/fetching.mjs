@@ -64,32 +64,44 @@ function compile({ files, made = {} }, into) {
   for (const [name, text] of Object.entries(made)) writeFileSync(join(out, name), text);
 }
 
+/**
+ * Mends, makes and builds what a source says of the files in a folder.
+ * @param {Source} source
+ * @param {string} into
+ */
+function finish(source, into) {
+  const { mends = [], makings = [] } = source;
+  for (const { file } of mends) {
+    writeFileSync(join(into, file), mended(file, readFileSync(join(into, file), "utf8"), mends));
+  }
+  make(into, makings);
+  if (source.made !== undefined) compile(source, into);
+  try {
+    source.build?.(into);
+  } catch (problem) {
+    // What isn't built isn't there.
+    rmSync(into, { recursive: true });
+    throw problem;
+  }
+}
+
 /** @type {Record<Source["kind"], (source: Source, into: string, room: string) => void>} */
 const FETCH = {
   node: fetchNode,
-  deb: ({ name, files, strip = 0 }, into, room) => {
+  deb: (source, into, room) => {
+    const { name, files, strip = 0 } = source;
     run("apt-get", ["download", name ?? ""], room);
     const words = ["-C", into, `--strip-components=${strip}`, ...files];
     run("sh", ["-c", `dpkg-deb --fsys-tarfile *.deb | tar x "$@"`, "sh", ...words], room);
+    finish(source, into);
   },
   source: (source, into, room) => {
-    const { name, files, mends = [], makings = [] } = source;
+    const { name, files } = source;
     run("apt-get", ["source", "--download-only", "--tar-only", name ?? ""], room);
     const archive = onlyOne(room, /\.orig\.tar\.\w+$/);
     const wanted = files.map((file) => `*/${file}`);
     run("tar", ["xf", archive, "-C", into, "--strip-components=1", "--wildcards", ...wanted], room);
-    for (const { file } of mends) {
-      writeFileSync(join(into, file), mended(file, readFileSync(join(into, file), "utf8"), mends));
-    }
-    make(into, makings);
-    if (source.made !== undefined) compile(source, into);
-    try {
-      source.build?.(into);
-    } catch (problem) {
-      // What isn't built isn't there.
-      rmSync(into, { recursive: true });
-      throw problem;
-    }
+    finish(source, into);
   },
 };
 
