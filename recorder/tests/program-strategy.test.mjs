@@ -6,11 +6,12 @@ import { readFileSync } from "node:fs";
 import { describe, it } from "node:test";
 import { Board } from "../lib/board/board.mjs";
 import { waysOf } from "../lib/board/strategy/ways.mjs";
-import { placesAsked } from "../lib/agent/effects.mjs";
+import { bytesAsked } from "../lib/agent/effects.mjs";
 import { MESSAGES, MESSAGE_BYTES, loopPlace } from "../lib/memory/blocks.mjs";
 import { placeNumber } from "../lib/memory/known-places.mjs";
 import { LOOP, PHASE } from "../lib/memory/layout.mjs";
 import { FLAG } from "../lib/memory/log.mjs";
+import { byteOf } from "../lib/memory/memory.mjs";
 import { Moves, TO_CHANNELS, toPort } from "../lib/program/moves.mjs";
 import { runsOf } from "./helpers/whole-programs.mjs";
 
@@ -73,7 +74,8 @@ describe("what conflicts", () => {
     const part = { accesses: { count: 0 } };
     const player = /** @type {any} */ ({ agent: 0, table: { board }, part, make: (call) => made.push(call) });
     new Moves(player, new SharedArrayBuffer(MESSAGE_BYTES)).send(it, TO_CHANNELS);
-    const [from, to] = placesAsked(made[0]);
+    const from = placeNumber(made[0].block, byteOf(made[0]));
+    const to = from + bytesAsked(made[0]);
     board.strategy.asks(0, from, to, WAITERS);
     board.asksForTask(2);
     ask(board, 1, loopPlace(15));

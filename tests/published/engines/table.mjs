@@ -97,19 +97,16 @@ const OF_SPIDERMONKEY = {
 const OF_NODE = {
   name: "node-tests", sources: [NODEJS], programOf: by("node.mjs"), options: {},
   passing: [
-    "async-hooks-worker-asyncfn-terminate-4", "worker-beforeexit-throw-exit", "worker-broadcastchannel",
+    "async-hooks-worker-asyncfn-terminate-4", "trace-atomics-wait", "worker-beforeexit-throw-exit", "worker-broadcastchannel",
     "worker-message-channel-sharedarraybuffer", "worker-message-port-multiple-sharedarraybuffers",
+    "worker-message-port-wasm-threads",
     "worker-nested-on-process-exit", "worker-sharedarraybuffer-from-worker-thread",
     "worker-unref-from-message-during-exit", "worker-voluntarily-exit-followed-by-addition",
     "worker-voluntarily-exit-followed-by-throw", "worker-workerdata-sharedarraybuffer",
   ].map(parallel),
   others: {
     [parallel("inspector-connect-main-thread")]: { says: /inspector\.Session/, why: "the inspector is refused" },
-    [parallel("trace-atomics-wait")]: { says: /child_process\.spawnSync/, why: "child processes are refused" },
     [parallel("worker-http2-generic-streams-terminate")]: { says: /http2\.connect/, why: "HTTP is refused" },
-    [parallel("worker-message-port-wasm-threads")]: {
-      says: /shared memory that isn't a SharedArrayBuffer/, why: "it shares a WebAssembly.Memory, which is refused",
-    },
     [parallel("worker-process-cwd")]: {
       says: /process\.chdir/, why: "the directory is the process's, and a thread that stands for main can't change it",
     },
