@@ -250,6 +250,23 @@ describe("when a worker ends, it leaves undone", () => {
     }
   }
 
+  // As node's test/parallel/test-worker-http2-generic-streams-terminate.js.
+  it("what node's own code calls next", async (context) => {
+    const main = `${MAIN}started().on("exit", () => {
+      if (Atomics.load(words, 0) !== 1) throw new Error("it has gone on");
+    });`;
+    const worker = `import { connect } from "node:http2"; import { Duplex } from "node:stream";
+import { workerData } from "node:worker_threads";
+const write = () => { Atomics.add(workerData, 0, 1); process.exit(); };
+for (const _ of "12") connect("http://localhost", { createConnection: () => new Duplex({ write, read() {} }) });`;
+    await withGroup(context, { "main.mjs": main, "worker.mjs": worker }, async (group) => {
+      for (let seed = 1; seed <= 3; seed += 1) {
+        const { outcome } = await group.one({ seed, whole: false, isSilent: true });
+        assert.equal(outcome.ending, "finished", outcome.detail);
+      }
+    });
+  });
+
   it("nothing of the next run", async (context) => {
     const body = "setImmediate(() => queueMicrotask(() => process.nextTick(() => { write('p'); end(); })));";
     assert.equal(await written(context, body, "process.exit(3)"), "<p<p<p");

@@ -6,13 +6,11 @@ import { createHook, executionAsyncResource } from "node:async_hooks";
 import { Session } from "node:inspector";
 import timers from "node:timers";
 import { promiseHooks } from "node:v8";
+import { MessagePort } from "node:worker_threads";
 import { restoreProcess } from "./furnish.mjs";
 import { clearAsyncIdStack } from "./internals.mjs";
 
 const { setImmediate: turnLater } = timers;
-
-/** @param {any} resource of node's @returns {boolean} whether it stands for code that a program has left for later */
-const isTask = (resource) => typeof resource.callback === "function";
 
 /**
  * @typedef {object} Unwound
@@ -29,14 +27,14 @@ export class Unwinding {
   /** @type {(() => void) | undefined} ends that each promise's job is broken off; none, if the code isn't being left */
   #release = undefined;
 
-  /** Whether node's loop will sweep. */
-  #isNext = false;
+  /** @type {object | undefined} by which node's loop will sweep */
+  #next = undefined;
 
   /** @param {Unwound} unwound */
   constructor(unwound) {
     this.unwound = unwound;
-    // The code of a tick or of `queueMicrotask` can't be dropped. This never returns, so it doesn't run.
-    this.hook = createHook({ before: () => void (isTask(executionAsyncResource()) && unwound.park()) });
+    // What else node calls, as a tick, may run code of the program, and can't be dropped. So this never returns.
+    this.hook = createHook({ before: () => void (this.#isOwn(executionAsyncResource()) || unwound.park()) });
   }
 
   /** Leaves all code of the program that runs now. */
@@ -45,8 +43,7 @@ export class Unwinding {
     // A job that the engine unwinds takes all others of its queue with it. This hook comes before the other one's.
     this.#release ??= promiseHooks.onBefore(this.leave);
     this.hook.enable();
-    if (!this.#isNext) turnLater(this.#sweep);
-    this.#isNext = true;
+    this.#next ??= turnLater(this.#sweep);
     // What is unwound has left contexts of async_hooks open.
     clearAsyncIdStack();
     this.#unwind();
@@ -54,15 +51,20 @@ export class Unwinding {
 
   /** Nothing of the program is on the stack. */
   #sweep = () => {
-    this.#isNext = false;
+    this.#next = undefined;
     if (!this.unwound.isSwept()) this.unwound.park();
     // A promise's job was broken off meanwhile, so it sweeps once more.
-    if (this.#isNext) return;
+    if (this.#next !== undefined) return;
     this.hook.disable();
     this.#release?.();
     this.#release = undefined;
     this.unwound.goHome();
   };
+
+  /** @param {object} resource of what node calls @returns {boolean} whether that is the recorder's own */
+  #isOwn(resource) {
+    return resource === this.#next || resource instanceof MessagePort;
+  }
 
   /** @returns {never} */
   #unwind() {

@@ -98,6 +98,7 @@ const OF_NODE = {
   name: "node-tests", sources: [NODEJS], programOf: by("node.mjs"), options: {},
   passing: [
     "async-hooks-worker-asyncfn-terminate-4", "trace-atomics-wait", "worker-beforeexit-throw-exit", "worker-broadcastchannel",
+    "worker-http2-generic-streams-terminate",
     "worker-message-channel-sharedarraybuffer", "worker-message-port-multiple-sharedarraybuffers",
     "worker-message-port-wasm-threads",
     "worker-nested-on-process-exit", "worker-sharedarraybuffer-from-worker-thread",
@@ -106,7 +107,6 @@ const OF_NODE = {
   ].map(parallel),
   others: {
     [parallel("inspector-connect-main-thread")]: { says: /inspector\.Session/, why: "the inspector is refused" },
-    [parallel("worker-http2-generic-streams-terminate")]: { says: /http2\.connect/, why: "HTTP is refused" },
     [parallel("worker-process-cwd")]: {
       says: /process\.chdir/, why: "the directory is the process's, and a thread that stands for main can't change it",
     },
