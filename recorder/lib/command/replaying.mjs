@@ -8,7 +8,7 @@ import { Keeper } from "../keeping/keep.mjs";
 import { Refused } from "../options/refused.mjs";
 import { preloads } from "../processes/preloads.mjs";
 import { Job } from "../seeds/job.mjs";
-import { OTHER_INPUT } from "../seeds/first-again.mjs";
+import { OTHER_INPUT } from "../run/words.mjs";
 import { Runs } from "../seeds/runs.mjs";
 import { NoLongerTheSame } from "../shorter/differing.mjs";
 import { chosenProgram, simulatorAt } from "../simulator/chosen.mjs";

@@ -33,7 +33,7 @@ export class Unwinding {
   /** @param {Unwound} unwound */
   constructor(unwound) {
     this.unwound = unwound;
-    // What else node calls, as a tick, may run code of the program, and can't be dropped. So this never returns.
+    // What else node calls, as a tick, may run code of the program, and can't be dropped. So the thread sleeps for good.
     this.hook = createHook({ before: () => void (this.#isOwn(executionAsyncResource()) || unwound.park()) });
   }
 

@@ -15,6 +15,7 @@ import { RunMaker } from "./run-maker.mjs";
 import { RunReporter } from "./run-reporter.mjs";
 import { areSame } from "./same.mjs";
 import { SourceNames } from "./source-names.mjs";
+import { OTHER_INPUT } from "./words.mjs";
 
 /** @typedef {import("./outcome.mjs").One} One */
 /** @typedef {import("./outcome.mjs").Outcome} Outcome */
@@ -22,11 +23,8 @@ import { SourceNames } from "./source-names.mjs";
 /** @typedef {import("./outcome.mjs").Wanted} Wanted */
 /** @typedef {import("./run-maker.mjs").Made} Made */
 
-const ANOTHER_WAY = "the run went another way when it was made once more to learn its lines of code: its agents do " +
-  "something else then, as where a module keeps something in its own variables";
-
-const OTHER_INPUT = "the run went another way when it was made once more to learn its lines of code: its input may have "
-  + "come otherwise";
+const ANOTHER_WAY = "the run went another way when it was made once more to learn its lines of code";
+const BY_AGENTS = "its agents do something else then, as where a module keeps something in its own variables";
 
 /** @param {number[]} gone agents that didn't come back, or whose workers died */
 function goneText(gone) {
@@ -230,7 +228,7 @@ class Referee {
       && again.stray === undefined;
     await this.#replace(again);
     if (same) reporter.addSources(outcome, wantsTrace);
-    else if (wantsTrace) outcome.noTrace = outcome.real === undefined ? ANOTHER_WAY : OTHER_INPUT;
+    else if (wantsTrace) outcome.noTrace = `${ANOTHER_WAY}: ${outcome.real === undefined ? BY_AGENTS : OTHER_INPUT}`;
   }
 
   /** @param {Made} run after which workers that can't run again are started anew, or all if the option says so */

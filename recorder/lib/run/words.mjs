@@ -1,4 +1,7 @@
-// Numbers, as a summary words them.
+// Numbers, as a summary words them, and what several messages say.
+
+/** Why a run of a program that gets real answers may be another one when it is made once more. */
+export const OTHER_INPUT = "its input may have come otherwise";
 
 /** @param {number} count @returns {string} as `9,432` */
 export const digits = (count) => String(count).replaceAll(/\B(?=([0-9]{3})+$)/g, ",");

@@ -2,6 +2,7 @@
 // module keeps something from run to run. A program's first failing run is made once more at once, in fresh threads.
 
 import { endingsText, hasThrown } from "../../page/endings.mjs";
+import { OTHER_INPUT } from "../run/words.mjs";
 
 /** @typedef {import("./job.mjs").Checked} Outcome */
 
@@ -43,9 +44,6 @@ const DIFFERENCES = {
 
 /** @param {Remembering} found @returns {string} */
 const differenceText = (found) => (DIFFERENCES[found.differs] ?? DIFFERENCES.acts)(found);
-
-/** Why a run of a program that gets real answers may be another one when it is made once more. */
-export const OTHER_INPUT = "its input may have come otherwise";
 
 /**
  * What is added to the text of a failing run that got real answers.

@@ -5,6 +5,7 @@
 
 import { areSame } from "../run/same.mjs";
 import { NO_SCRIPT } from "../run/unseen.mjs";
+import { OTHER_INPUT } from "../run/words.mjs";
 import { failsAlike } from "./alike.mjs";
 import { inOneGo } from "./in-one-go.mjs";
 import { keptScript } from "./kept-script.mjs";
@@ -47,12 +48,13 @@ const MOST_RUNS = 400;
 
 const MOST_MILLISECONDS = 10_000;
 
-const NOT_AGAIN = "it couldn't be made again in the same way: its agents do something else when they run once more";
+const OTHERWISE = "it couldn't be made again in the same way";
+const NOT_AGAIN = `${OTHERWISE}: its agents do something else when they run once more`;
 
-const OTHER_INPUT = "it couldn't be made again in the same way: its input may have come otherwise";
+const NOT_AGAIN_BY_INPUT = `${OTHERWISE}: ${OTHER_INPUT}`;
 
 /** @param {Pick<RunSummary, "real">} summary */
-const notAgain = ({ real }) => (real === undefined ? NOT_AGAIN : OTHER_INPUT);
+const notAgain = ({ real }) => (real === undefined ? NOT_AGAIN : NOT_AGAIN_BY_INPUT);
 
 /** @typedef {{ row: number[], isEarly: boolean, changes: number, calls: number }} Measured */
 

@@ -12,7 +12,7 @@ const DROP = 0x1a;
 const END = 0x0b;
 const FUNCREF = 0x70;
 
-/** Of a written value its bits as a number of 64 bits. */
+/** The instructions that turn a written value into a number of 64 bits. */
 const BITS = Object.freeze({ i: [0xad], l: [], f: [0xbc, 0xad], d: [0xbd] });
 
 /** @type {readonly string[]} what the recorder gives besides the functions of the table that aren't made here */

@@ -57,7 +57,7 @@ export const slotOfAtomic = (code) =>
 
 /** @param {string} type as a slot has it @returns {number[]} the type of a function in a module */
 export function typeBytes(type) {
-  const [given, answered] = type.split(">").map((letters) => [...letters].map((letter) =>
+  const [given, results] = type.split(">").map((letters) => [...letters].map((letter) =>
     TYPES[/** @type {keyof typeof TYPES} */ (letter)]));
-  return [0x60, given.length, ...given, answered.length, ...answered];
+  return [0x60, given.length, ...given, results.length, ...results];
 }

@@ -8,7 +8,7 @@ const { isBlob, kHandle } = createRequire(import.meta.url)("internal/blob");
 const { TypeError: EngineTypeError, Uint8Array: EngineBytes, URL: EngineURL } = globalThis;
 const { concat } = Buffer;
 
-/** @typedef {{ bytes: Uint8Array, type: string, agent: number }} Content of a blob, and who has made its URL */
+/** @typedef {{ bytes: Uint8Array, type: string, agent: number }} Content of a blob, and the thread that has made its URL */
 
 /** What the bytes of a blob are followed by, as node's reader has it. */
 const END = 0;
