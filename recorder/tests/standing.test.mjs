@@ -6,7 +6,6 @@ import { join } from "node:path";
 import { test } from "node:test";
 import { summaryText } from "../lib/command/summary-text.mjs";
 import { Summary } from "../lib/command/summary.mjs";
-import { standingsOf } from "../lib/run/standing.mjs";
 import { explore, record } from "../recorder.mjs";
 import { temporaryFolder } from "./helpers/common.mjs";
 import { runNode } from "./helpers/programs.mjs";
@@ -20,6 +19,9 @@ export default function agent({ buffers, agent, args: [way] }) {
   if (agent === 1) Atomics.wait(others, 1, 0);
   if (agent === 2 && way === "spins") while (Atomics.load(words, 2) === 0);
   if (agent === 2 && way === "counts") for (;;) Atomics.add(words, 2, 1);
+  if (agent === 2 && way === "views") for (let at = 0; at < 12; at += 1) {
+    for (let length = 1; length <= 12 - at; length += 1) Atomics.load(new Int8Array(buffers[0], at, length), 0);
+  }
 }
 `;
 
@@ -103,14 +105,12 @@ test("the summary has that of the first failing run as JSON, and so has a joined
   assert.match(summaryText(summary), /agent 0 waits at LOCK: its call 1, /);
 });
 
-test("what is said of the agent that has met a limit is read right", () => {
-  const met = (detail) => standingsOf(detail, [], [], { calls: [] }, () => "")
-    .map(({ agent, does, file, line, column }) => [agent, does, file, line, column]);
-  assert.deepEqual(met("agent 12 spins: it reads the same bytes again"), [[12, "spins", null, null, null]]);
-  assert.deepEqual(met("agent 1 spins at a b.mjs:5:18: it goes on"), [[1, "spins", "a b.mjs", 5, 18]]);
-  assert.deepEqual(met("agent 1 spins at c.mjs:5:18: it goes on"), [[1, "spins", "c.mjs", 5, 18]]);
-  assert.deepEqual(met("agent 0 has made 1000 calls, and goes on at c.mjs:5:18"), [[0, "runs", "c.mjs", 5, 18]]);
-  assert.deepEqual(met("more than 9 typed arrays were used: agent 3 is at c.mjs:5:18"), [[3, "runs", "c.mjs", 5, 18]]);
-  assert.deepEqual(met("more than 100 moves would be made"), []);
-  assert.deepEqual(met(""), []);
+test("an agent that meets another limit is named with its line, and the limit of the moves is no agent's", async (context) => {
+  const module = moduleIn(context);
+  const views = await waitingOutcome({ module, args: ["views"] });
+  assert.match(views.detail, /^more than \d+ different typed arrays were used: agent 2 is at agents\.mjs:/);
+  assert.deepEqual(views.standing[0], at("runs", "Atomics.load(new"));
+  const { detail, standing } = await waitingOutcome({ module, args: ["spins"], maxMoves: 200 });
+  assert.match(detail, /^more than 200 moves would be made/);
+  assert.ok(standing.every(({ does }) => does === "waits" || does === "asks"), JSON.stringify(standing));
 });

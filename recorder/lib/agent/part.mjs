@@ -147,23 +147,25 @@ export class Part {
   meetsMostCalls() {
     const { calls } = SCRIPT_LIMITS;
     if (this.table.records.endsAlike(this.made)) this.spins(`it has made ${calls} calls, and goes on`);
-    return this.bound(`agent ${this.agent} has made ${calls} calls, and goes on${whereText()}`);
+    return this.bound(`agent ${this.agent} has made ${calls} calls, and goes on${whereText()}`, false);
   }
 
   /** @param {string} what it does again and again @returns {never} */
   spins(what) {
-    return this.bound(`agent ${this.agent} spins${whereText()}: ${what}`);
+    return this.bound(`agent ${this.agent} spins${whereText()}: ${what}`, true);
   }
 
-  /** @param {string} detail @returns {never} */
-  bound(detail) {
+  /** @param {string} detail @param {boolean} spins whether the agent does the same again and again @returns {never} */
+  bound(detail, spins) {
+    this.table.board.end.meets(this.agent, spins);
+    this.#mark();
     return this.end("bound", detail);
   }
 
   /** @param {string} limit that is met, to which it is added where the agent is @returns {never} */
   meetsLimit(limit) {
     const where = whereText();
-    return this.bound(where === "" ? limit : `${limit}: agent ${this.agent} is${where}`);
+    return this.bound(where === "" ? limit : `${limit}: agent ${this.agent} is${where}`, false);
   }
 
   /** The run has ended while this agent's code went on, or the referee asks where it is. */
@@ -192,13 +194,18 @@ export class Part {
 
   /** The run has ended while the agent asked for a call or waited. It notes where that is. @returns {never} */
   sentHome() {
+    this.#mark();
+    return this.over();
+  }
+
+  /** Notes where the agent's code is. */
+  #mark() {
     const { sources } = this.table;
     try {
       sources.mark(numberHere(sources));
     } catch {
       // The stack has come to its end: then it isn't known.
     }
-    return this.over();
   }
 
   /** @returns {never} */

@@ -10,6 +10,12 @@ const encoder = new TextEncoder();
 
 /** @typedef {"finished" | "deadlock" | "failed" | "bound" | "stuck"} Ended how a run ends by itself */
 
+/**
+ * @typedef {object} Met who has met a limit
+ * @property {number} agent
+ * @property {boolean} spins whether it does the same again and again
+ */
+
 /** @type {readonly Ended[]} */
 const ENDINGS = Object.freeze(["finished", "deadlock", "failed", "bound", "stuck"]);
 
@@ -17,6 +23,10 @@ const ENDINGS = Object.freeze(["finished", "deadlock", "failed", "bound", "stuck
 const GOES_ON = 0;
 const ENDED = 1;
 const ASKED = 2;
+
+// The word MET: none, or twice the number of an agent and these; one more if it spins.
+const NO_LIMIT = 0;
+const MET = 2;
 
 export class End {
   /** @param {Int32Array} words of the board @param {Buffer} text for the details */
@@ -29,6 +39,7 @@ export class End {
   begin() {
     store(this.words, WORD.ENDED, GOES_ON);
     store(this.words, WORD.OVER, 0);
+    this.words[WORD.MET] = NO_LIMIT;
   }
 
   /** @returns {boolean} */
@@ -63,6 +74,17 @@ export class End {
   /** Sends home the agents of a run that has ended. */
   dismiss() {
     store(this.words, WORD.OVER, 1);
+  }
+
+  /** @param {number} agent that has met a limit, for which the run ends @param {boolean} spins */
+  meets(agent, spins) {
+    this.words[WORD.MET] = MET + 2 * agent + (spins ? 1 : 0);
+  }
+
+  /** @returns {Met | undefined} who has met the limit that has ended the run; none if that is no agent's */
+  met() {
+    const met = this.words[WORD.MET];
+    return met === NO_LIMIT ? undefined : { agent: (met - MET) >> 1, spins: (met & 1) === 1 };
   }
 
   /**

@@ -245,6 +245,7 @@ export class Turn {
       return;
     }
     this.silent = agent;
+    this.end.meets(agent, false);
     this.end.close("bound", `agent ${agent} has made no call for ${seconds} s`);
   }
 }

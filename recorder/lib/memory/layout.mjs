@@ -50,6 +50,8 @@ export const WORD = Object.freeze({
   SILENT_SINCE: 38,
   LOOKS_LONG: 39,
   LOOKS: 40,
+  /** Which agent has met a limit, and whether it spins, as `End` keeps them. */
+  MET: 41,
 });
 
 /** Words of each agent; each agent has a line of the processor's cache for itself. */

@@ -27,6 +27,7 @@ import { unseenText } from "./unseen.mjs";
  * @property {{ agent: number, block: number, byte: number }[]} waiting who waits where, in order of arrival, in a run
  * that ended by a deadlock or at a limit
  * @property {number[]} asking agents that asked for a call when a run met a limit
+ * @property {import("../board/end.mjs").Met} [met] who met it
  * @property {import("./unseen.mjs").AgentsNote[]} unseen what agents did that nobody saw
  * @property {boolean} [isUnseen] whether it fails for that
  * @property {import("./unseen.mjs").AgentsNote[]} [real] what agents of a program used that the machine answers
@@ -117,6 +118,7 @@ export class RunMaker {
     const isBound = result.ending === "bound";
     const waiting = isBound || result.ending === "deadlock" ? board.line.waiting() : [];
     const asking = isBound ? this.agents.filter((agent) => board.line.asks(agent)) : [];
+    const met = isBound ? board.end.met() : undefined;
     const gone = this.#sentHome();
     const endless = gone.filter((agent) => !board.turn.isParked(agent));
     const racy = options.ordinary === "watch" && isRacy(this.log, plan.agents, plan.buffers.length);
@@ -131,7 +133,8 @@ export class RunMaker {
     const names = this.program?.names((text) => sourceNames.withNames(text));
     const more = this.program?.moreBytes();
     const { ending } = result;
-    return { ending, detail, bytes, gone, endless, racy, initial, waiting, asking, unseen, real, stray, names, more };
+    const ended = { ending, detail, bytes, gone, endless, racy, initial, waiting, asking, met };
+    return { ...ended, unseen, real, stray, names, more };
   }
 
   /** @param {Made} found @returns {Promise<Made>} how a run ends, with what is known when its agents are home */

@@ -235,17 +235,18 @@ export class RunReporter {
    * @param {Made} found
    * @param {import("../../script/text.mjs").Transcript} transcript
    */
-  #addFailure(outcome, { waiting, asking }, transcript) {
+  #addFailure(outcome, { waiting, asking, met }, transcript) {
     const { sources, sourceNames } = this;
     const { ending, fails, detail } = outcome;
-    const places = waiting.length + asking.length === 0 ? [] : sources.map((each) => each.marked());
+    const isAnywhere = waiting.length + asking.length > 0 || met !== undefined;
+    const places = isAnywhere ? sources.map((each) => each.marked()) : [];
     /** @param {number} agent */
     const sourceOf = (agent) => (places[agent] === "" ? "" : sourceNames.nameOf(places[agent]));
     const waits = waitsOf(waiting, transcript, sourceOf);
     const stands = [...waits.map(waitText), ...askingLines(asking, transcript, sourceOf)];
     outcome.detail = [detail, ...stands].filter((line) => line !== "").join("\n");
     if (ending === "deadlock" || ending === "bound") {
-      outcome.standing = standingsOf(detail, waits, asking, transcript, sourceOf);
+      outcome.standing = standingsOf({ met, waits, asking }, transcript, sourceOf);
     }
     if (!fails || ending === "race") return;
     const isThrown = ending === "failed" || ending === "check";

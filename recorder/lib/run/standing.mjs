@@ -66,9 +66,6 @@ export function askingLines(asking, transcript, sourceOf) {
   });
 }
 
-/** What is said of the agent that has met a limit: its number, whether it spins, and the line of code if it is known. */
-const AT_LIMIT = /^(?:.*: )?agent (\d+) (spins|has made \d+ calls, and goes on|is)(?: at (.+?:\d+:\d+)(?=: |$))?/;
-
 const NOWHERE = Object.freeze({ place: null, block: null, byte: null });
 
 /** @param {string} source empty: it isn't known */
@@ -80,21 +77,18 @@ function lineOf(source) {
 
 /**
  * What each agent is at when nobody can go on, or a limit is met.
- * @param {string} detail of the run's end, in which the limit is named
- * @param {Wait[]} waits
- * @param {number[]} asking
+ * @param {{ met?: import("../board/end.mjs").Met, waits: Wait[], asking: number[] }} found
  * @param {Transcript} transcript
  * @param {(agent: number) => string} sourceOf as above
  * @returns {Standing[]} the one that has met the limit first, then those that wait, in order of arrival
  */
-export function standingsOf(detail, waits, asking, transcript, sourceOf) {
-  const [, number, does, source = ""] = AT_LIMIT.exec(detail) ?? [];
+export function standingsOf({ met, waits, asking }, transcript, sourceOf) {
   /** @type {Standing[]} */
-  const met = number === undefined ? [] : [{
-    agent: Number(number), does: does === "spins" ? "spins" : "runs", call: null, ...NOWHERE, ...lineOf(source),
+  const atLimit = met === undefined ? [] : [{
+    agent: met.agent, does: met.spins ? "spins" : "runs", call: null, ...NOWHERE, ...lineOf(sourceOf(met.agent)),
   }];
   return [
-    ...met,
+    ...atLimit,
     ...waits.map(({ agent, call, at, source: own }) =>
       ({ agent, does: /** @type {"waits"} */ ("waits"), call, ...at, ...lineOf(own) })),
     ...asking.map((agent) => {
