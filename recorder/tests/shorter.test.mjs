@@ -171,7 +171,7 @@ test("a run that can't be made again stays as it was found", async (context) => 
   assert.deepEqual(readdirSync(out).sort(), endings.map((ending) => `seed-3.${ending}`));
 });
 
-/** Runs the command line on the program `bell` with an own folder, and tells what is kept there. */
+/** Runs the command line on the program `bell` with an own folder, and returns what it kept there. */
 function keptBy(context, ...words) {
   const out = temporaryFolder(context);
   const all = [RECORD, MODULE, "--seeds", "1..80", ...CHECKING, "--out", out, ...words, "--", "bell"];
