@@ -37,7 +37,7 @@ function drawn(board, from, times) {
 
 const HERE = [0, 4];
 
-test("a notify wakes the oldest waiters of its place, as many as it is told", () => {
+test("a notify wakes the oldest waiters of its place, as many as its count", () => {
   const wake = (count) => {
     const board = boardAt([PHASE.RUNS, PHASE.RUNS, PHASE.RUNS, PHASE.RUNS]);
     for (const agent of [2, 0, 1]) board.line.join(agent, ...HERE, false);
@@ -134,7 +134,7 @@ test("an agent whose worker died ends the run when it has the turn, and only the
   assert.equal(turn.isBack(1, 0), false);
 });
 
-test("an agent that died before it gets the turn is told of with what it died of", () => {
+test("an agent that died before it gets the turn fails the run, with what it died of", () => {
   const board = boardAt([PHASE.ASKS, PHASE.FINISHED]);
   board.turn.die(0, "out of memory");
   board.pass(1);

@@ -103,8 +103,8 @@ test("-h and -V do what --help and --version do, as sabsim's, and -v is refused 
     const help = run(program, ["--help"]);
     assert.match(help.output, new RegExp(`^usage: node recorder/${name}\\.mjs `));
     assert.deepEqual(run(program, ["-h"]), help);
-    const told = { status: 0, output: `sabsim-${name} ${version}\n`, errors: "" };
-    for (const word of ["-V", "--version"]) assert.deepEqual(run(program, [word]), told, word);
+    const printed = { status: 0, output: `sabsim-${name} ${version}\n`, errors: "" };
+    for (const word of ["-V", "--version"]) assert.deepEqual(run(program, [word]), printed, word);
     assert.equal(run(program, ["-v"]).status, 2);
   }
   assert.equal(run(RECORD, ["-v"]).errors, "record: there is no option -v: is -V meant?\n");

@@ -72,8 +72,8 @@ const foundFrom = (first) => new Promise((done) => {
   const words = [first, RANDOM, PROCESSES].map(String);
   const child = fork(pathOf("recorder/tests/helpers/judge-process.mjs"), words);
   let found = { seeds: 0, racy: 0, differing: [] };
-  child.on("message", (told) => {
-    found = told;
+  child.on("message", (message) => {
+    found = message;
   });
   child.on("exit", () => done(found));
 });

@@ -50,8 +50,8 @@ describe("ordinary accesses in each mode", () => {
       for (const { bytes } of outcomes) assert.equal(bytes[1].slice(0, 4), "0400");
     }
     // Who is asked for a call, and who moves, doesn't rest on how ordinary accesses are seen.
-    const told = ({ seed, moves, calls, answers, bytes }) => ({ seed, moves, calls, answers, bytes });
-    assert.deepEqual(store.map(told), watch.map(told));
+    const partsOf = ({ seed, moves, calls, answers, bytes }) => ({ seed, moves, calls, answers, bytes });
+    assert.deepEqual(store.map(partsOf), watch.map(partsOf));
     // Four times a read and a write.
     for (const { ordinary } of watch) assert.equal(ordinary, 8);
     for (const { ordinary } of [...store, ...refuse]) assert.equal(ordinary, 0);
@@ -122,7 +122,7 @@ describe("ordinary accesses in each mode", () => {
     tellsWhatIsNotSeen(watch, store, refuse);
   });
 
-  it("calls are told by the program's own numbers, and by the script's where these differ", () => {
+  it("calls have the program's own numbers, and the script's too if they differ", () => {
     const { watch, store } = outcomesOf("sleeps");
     for (const { ending, detail, progress, calls, answers } of [...watch, ...store]) {
       assert.equal(ending, "deadlock");

@@ -59,8 +59,8 @@ test("a module is evaluated once, behind those that it imports, in strict mode, 
     'import fs from "node:fs";', 'import { join as joined } from "node:path";',
     "import {", "  a, b,", '} from "./one.mjs";',
     'import { counted } from "./one.mjs";', 'import { f } from "./two.mjs";',
-    "export class Told {}", "export async function later() {}",
-    "export const told = [typeof fs.readFileSync, typeof joined, a, b, counted.times, typeof f];",
+    "export class Named {}", "export async function later() {}",
+    "export const values = [typeof fs.readFileSync, typeof joined, a, b, counted.times, typeof f];",
     "export const self = (function () { return this; })();", "export const url = import.meta.url;",
   ];
   writeFileSync(join(folder, "root.mjs"), text.join("\n"));
@@ -68,9 +68,9 @@ test("a module is evaluated once, behind those that it imports, in strict mode, 
   const list = ownModules(url);
   assert.deepEqual(list.map((each) => each.url.split("/").at(-1)), ["one.mjs", "two.mjs", "root.mjs"]);
   const exported = evaluated(list);
-  assert.deepEqual(Object.keys(exported), ["Told", "later", "told", "self", "url"]);
-  const { told, self, url: itsUrl } = exported;
-  assert.deepEqual([told, self, itsUrl], [["function", "function", 1, 2, 1, "function"], undefined, url.href]);
+  assert.deepEqual(Object.keys(exported), ["Named", "later", "values", "self", "url"]);
+  const { values, self, url: itsUrl } = exported;
+  assert.deepEqual([values, self, itsUrl], [["function", "function", 1, 2, 1, "function"], undefined, url.href]);
 });
 
 test("a thread takes what the engine has made of modules in another one", () => {

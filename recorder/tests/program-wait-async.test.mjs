@@ -154,8 +154,8 @@ describe("a run that uses it", () => {
     };
     const seeds = seedsTo(6);
     const [once, again] = [await runsOf(context, files, { seeds }), await runsOf(context, files, { seeds: [...seeds].reverse() })];
-    const told = ({ ending, trace, detail }) => ({ ending, trace, detail });
-    assert.deepEqual(once.map(told), again.reverse().map(told));
+    const partsOf = ({ ending, trace, detail }) => ({ ending, trace, detail });
+    assert.deepEqual(once.map(partsOf), again.reverse().map(partsOf));
     assert.ok(new Set(once.map(({ trace }) => trace)).size > 3);
   });
 });

@@ -286,7 +286,7 @@ test("with nothing built every run is checked, and explanation, picture and page
   assert.ok(stdout.split("\n").includes(checked), stdout);
 });
 
-test("a picture that sabsim doesn't make is told of", (context) => {
+test("a picture that sabsim doesn't make is reported", (context) => {
   const folder = temporaryFolder(context);
   const half = join(folder, "half");
   // It says the same of the run, whatever it was, and makes no picture.
@@ -345,7 +345,7 @@ test("a module that can't be loaded is refused with status 2", (context) => {
   assert.match(stderr, /^record: .*bad\.mjs can't be loaded: .*no function as its default export/);
 });
 
-test("what a worker dies of while its module is loaded is told", (context) => {
+test("the cause of a worker's death while its module is loaded is reported", (context) => {
   const folder = temporaryFolder(context);
   const deaths = {
     "Error: too late": 'setTimeout(() => { throw new Error("too late"); }); await new Promise(() => {});',

@@ -13,7 +13,7 @@ import { agentsOf, temporaryFolder } from "./helpers/common.mjs";
 import { runNode } from "./helpers/programs.mjs";
 import { simulate } from "./helpers/simulate.mjs";
 
-// Agent 1 tells agent 0 something. What agent 0 does then depends on it, where the last argument says so.
+// Agent 1 stores a word for agent 0. If the last argument says so, what agent 0 does depends on it.
 const BODY = `const words = new Int32Array(buffers[0]);
 if (agent === 1) Atomics.store(words, 0, 1);
 else if (args[0] === "reads") Atomics.store(words, Atomics.load(words, 0) + 1, 5);

@@ -242,7 +242,7 @@ describe("by hand", () => {
     assert.deepEqual([status, complaint], [1, "sabsim: 3 TooMany\n"]);
   });
 
-  it("what the program refuses isn't taken, and its line is told", () => {
+  it("a script that the program refuses isn't taken, and the error has the program's line", () => {
     assert.throws(() => new Editing("{}", simulate), (error) => {
       return error instanceof NotReplayed && error.message.startsWith("sabsim: 10 BadShape");
     });

@@ -1,4 +1,4 @@
-// Places in code that was compiled, told as places of the code that people wrote.
+// Places in compiled code, reported as places in the code that people wrote.
 
 import assert from "node:assert/strict";
 import { mkdirSync, writeFileSync } from "node:fs";
@@ -121,7 +121,7 @@ test("places are named as seen from the agents' module, with the code of their f
   assert.equal(names.withNames(`it spins at ${urls["code.mjs"]}:1:24: again`), "it spins at code.ts:4:3: again");
 });
 
-test("a run of compiled code tells its races and its trace by the lines that were written", async (context) => {
+test("the races and the trace of compiled code name the lines of the written code", async (context) => {
   // The agent as it was written stands on the lines 5 and 6, and as it was made on 2 and 3.
   const made = [
     "export default function agent({ buffers, agent }) { const words = new Int32Array(buffers[0]);",
