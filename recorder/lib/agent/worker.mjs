@@ -34,7 +34,7 @@ import { Unseen } from "./unseen.mjs";
 
 const { Error: EngineError, String: text, structuredClone: cloned } = globalThis;
 
-// A worker's own streams are written by its event loop, which never comes to its turn again. What agents print goes to
+// A worker's own streams are written by its event loop, which never runs again. What agents print goes to
 // standard error at once: standard output is the recorder's.
 function printAtOnce() {
   /** @param {string | Uint8Array} chunk */
