@@ -17,7 +17,7 @@ const program = (name, options = {}) =>
   ({ module: agentsPath("checked"), args: [name], agents: 2, everywhere: true, ...options });
 
 describe("init and check", { concurrency: 2 }, () => {
-  it("a lost update is one line to find: a run fails by its check just where the count is wrong", async () => {
+  it("one line of `check` finds a lost update: a run fails exactly if the count is wrong", async () => {
     const outcomes = await recorded(program("lost"), seedsTo(20));
     assert.deepEqual(different(outcomes, "ending"), ["check", "finished"]);
     for (const { ending, fails, detail, bytes, races, script } of outcomes) {
@@ -30,7 +30,7 @@ describe("init and check", { concurrency: 2 }, () => {
     }
   });
 
-  it("what fails by its check is kept, and replays", async (context) => {
+  it("a run that fails by its check is kept, and replays", async (context) => {
     const out = temporaryFolder(context);
     const words = [RECORD, agentsPath("checked"), "--seeds", "1..20", "--out", out, ...CHECKING, "--", "lost"];
     const { code, stdout } = await new Promise((done) => {
@@ -46,7 +46,7 @@ describe("init and check", { concurrency: 2 }, () => {
     assert.equal(simulated(["replay"], kept("json")).output, kept("report"));
   });
 
-  it("the stores of init stand first, by an agent of its own, in each run anew", async () => {
+  it("the stores of init come first in each run, by an extra agent", async () => {
     const outcomes = await recorded(program("filled", { everywhere: false }), seedsTo(3));
     for (const { ending, detail, script, bytes, answers, progress, calls } of outcomes) {
       assert.deepEqual([ending, detail], ["finished", ""]);
@@ -65,7 +65,7 @@ describe("init and check", { concurrency: 2 }, () => {
     }
   });
 
-  it("where the stores of init don't all fit, those that calls rest on stand there", async () => {
+  it("if the stores of init don't all fit, the script has those on which calls depend", async () => {
     const [outcome] = await recorded(program("large", { buffers: [65_536] }));
     assert.deepEqual([outcome.ending, outcome.scriptHolds], ["finished", "touched"]);
     assert.deepEqual(outcome.answers.flat().sort(), [0x07070707, 0x07070708].map(String));

@@ -248,7 +248,7 @@ describe("an engine that does what none may is found", () => {
   const agents = [waiter, waiter, waker];
   const schedule = [0, 0, 1, 1, 2, 2, 2, 2, 2, 0];
 
-  /** Makes the script with an engine that answers so, and whose waiters leave at a notify as `leave` says. */
+  /** Makes the script with an engine that gives these answers, and whose waiters leave at a notify as `leave` says. */
   function falseEngine(answers, leave = () => {}) {
     const hands = [];
     const answerTo = (method) => {

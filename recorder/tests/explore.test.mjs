@@ -119,7 +119,7 @@ test("with failFast the first failing run is the last, and with fresh workers ar
   assert.deepEqual([await remembered(false), await remembered(true)], [["01", "02", "03"], ["01", "01", "01"]]);
 });
 
-test("runs aren't made far ahead of who takes them", async () => {
+test("runs aren't made far ahead of the loop that takes them", async () => {
   let made = 0;
   const runs = explore({ ...cases("addition"), seeds: 100_000, init: () => void (made += 1) });
   try {
@@ -224,7 +224,7 @@ for (const [what, code] of Object.entries(WAYS_OUT)) {
   });
 }
 
-test("where a signal is aborted while nobody takes, all is ended all the same", onLinux, async (context) => {
+test("a signal that is aborted while no outcome is taken ends all the same", onLinux, async (context) => {
   const folder = temporaryFolder(context);
   await Promise.all([1, 2].map(async (jobs) => {
     const mark = randomUUID();

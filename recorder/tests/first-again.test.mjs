@@ -89,7 +89,7 @@ describe("a module that keeps something from run to run", SIDE_BY_SIDE, () => {
     });
   }
 
-  test("isn't reported where it keeps nothing", async (context) => {
+  test("isn't reported if it keeps nothing", async (context) => {
     const { summary } = await summaryOf(context, "nothing", ["--seeds", "1..20"]);
     assert.equal(summary.remembers, null);
   });

@@ -60,7 +60,7 @@ test("each way to export an agent is taken", async (context) => {
   }
 });
 
-test("where loading throws in what looks like a program, it is said what a module of agents is", (context) => {
+test("if a file that looks like a program throws, the error says what a module of agents is", (context) => {
   const hint = /\nIt looks like a program, or like the file of its Worker\. A module of agents starts no threads: /;
   const thrown = 'throw new RangeError("at once");\nexport default () => {};\n';
   const worker = fileWith(context, "worker.mjs", `import { workerData } from "node:worker_threads";\n${thrown}`);

@@ -56,7 +56,7 @@ test("a job gets node's own words, but not those about the program and how it is
   }
 });
 
-test("what is loaded before the program is loaded for agents too, whatever the number of jobs", (context) => {
+test("files of --require and --import are loaded for agents too, whatever the number of jobs", (context) => {
   const folder = temporaryFolder(context);
   writeFileSync(join(folder, "pre.cjs"), "globalThis.fromRequire = 1;\n");
   writeFileSync(join(folder, "pre.mjs"), "globalThis.fromImport = 2;\n");

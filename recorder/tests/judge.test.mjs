@@ -58,7 +58,7 @@ describe("rows by hand", () => {
   }
 });
 
-test("what is no event's line is refused, and it is said which line", () => {
+test("a line that is no event is refused by its number", () => {
   const trace = readFileSync(new URL("mutex.jsonl", ROWS), "utf8");
   const lines = trace.split("\n");
   for (const line of ['{"event":1}', "[]"]) {

@@ -140,7 +140,7 @@ describe("the judge of checked runs", () => {
     }
   });
 
-  it("isn't asked where ordinary accesses aren't watched: no races are looked for", (context) => {
+  it("isn't asked if ordinary accesses aren't watched, since no races are looked for", (context) => {
     const sabsim = judging(temporaryFolder(context), FINDS_ONE);
     for (const ordinary of ["store", "refuse"]) {
       const words = ["--sabsim", sabsim, "--ordinary", ordinary, ...addition];

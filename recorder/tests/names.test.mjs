@@ -31,7 +31,7 @@ function explained(script) {
   return output.trimEnd().split("\n").map((line) => line.replace(/ {2,}/, "  "));
 }
 
-test("what a name may be, and what it may stand for", () => {
+test("which names are allowed, and what they may name", () => {
   const words = checkedNames({ LOCK: 0, wake: ["Int32", 0, 1], big: ["BigInt64", 1, 1], slots: ["Uint8", 1] }, [8, 16]);
   assert.deepEqual(words, [
     { name: "LOCK", kind: INT32, block: 0, offset: 0, length: 1 },
@@ -203,7 +203,7 @@ async function throwingRun(context) {
   return outcome;
 }
 
-test("an index that isn't its view's throws, though a word stands there", async (context) => {
+test("an index beyond its view throws, though a named word is there", async (context) => {
   const { answers, ending } = await throwingRun(context);
   assert.equal(ending, "finished");
   assert.deepEqual(answers, [["RangeError", "RangeError", "RangeError", "TypeError", "TypeError"]]);
@@ -278,7 +278,7 @@ test("runs with names have the same outcomes as runs without", async (context) =
     || /\{"name": "LOCK", "kind": "Int32"/.test(script)), "no view has the kind's name");
 });
 
-test("where names would take too many views, a script goes without them", async (context) => {
+test("if names would take too many views, the script leaves them out", async (context) => {
   // 40 words, named, of which each is used by calls and by ordinary writes: 80 views, where a script has 64.
   const names = Object.fromEntries(Array.from({ length: 40 }, (_, at) => [`word${at}`, at]));
   const [{ ending, script, noScript }] = await recordedModule(context, { agents: 1, buffers: [160], names }, `

@@ -54,7 +54,7 @@ describe("ordinary writes that don't all fit into a script", { concurrency: 2 },
     });
   }
 
-  it("as many stores as just fit stand there, and one more doesn't", async () => {
+  it("a script holds as many stores as just fit, and not one more", async () => {
     const half = MOST / 2;
     const [full, unseen, seen] = await outcomesOf([`pairs ${half} 0 0`, `pairs ${half} 0 1`, `pairs ${half} 1 0`]);
     assert.deepEqual([full.ending, full.scriptHolds, callsOf(full).length], ["finished", "all", MOST]);
@@ -79,7 +79,7 @@ describe("ordinary writes that don't all fit into a script", { concurrency: 2 },
     assert.match(more.detail, new RegExp(`^agent 0 has made ${MOST} calls, and goes on`));
   });
 
-  it("where no script can be, the run and its races go on", async () => {
+  it("a run without a script, and its races, go on", async () => {
     const [[few], [many]] = await Promise.all([
       outcomesOf(["overwhelms 1"], { agents: 2 }),
       // More than there is room for while the run goes on: 400 elements in each round.

@@ -34,7 +34,7 @@ for (const root of ROOTS) {
     }
   });
 
-  test(`each module behind ${name} has its lines where its file has them`, () => {
+  test(`each module that ${name} imports keeps the lines of its file`, () => {
     for (const { url, code } of ownModules(root)) {
       const lines = readFileSync(fileURLToPath(url), "utf8").split("\n");
       const own = code.split("\n");
@@ -162,7 +162,7 @@ test("a run of agents loads nothing that is for whole programs, replays or kept 
   assert.ok(isBefore(read, "agent/worker.mjs", "seeds/job.mjs"), "the workers don't await the job's modules");
 });
 
-test("what is for whole programs is loaded for them, and what is for kept runs when one is kept", (context) => {
+test("modules for whole programs are loaded only for these, and those for kept runs when one is kept", (context) => {
   const program = fileURLToPath(new URL("../examples/count-together.mjs", import.meta.url));
   const ofProgram = readBy(context, ["--program", program, "--seeds", "1"]);
   for (const path of ["program/group.mjs", "run/program-state.mjs"]) assert.ok(ofProgram.includes(path), path);

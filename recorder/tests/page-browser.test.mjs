@@ -126,7 +126,7 @@ describe("the page of a run, in a browser", { timeout: 120_000 }, () => {
     assert.deepEqual(page.complaints(), []);
   });
 
-  it("goes by pointer: by rows, by buttons, and to where an agent is", withBrowser, async (context) => {
+  it("follows the pointer: rows, buttons, and the place where an agent is", withBrowser, async (context) => {
     const page = await opened(context);
     await page.click("#step-3 .does");
     assert.equal((await page.value(SHOWN)).step, "step-3");

@@ -82,7 +82,7 @@ test("differences are listed by calls, and by elements at the end", () => {
   assert.deepEqual(elementLines(one, other), [{ what: "slots[1] at the end", before: "7", after: "9" }]);
 });
 
-test("of a script alone its views have lengths, and its blocks are counted", () => {
+test("a script without a run gives its views' lengths, and its blocks are counted", () => {
   const { schedule, ...script } = HANDED;
   const written = [{ name: "w", kind: "Int32", offset: 4, length: null }];
   const old = { ...script, blocks: undefined, bytes: 10, views: written };
@@ -93,7 +93,7 @@ test("of a script alone its views have lengths, and its blocks are counted", () 
   ]);
 });
 
-test("places stand where a check says", () => {
+test("the places that a check reports are found in the text", () => {
   const text = '{"a": [1, {"b": "x,]"}, []],\n "é": {"c" :  7}, "a2": 8, "a": [9]}';
   const shown = (place) => {
     const span = spanOfPlace(text, place);

@@ -140,14 +140,14 @@ test("one goes to the next change of agents, and back", () => {
   assert.deepEqual([9, 6, 5, 2, 0].map((at) => run.changeFrom(at, -1)), [6, 2, 2, 0, 0]);
 });
 
-test("what fails is the last wait of a deadlock, and what an agent did last that threw", () => {
+test("the failing step is the last wait of a deadlock, or the last step of an agent that threw", () => {
   assert.deepEqual(runOf().failing, [8]);
   assert.deepEqual(runOf({ ending: "failed", detail: "agent 0 threw Error: no" }).failing, [5]);
   assert.deepEqual(runOf({ ending: "bound", detail: "agent 1 spins at a.mjs:7:1" }).failing, [8]);
   assert.deepEqual(runOf({ ending: "check", detail: "check returned false" }).failing, [9]);
 });
 
-test("of a race both accesses fail, each in its turn", () => {
+test("both accesses of a race are failing steps, each in its turn", () => {
   const side = (at, access) => ({ ...EVENTS[at], access });
   const races = [{ sides: [side(6, "read"), side(2, "write")] }];
   const run = runOf({ ending: "race", races });
@@ -188,7 +188,7 @@ test("a trace that says that accesses may be missing gives the same steps as one
   assert.deepEqual(runOf({ trace: UNSEEN_LINE + lines(EVENTS) }).data, runOf().data);
 });
 
-test("what `init` left is there at the start, and is no step", () => {
+test("the values that `init` left are there at the start, and are no step", () => {
   const views = [...SCRIPT.views, view("init_FLAG", "Int32", 0, 1)];
   const first = { agent: 2, entry: 1, call: 0, what: "act", does: ["store", "init_FLAG", 0, 9], place: FLAG, answer: 9,
     since: 0, found: { before: 0, after: 9 } };

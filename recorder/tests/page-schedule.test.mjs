@@ -120,7 +120,7 @@ for (const [name, { isThere, begin }] of Object.entries(BROWSERS)) {
       assert.deepEqual(await page.complaints(), []);
     });
 
-    it("a command is shown where the code can be run so, and else why not", withBrowser, async (context) => {
+    it("a command is shown if the code can be run so, and else the reason why not", withBrowser, async (context) => {
       const page = await opened(context, pageOf(handedData(), SIMULATOR));
       const note = "[...document.querySelectorAll('#schedule .note, #schedule .command')].at(-1).textContent";
       await choose(page, "step-1");
@@ -131,7 +131,7 @@ for (const [name, { isThere, begin }] of Object.entries(BROWSERS)) {
       assert.equal(await page.value(note), "npx sabsim-record hand.mjs --replay seed-3.changed.json -- one");
     });
 
-    it("what can't be done is said, and changes nothing", withBrowser, async (context) => {
+    it("an impossible change is refused with a message, and changes nothing", withBrowser, async (context) => {
       const page = await opened(context, pageOf(handedData(), SIMULATOR));
       const rows = await page.value(ROWS);
       await choose(page, "step-2");

@@ -12,7 +12,7 @@ function run(words) {
   return spawnSync(process.execPath, [RECORD, ...words, "--check", "0"], { encoding: "utf8" });
 }
 
-test("what agents print in pilots is left out, and no module remembers pilots", (context) => {
+test("output of agents in pilots isn't shown, and no module remembers pilots", (context) => {
   const module = agentsOf(temporaryFolder(context), `
     globalThis.runs = (globalThis.runs ?? 0) + 1;
     console.log("run", globalThis.runs, "of agent", agent);

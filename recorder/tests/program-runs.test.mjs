@@ -55,7 +55,7 @@ words[0] = 5;`,
     assert.deepEqual([ending, state.shown, calls], ["finished", [], 0]);
   });
 
-  it("what a thread has written before it shares its memory is there, and in the script", async (context) => {
+  it("writes of a thread before it shares its memory are there, and in the script", async (context) => {
     const [outcome] = await runsOf(context, {
       "main.mjs": `${MAIN}const words = new Int32Array(new SharedArrayBuffer(8));
         words[1] = 7;

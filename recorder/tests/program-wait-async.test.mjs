@@ -130,7 +130,7 @@ ${then}`,
 });
 
 describe("a run that uses it", () => {
-  it("is replayed, except where more are pending than there can be agents: the summary counts such runs", async (context) => {
+  it("is replayed, except if more are pending than agents can be: the summary counts such runs", async (context) => {
     const path = programOf(context, {
       "main.mjs": `${MAIN}started();
         // With the two threads there are 18 agents, or 3.

@@ -190,7 +190,7 @@ test("an agent that now goes on from a wait at once, or still waits, is reported
   }
 });
 
-test("what is no script of the recorder's is refused, and options that aren't those of its run", async (context) => {
+test("a file that is no script of the recorder is refused, and options of another run", async (context) => {
   const { folder, module, file, outcome } = await keptRun(context);
   const script = JSON.parse(outcome.script);
   const { schedule: moves } = script;

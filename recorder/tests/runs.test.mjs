@@ -146,7 +146,7 @@ test("a script that would be too long is a bound", async () => {
   assert.ok(outcome.script.length > 900_000 && outcome.script.length <= 1_048_576, `${outcome.script.length} bytes`);
 });
 
-test("where ordinary writes are refused they are found, with the agent and the place", async () => {
+test("with `ordinary: refuse` ordinary writes are found, with the agent and the place", async () => {
   const outcome = await recordCase("writesPlainly", { sabsim: CHECKER, ordinary: "refuse" });
   assert.equal(outcome.ending, "failed");
   assert.equal(outcome.detail, "agent 1 changed byte 6 of block 0 from 0 to 5 without a call of Atomics,"

@@ -44,7 +44,7 @@ test("code that makes the same calls makes them in the changed order", async (co
   assert.match(output, /1 run made 2 calls|finished/);
 });
 
-test("of code that takes another path it is said where", async (context) => {
+test("code that takes another path is reported with the place", async (context) => {
   const { moved, ended: { status, errors } } = await movedOnCode(context, ["reads"]);
   assert.ok(moved.differences.answers.length > 0);
   assert.equal(status, 3);

@@ -49,7 +49,7 @@ test("the mutex of three states finishes under 200 seeds, each checked", async (
   assert.equal(checked, 200);
 });
 
-test("random calls of all kinds, right and wrong, are answered as sabsim answers them", async () => {
+test("random calls of all kinds, right and wrong, return what sabsim returns", async () => {
   const seen = new Set();
   for (const start of ["1", "2"]) {
     const { outcomes, checked } = await outcomesOf("random", { args: [start], last: 60, checkEvery: 1 });

@@ -46,7 +46,7 @@ const mapText = (members, segments) =>
   JSON.stringify({ version: 3, names: [], mappings: mappingsOf(segments), ...members });
 const inline = (text) => `//# sourceMappingURL=data:application/json;base64,${Buffer.from(text).toString("base64")}\n`;
 
-/** Writes files; answers their URLs by their names. */
+/** Writes files; returns their URLs by their names. */
 function filesIn(folder, texts) {
   mkdirSync(join(folder, "src"));
   return Object.fromEntries(Object.entries(texts).map(([name, text]) => {
@@ -82,7 +82,7 @@ test("a place is that of the file from which its own was made: by a map in it, o
   }
 });
 
-test("where there is no map, or one that can't be read, a place stays", (context) => {
+test("without a readable map a place stays as it is", (context) => {
   const urls = filesIn(temporaryFolder(context), {
     "plain.mjs": MADE,
     "gone.mjs": `${MADE}//# sourceMappingURL=gone.map\n`,

@@ -87,15 +87,15 @@ describe("agents that go on and on", () => {
     assert.deepEqual(failure.sources.length, 3);
   });
 
-  it("who comes on from one to the next meets the bound of calls, and doesn't spin", () => {
+  it("an agent that goes from one element to the next meets the limit of calls, and doesn't spin", () => {
     meetsBound(outcomes.strides, "store(words, at % 16, at)");
   });
 
-  it("who counts meets the bound of calls, and doesn't spin", () => {
+  it("an agent that counts meets the limit of calls, and doesn't spin", () => {
     meetsBound(outcomes.counts, "add(words, 1, 1)");
   });
 
-  it("who waits for a time to come gets there, since to look at the time takes time", () => {
+  it("an agent that waits for a time reaches it, since each look at the clock takes time", () => {
     const { ending, bytes } = outcomes.deadline;
     assert.equal(ending, "finished");
     const [, reached] = new Int32Array(Uint8Array.from(Buffer.from(bytes[0], "hex")).buffer);

@@ -103,7 +103,7 @@ test("the summary has that of the first failing run as JSON, and so has a joined
   assert.match(summaryText(summary), /agent 0 waits at LOCK: its call 1, /);
 });
 
-test("what is said of the agent that has met a limit is read right", () => {
+test("the text about the agent that has met a limit is read correctly", () => {
   const met = (detail) => standingsOf(detail, [], [], { calls: [] }, () => "")
     .map(({ agent, does, file, line, column }) => [agent, does, file, line, column]);
   assert.deepEqual(met("agent 12 spins: it reads the same bytes again"), [[12, "spins", null, null, null]]);

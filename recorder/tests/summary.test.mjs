@@ -74,7 +74,7 @@ test("a summary reports failures first, and is the same in whatever order the ru
   assert.deepEqual(linesOf(outcomes.toReversed(), { checked: 28 }), expected);
 });
 
-test("where no run failed, the first line says how they ended", () => {
+test("if no run failed, the first line says how the runs ended", () => {
   assert.equal(linesOf(seeds(1, 200))[0], "200 runs: 200 finished");
   assert.equal(linesOf([outcome(5)])[0], "1 run: 1 finished");
   const allowed = [...seeds(1, 197), ...seeds(198, 200, { ending: "bound", fails: false })];
@@ -84,7 +84,7 @@ test("where no run failed, the first line says how they ended", () => {
   assert.ok(!lines.some((line) => line.includes("first failing seed")));
 });
 
-test("where all runs failed, none is said to have finished", () => {
+test("if all runs failed, the summary says that none has finished", () => {
   assert.equal(linesOf([outcome(5, { ending: "failed" })])[0], "1 of 1 run failed: 1 stopped");
   const both = [outcome(1, { ending: "check" }), outcome(2, { ending: "bound", detail: "too much" })];
   assert.equal(linesOf(both)[0], "2 of 2 runs failed: 1 check failed, 1 limit met");
@@ -194,7 +194,7 @@ test("the last line counts calls and accesses in words, with their plurals", () 
   assert.deepEqual([1, 1_000].map((count) => counted(count, "access", "accesses")), ["1 access", "1,000 accesses"]);
 });
 
-test("where not all runs were made, the first line says so", () => {
+test("if not all runs were made, the first line says so", () => {
   const stop = { why: "interrupted by SIGINT", wanted: 1_000_000 };
   assert.deepEqual(linesOf(seeds(1, 3), { stop }).slice(0, 2), [
     "interrupted by SIGINT after 3 of 1,000,000 runs", "3 runs: 3 finished",

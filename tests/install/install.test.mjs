@@ -57,7 +57,7 @@ function succeeds(folder, command, words, input) {
   return output;
 }
 
-/** Makes the package; answers its path. */
+/** Makes the package; returns its path. */
 function packed(name, words) {
   const folder = join(room, name);
   mkdirSync(folder);
@@ -72,7 +72,7 @@ function filesOf(path) {
   return names.map((name) => name.replace(/^package\//, "")).sort();
 }
 
-/** A project of a user's own with some files and the package installed; answers its folder. */
+/** A project of a user's own with some files and the package installed; returns its folder. */
 function projectWith(name, path, files = readdirSync(PROJECT)) {
   const folder = join(room, name);
   mkdirSync(folder);

@@ -49,7 +49,7 @@ const owners = [
   ArrayBuffer, Array,
 ];
 
-/** Replaces all functions that the language has there by ones that throw; answers what puts them back. */
+/** Replaces all functions that the language has there by ones that throw; returns what puts them back. */
 function spoil() {
   const { defineProperty, ownKeys, getOwnPropertyDescriptor } = Reflect;
   const kept = [];

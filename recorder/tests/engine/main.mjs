@@ -95,7 +95,7 @@ function write(text) {
 }
 
 /**
- * Replays the script of a file or of standard input. Answers the status to end with.
+ * Replays the script of a file or of standard input. Returns the status to end with.
  * @param {string} name
  * @param {Crew} crew
  */

@@ -186,7 +186,7 @@ class Run {
   }
 
   /**
-   * A wait of an agent that can block: it answers, or else it stands in the engine's line.
+   * A wait of an agent that can block: it returns, or else its agent is in the engine's line.
    * @param {Actor} actor
    * @param {Call} call
    * @param {number} position
