@@ -200,7 +200,7 @@ export interface Outcome {
    */
   failure?: { message: string[]; sources: string[] };
   /**
-   * What each agent is at that hasn't come to its end, if the run ended as `deadlock` or as `bound`: the one that has met
+   * Where each agent is that hasn't ended, if the run ended as `deadlock` or as `bound`: the one that has met
    * the bound first, then those that wait, in order of arrival.
    */
   standing?: Standing[];
@@ -257,7 +257,7 @@ export interface MemoryWindow {
   byte: number;
 }
 
-/** What an agent is at that hasn't come to its end. */
+/** Where an agent is that hasn't ended. */
 export interface Standing {
   agent: number;
   /** It waits for a notify, asks for a call, has met a bound by doing the same again and again, or by something else. */

@@ -66,7 +66,7 @@ export interface FirstFailing {
   onlyIf: string | null;
   /** Why it has no script; null: it has one. */
   noScript: string | null;
-  /** Of a deadlock or a bound: what each agent is at that hasn't come to its end. */
+  /** Of a deadlock or a bound: where each agent is that hasn't ended. */
   standing: Standing[];
 }
 

@@ -1,8 +1,8 @@
 /*
- * A library for LD_PRELOAD that counts how often each thread of a program yields, and can tell threads when to run. It
+ * A library for LD_PRELOAD that counts how often each thread of a program yields, and can order when threads run. It
  * doesn't let them yield: how often they do doesn't depend on that, and on a busy machine each yield takes long.
  *
- * COUNT_TOLD=FILE   at the end this file gets one line, "N N N.. apart A": how often the program's first thread
+ * COUNT_REPORT=FILE at the end this file gets one line, "N N N.. apart A": how often the program's first thread
  *                   yielded, then each other one, in the order in which they were started; and how many of these ended
  *                   before the next one was started, where that was asked for
  * COUNT_APART=N     who starts a thread waits until that thread has ended: so all that it sends is there before
@@ -77,9 +77,9 @@ __attribute__((constructor)) static void begin(void)
 }
 
 /* It is called at exit, and by _exit, which skips what is called at exit. */
-__attribute__((destructor)) static void tell(void)
+__attribute__((destructor)) static void report(void)
 {
-    const char *file = getenv("COUNT_TOLD");
+    const char *file = getenv("COUNT_REPORT");
     char line[MOST_THREADS * 22];
     int length = 0;
     if (!atomic_exchange(&counts, 0) || !file) return;
@@ -180,7 +180,7 @@ int getentropy(void *to, size_t length)
 void _exit(int status)
 {
     NEXT(_exit);
-    tell();
+    report();
     next(status);
     abort();
 }

@@ -154,8 +154,8 @@ function drawnFindings(svg, image, isDark) {
     return contrast(middle, paper) < BAR_CONTRAST;
   });
   return [
-    ...words.map(({ text }) => `${text}: can't be told from what is behind it`),
-    ...bars.map(({ left, top }) => `the bar at ${left},${top}: can't be told from what is behind it`),
+    ...words.map(({ text }) => `${text}: doesn't stand out from its background`),
+    ...bars.map(({ left, top }) => `the bar at ${left},${top}: doesn't stand out from its background`),
   ];
 }
 

@@ -1,10 +1,10 @@
 /*
- * A library for LD_PRELOAD that refuses memory, or the start of a thread, and tells what it saw.
+ * A library for LD_PRELOAD that refuses memory, or the start of a thread, and reports what it saw.
  *
  * REFUSE_ALLOCATION=N       the Nth allocation is refused
  * REFUSE_ALLOCATIONS_FROM=N the Nth allocation is refused, and each one after it
  * REFUSE_THREAD=N           the start of the Nth thread is refused
- * REFUSE_TOLD=FILE          at the end this file gets one line,
+ * REFUSE_REPORT=FILE        at the end this file gets one line,
  *                           "allocations A threads T started S joined J bytes B refused R":
  *                           how many allocations and threads were asked for, how many threads were started and
  *                           joined, how many bytes were asked for in all, and how often something was refused
@@ -52,9 +52,9 @@ __attribute__((constructor)) static void begin(void)
 }
 
 /* It is called at exit, and by _exit, which skips what is called at exit. */
-__attribute__((destructor)) static void tell(void)
+__attribute__((destructor)) static void report(void)
 {
-    const char *file = getenv("REFUSE_TOLD");
+    const char *file = getenv("REFUSE_REPORT");
     char line[192];
     if (!atomic_exchange(&counts, 0) || !file) return;
     int length = snprintf(line, sizeof line,
@@ -145,7 +145,7 @@ int pthread_join(pthread_t thread, void **answer)
 void _exit(int status)
 {
     NEXT(_exit);
-    tell();
+    report();
     next(status);
     abort();
 }

@@ -80,7 +80,7 @@ const share = ({ failed, runs }) => String(Number(((failed / runs) * 1_000).toPr
  * Measures programs under each strategy.
  * @param {string[]} names
  * @param {{ seeds: number, jobs: number }} amount
- * @param {(name: string) => void} [onProgram] is told which comes next
+ * @param {(name: string) => void} [onProgram] is called with the name of the next one
  * @returns {Promise<string>} the tables
  */
 export async function tables(names, amount, onProgram = () => {}) {

@@ -50,18 +50,18 @@ export async function counted(module, { seeds, jobs }, further = {}) {
   const options = { ...checkedOptions({ module, ...further }, () => undefined), ...many };
   const runs = new Runs(options, jobs === 1 ? { job: new Job() } : {});
   /** @type {Counted} */
-  const told = { failed: 0, first: undefined, endings: new Map(), hidden: 0 };
+  const counts = { failed: 0, first: undefined, endings: new Map(), hidden: 0 };
   const onlyByTime = new OnlyByTime();
   for await (const outcome of outcomesOf(runs)) {
     const { fails, seed, ending } = outcome;
     onlyByTime.add(outcome);
     if (!fails) continue;
-    told.failed += 1;
-    told.first ??= seed;
-    told.endings.set(ending, (told.endings.get(ending) ?? 0) + 1);
+    counts.failed += 1;
+    counts.first ??= seed;
+    counts.endings.set(ending, (counts.endings.get(ending) ?? 0) + 1);
   }
   const [most] = hiddenWaits(onlyByTime.data());
-  return { ...told, hidden: most?.runs ?? 0 };
+  return { ...counts, hidden: most?.runs ?? 0 };
 }
 
 /** @param {string[]} cells */
@@ -84,23 +84,23 @@ function cellsOf({ failed, first, endings, hidden }, note) {
  */
 async function runWrong(edits, amount) {
   const folder = mkdtempSync(join(tmpdir(), "sabsim-wrong-"));
-  const told = { found: 0, wrong: 0, red: /** @type {string[]} */ ([]) };
+  const results = { found: 0, wrong: 0, red: /** @type {string[]} */ ([]) };
   try {
     for (const edit of edits) {
       const module = join(folder, `${edit.name}.mjs`);
       writeFileSync(module, editedText(edit));
       const of = await counted(module, amount);
       printRow([edit.name, edit.kind, ...cellsOf(of, NOTES.get(edit.kind))]);
-      if (edit.kind === RIGHT && of.failed + of.hidden > 0) told.red.push(edit.name);
-      if (edit.kind === HIDDEN && of.hidden === 0) told.red.push(edit.name);
+      if (edit.kind === RIGHT && of.failed + of.hidden > 0) results.red.push(edit.name);
+      if (edit.kind === HIDDEN && of.hidden === 0) results.red.push(edit.name);
       if (edit.kind === RIGHT || edit.kind === STARVES) continue;
-      told.wrong += 1;
-      if (of.failed > 0) told.found += 1;
+      results.wrong += 1;
+      if (of.failed > 0) results.found += 1;
     }
   } finally {
     rmSync(folder, { recursive: true });
   }
-  return told;
+  return results;
 }
 
 /**

@@ -1,5 +1,5 @@
-// A readers-writer lock in one word: how many readers hold it, or that a writer does. Whoever may let others in wakes
-// all of them: the last reader, and the writer. (Readers may keep writers out for as long as they overlap.)
+// A readers-writer lock in one word: how many readers hold it, or that a writer does. The last reader wakes
+// all others, and so does the writer. (Readers may keep writers out for as long as they overlap.)
 
 const FREE = 0;
 const WRITER = -1;

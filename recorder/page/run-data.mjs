@@ -29,7 +29,7 @@
  * @property {View[]} views
  * @property {View[]} arrays of the code, by which ordinary accesses were made
  * @property {Entry[]} entries those that act, wait, leave and are stuck
- * @property {Record<string, any>[]} standings of agents that haven't come to the end of their calls
+ * @property {Record<string, any>[]} standings of agents whose calls haven't all returned
  * @property {Event[]} events of the trace; none where it isn't known
  * @property {boolean} isWhole whether all are there; else those that are ordinary and don't race aren't
  * @property {string[]} places of the code: file, line and column

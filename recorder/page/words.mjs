@@ -152,7 +152,7 @@ function placeInLine(ahead) {
 }
 
 /**
- * How far an agent came that hasn't come to the end of its calls.
+ * How far an agent came whose calls haven't all returned.
  * @param {Record<string, any>} standing as `--format json` prints it
  * @returns {string}
  */

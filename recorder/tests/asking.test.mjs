@@ -1,5 +1,5 @@
-// How the recorder asks the simulator: a module that is wrong fails the check and is no answer. That the module and the
-// native program come to the same is in `known-judged.test.mjs`.
+// How the recorder asks the simulator: a wrong module fails the check. `known-judged.test.mjs` shows that the
+// module and the native program agree.
 
 import assert from "node:assert/strict";
 import { spawnSync } from "node:child_process";
@@ -89,7 +89,7 @@ function recorderWith(context, bytes) {
   return join(folder, "record.mjs");
 }
 
-for (const [what, bytes, told] of [
+for (const [what, bytes, message] of [
   ["traps", TRAPPING, /^record: seed 1: sabsim failed on the script: the simulator stopped: unreachable$/m],
   ["writes a wrong report", misspelling(), /^record: seed 1: the code and sabsim differ, in line 3 of the report$/m],
 ]) {
@@ -99,7 +99,7 @@ for (const [what, bytes, told] of [
     const env = { ...process.env, SABSIM: "" };
     const { status, stdout, stderr } = spawnSync(process.execPath, words, { env, encoding: "utf8" });
     assert.equal(status, 3, stderr);
-    assert.match(stderr, told);
+    assert.match(stderr, message);
     assert.match(stdout, /^stopped after 1 of 20 runs\n[^]*^no run was checked$/m);
     assert.deepEqual(readdirSync(out).sort(), ["seed-1.json", "seed-1.report", "seed-1.sabsim-report"]);
   });

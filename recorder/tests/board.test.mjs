@@ -37,7 +37,7 @@ function drawn(board, from, times) {
 
 const HERE = [0, 4];
 
-test("a notify wakes the oldest waiters of its place, as many as it is told", () => {
+test("a notify wakes the oldest waiters of its place, as many as its count", () => {
   const wake = (count) => {
     const board = boardAt([PHASE.RUNS, PHASE.RUNS, PHASE.RUNS, PHASE.RUNS]);
     for (const agent of [2, 0, 1]) board.line.join(agent, ...HERE, false);
@@ -66,7 +66,7 @@ test("agents move that ask, that were woken, or that wait with a timeout, and al
   assert.deepEqual([...new Set(drawn(boardAt(phases), 4, 500))].sort(), [0, 2, 4]);
 });
 
-test("a time's end is offered in so many of the draws, and always where nothing else can move", () => {
+test("the end of a wait's time is offered in a share of the draws, and always if nothing else can move", () => {
   const timesUp = (phases, timeouts) => {
     return drawn(boardAt(phases, { timeouts }), 1, 4_000).filter((agent) => phases[agent] === PHASE.WAITS_TIMED).length;
   };
@@ -87,7 +87,7 @@ test("with switch:0 an agent goes on as long as it can, and with switch:1 never 
   assert.equal(new Set(drawn(boardAt([PHASE.ASKS, PHASE.FINISHED], switching(1)), 1, 5)).size, 1);
 });
 
-test("a run in which nobody can move has finished, or is a deadlock where somebody waits", () => {
+test("a run in which no agent can move has finished, or is a deadlock if an agent waits", () => {
   const end = (phases, rules) => {
     const board = boardAt(phases, rules);
     board.pass(0);
@@ -134,14 +134,14 @@ test("an agent whose worker died ends the run when it has the turn, and only the
   assert.equal(turn.isBack(1, 0), false);
 });
 
-test("an agent that died before it gets the turn is told of with what it died of", () => {
+test("an agent that died before it gets the turn fails the run, with what it died of", () => {
   const board = boardAt([PHASE.ASKS, PHASE.FINISHED]);
   board.turn.die(0, "out of memory");
   board.pass(1);
   assert.deepEqual(board.end.result(), { ending: "failed", detail: "agent 0's worker died: out of memory" });
 });
 
-test("what is left of a run starts nobody: an agent begins once for each order", () => {
+test("an earlier run's state starts no agent: an agent begins once for each order", () => {
   const board = boardAt([PHASE.ASKS, PHASE.ASKS]);
   const first = board.turn.awaitStart(0, 0);
   board.turn.wake(0);

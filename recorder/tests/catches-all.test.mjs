@@ -38,12 +38,12 @@ test("code that catches it and ends soon keeps its worker, and a loop gets anoth
   const seeds = `${FAILING}..${FAILING + 1}`;
   // The failing run is made once more to learn its lines.
   for (const [how, served] of [["once", [1, 2, 3]], ["loop", [1, 1, 1]]]) {
-    const { errors } = recorded(wordsOf(seeds, "--", how, "tells"));
+    const { errors } = recorded(wordsOf(seeds, "--", how, "prints"));
     assert.equal(errors, served.map((run) => `serves run ${run} of its worker\n`).join(""), how);
   }
 });
 
-test("where an agent goes on without a call the trace isn't kept, and the summary says why", (context) => {
+test("if an agent goes on without a call, the trace isn't kept, and the summary says why", (context) => {
   const out = temporaryFolder(context);
   const { status, output } = recorded(wordsOf(`${FAILING}`, "--out", out, "--", "stay"));
   assert.equal(status, 1);
@@ -53,7 +53,7 @@ test("where an agent goes on without a call the trace isn't kept, and the summar
   assert.ok(!existsSync(join(out, `seed-${FAILING}.trace.jsonl`)));
 });
 
-test("where the second run goes another way the trace isn't kept, and the summary says why", (context) => {
+test("if the second run goes another way, the trace isn't kept, and the summary says why", (context) => {
   const folder = temporaryFolder(context);
   const module = agentsOf(folder, `
     globalThis.times = (globalThis.times ?? 0) + 1;

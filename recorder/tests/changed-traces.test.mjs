@@ -56,13 +56,13 @@ test("docs/FORMATS.md has this table of deeds", () => {
   const [, table] = /\n\| `does` \|.*\n\|[-|]+\n((?:\|.*\n)+)/.exec(readFileSync(FORMATS, "utf8"));
   const rows = table.trimEnd().split("\n").map((row) => row.split("|").slice(1, -1).map((cell) => cell.trim()));
   assert.deepEqual(rows.pop(), ["a call that throws, `load` to `notify`", ...Array(4).fill("false"), "any"]);
-  const told = rows.flatMap(([deeds, read, write, atomic, waiters, size]) => {
+  const documented = rows.flatMap(([deeds, read, write, atomic, waiters, size]) => {
     const is = { read: read === "true", atomic: atomic === "true", waiters: waiters === "true" };
     const flags = WRITES[write].map((it) => flagsOf({ ...is, write: it }));
     return [...deeds.matchAll(/`([\w-]+)`/g)].map(([, does]) => [does, flags, SIZE_WORDS.get(size)]);
   });
   const here = Object.entries(DEEDS).map(([does, { flags, fits }]) => [does, flags, fits]);
-  assert.deepEqual(told.sort(), here.sort());
+  assert.deepEqual(documented.sort(), here.sort());
 });
 
 /** @param {unknown} value */

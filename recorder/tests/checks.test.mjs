@@ -17,7 +17,7 @@ const program = (name, options = {}) =>
   ({ module: agentsPath("checked"), args: [name], agents: 2, everywhere: true, ...options });
 
 describe("init and check", { concurrency: 2 }, () => {
-  it("a lost update is one line to find: a run fails by its check just where the count is wrong", async () => {
+  it("one line of `check` finds a lost update: a run fails exactly if the count is wrong", async () => {
     const outcomes = await recorded(program("lost"), seedsTo(20));
     assert.deepEqual(different(outcomes, "ending"), ["check", "finished"]);
     for (const { ending, fails, detail, bytes, races, script } of outcomes) {
@@ -30,7 +30,7 @@ describe("init and check", { concurrency: 2 }, () => {
     }
   });
 
-  it("what fails by its check is kept, and replays", async (context) => {
+  it("a run that fails by its check is kept, and replays", async (context) => {
     const out = temporaryFolder(context);
     const words = [RECORD, agentsPath("checked"), "--seeds", "1..20", "--out", out, ...CHECKING, "--", "lost"];
     const { code, stdout } = await new Promise((done) => {
@@ -46,7 +46,7 @@ describe("init and check", { concurrency: 2 }, () => {
     assert.equal(simulated(["replay"], kept("json")).output, kept("report"));
   });
 
-  it("the stores of init stand first, by an agent of its own, in each run anew", async () => {
+  it("the stores of init come first in each run, by an extra agent", async () => {
     const outcomes = await recorded(program("filled", { everywhere: false }), seedsTo(3));
     for (const { ending, detail, script, bytes, answers, progress, calls } of outcomes) {
       assert.deepEqual([ending, detail], ["finished", ""]);
@@ -65,7 +65,7 @@ describe("init and check", { concurrency: 2 }, () => {
     }
   });
 
-  it("where the stores of init don't all fit, those that calls rest on stand there", async () => {
+  it("if the stores of init don't all fit, the script has those on which calls depend", async () => {
     const [outcome] = await recorded(program("large", { buffers: [65_536] }));
     assert.deepEqual([outcome.ending, outcome.scriptHolds], ["finished", "touched"]);
     assert.deepEqual(outcome.answers.flat().sort(), [0x07070707, 0x07070708].map(String));
@@ -81,7 +81,7 @@ describe("init and check", { concurrency: 2 }, () => {
     assert.equal(outcomes[2].bytes[0], outcomes[0].bytes[0]);
   });
 
-  it("check goes before race, and the races are told too", async () => {
+  it("a failed check goes before a race, and the outcome has the races too", async () => {
     const [outcome] = await recorded(program("races"));
     assert.deepEqual([outcome.ending, outcome.fails], ["check", true]);
     assert.equal(outcome.detail, 'check threw "no Error"');
@@ -134,7 +134,7 @@ describe("init and check", { concurrency: 2 }, () => {
     ]);
   });
 
-  it("what a check answers in place of throwing it fails the run too", async (test) => {
+  it("a check that returns false or an error, in place of throwing it, fails the run too", async (test) => {
     const path = join(temporaryFolder(test), "agents.mjs");
     writeFileSync(path, `
       export const setup = { agents: 1, buffers: [4] };
@@ -142,9 +142,9 @@ describe("init and check", { concurrency: 2 }, () => {
       export const check = ([buffer], { args: [what] }) =>
         (what === "error" ? new RangeError("lost") : new Int32Array(buffer)[0] === Number(what));
     `);
-    const told = [["7", "finished", ""], ["8", "check", "check returned false"],
+    const cases = [["7", "finished", ""], ["8", "check", "check returned false"],
       ["error", "check", "check returned RangeError: lost"]];
-    for (const [what, ending, detail] of told) {
+    for (const [what, ending, detail] of cases) {
       const outcome = await record({ module: path, args: [what], sabsim: CHECKER });
       assert.deepEqual([outcome.ending, outcome.detail], [ending, detail]);
     }
@@ -182,9 +182,9 @@ describe("init and check", { concurrency: 2 }, () => {
     const near = { Check: "check", checks: "check", chekc: "check", Init: "init", SETUP: "setup", set_up: "setup" };
     for (const [name, meant] of Object.entries(near)) {
       write(`export const ${name} = () => false;`);
-      const told = `the module exports \`${name}\`: is \`${meant}\` meant? (of what a module exports only default, ` +
+      const why = `the module exports \`${name}\`: is \`${meant}\` meant? (of what a module exports only default, ` +
         "setup, init, check are looked at; give it another name if not)";
-      await assert.rejects(recordIt(), (error) => error instanceof Refused && error.message === told);
+      await assert.rejects(recordIt(), (error) => error instanceof Refused && error.message === why);
     }
     for (const name of ["unit", "int", "checker", "settings", "initial", "agents"]) {
       write(`export const ${name} = () => false;`);
@@ -194,15 +194,15 @@ describe("init and check", { concurrency: 2 }, () => {
     assert.equal((await recordIt()).ending, "finished");
   });
 
-  it("setup that is no plain data is refused, and it is said what of it isn't", async (test) => {
+  it("a setup that is no plain data is refused, and the message names the member that isn't", async (test) => {
     const path = join(temporaryFolder(test), "agents.mjs");
-    const told = {
+    const refusals = {
       "() => ({ agents: 2 })": /`setup` must be plain data, .*, but it is a function$/m,
       "{ agents: () => 2, buffers: [4] }": /`setup` must be plain data, .*, but its member agents is a function$/m,
       "{ agents: 2, buffers: [() => 4] }": /plain data, .*, but its member buffers has something else in it$/m,
       5: /^`setup` must be an object, as /,
     };
-    for (const [setup, refused] of Object.entries(told)) {
+    for (const [setup, refused] of Object.entries(refusals)) {
       writeFileSync(path, `export const setup = ${setup};\nexport default () => {};`);
       await assert.rejects(record({ module: path, sabsim: false }), (error) => {
         assert.ok(error instanceof Refused);
@@ -214,7 +214,7 @@ describe("init and check", { concurrency: 2 }, () => {
 
   it("so does one that the library is given, and what it rejects harms nobody", async () => {
     const rejects = async () => {
-      throw new Error("nobody is told");
+      throw new Error("nobody sees this");
     };
     const checks = [rejects, function* never() {
       throw new Error("nobody asks for it");

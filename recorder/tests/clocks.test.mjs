@@ -40,7 +40,7 @@ describe("the time of a run and its random numbers", { concurrency: 2 }, () => {
     const [begun, waited, slept, begunAnew] = outcomes.map(wordsOf);
     // A look takes a hundredth of a millisecond. It is the first moment of 2000, as it was while the module was loaded.
     for (const words of [begun, begunAnew]) assert.deepEqual([...words.slice(0, 5)], [1, 0, 2000, 0, 0]);
-    // Three of the clocks tell parts of a millisecond. Besides the wait there are few moves and looks.
+    // Three of the clocks show parts of a millisecond. Besides the wait there are few moves and looks.
     const [now, date, constructed, hrtime, bigint] = waited;
     for (const took of [now, hrtime, bigint]) assert.ok(took >= 5_000 && took < 5_030, `${took}`);
     for (const took of [date, constructed]) assert.ok(took === 5_000 || took === 5_100, `${took}`);
@@ -72,12 +72,12 @@ describe("the time of a run and its random numbers", { concurrency: 2 }, () => {
     assert.ok(most > 200 && most < 400, `${most} times`);
   });
 
-  it("the machine's clock is told where that is asked for, and random numbers by the seed all the same", async () => {
+  it("`clock: real` shows the machine's clock, and random numbers still come from the seed", async () => {
     const before = Math.floor(Date.now() / 1_000);
-    const real = (await outcomesOf("tells", [3, 4], { clock: "real" })).map(wordsOf);
+    const real = (await outcomesOf("shows", [3, 4], { clock: "real" })).map(wordsOf);
     const after = Math.floor(Date.now() / 1_000);
     for (const [seconds] of real) assert.ok(before <= seconds && seconds <= after, `${seconds}`);
-    const simulated = (await outcomesOf("tells", [3, 4])).map(wordsOf);
+    const simulated = (await outcomesOf("shows", [3, 4])).map(wordsOf);
     for (const [seconds] of simulated) assert.equal(seconds, Date.UTC(2000, 0, 1) / 1_000);
     const drawn = (outcomes) => outcomes.flatMap((words) => [...words.slice(1, 3)]);
     assert.deepEqual(drawn(real), drawn(simulated));

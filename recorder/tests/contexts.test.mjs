@@ -38,7 +38,7 @@ function outcomesOf(context, does, options = {}, seeds = [1]) {
   return recorded({ module, agents: 2, ordinary: "store", timeouts: "never", ...options }, seeds);
 }
 
-describe("a context where ordinary accesses aren't watched", { concurrency: 4 }, () => {
+describe("a new context in an agent, without watched ordinary accesses", { concurrency: 4 }, () => {
   for (const [way, does] of Object.entries(WAYS)) {
     for (const ordinary of ["store", "refuse"]) {
       test(`wakes an agent by its Atomics: ${way}, --ordinary ${ordinary}`, async (context) => {

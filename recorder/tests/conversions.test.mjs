@@ -58,7 +58,7 @@ describe("each argument at each place gives what the engine gives", () => {
 });
 
 describe("a script has what comes of the conversions", () => {
-  /** A call, what it answers, and the call in the script; none where a conversion throws. */
+  /** A call, what it returns, and the call in the script; none if a conversion throws. */
   const TABLE = [
     ["store(words, 0, '5')", "5", ["store", "Int32", 0, 5]],
     ["store(words, undefined, 251.4)", "251", ["store", "Int32", 0, 251]],
@@ -183,7 +183,7 @@ describe("an index at the edges of what a Number holds exactly", () => {
   }
 });
 
-describe("what an agent's code does in a conversion comes before the call", () => {
+describe("code of an agent that runs in a conversion comes before the call", () => {
   const WORDS = "const words = new Int32Array(buffers[0]);";
   const inOrder = (...calls) => [calls.map(([name, ...rest]) => [name, "Int32", ...rest])];
 
@@ -210,7 +210,7 @@ describe("what an agent's code does in a conversion comes before the call", () =
     assert.deepEqual(outcome.answers, [["0", "1", "2", "5"]]);
   });
 
-  test("what it changes is what the call finds", async (context) => {
+  test("the call finds what that code changes", async (context) => {
     const outcome = await recordBody(context, `${WORDS}
       Atomics.compareExchange(words, 0, { valueOf: () => Atomics.store(words, 0, 7) }, "8");`);
     assert.deepEqual(outcome.answers, [["7", "7"]]);
@@ -259,7 +259,7 @@ describe("what an agent's code does in a conversion comes before the call", () =
     assert.deepEqual([...ended].sort(), ["not-equal", "ok"]);
   });
 
-  test("where the run ends in it, the call isn't made", async (context) => {
+  test("if the run ends in that code, the call isn't made", async (context) => {
     const outcome = await recordBody(context, `${WORDS}
       if (agent === 1) throw new Error("the other one");
       const caught = () => {
@@ -303,7 +303,7 @@ describe("waits on memory of the program's own", () => {
     });
   }
 
-  test("what a timeout's code throws is thrown, after the other conversions", async (context) => {
+  test("an error from the conversion of a timeout is thrown, after the other conversions", async (context) => {
     const { detail } = await recordBody(context, `
       Atomics.load(new Int32Array(buffers[0]), 0);
       const own = new Int32Array(new SharedArrayBuffer(8));

@@ -54,7 +54,7 @@ function spin(board, agent) {
   for (let call = 0; call < SPIN_CALLS; call += 1) board.spins.repeated(agent);
 }
 
-test("where nothing else can move the wait with the earliest deadline ends, whatever the seed and the strategy", () => {
+test("if nothing else can move, the wait with the earliest deadline ends, whatever the seed and the strategy", () => {
   for (const strategy of ["uniform", "partial-order", "switch:0", "switch:1"]) {
     for (let seed = 0; seed < 50; seed += 1) {
       for (const timeouts of [0, 0.05, 1]) {
@@ -67,14 +67,14 @@ test("where nothing else can move the wait with the earliest deadline ends, what
   }
 });
 
-test("of two with the same deadline the one ends that began to wait first", () => {
+test("of two waits with the same deadline, the one that began first ends", () => {
   const board = boardAt([FINISHED, FINISHED, FINISHED]);
   for (const agent of [2, 0, 1]) board.wait(agent, 0, 4, 100);
   // The clock stands still meanwhile.
   assert.deepEqual(order(board, 1), [2]);
 });
 
-test("what is over when the clock has gone on is drawn as all that can move, and no end of it is early", () => {
+test("a wait whose deadline has passed is drawn like all that can move, and its end isn't early", () => {
   const turns = (timeouts) => {
     const some = new Set();
     for (let seed = 0; seed < 100; seed += 1) {
@@ -123,7 +123,7 @@ test("an agent that only reads the same again can't move beside a wait that has 
   }
 });
 
-test("where there is no wait that has a time, all that read the same again are drawn", () => {
+test("if no wait has a timeout, all agents that read the same again are drawn", () => {
   const board = boardAt([ASKS, ASKS, WAITS]);
   spin(board, 0);
   spin(board, 1);

@@ -73,12 +73,12 @@ describe("generated scripts", () => {
 describe("scripts with their reports", () => {
   const folders = readdirSync(DATA, { withFileTypes: true }).filter((entry) => entry.isDirectory());
   const read = (folder, name) => readFileSync(`${DATA}/${folder}/${name}`, "utf8");
-  const told = new Map();
+  const countsOfReports = new Map();
 
   for (const { name: folder } of folders) {
     const reports = readdirSync(`${DATA}/${folder}`).filter((name) => name.endsWith(".report"));
     if (reports.length === 0) continue;
-    told.set(folder, reports.length);
+    countsOfReports.set(folder, reports.length);
     test(`the engine's reports on ${folder} are the ${reports.length} beside them`, async () => {
       const compare = async (name) => {
         const { report } = await opinions.of(read(folder, name.replace(".report", ".json")));
@@ -88,17 +88,17 @@ describe("scripts with their reports", () => {
     });
   }
 
-  test("the examples are among them", () => assert.ok(told.get("examples") >= 9));
+  test("the examples are among them", () => assert.ok(countsOfReports.get("examples") >= 9));
 });
 
 describe("the program", () => {
   const script = readFileSync(`${EXAMPLES}/timed-wait.json`, "utf8");
 
-  test("writes the report, and tells on standard error what isn't the engine's", async () => {
+  test("writes the report, and counts on standard error the moves that aren't the engine's", async () => {
     const { status, output, errors } = await runNode(ENGINE, [], script);
     assert.equal(output, readFileSync(`${EXAMPLES}/timed-wait.report`, "utf8"));
-    const told = /^engine: node \S+, V8 \S+: \d+ of \d+ moves are the engine's answers; the script's own: .*\n$/;
-    assert.match(errors, told);
+    const counts = /^engine: node \S+, V8 \S+: \d+ of \d+ moves are the engine's answers; the script's own: .*\n$/;
+    assert.match(errors, counts);
     assert.equal(status, 0);
   });
 
@@ -109,7 +109,7 @@ describe("the program", () => {
     assert.deepEqual([status, errors], [0, ""]);
   });
 
-  test("reads a script from a file, or from standard input where it is - or isn't named", async () => {
+  test("reads a script from a file, or from standard input if it is - or missing", async () => {
     const report = readFileSync(`${EXAMPLES}/timed-wait.report`, "utf8");
     for (const [words, input] of [[[`${EXAMPLES}/timed-wait.json`], ""], [["-"], script], [[], script]]) {
       const { status, output } = await runNode(ENGINE, words, input);
@@ -117,7 +117,7 @@ describe("the program", () => {
     }
   });
 
-  test("tells of a file that can't be read by its name, with status 3", async () => {
+  test("names a file that can't be read, with status 3", async () => {
     for (const name of [`${EXAMPLES}/none.json`, EXAMPLES, "/dev/null/none"]) {
       const { status, output, errors } = await runNode(ENGINE, [name], script);
       assert.ok(errors.startsWith(`engine: ${name} can't be read: E`), errors);
@@ -129,9 +129,9 @@ describe("the program", () => {
     const wrong = {
       "--file": /^engine: --file is no option; .*\n$/, "a.json b.json": /^engine: .* one script only; .*\n$/,
     };
-    for (const [words, told] of Object.entries(wrong)) {
+    for (const [words, refusal] of Object.entries(wrong)) {
       const { status, output, errors } = await runNode(ENGINE, words.split(" "), script);
-      assert.match(errors, told);
+      assert.match(errors, refusal);
       assert.deepEqual([status, output], [2, ""]);
     }
   });
@@ -248,7 +248,7 @@ describe("an engine that does what none may is found", () => {
   const agents = [waiter, waiter, waker];
   const schedule = [0, 0, 1, 1, 2, 2, 2, 2, 2, 0];
 
-  /** Makes the script with an engine that answers so, and whose waiters leave at a notify as `leave` says. */
+  /** Makes the script with an engine that gives these answers, and whose waiters leave at a notify as `leave` says. */
   function falseEngine(answers, leave = () => {}) {
     const hands = [];
     const answerTo = (method) => {
@@ -274,17 +274,17 @@ describe("an engine that does what none may is found", () => {
     hands[0].answer = hands[1].answer = { answer };
   };
   const cases = [
-    ["a wait that answers ok as it begins", { wait: { answer: "ok" } }, nobody, /agent 0's wait answered ok as it/],
+    ["a wait that returns ok as it begins", { wait: { answer: "ok" } }, nobody, /agent 0's wait answered ok as it/],
     ["a wait that ends by itself", {}, one, /a notify answered 0, and these left their waits: agent 1 with ok$/],
-    ["a notify that wakes more than it tells", { notify: { answer: 1 } }, both("ok"), /answered 1, .* agent 1 with/],
-    ["a wait that is woken to no answer", { notify: { answer: 2 } }, both("woken"), /agent 0 with woken/],
+    ["a notify that wakes more than it returns", { notify: { answer: 1 } }, both("ok"), /answered 1, .* agent 1 with/],
+    ["a wait that returns an unknown answer", { notify: { answer: 2 } }, both("woken"), /agent 0 with woken/],
     ["a wait whose answer always comes too late", { notify: { answer: 2 } }, both("not-equal"), /again and again/],
     ["an access that throws what none may", { load: { threw: "SyntaxError", message: "?" } }, nobody, /SyntaxError/],
   ];
-  for (const [name, answers, leave, told] of cases) {
+  for (const [name, answers, leave, message] of cases) {
     test(name, async () => {
       const run = falseEngine({ ...good, ...answers }, leave);
-      await assert.rejects(run, (error) => error instanceof EngineFault && told.test(error.message));
+      await assert.rejects(run, (error) => error instanceof EngineFault && message.test(error.message));
     });
   }
 

@@ -99,7 +99,7 @@ function saidOf(name) {
   return row.slice(0, -" |".length).split(" | ").at(-1);
 }
 
-/** What all recorded scripts come to. */
+/** The sums over all recorded scripts. */
 const all = { scripts: 0, waits: 0, timeOuts: 0, moves: 0 };
 
 /** Adds the outcomes of an example. */

@@ -32,7 +32,7 @@ test("outcomes come in the order of the seeds, and are those of record, whatever
   const one = await allOf(explore({ ...options, seeds: "20..60", checkEvery: 4 }));
   assert.deepEqual(one.map(({ seed }) => seed), Array.from({ length: 41 }, (_, at) => at + 20));
   const three = await allOf(explore({ ...options, seeds: { first: 20, last: 60 }, checkEvery: 4, jobs: 3 }));
-  // Each job tells the trace of its own first failing run, and the code that it names.
+  // Each job returns the trace of its own first failing run, and the code that it names.
   const untraced = (outcomes) => outcomes.map((outcome) => ({ ...outcome, trace: undefined, sources: undefined }));
   assert.deepEqual(untraced(three), untraced(one));
   const first = one.find(({ fails }) => fails);
@@ -119,7 +119,7 @@ test("with failFast the first failing run is the last, and with fresh workers ar
   assert.deepEqual([await remembered(false), await remembered(true)], [["01", "02", "03"], ["01", "01", "01"]]);
 });
 
-test("runs aren't made far ahead of who takes them", async () => {
+test("runs aren't made far ahead of the loop that takes them", async () => {
   let made = 0;
   const runs = explore({ ...cases("addition"), seeds: 100_000, init: () => void (made += 1) });
   try {
@@ -192,7 +192,7 @@ const WAYS_OUT = {
   "a break": "for await (const { seed } of runs) if (seed === 20) break;",
   "a throw": 'try { for await (const { seed } of runs) if (seed === 20) throw new Error("mine"); } catch (error) ' +
     '{ if (error.message !== "mine") throw error; }',
-  "an end that it comes to": "for await (const { fails } of runs);",
+  "its own end": "for await (const { fails } of runs);",
 };
 
 for (const [what, code] of Object.entries(WAYS_OUT)) {
@@ -224,7 +224,7 @@ for (const [what, code] of Object.entries(WAYS_OUT)) {
   });
 }
 
-test("where a signal is aborted while nobody takes, all is ended all the same", onLinux, async (context) => {
+test("a signal that is aborted while no outcome is taken ends all the same", onLinux, async (context) => {
   const folder = temporaryFolder(context);
   await Promise.all([1, 2].map(async (jobs) => {
     const mark = randomUUID();
@@ -245,7 +245,7 @@ test("where a signal is aborted while nobody takes, all is ended all the same", 
   }));
 });
 
-test("a delivery hands out in order, and tells how far runs may go", async () => {
+test("a delivery hands out in order, and says how far runs may go", async () => {
   const delivery = new Delivery(5);
   assert.equal(delivery.next, 5);
   const first = delivery.take();

@@ -12,7 +12,7 @@ import { hexOf } from "./helpers/recorded.mjs";
 
 const names = new SourceNames("file:///home/me/project/lock.agents.mjs");
 
-test("what was thrown goes by its first lines, and the innermost line of code that isn't node's", () => {
+test("failures are grouped by the first lines of the message, and the innermost line of code that isn't node's", () => {
   const stack = [
     "    at strictEqual (node:assert:10:5)", "    at new Lock (file:///home/me/project/src/lock.mjs:7:3)",
     "    at file:///home/me/project/lock.agents.mjs:9:1",
@@ -27,13 +27,13 @@ test("what was thrown goes by its first lines, and the innermost line of code th
   assert.deepEqual(thrownIn("check returned false", names), { message: ["check returned false"], sources: [] });
 });
 
-test("of a long message three lines are kept, and 160 characters of each", () => {
+test("a long message is cut to three lines of 160 characters", () => {
   const lines = ["a".repeat(1_000_000), "b", "c", "d", "    at f (file:///a.mjs:1:1)"];
   const { message } = thrownIn(lines.join("\n"), names);
   assert.deepEqual(message, ["a".repeat(160), "b", "c"]);
 });
 
-test("a standstill goes by where agents wait, not by their numbers, and by the line that a limit names", () => {
+test("standstills are grouped by where agents wait, not by their numbers, and by the line that a limit names", () => {
   const waits = ["b.mjs:4:1", "a.mjs:3:1", "b.mjs:4:1"].map((source, at) => ({ name: `fork[${at % 2}]`, source }));
   const expected = ["an agent waits at fork[0]", "an agent waits at fork[1]"];
   assert.deepEqual(standstillOf("", waits), { message: expected, sources: ["a.mjs:3:1", "b.mjs:4:1"] });
@@ -56,7 +56,7 @@ test("last bytes have their names, as values of their kinds, which the code writ
   assert.equal(namedIn(undefined, [hexOf(bytes), "1e14"]), null);
 });
 
-test("bytes that no name has are shown where they aren't zero, and of a long array the first elements", () => {
+test("bytes without a name are shown if they aren't zero, and a long array by its first elements", () => {
   const zero = "00".repeat(24);
   assert.equal(namedIn({ LOCK: 0 }, [zero, "0000"]), "LOCK 0");
   assert.equal(namedIn({ LOCK: 0 }, [zero, "0001"]), `LOCK 0; all bytes: ${zero} | 0001`);

@@ -23,7 +23,7 @@ test("two states are the same if the ending and all bytes are, whichever came fi
   assert.equal(states.known.size, ends.length);
 });
 
-test("what is known of many states is bounded", () => {
+test("the summary of many states has a bounded size", () => {
   const states = new FinalStates([]);
   for (let end = 0; end < 1_000; end += 1) {
     const hex = end.toString(16).padStart(8, "0");

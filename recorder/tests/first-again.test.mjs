@@ -89,17 +89,17 @@ describe("a module that keeps something from run to run", SIDE_BY_SIDE, () => {
     });
   }
 
-  test("isn't reported where it keeps nothing", async (context) => {
+  test("isn't reported if it keeps nothing", async (context) => {
     const { summary } = await summaryOf(context, "nothing", ["--seeds", "1..20"]);
     assert.equal(summary.remembers, null);
   });
 
   test("is in the last outcome of explore alone", async (context) => {
     const options = { module: moduleIn(context), seeds: 3, args: ["bytes"], everywhere: true };
-    const told = [];
-    for await (const { seed, remembers } of explore(options)) told.push([seed, remembers]);
+    const outcomes = [];
+    for await (const { seed, remembers } of explore(options)) outcomes.push([seed, remembers]);
     const found = { seed: 1, differs: "bytes", was: "finished", is: "finished", threw: false, real: false };
-    assert.deepEqual(told, [[1, undefined], [2, undefined], [3, found]]);
+    assert.deepEqual(outcomes, [[1, undefined], [2, undefined], [3, found]]);
     for await (const { remembers, fails } of explore({ ...options, args: ["ending"], failFast: true })) {
       assert.equal(remembers?.differs, fails ? "ending" : undefined);
     }
@@ -140,7 +140,7 @@ test("the two endings are in words for people", () => {
   }
 });
 
-test("joined summaries tell that of the least seed", (context) => {
+test("joined summaries keep the difference of the lowest seed", (context) => {
   const folder = temporaryFolder(context);
   const options = { ordinary: "watch", races: "fail", unrecorded: "fail", preloads: false, args: [] };
   const parts = [6, 4].map((seed) => {

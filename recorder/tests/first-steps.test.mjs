@@ -60,7 +60,7 @@ test("each way to export an agent is taken", async (context) => {
   }
 });
 
-test("where loading throws in what looks like a program, it is said what a module of agents is", (context) => {
+test("if a file that looks like a program throws, the error says what a module of agents is", (context) => {
   const hint = /\nIt looks like a program, or like the file of its Worker\. A module of agents starts no threads: /;
   const thrown = 'throw new RangeError("at once");\nexport default () => {};\n';
   const worker = fileWith(context, "worker.mjs", `import { workerData } from "node:worker_threads";\n${thrown}`);
@@ -103,8 +103,8 @@ test("-h and -V do what --help and --version do, as sabsim's, and -v is refused 
     const help = run(program, ["--help"]);
     assert.match(help.output, new RegExp(`^usage: node recorder/${name}\\.mjs `));
     assert.deepEqual(run(program, ["-h"]), help);
-    const told = { status: 0, output: `sabsim-${name} ${version}\n`, errors: "" };
-    for (const word of ["-V", "--version"]) assert.deepEqual(run(program, [word]), told, word);
+    const printed = { status: 0, output: `sabsim-${name} ${version}\n`, errors: "" };
+    for (const word of ["-V", "--version"]) assert.deepEqual(run(program, [word]), printed, word);
     assert.equal(run(program, ["-v"]).status, 2);
   }
   assert.equal(run(RECORD, ["-v"]).errors, "record: there is no option -v: is -V meant?\n");

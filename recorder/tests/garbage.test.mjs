@@ -40,7 +40,7 @@ test("the process of a job collects garbage in the workers that it begins before
   assert.deepEqual([stdout, stderr], ["true false undefined\n", ""]);
 });
 
-test("agents find the engine's own way to collect only where node was started with it", (context) => {
+test("agents have `gc` only if node was started with it", (context) => {
   const module = agentsOf(temporaryFolder(context), `
     Atomics.add(new Int32Array(buffers[0]), 0, 1);
     console.log(typeof globalThis.gc);

@@ -56,7 +56,7 @@ test("a job gets node's own words, but not those about the program and how it is
   }
 });
 
-test("what is loaded before the program is loaded for agents too, whatever the number of jobs", (context) => {
+test("files of --require and --import are loaded for agents too, whatever the number of jobs", (context) => {
   const folder = temporaryFolder(context);
   writeFileSync(join(folder, "pre.cjs"), "globalThis.fromRequire = 1;\n");
   writeFileSync(join(folder, "pre.mjs"), "globalThis.fromImport = 2;\n");
@@ -79,14 +79,14 @@ test("a command ends when all is written, whatever else would keep its process",
   assert.match(stdout, /^ {2}1 run finished, seed 1 the first: 0200000000000000$/m);
 });
 
-test("one job and several tell the same", () => {
+test("one job and several print the same", () => {
   const words = [agentsPath("naive-mutex"), "--seeds", "1..150", ...CHECKING];
   const [one, four] = ["1", "4"].map((jobs) => run([...words, "--jobs", jobs]));
   assert.equal(one.status, 1);
   assert.deepEqual(four, one);
 });
 
-test("without --jobs a command that goes on takes further jobs, and tells the same as one", onLinux, async () => {
+test("without --jobs a command that goes on takes further jobs, and prints the same as one", onLinux, async () => {
   const words = [RECORD, agentsPath("naive-mutex"), "--seeds", "1..1500", "--check", "10", ...CHECKING];
   const mark = randomUUID();
   const child = spawn(process.execPath, words, { env: { ...process.env, RECORDER_TEST: mark } });
@@ -195,7 +195,7 @@ test("outcomes that come in any order are taken in the order of their seeds, up 
   assert.deepEqual(await takenOf([5, 1, -4, 3]), [1, 3, 4]);
 });
 
-test("a job's process that dies is told of, with status 3, and the summary of the others", (context) => {
+test("a job whose process dies is reported with status 3, and the summary has the other runs", (context) => {
   const words = small(temporaryFolder(context), `
     const words = new Int32Array(buffers[0]);
     globalThis.seeds = (globalThis.seeds ?? 0) + 1;
@@ -209,14 +209,14 @@ test("a job's process that dies is told of, with status 3, and the summary of th
   // Pilots would end it before.
   const { status, stdout, stderr } = run([...words, "--seeds", "1..10", "--everywhere"]);
   assert.equal(status, 3);
-  // Of the fifth run nothing is told.
+  // The summary doesn't count the fifth run.
   assert.match(stdout, /^stopped after 4 of 10 runs\n4 runs: 4 finished\n/);
   assert.equal(
     stderr, "record: a job's process ended by itself (SIGKILL), and nothing is known of the seeds 5 to 10\n",
   );
 });
 
-test("a run that failed is told of, also if the next one ends the job's process at once", (context) => {
+test("a failed run is reported even if the next run kills the job's process at once", (context) => {
   const words = small(temporaryFolder(context), `
     globalThis.times = (globalThis.times ?? 0) + 1;
     if (globalThis.times === 8) process.kill(process.pid, "SIGKILL");
@@ -228,7 +228,7 @@ test("a run that failed is told of, also if the next one ends the job's process 
   assert.match(stdout, /^stopped after 6 of 10 runs\n6 of 6 runs failed: 6 race\n/);
 });
 
-test("where one job of several is killed, the others go on", onLinux, async (context) => {
+test("if one job of several is killed, the others go on", onLinux, async (context) => {
   const mark = randomUUID();
   const words = small(temporaryFolder(context), `
     Atomics.add(new Int32Array(buffers[0]), 0, 1);
@@ -237,10 +237,10 @@ test("where one job of several is killed, the others go on", onLinux, async (con
   const env = { ...process.env, RECORDER_TEST: mark };
   const all = [RECORD, ...words, "--seeds", "1..1500", "--jobs", "3"];
   const child = spawn(process.execPath, all, { env, stdio: ["ignore", "pipe", "pipe"] });
-  const told = { stdout: "", stderr: "" };
+  const output = { stdout: "", stderr: "" };
   for (const name of ["stdout", "stderr"]) {
     child[name].setEncoding("utf8").on("data", (text) => {
-      told[name] += text;
+      output[name] += text;
     });
   }
   const ended = new Promise((done) => {
@@ -251,11 +251,11 @@ test("where one job of several is killed, the others go on", onLinux, async (con
     process.kill(Number(job), "SIGKILL");
   });
   assert.equal(await ended, 3);
-  const [, runs] = /^stopped after ([\d,]+) of 1,500 runs\n\1 runs: \1 finished\n/.exec(told.stdout);
+  const [, runs] = /^stopped after ([\d,]+) of 1,500 runs\n\1 runs: \1 finished\n/.exec(output.stdout);
   const made = Number(runs.replaceAll(",", ""));
   // A job is given 16 seeds at a time at most.
   assert.ok(made >= 1_500 - 16 && made < 1_500, runs);
-  assert.match(told.stderr, /^record: a job's process ended by itself \(SIGKILL\), and nothing is known of /m);
+  assert.match(output.stderr, /^record: a job's process ended by itself \(SIGKILL\), and nothing is known of /m);
   assert.deepEqual(processesWith(mark), []);
 });
 

@@ -58,7 +58,7 @@ describe("rows by hand", () => {
   }
 });
 
-test("what is no event's line is refused, and it is said which line", () => {
+test("a line that is no event is refused by its number", () => {
   const trace = readFileSync(new URL("mutex.jsonl", ROWS), "utf8");
   const lines = trace.split("\n");
   for (const line of ['{"event":1}', "[]"]) {
@@ -72,8 +72,8 @@ const foundFrom = (first) => new Promise((done) => {
   const words = [first, RANDOM, PROCESSES].map(String);
   const child = fork(pathOf("recorder/tests/helpers/judge-process.mjs"), words);
   let found = { seeds: 0, racy: 0, differing: [] };
-  child.on("message", (told) => {
-    found = told;
+  child.on("message", (message) => {
+    found = message;
   });
   child.on("exit", () => done(found));
 });

@@ -1,4 +1,4 @@
-// Checked runs are judged by sabsim too: what it is given, and what is told where it and the recorder differ.
+// sabsim judges checked runs too: what the recorder gives it, and what is reported if the two differ.
 
 import assert from "node:assert/strict";
 import { spawnSync } from "node:child_process";
@@ -76,7 +76,7 @@ describe("the judge of checked runs", () => {
     assert.equal(readFileSync(join(folder, "given"), "utf8"), script);
   });
 
-  it("says that there is a race, and the recorder found none: both are told", async (context) => {
+  it("finds a race, and the recorder found none: both are reported", async (context) => {
     const sabsim = judging(temporaryFolder(context), FINDS_ONE);
     await assert.rejects(recordCase("addition", { sabsim, seed: 9 }), (error) => {
       assert.ok(error instanceof Difference);
@@ -92,7 +92,7 @@ describe("the judge of checked runs", () => {
     });
   });
 
-  it("says that there is none, and the recorder found a race: both are told", async (context) => {
+  it("finds no race, and the recorder found one: both are reported", async (context) => {
     const found = /^ {2}the recorder: agent 1 reads slots\[0\] at ring-frees-first\.mjs:32:17, .*; agent 0 writes /;
     const sabsim = judging(temporaryFolder(context), FINDS_NONE);
     for (const races of ["fail", "allow"]) {
@@ -140,7 +140,7 @@ describe("the judge of checked runs", () => {
     }
   });
 
-  it("isn't asked where ordinary accesses aren't watched: no races are looked for", (context) => {
+  it("isn't asked if ordinary accesses aren't watched, since no races are looked for", (context) => {
     const sabsim = judging(temporaryFolder(context), FINDS_ONE);
     for (const ordinary of ["store", "refuse"]) {
       const words = ["--sabsim", sabsim, "--ordinary", ordinary, ...addition];
@@ -150,18 +150,18 @@ describe("the judge of checked runs", () => {
     }
   });
 
-  it("isn't there in a sabsim that is older: that is told, with status 3", async (context) => {
+  it("is missing in an older sabsim: this is reported with status 3", async (context) => {
     const folder = temporaryFolder(context);
     const sabsim = judging(folder, "echo \"error: unrecognized subcommand 'judge'\" >&2; exit 2");
-    const told = /judging can't do judge, so it is older than the recorder: error: unrecognized subcommand 'judge'$/;
+    const tooOld = /judging can't do judge, so it is older than the recorder: error: unrecognized subcommand 'judge'$/;
     await assert.rejects(recordCase("addition", { sabsim }), (error) => {
       assert.ok(error instanceof NoSabsim);
-      assert.match(error.message, told);
+      assert.match(error.message, tooOld);
       return true;
     });
     const { status, stderr } = run(agentsPath("cases"), "--sabsim", sabsim, ...addition);
     assert.equal(status, 3);
-    assert.match(stderr.trimEnd(), told);
+    assert.match(stderr.trimEnd(), tooOld);
   });
 
   it("ends by a signal: that is a difference too", (context) => {

@@ -1,4 +1,4 @@
-// What is kept of runs, and when: files, and what is told where the recorder is stopped.
+// Which files of runs are kept, and when, and what the recorder prints if it is stopped.
 
 import assert from "node:assert/strict";
 import { spawn, spawnSync } from "node:child_process";
@@ -65,7 +65,7 @@ test("a link that lies at a file's name isn't followed", (context) => {
   assert.equal(readFileSync(join(folder, "seed-5.json"), "utf8"), "script 5");
 });
 
-test("a file that can't be written is told of, with those that lie there", (context) => {
+test("the error about a file that can't be written names it, and the files that were kept", (context) => {
   const folder = temporaryFolder(context);
   const keeper = new Keeper(folder);
   keeper.keepFirst(run(9));
@@ -99,14 +99,14 @@ test("a folder that can't be made, or written to, is refused", (context) => {
  */
 function started(words, options) {
   const child = spawn(process.execPath, [RECORD, agentsPath("naive-mutex"), ...words], options);
-  const told = { stdout: "", stderr: "" };
+  const output = { stdout: "", stderr: "" };
   for (const name of ["stdout", "stderr"]) {
     child[name].setEncoding("utf8").on("data", (text) => {
-      told[name] += text;
+      output[name] += text;
     });
   }
   const ended = new Promise((done) => {
-    child.on("close", (status, signal) => done({ ...told, status, signal }));
+    child.on("close", (status, signal) => done({ ...output, status, signal }));
   });
   return { child, ended };
 }
@@ -129,7 +129,7 @@ test("--out is tried before anything runs", () => {
 });
 
 for (const signal of ["SIGINT", "SIGTERM"]) {
-  test(`${signal} ends it when what was found is told, and kept`, async (context) => {
+  test(`${signal} ends the command after it has printed and kept what it found`, async (context) => {
     const out = join(temporaryFolder(context), "out");
     const { child, ended } = started(["--seeds", "1..10000000", "--out", out, ...CHECKING]);
     const kept = () => {
@@ -156,7 +156,7 @@ for (const signal of ["SIGINT", "SIGTERM"]) {
   });
 }
 
-test("a device that is full is told of with status 3", (context) => {
+test("a file that can't be written ends the command with status 3", (context) => {
   const out = temporaryFolder(context);
   // No file may have more than 1,024 bytes: the script of this run has more.
   const words = [RECORD, agentsPath("naive-mutex"), "--check", "0", "--seeds", "1..400", "--out", out];

@@ -71,12 +71,12 @@ test("the module must be named, and options that there aren't are refused by the
     max_moves: "maxMoves", race: "races", trcae: "trace",
   };
   for (const [name, meant] of Object.entries(near)) {
-    const told = `there is no option \`${name}\`: is ${meant} meant?`;
-    await assert.rejects(record({ module, [name]: 1 }), (error) => error instanceof Refused && error.message === told);
+    const why = `there is no option \`${name}\`: is ${meant} meant?`;
+    await assert.rejects(record({ module, [name]: 1 }), (error) => error instanceof Refused && error.message === why);
   }
   for (const name of ["jobs", "count", "constructor", "__proto__x"]) {
-    const told = new RegExp(`^there is no option \`${name}\`: there are module, program, agents, buffers, .*, trace$`);
-    await assert.rejects(record({ module, [name]: 1 }), refused(told));
+    const why = new RegExp(`^there is no option \`${name}\`: there are module, program, agents, buffers, .*, trace$`);
+    await assert.rejects(record({ module, [name]: 1 }), refused(why));
   }
 });
 
@@ -179,7 +179,7 @@ test("`init` fills the buffers before the run, and the script has what it wrote"
   assert.equal(JSON.parse(script).agents.length, 3);
 });
 
-test("`init` fills the buffers before each pilot too, of which nothing else is told", async () => {
+test("`init` fills the buffers before each pilot too, and the outcome shows nothing else of pilots", async () => {
   let calls = 0;
   const init = (buffers) => {
     calls += 1;
@@ -257,7 +257,7 @@ test("`bounds` says whether a run that meets a bound fails", async () => {
   assert.deepEqual([allowed.ending, allowed.fails], ["bound", false]);
 });
 
-test("with `clock` run the same seed tells the same time, and with real the machine's", async (context) => {
+test("with `clock: run` the same seed gives the same time, and `clock: real` gives the machine's", async (context) => {
   const path = agentsOf(temporaryFolder(context), `
     const words = new Int32Array(buffers[0]);
     Atomics.store(words, 0, Date.now() > 1_600_000_000_000 ? 1 : 0);

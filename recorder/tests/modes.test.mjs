@@ -50,8 +50,8 @@ describe("ordinary accesses in each mode", () => {
       for (const { bytes } of outcomes) assert.equal(bytes[1].slice(0, 4), "0400");
     }
     // Who is asked for a call, and who moves, doesn't rest on how ordinary accesses are seen.
-    const told = ({ seed, moves, calls, answers, bytes }) => ({ seed, moves, calls, answers, bytes });
-    assert.deepEqual(store.map(told), watch.map(told));
+    const partsOf = ({ seed, moves, calls, answers, bytes }) => ({ seed, moves, calls, answers, bytes });
+    assert.deepEqual(store.map(partsOf), watch.map(partsOf));
     // Four times a read and a write.
     for (const { ordinary } of watch) assert.equal(ordinary, 8);
     for (const { ordinary } of [...store, ...refuse]) assert.equal(ordinary, 0);
@@ -62,7 +62,7 @@ describe("ordinary accesses in each mode", () => {
     }
   });
 
-  it("a counter that nobody guards races under each seed where that is watched, and nowhere else", () => {
+  it("an unguarded counter races under each seed if accesses are watched, and else never", () => {
     const { watch, store } = outcomesOf("unlocked");
     assert.deepEqual(different(watch, "ending"), ["race"]);
     const [line] = placesOf("modes", "count[0] += 1;\n    Atomics.load").map(({ line: number }) => number);
@@ -82,7 +82,7 @@ describe("ordinary accesses in each mode", () => {
     assert.deepEqual(store.flatMap(({ races }) => races), []);
   });
 
-  it("rings: where ordinary writes are stored no race is found in the same runs", async () => {
+  it("rings: with `--ordinary store` no race is found in the same runs", async () => {
     const right = await recordKnown("ring", "store");
     assert.deepEqual(different(right, "ending"), ["finished"]);
     // Four messages in two slots.
@@ -94,7 +94,7 @@ describe("ordinary accesses in each mode", () => {
     assert.deepEqual(store.flatMap(({ races }) => races), []);
   });
 
-  it("what is written stands in the script by its bytes, whatever it was written as", () => {
+  it("the script has the written bytes, whatever the kind of the write", () => {
     const { watch, store, refuse } = outcomesOf("writes");
     const bytes = new DataView(new ArrayBuffer(32));
     bytes.setInt16(1, -2);
@@ -122,7 +122,7 @@ describe("ordinary accesses in each mode", () => {
     tellsWhatIsNotSeen(watch, store, refuse);
   });
 
-  it("calls are told by the program's own numbers, and by the script's where these differ", () => {
+  it("calls have the program's own numbers, and the script's too if they differ", () => {
     const { watch, store } = outcomesOf("sleeps");
     for (const { ending, detail, progress, calls, answers } of [...watch, ...store]) {
       assert.equal(ending, "deadlock");

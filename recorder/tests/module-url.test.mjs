@@ -102,10 +102,10 @@ test("code that is typed in is taken to be in the working directory", (context) 
   }
 });
 
-test("if it isn't known which file asks, a URL is asked for", async () => {
+test("if the recorder doesn't know which file calls it, it asks for a URL", async () => {
   const asks = `export const ask = (record) => record({ module: "./agents.mjs", sabsim: false });`;
   const { ask } = await import(`data:text/javascript,${encodeURIComponent(asks)}`);
-  const told = '`module` is "./agents.mjs", and it isn\'t known which file asks for that: ' +
+  const message = '`module` is "./agents.mjs", and it isn\'t known which file asks for that: ' +
     'give a URL, as new URL("./agents.mjs", import.meta.url)';
-  await assert.rejects(ask(record), (error) => error instanceof Refused && error.message === told);
+  await assert.rejects(ask(record), (error) => error instanceof Refused && error.message === message);
 });

@@ -31,7 +31,7 @@ function explained(script) {
   return output.trimEnd().split("\n").map((line) => line.replace(/ {2,}/, "  "));
 }
 
-test("what a name may be, and what it may stand for", () => {
+test("which names are allowed, and what they may name", () => {
   const words = checkedNames({ LOCK: 0, wake: ["Int32", 0, 1], big: ["BigInt64", 1, 1], slots: ["Uint8", 1] }, [8, 16]);
   assert.deepEqual(words, [
     { name: "LOCK", kind: INT32, block: 0, offset: 0, length: 1 },
@@ -127,30 +127,31 @@ test("a module whose names can't be is refused before anything runs", async (con
   await assert.rejects(run, (error) => error instanceof Refused && /puts LOCK at index 1/.test(error.message));
 });
 
-test("an element goes by its word, and else by its array", () => {
+test("an element has the name of its word, or else of its array", () => {
   const list = checkedNames({ first: ["Uint8", 1, 0], slots: ["Uint8", 1], half: ["Uint16", 1, 1] }, [8, 16]);
   const names = new Names(list);
-  const told = (...place) => {
+  const nameAt = (...place) => {
     const named = names.at(...place);
     return named && `${named.view.name} ${named.index}`;
   };
-  assert.deepEqual([told(UINT8, 1, 0), told(UINT8, 1, 3)], ["first 0", "slots 3"]);
-  assert.deepEqual([told(KINDS.indexOf("Uint16"), 1, 2), told(KINDS.indexOf("Uint16"), 1, 4)], ["half 0", undefined]);
-  assert.deepEqual([told(UINT8, 0, 0), told(KINDS.indexOf("Int8"), 1, 0)], [undefined, undefined]);
+  assert.deepEqual([nameAt(UINT8, 1, 0), nameAt(UINT8, 1, 3)], ["first 0", "slots 3"]);
+  assert.deepEqual([2, 4].map((byte) => nameAt(KINDS.indexOf("Uint16"), 1, byte)), ["half 0", undefined]);
+  assert.deepEqual([nameAt(UINT8, 0, 0), nameAt(KINDS.indexOf("Int8"), 1, 0)], [undefined, undefined]);
 });
 
-test("indices of a part of a buffer count from its offset, and the shortest name of an element counts", () => {
+test("indices of a part of a buffer count from its offset, and an element has its shortest name", () => {
   const names = new Names(checkedNames({
     all: ["Int16", 0], head: { kind: "Int16", buffer: 0, offset: 0, length: 2 }, FLAG: ["Int16", 0, 1],
     samples: { kind: "Float64", buffer: 0, offset: 8, length: 2 },
   }, [24]));
   const [INT16, FLOAT64] = ["Int16", "Float64"].map((kind) => KINDS.indexOf(kind));
-  const told = (...place) => {
+  const nameAt = (...place) => {
     const named = names.at(...place);
     return named && nameText(named);
   };
-  assert.deepEqual([0, 2, 4, 8, 3].map((byte) => told(INT16, 0, byte)), ["head[0]", "FLAG", "all[2]", "all[4]", undefined]);
-  assert.deepEqual([0, 8, 16].map((byte) => told(FLOAT64, 0, byte)), [undefined, "samples[0]", "samples[1]"]);
+  const wanted = ["head[0]", "FLAG", "all[2]", "all[4]", undefined];
+  assert.deepEqual([0, 2, 4, 8, 3].map((byte) => nameAt(INT16, 0, byte)), wanted);
+  assert.deepEqual([0, 8, 16].map((byte) => nameAt(FLOAT64, 0, byte)), [undefined, "samples[0]", "samples[1]"]);
   // A DataView has no kind: its bytes go by the name of an element that is just these.
   const of = (from, to) => names.of(0, from, to)?.view.name;
   assert.deepEqual([of(8, 16), of(2, 4), of(8, 12), of(9, 17)], ["samples", "FLAG", undefined, undefined]);
@@ -202,7 +203,7 @@ async function throwingRun(context) {
   return outcome;
 }
 
-test("an index that isn't its view's throws, though a word stands there", async (context) => {
+test("an index beyond its view throws, though a named word is there", async (context) => {
   const { answers, ending } = await throwingRun(context);
   assert.equal(ending, "finished");
   assert.deepEqual(answers, [["RangeError", "RangeError", "RangeError", "TypeError", "TypeError"]]);
@@ -219,7 +220,7 @@ test("sabsim explains such a call by that view", async (context) => {
   ]);
 });
 
-test("a deadlock and a race are told by names", async (context) => {
+test("the reports of a deadlock and of a race use names", async (context) => {
   const setup = { agents: 2, buffers: [12], names: { LOCK: 0, WAKE: 1, data: ["Uint8", 0] } };
   const [deadlock] = await recordedModule(context, setup, `
     const words = new Int32Array(buffers[0]);
@@ -257,7 +258,7 @@ test("a race of a DataView has the name whose element its bytes are, and else th
   assert.deepEqual(await elements(12), ["byte 12 of block 0", "samples[0]"]);
 });
 
-test("with names, runs of all seeds come to the same as without", async (context) => {
+test("runs with names have the same outcomes as runs without", async (context) => {
   const setup = { agents: 3, buffers: [12] };
   const body = `
     const words = new Int32Array(buffers[0]);
@@ -277,7 +278,7 @@ test("with names, runs of all seeds come to the same as without", async (context
     || /\{"name": "LOCK", "kind": "Int32"/.test(script)), "no view has the kind's name");
 });
 
-test("where names would take too many views, a script goes without them", async (context) => {
+test("if names would take too many views, the script leaves them out", async (context) => {
   // 40 words, named, of which each is used by calls and by ordinary writes: 80 views, where a script has 64.
   const names = Object.fromEntries(Array.from({ length: 40 }, (_, at) => [`word${at}`, at]));
   const [{ ending, script, noScript }] = await recordedModule(context, { agents: 1, buffers: [160], names }, `

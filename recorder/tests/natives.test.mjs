@@ -1,5 +1,5 @@
-// Functions of node and the engine that are given recorded memory: they work and what they access is told, or the run
-// ends.
+// Functions of node and the engine that get recorded memory: they work and the recorder sees what they access, or the
+// run ends.
 
 import { testWatched } from "./helpers/watched.mjs";
 

@@ -1,4 +1,4 @@
-// Which known name is told for one that isn't.
+// Which known name the recorder suggests for an unknown one.
 
 import assert from "node:assert/strict";
 import { test } from "node:test";
@@ -6,7 +6,7 @@ import { meant, nearest, slipOf } from "../lib/options/nearest.mjs";
 
 const KNOWN = ["agents", "buffers", "noBlock", "check", "init", "maxMoves"];
 
-test("capitals, what stands between words, and a letter of three don't matter", () => {
+test("a name is near despite other capitals, other signs between words, or one wrong letter in three", () => {
   const near = {
     Agents: "agents", agent: "agents", agnets: "agents", max_moves: "maxMoves", "MAX-MOVES": "maxMoves", chek: "check",
     cehck: "check", checks: "check", buffer: "buffers", bfufesr: "buffers", block: "noBlock", moves: "maxMoves",
@@ -14,7 +14,7 @@ test("capitals, what stands between words, and a letter of three don't matter", 
   for (const [name, known] of Object.entries(near)) assert.equal(nearest(name, KNOWN), known, name);
 });
 
-test("another word is no slip, and all that there are is told", () => {
+test("a word that is near no known name is no slip, and the message lists all known names", () => {
   for (const name of ["count", "bytes", "clock", "in", "", "x"]) assert.equal(nearest(name, KNOWN), undefined, name);
   assert.equal(meant("agnts", KNOWN), "is agents meant?");
   assert.equal(meant("count", KNOWN), "there are agents, buffers, noBlock, check, init, maxMoves");

@@ -19,33 +19,33 @@ const outcomeOf = (context, body, options = {}) => {
 };
 
 describe("agents without a call of Atomics", { concurrency: 4 }, () => {
-  test("race where they count without a lock, and both lines are named", async (context) => {
+  test("race if they count without a lock, and both lines are named", async (context) => {
     const { ending, detail, races, checked, calls, ordinary } = await outcomeOf(context, COUNTS);
     assert.deepEqual([ending, checked, calls, ordinary], ["race", true, 0, 20], detail);
     for (const { lines } of races) for (const line of lines) assert.match(line, /^agents\.mjs:3:\d+$/);
     assert.match(detail, /^agent 0 writes Int32\[0\] at agents\.mjs:3:\d+, without a call of Atomics; agent 1 /);
   });
 
-  test("finish where a race is allowed, and where they access bytes of their own", async (context) => {
+  test("finish if a race is allowed, or if they access bytes of their own", async (context) => {
     assert.equal((await outcomeOf(context, COUNTS, { races: "allow" })).ending, "finished");
     const own = await outcomeOf(context, "new Int32Array(buffers[0])[agent] = 1;");
     assert.deepEqual([own.ending, own.checked], ["finished", true]);
   });
 
-  test("fail by `check` where it finds something", async (context) => {
+  test("fail by `check` if it finds something", async (context) => {
     const check = ([buffer]) => new Int32Array(buffer)[0] === 11;
     assert.equal((await outcomeOf(context, COUNTS, { check })).ending, "check");
   });
 
   for (const ordinary of ["watch", "store", "refuse"]) {
-    test(`have tried nothing where they access nothing, --ordinary ${ordinary}`, async (context) => {
+    test(`have tried nothing if they access nothing, --ordinary ${ordinary}`, async (context) => {
       const { ending, detail } = await outcomeOf(context, "", { ordinary });
       assert.equal(ending, "failed");
       assert.match(detail, /^no agent has made a call of Atomics, or another access that is seen, .*: nothing was tried$/);
     });
   }
 
-  test("have tried something where --ordinary store sees what they changed", async (context) => {
+  test("have tried something if --ordinary store sees what they changed", async (context) => {
     const { ending, calls } = await outcomeOf(context, COUNTS, { ordinary: "store" });
     assert.deepEqual([ending, calls], ["finished", 0]);
   });

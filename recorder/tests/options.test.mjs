@@ -44,7 +44,7 @@ test("the library's types have each option of record and of explore", () => {
   }
 });
 
-test("each option of the command line has its line of help, and what serves where it isn't given can be given", () => {
+test("each option of the command line has its line of help, and its default can be given", () => {
   for (const [name, { help = [] }] of optionsOf("command")) assert.equal(help.length, 2, name);
   for (const taker of ["record", "explore"]) {
     for (const [name, { kind, ifNone }] of optionsOf(taker)) {

@@ -37,24 +37,24 @@ function demandFilled(outcome, ordinary) {
   const stores = callsOf(outcome).filter((call) => !isOwn(call));
   assert.equal(stores.length, 2);
   for (const [name, view] of stores) assert.match(`${name} ${view}`, /^store ordinary_(BigUint64|Uint32|Int32)$/);
-  const told = "1 script holds only the ordinary writes of bytes that calls touch, since all don't fit; its other " +
+  const line = "1 script holds only the ordinary writes of bytes that calls touch, since all don't fit; its other " +
     "bytes weren't compared";
-  assert.ok(summaryLines([outcome], { ordinary, checkedBy: "module 1" }).includes(told));
+  assert.ok(summaryLines([outcome], { ordinary, checkedBy: "module 1" }).includes(line));
 }
 
 describe("ordinary writes that don't all fit into a script", { concurrency: 2 }, () => {
   for (const ordinary of ["watch", "store"]) {
-    it(`a loop over 64 KiB ends no run, and what calls come to is there: ${ordinary}`, async () => {
+    it(`a loop over 64 KiB ends no run, and the script holds the bytes that calls read: ${ordinary}`, async () => {
       const [filled, refilled] = await outcomesOf(["fills", `refills ${ROUNDS}`], { ordinary });
       demandFilled(filled, ordinary);
-      // More is written than there is room for; what was left out is taken up again when a call comes to it.
+      // More is written than there is room for; what was left out is taken up again when a call reads it.
       assert.deepEqual([refilled.ending, refilled.scriptHolds], ["finished", "touched"]);
       assert.deepEqual(refilled.answers[0], Array.from({ length: ROUNDS }, (_, at) => `${at + 1}`));
       assert.deepEqual(refilled.bytes, [allWords(ROUNDS)]);
     });
   }
 
-  it("as many stores as just fit stand there, and one more doesn't", async () => {
+  it("a script holds as many stores as just fit, and not one more", async () => {
     const half = MOST / 2;
     const [full, unseen, seen] = await outcomesOf([`pairs ${half} 0 0`, `pairs ${half} 0 1`, `pairs ${half} 1 0`]);
     assert.deepEqual([full.ending, full.scriptHolds, callsOf(full).length], ["finished", "all", MOST]);
@@ -65,8 +65,8 @@ describe("ordinary writes that don't all fit into a script", { concurrency: 2 },
     const { ending, fails, script, scriptHolds, noScript, bytes } = seen;
     assert.deepEqual([ending, fails, script, scriptHolds], ["finished", false, undefined, undefined]);
     assert.equal(noScript, WHY_NOT);
-    const told = summaryLines([seen], { checkedBy: "module 1" });
-    assert.ok(told.includes(`1 run has no script, and wasn't checked: ${WHY_NOT}`), told.join("\n"));
+    const lines = summaryLines([seen], { checkedBy: "module 1" });
+    assert.ok(lines.includes(`1 run has no script, and wasn't checked: ${WHY_NOT}`), lines.join("\n"));
     assert.equal(bytes[0].slice(0, 8), "07000000");
   });
 
@@ -79,7 +79,7 @@ describe("ordinary writes that don't all fit into a script", { concurrency: 2 },
     assert.match(more.detail, new RegExp(`^agent 0 has made ${MOST} calls, and goes on`));
   });
 
-  it("where no script can be, the run and its races go on", async () => {
+  it("a run without a script, and its races, go on", async () => {
     const [[few], [many]] = await Promise.all([
       outcomesOf(["overwhelms 1"], { agents: 2 }),
       // More than there is room for while the run goes on: 400 elements in each round.

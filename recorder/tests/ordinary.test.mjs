@@ -1,5 +1,5 @@
-// Typed arrays and DataViews on recorded buffers: what they answer is what plain ones do, and what they read and write
-// is told.
+// Typed arrays and DataViews on recorded buffers return what plain ones do, and the recorder sees what they read and
+// write.
 
 import { testWatched } from "./helpers/watched.mjs";
 

@@ -34,7 +34,7 @@ for (const root of ROOTS) {
     }
   });
 
-  test(`each module behind ${name} has its lines where its file has them`, () => {
+  test(`each module that ${name} imports keeps the lines of its file`, () => {
     for (const { url, code } of ownModules(root)) {
       const lines = readFileSync(fileURLToPath(url), "utf8").split("\n");
       const own = code.split("\n");
@@ -59,8 +59,8 @@ test("a module is evaluated once, behind those that it imports, in strict mode, 
     'import fs from "node:fs";', 'import { join as joined } from "node:path";',
     "import {", "  a, b,", '} from "./one.mjs";',
     'import { counted } from "./one.mjs";', 'import { f } from "./two.mjs";',
-    "export class Told {}", "export async function later() {}",
-    "export const told = [typeof fs.readFileSync, typeof joined, a, b, counted.times, typeof f];",
+    "export class Named {}", "export async function later() {}",
+    "export const values = [typeof fs.readFileSync, typeof joined, a, b, counted.times, typeof f];",
     "export const self = (function () { return this; })();", "export const url = import.meta.url;",
   ];
   writeFileSync(join(folder, "root.mjs"), text.join("\n"));
@@ -68,9 +68,9 @@ test("a module is evaluated once, behind those that it imports, in strict mode, 
   const list = ownModules(url);
   assert.deepEqual(list.map((each) => each.url.split("/").at(-1)), ["one.mjs", "two.mjs", "root.mjs"]);
   const exported = evaluated(list);
-  assert.deepEqual(Object.keys(exported), ["Told", "later", "told", "self", "url"]);
-  const { told, self, url: itsUrl } = exported;
-  assert.deepEqual([told, self, itsUrl], [["function", "function", 1, 2, 1, "function"], undefined, url.href]);
+  assert.deepEqual(Object.keys(exported), ["Named", "later", "values", "self", "url"]);
+  const { values, self, url: itsUrl } = exported;
+  assert.deepEqual([values, self, itsUrl], [["function", "function", 1, 2, 1, "function"], undefined, url.href]);
 });
 
 test("a thread takes what the engine has made of modules in another one", () => {
@@ -162,7 +162,7 @@ test("a run of agents loads nothing that is for whole programs, replays or kept 
   assert.ok(isBefore(read, "agent/worker.mjs", "seeds/job.mjs"), "the workers don't await the job's modules");
 });
 
-test("what is for whole programs is loaded for them, and what is for kept runs when one is kept", (context) => {
+test("modules for whole programs are loaded only for these, and those for kept runs when one is kept", (context) => {
   const program = fileURLToPath(new URL("../examples/count-together.mjs", import.meta.url));
   const ofProgram = readBy(context, ["--program", program, "--seeds", "1"]);
   for (const path of ["program/group.mjs", "run/program-state.mjs"]) assert.ok(ofProgram.includes(path), path);

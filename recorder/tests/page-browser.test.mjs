@@ -1,4 +1,4 @@
-// The page of a run in a real browser: keys, pointer, what is highlighted, what readers of screens are told, colours.
+// The page of a run in a real browser: keys, pointer, what is highlighted, what screen readers get, colours.
 // Without sabsim or a Chromium on the machine the tests are skipped.
 
 import assert from "node:assert/strict";
@@ -126,7 +126,7 @@ describe("the page of a run, in a browser", { timeout: 120_000 }, () => {
     assert.deepEqual(page.complaints(), []);
   });
 
-  it("goes by pointer: by rows, by buttons, and to where an agent is", withBrowser, async (context) => {
+  it("follows the pointer: rows, buttons, and the place where an agent is", withBrowser, async (context) => {
     const page = await opened(context);
     await page.click("#step-3 .does");
     assert.equal((await page.value(SHOWN)).step, "step-3");
@@ -164,7 +164,7 @@ describe("the page of a run, in a browser", { timeout: 120_000 }, () => {
     assert.equal((await page.value(SHOWN)).step, "step-6");
   });
 
-  it("tells readers of screens its parts, the chosen entry and its sentence", withBrowser, async (context) => {
+  it("gives screen readers its parts, the chosen entry and its sentence", withBrowser, async (context) => {
     const page = await opened(context);
     await page.press("ArrowUp", "ArrowUp");
     const nodes = await page.accessible();

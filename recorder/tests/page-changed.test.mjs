@@ -32,8 +32,8 @@ const changed = () => new Run(changedData(runOf().data, SCRIPT, REPORT));
 
 test("a changed run has the calls in their new order, and each agent's ordinary accesses between its calls", () => {
   const { data, steps } = changed();
-  const told = steps.map(({ agent, entry, text, answer, place }) => [agent, entry, text, answer, data.places[place]]);
-  assert.deepEqual(told, [
+  const shown = steps.map(({ agent, entry, text, answer, place }) => [agent, entry, text, answer, data.places[place]]);
+  assert.deepEqual(shown, [
     [undefined, undefined, "the start", "", undefined],
     [0, undefined, "reads slots[0] to slots[1]", "", "a.mjs:2:1"],
     [0, 1, "writes slots[1]", "", "b.mjs:3:1"],
@@ -49,19 +49,19 @@ test("a changed run has the calls in their new order, and each agent's ordinary 
   assert.equal(steps[9].sentence, "waits at FLAG[0] since 14, in wait(FLAG, 0, -1)");
 });
 
-test("an agent that can't move still waits, or has come to its end", () => {
+test("an agent that can't move still waits, or has ended", () => {
   const run = changed();
   const { agents } = run.stateAt(run.steps.length - 1);
   assert.deepEqual(agents.map(({ is }) => is), ["done", "waits"]);
 });
 
-test("a trace of other calls tells nothing of a changed run", () => {
+test("the trace of other calls gives a changed run no places", () => {
   const events = runOf().data.events.filter(({ does }) => does !== "notify");
   const { steps } = new Run(changedData({ ...runOf().data, events }, SCRIPT, REPORT));
   assert.ok(EVENTS.length > events.length && steps.every(({ place }) => place === -1));
 });
 
-test("what is different is told by calls, and by elements at the end", () => {
+test("differences are listed by calls, and by elements at the end", () => {
   const differences = {
     answers: [{ agent: 0, call: 2, does: NOTIFY.does, before: 1, after: 0 },
       { agent: 1, call: 0, does: ["load", "big", 0], before: "-5", after: undefined }],
@@ -82,7 +82,7 @@ test("what is different is told by calls, and by elements at the end", () => {
   assert.deepEqual(elementLines(one, other), [{ what: "slots[1] at the end", before: "7", after: "9" }]);
 });
 
-test("of a script alone its views have lengths, and its blocks are counted", () => {
+test("a script without a run gives its views' lengths, and its blocks are counted", () => {
   const { schedule, ...script } = HANDED;
   const written = [{ name: "w", kind: "Int32", offset: 4, length: null }];
   const old = { ...script, blocks: undefined, bytes: 10, views: written };
@@ -93,7 +93,7 @@ test("of a script alone its views have lengths, and its blocks are counted", () 
   ]);
 });
 
-test("places stand where a check says", () => {
+test("the places that a check reports are found in the text", () => {
   const text = '{"a": [1, {"b": "x,]"}, []],\n "é": {"c" :  7}, "a2": 8, "a": [9]}';
   const shown = (place) => {
     const span = spanOfPlace(text, place);

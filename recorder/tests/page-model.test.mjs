@@ -47,9 +47,9 @@ test("facts in words are those of the explained report", () => {
   for (const folder of readdirSync(CASES, { withFileTypes: true }).filter((each) => each.isDirectory())) {
     const names = readdirSync(join(CASES, folder.name)).filter((name) => name.endsWith(".explained"));
     for (const name of names.map((each) => join(CASES, folder.name, each.replace(/\.explained$/, "")))) {
-      const told = explainedLines(`${name}.explained`);
+      const lines = explainedLines(`${name}.explained`);
       wordsOf(name).forEach((words, at) => {
-        assert.equal(words, told[at], `${name}: line ${at + 1}`);
+        assert.equal(words, lines[at], `${name}: line ${at + 1}`);
         compared += words === undefined ? 0 : 1;
       });
     }
@@ -58,8 +58,8 @@ test("facts in words are those of the explained report", () => {
 });
 
 test("the steps of a run are its calls and its ordinary accesses, in their order", () => {
-  const told = runOf().steps.map(({ agent, entry, text, answer, place }) => [agent, entry, text, answer, place]);
-  assert.deepEqual(told, [
+  const steps = runOf().steps.map(({ agent, entry, text, answer, place }) => [agent, entry, text, answer, place]);
+  assert.deepEqual(steps, [
     [undefined, undefined, "the start", "", -1],
     [1, 1, "wait(FLAG, 0, 0)", "waits", 0],
     [0, undefined, "reads slots[0] to slots[1]", "", 1],
@@ -74,8 +74,8 @@ test("the steps of a run are its calls and its ordinary accesses, in their order
 });
 
 test("each step's sentence is its fact", () => {
-  const told = runOf().steps.map(({ sentence }) => sentence);
-  assert.deepEqual(told, [
+  const sentences = runOf().steps.map(({ sentence }) => sentence);
+  assert.deepEqual(sentences, [
     "The run begins: every byte is zero.",
     "wait(FLAG, 0, 0) waits at FLAG[0], first in line",
     "reads slots[0] to slots[1], without Atomics",
@@ -107,11 +107,11 @@ test("memory, waiters and agents are as each step has left them", () => {
   ]);
 });
 
-test("of memory is shown what has a name, and what is accessed", () => {
+test("the page shows the memory that has a name or is accessed", () => {
   const run = runOf();
   const [{ cells: [flag] }, { cells: slots }] = run.rows;
-  const told = run.rows.map(({ name, isWord, more }) => [name, isWord, more]);
-  assert.deepEqual(told, [["FLAG", true, 0], ["slots", false, 0]]);
+  const shown = run.rows.map(({ name, isWord, more }) => [name, isWord, more]);
+  assert.deepEqual(shown, [["FLAG", true, 0], ["slots", false, 0]]);
   assert.deepEqual([flag.label, ...slots.map(({ label }) => label)], ["FLAG", "slots[0]", "slots[1]"]);
   const { blocks } = run.stateAt(9);
   assert.deepEqual([valueAt(blocks[0], flag), valueAt(blocks[1], slots[1])], ["-1", "7"]);
@@ -140,14 +140,14 @@ test("one goes to the next change of agents, and back", () => {
   assert.deepEqual([9, 6, 5, 2, 0].map((at) => run.changeFrom(at, -1)), [6, 2, 2, 0, 0]);
 });
 
-test("what fails is the last wait of a deadlock, and what an agent did last that threw", () => {
+test("the failing step is the last wait of a deadlock, or the last step of an agent that threw", () => {
   assert.deepEqual(runOf().failing, [8]);
   assert.deepEqual(runOf({ ending: "failed", detail: "agent 0 threw Error: no" }).failing, [5]);
   assert.deepEqual(runOf({ ending: "bound", detail: "agent 1 spins at a.mjs:7:1" }).failing, [8]);
   assert.deepEqual(runOf({ ending: "check", detail: "check returned false" }).failing, [9]);
 });
 
-test("of a race both accesses fail, each in its turn", () => {
+test("both accesses of a race are failing steps, each in its turn", () => {
   const side = (at, access) => ({ ...EVENTS[at], access });
   const races = [{ sides: [side(6, "read"), side(2, "write")] }];
   const run = runOf({ ending: "race", races });
@@ -157,7 +157,7 @@ test("of a race both accesses fail, each in its turn", () => {
   assert.deepEqual([runOf({ races }).failing, runOf({ races }).racing], [[8], [[7, 3]]]);
 });
 
-test("of a long trace ordinary accesses are left out, but for those that race", () => {
+test("a long trace leaves out ordinary accesses, except those that race", () => {
   const many = Array.from({ length: 20_001 }, (_, at) => ({ ...EVENTS[1], event: at, source: "a.mjs:9:9" }));
   const side = (at, access) => ({ ...EVENTS[at], access });
   const races = [{ sides: [side(2, "write"), side(6, "read")] }];
@@ -188,7 +188,7 @@ test("a trace that says that accesses may be missing gives the same steps as one
   assert.deepEqual(runOf({ trace: UNSEEN_LINE + lines(EVENTS) }).data, runOf().data);
 });
 
-test("what `init` left is there at the start, and is no step", () => {
+test("the values that `init` left are there at the start, and are no step", () => {
   const views = [...SCRIPT.views, view("init_FLAG", "Int32", 0, 1)];
   const first = { agent: 2, entry: 1, call: 0, what: "act", does: ["store", "init_FLAG", 0, 9], place: FLAG, answer: 9,
     since: 0, found: { before: 0, after: 9 } };

@@ -36,8 +36,8 @@ const SCRIPT = JSON.stringify(HANDED);
 const COMMAND = { options: "npx sabsim-record hand.mjs", args: " -- one" };
 
 /** What the program writes about a text. */
-const told = (words, text) => outputOf(simulate, words, text);
-const factsOf = (text) => told(["replay", "--format", "json"], text);
+const written = (words, text) => outputOf(simulate, words, text);
+const factsOf = (text) => written(["replay", "--format", "json"], text);
 
 /** The data of the page of the run by hand, with its facts by the program. */
 function handedData() {
@@ -52,7 +52,7 @@ const ROWS = `[...document.querySelectorAll("#timeline [role=option]")].map((row
 })`;
 const rowsOf = ({ steps }) => steps.map(({ entry = "", text, answer }) => `${entry} | ${text} | ${answer}`);
 
-/** What is different, as the page tells it. */
+/** What is different, as the page shows it. */
 const LINES = `[...document.querySelectorAll("#schedule tbody tr")].map((row) => {
   return [...row.cells].map((cell) => cell.textContent).join(" | ");
 })`;
@@ -120,7 +120,7 @@ for (const [name, { isThere, begin }] of Object.entries(BROWSERS)) {
       assert.deepEqual(await page.complaints(), []);
     });
 
-    it("a command is shown where the code can be run so, and else why not", withBrowser, async (context) => {
+    it("a command is shown if the code can be run so, and else the reason why not", withBrowser, async (context) => {
       const page = await opened(context, pageOf(handedData(), SIMULATOR));
       const note = "[...document.querySelectorAll('#schedule .note, #schedule .command')].at(-1).textContent";
       await choose(page, "step-1");
@@ -131,7 +131,7 @@ for (const [name, { isThere, begin }] of Object.entries(BROWSERS)) {
       assert.equal(await page.value(note), "npx sabsim-record hand.mjs --replay seed-3.changed.json -- one");
     });
 
-    it("what can't be done is said, and changes nothing", withBrowser, async (context) => {
+    it("an impossible change is refused with a message, and changes nothing", withBrowser, async (context) => {
       const page = await opened(context, pageOf(handedData(), SIMULATOR));
       const rows = await page.value(ROWS);
       await choose(page, "step-2");
@@ -165,7 +165,7 @@ for (const [name, { isThere, begin }] of Object.entries(BROWSERS)) {
       });
     }
 
-    it("the page to try it tells of each example what the program writes", withBrowser, async (context) => {
+    it("the page to try it shows of each example what the program writes", withBrowser, async (context) => {
       const page = await opened(context, tryPageOf(EXAMPLES, SIMULATOR));
       for (const [at, { text }] of EXAMPLES.entries()) {
         await page.value(`(() => {
@@ -178,7 +178,7 @@ for (const [name, { isThere, begin }] of Object.entries(BROWSERS)) {
       assert.deepEqual(await page.complaints(), []);
     });
 
-    it("there an error is told with its place, which can be shown", withBrowser, async (context) => {
+    it("the page to try it shows an error with its place, and can select the place", withBrowser, async (context) => {
       const page = await opened(context, tryPageOf(EXAMPLES, SIMULATOR));
       const wrong = EXAMPLES[0].text.replace('"store"', '"stoer"');
       await page.value(`(() => {
@@ -202,7 +202,7 @@ for (const [name, { isThere, begin }] of Object.entries(BROWSERS)) {
       assert.equal(chosen, '"stoer"');
     });
 
-    it("there a schedule is changed, and the script and its report with it", withBrowser, async (context) => {
+    it("the page to try it changes a schedule, and the script and its report with it", withBrowser, async (context) => {
       const page = await opened(context, tryPageOf(EXAMPLES, SIMULATOR));
       await page.press("Home");
       await choose(page, "step-1");
@@ -229,7 +229,7 @@ for (const [name, { isThere, begin }] of Object.entries(BROWSERS)) {
 function wantedOf(text) {
   const { output, complaint } = simulate(["judge"], new TextEncoder().encode(text));
   return {
-    check: told(["check"], text).trimEnd(), report: told(["replay", "--format", "explained"], text),
-    verdict: (`${output}` || `${complaint}`).trimEnd(), picture: told(["replay", "--format", "svg"], text),
+    check: written(["check"], text).trimEnd(), report: written(["replay", "--format", "explained"], text),
+    verdict: (`${output}` || `${complaint}`).trimEnd(), picture: written(["replay", "--format", "svg"], text),
   };
 }

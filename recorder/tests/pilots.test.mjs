@@ -12,7 +12,7 @@ function run(words) {
   return spawnSync(process.execPath, [RECORD, ...words, "--check", "0"], { encoding: "utf8" });
 }
 
-test("what agents print in pilots is left out, and no module remembers pilots", (context) => {
+test("output of agents in pilots isn't shown, and no module remembers pilots", (context) => {
   const module = agentsOf(temporaryFolder(context), `
     globalThis.runs = (globalThis.runs ?? 0) + 1;
     console.log("run", globalThis.runs, "of agent", agent);
@@ -38,7 +38,7 @@ test("calls beside ordinary accesses that race are places to switch, though none
 });
 
 test("an agent that waits for what pilots couldn't see doesn't spin for ever", (context) => {
-  // A pilot is cut after 10,000 moves, before agent 1 comes to its store: six agents make 700 calls of three moves each.
+  // A pilot is cut after 10,000 moves, before agent 1 makes its store: six agents make 700 calls of three moves each.
   // So for all that pilots show the flag is agent 0's own.
   const module = agentsOf(temporaryFolder(context), `
     const words = new Int32Array(buffers[0]);
@@ -80,8 +80,8 @@ test("--until-covered ends when 500 seeds have shown nothing new, whatever the n
   const [one, three] = ["1", "3"].map((jobs) => run([...words, "--jobs", jobs]));
   assert.deepEqual([three.stdout, three.status], [one.stdout, one.status]);
   const [, runs] = /^\d+ of ([\d,]+) runs failed/.exec(one.stdout);
-  const told = /^(\d+) pairs of lines .*\n {2}the last new one in seed (\d+), none in 500 seeds since: covered$/m;
-  const [, pairs, last] = told.exec(one.stdout);
+  const coverage = /^(\d+) pairs of lines .*\n {2}the last new one in seed (\d+), none in 500 seeds since: covered$/m;
+  const [, pairs, last] = coverage.exec(one.stdout);
   assert.equal(Number(runs), Number(last) + 500);
   // Two agents at each of the six lines, at the most.
   assert.ok(pairs > 5 && pairs <= 36, one.stdout);
@@ -89,7 +89,7 @@ test("--until-covered ends when 500 seeds have shown nothing new, whatever the n
   assert.match(cut, /^ {2}the last new one in seed \d+, none in \d+ seeds since: not covered$/m);
 });
 
-test("where lines aren't known nothing is called covered", (context) => {
+test("if lines aren't known, nothing is called covered", (context) => {
   const module = agentsOf(temporaryFolder(context), `
     const words = new Int32Array(buffers[0]);
     Object.freeze(Error);
@@ -101,8 +101,8 @@ test("where lines aren't known nothing is called covered", (context) => {
   // It ends all the same.
   const [, runs] = /^(\d+) runs: /.exec(stdout);
   assert.ok(Number(runs) > 500 && Number(runs) < 900, stdout);
-  const told = / {2}of ([\d,]+) accesses the line isn't known, so pairs may be missing\n {2}.*: not covered\n/;
-  const [, accesses] = told.exec(stdout) ?? assert.fail(stdout);
+  const unplaced = / {2}of ([\d,]+) accesses the line isn't known, so pairs may be missing\n {2}.*: not covered\n/;
+  const [, accesses] = unplaced.exec(stdout) ?? assert.fail(stdout);
   // Two agents make two each.
   assert.equal(accesses.replace(",", ""), String(4 * Number(runs)));
 });

@@ -307,7 +307,7 @@ test("code of a worker with eval: true has its globals, and starts anew each tim
   for (const run of runs) assert.deepEqual(run, expected);
 });
 
-test("what one program leaves in require and module isn't there for the next", async () => {
+test("a program's `require` and `module` aren't there for the next program", async () => {
   const code = `console.log(typeof globalThis.module); require("path"); globalThis.left = 1;`;
   writeFileSync(join(folder, "main-module.cjs"), `console.log(process.mainModule === module);`);
   writeFileSync(join(folder, "sees.mjs"), `console.log(typeof require, typeof module, typeof process.mainModule);`);
@@ -393,7 +393,7 @@ test("graphs that are over are garbage: memory and time of a run stay", async ()
   assert.ok(times[3] < times[0] * 2, `microseconds of each 150 runs: ${times}`);
 });
 
-test("a file that is gone isn't found where it was in the run before", async () => {
+test("a deleted file isn't found, though the run before found it", async () => {
   programIn(join(folder, "gone"), {
     "main.cjs": `
       const fs = require("fs"); globalThis.goneTimes = (globalThis.goneTimes ?? 0) + 1;

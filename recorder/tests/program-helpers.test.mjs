@@ -94,7 +94,7 @@ describe("a wait of waitAsync in a script", () => {
     assert.throws(() => keptScript(text, "x.json"), /^Error: x\.json is no script .*: its views of waitAsync name agents that it doesn't have$/);
   });
 
-  it("has a helper of its own where another one is pending, and else that one's", async (context) => {
+  it("has a helper of its own if another one is pending, and else that one's", async (context) => {
     const { outcome, calls, schedule } = await onlyRun(context, `const [one, two] = [0, 1].map((index) => Atomics.waitAsync(words, index, 0).value);
       Atomics.notify(words, 1);
       await two;
@@ -136,7 +136,7 @@ describe("a wait of waitAsync in a script", () => {
     assert.deepEqual([helpers, agents.length], [["waitAsync_2_of_0", "waitAsync_3_of_1"], 4]);
   });
 
-  it("ends by its time where that is up", async (context) => {
+  it("ends by its timeout if that is up", async (context) => {
     const { calls, schedule, outcome } = await onlyRun(context, `setTimeout(() => {}, 90);
       if (await Atomics.waitAsync(words, 0, 0, 50).value !== "timed-out") throw new Error("who has notified?");`);
     assert.deepEqual(calls[1][1], wait(0, 0, 50));

@@ -19,8 +19,8 @@ const HELPER = new URL("../testing.mjs", import.meta.url).href;
 /** @param {RegExp} why */
 const refused = (why) => (/** @type {unknown} */ error) => error instanceof Refused && why.test(error.message);
 
-/** What each outcome is compared by. */
-const told = ({ seed, ending, fails, detail, moves, calls, ordinary, progress, state, script, report, trace, races, checked }) =>
+/** The parts by which outcomes are compared. */
+const part = ({ seed, ending, fails, detail, moves, calls, ordinary, progress, state, script, report, trace, races, checked }) =>
   ({ seed, ending, fails, detail, moves, calls, ordinary, progress, state, script, report, trace, races, checked });
 
 test("`explore` makes the runs of the command line, with any number of jobs, and `record` each of them alone", async (context) => {
@@ -40,8 +40,8 @@ test("`explore` makes the runs of the command line, with any number of jobs, and
   assert.deepEqual(detail.split("\n"), summary.firstFailing.detail);
   const ofTwoJobs = [];
   for await (const outcome of explore({ ...options, jobs: 2 })) ofTwoJobs.push(outcome);
-  assert.deepEqual(ofTwoJobs.map(told), outcomes.map(told));
-  assert.deepEqual(told(await record({ program: pathToFileURL(TOO_SOON), seed, trace: true })), told(failing[0]));
+  assert.deepEqual(ofTwoJobs.map(part), outcomes.map(part));
+  assert.deepEqual(part(await record({ program: pathToFileURL(TOO_SOON), seed, trace: true })), part(failing[0]));
 });
 
 test("the program gets its arguments, and a path is taken from the file that asks", async (context) => {

@@ -61,7 +61,7 @@ test("a program with files, timers, promises and streams goes as in node, and re
   for (const run of runs) assert.deepEqual(run, runs[0]);
 });
 
-test("what isn't simulated is refused by name in ES modules, too", async (context) => {
+test("functions that aren't simulated are refused by name in ES modules, too", async (context) => {
   const file = join(temporaryFolder(context), "main.mjs");
   writeFileSync(file, REFUSED);
   const names = ["cluster.fork", "tls.createSecurePair", "PerformanceObserver", "fs.watch", "module.register",

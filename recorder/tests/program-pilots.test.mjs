@@ -34,7 +34,7 @@ describe("memory that pilots have shown", () => {
     assert.deepEqual([places.placeOf(0, 0), places.placeOf(700, 4), places.placeOf(2, 0)], [other, one, PLACES]);
   });
 
-  it("has no places behind its end, as where it grows, and where there is no room", () => {
+  it("has no places after its end, as when it grows or when there is no room", () => {
     const places = newPlaces();
     places.name(0, "grows", 8, true);
     const beyond = [places.placeOf(0, 8), places.placeOf(0, -1), places.placeOf(100_000, 0)];
@@ -140,7 +140,7 @@ describe("what pilots show", () => {
   });
 });
 
-test("of a program's mixed runs that of seed 1, and some others, draw before each call, by the same strategies", () => {
+test("some of a program's mixed runs, that of seed 1 among them, draw before each call, by the same strategies", () => {
   const ways = programWaysOf("mixed", false);
   assert.deepEqual(ways.flatMap(({ everywhere }, at) => (everywhere ? [at] : [])), [1, 9, 17, 25, 31]);
   const plain = ({ name, likelihood }) => `${name} ${likelihood}`;

@@ -122,7 +122,7 @@ test("a run that waits by waitAsync is made again, and what differs is named as 
     /: in the script comes agent 0's call (\d), \["wait", "Int32_b0", 0, 0\], and now agent 0's call \1, \["wait", "Int32_b0", 1, 0\]$/m);
 });
 
-test("where the code does other things the first of them is named", () => {
+test("if the code does other things, the first of these is named", () => {
   const { main, file } = ofMain;
   const files = { main, worker: join(dirname(main), "worker.mjs") };
   const changed = [
@@ -168,7 +168,7 @@ test("an edited row makes another run of the program, or it is said which draw i
   assert.match(stderr, /^record: the code no longer does the same: agent 0 moved with draw \d+ of the kept run, and now it has nothing to do, or waits\n$/);
 });
 
-test("what is no kept run of a program is refused, and so is a program that isn't there", (context) => {
+test("a file that is no kept run of a program is refused, and so is a program that isn't there", (context) => {
   const folder = temporaryFolder(context);
   const file = join(folder, "seed-1.program.json");
   const right = { program: "main.mjs", args: [], seed: 1, options: {}, row: [[0, 1]] };

@@ -31,7 +31,7 @@ describe("memory and messages", () => {
     }
   });
 
-  it("what no message orders is a race, told with both lines", async (context) => {
+  it("two accesses that no message orders are a race, reported with both lines", async (context) => {
     const outcomes = await runsOf(context, {
       "main.mjs": `${MAIN}const words = new Int32Array(new SharedArrayBuffer(8));
 const worker = started(words);
@@ -55,7 +55,7 @@ words[0] = 5;`,
     assert.deepEqual([ending, state.shown, calls], ["finished", [], 0]);
   });
 
-  it("what a thread has written before it shares its memory is there, and in the script", async (context) => {
+  it("writes of a thread before it shares its memory are there, and in the script", async (context) => {
     const [outcome] = await runsOf(context, {
       "main.mjs": `${MAIN}const words = new Int32Array(new SharedArrayBuffer(8));
         words[1] = 7;
@@ -168,8 +168,8 @@ describe("the seed", () => {
   it("gives the same script and trace each time, and another one another order", async (context) => {
     const seeds = seedsTo(6);
     const [once, again] = [await runsOf(context, files, { seeds }), await runsOf(context, files, { seeds: [...seeds].reverse() })];
-    const told = ({ ending, script, trace, report }) => ({ ending, script, trace, report });
-    assert.deepEqual(once.map(told), again.reverse().map(told));
+    const partsOf = ({ ending, script, trace, report }) => ({ ending, script, trace, report });
+    assert.deepEqual(once.map(partsOf), again.reverse().map(partsOf));
     assert.ok(once.every(({ trace }) => trace !== undefined));
     assert.ok(new Set(once.map(({ script }) => script)).size > 3);
   });

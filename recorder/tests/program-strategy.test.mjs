@@ -109,7 +109,7 @@ describe("a short time", () => {
     assert.ok(share > 0.16 && share < 0.27, `${share}`);
   });
 
-  it("isn't where it is longer, or no time may be up early, or where agents of a module are run", () => {
+  it("isn't up early if it is longer, if `--timeouts` is 0, or if agents of a module are run", () => {
     assert.ok(early(5_000, {}) < 0.03);
     assert.ok(early(10, { isProgram: false }) < 0.05);
     assert.equal(early(10, { timeouts: 0 }), 0);
@@ -129,7 +129,7 @@ describe("a slow agent", () => {
     assert.ok(gaps({ isMixed: false }) < 0.03);
   });
 
-  it("moves where nobody else can", () => {
+  it("moves if no other agent can", () => {
     const board = asking({ agents: 2, seed: 5 });
     board.line.become(0, PHASE.FINISHED);
     assert.deepEqual(new Set(drawn(board, 50)), new Set([1]));

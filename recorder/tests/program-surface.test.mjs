@@ -126,7 +126,7 @@ test("all that is refused calls `refuse` with its name, by require, node: and ge
       "domain", "fs/promises.watch", true, true]);
 });
 
-test("what the machine answers is node's own, and noted by its name if the program calls it itself", () => {
+test("functions that the machine answers are node's own, and noted by name if the program calls them itself", () => {
   const found = inProcess(`
     const { Resolver } = require("dns").promises; new Resolver();
     const server = require("http").createServer(); server.listen(0); server.close();
@@ -140,7 +140,7 @@ test("what the machine answers is node's own, and noted by its name if the progr
     "net.Server", "http2.createServer", "https.createServer", "child_process.execSync", "fetch"], "text\n", "fetch failed"]);
 });
 
-test("what is replaced keeps its type, name, length and instances, and classes that extend it", () => {
+test("replaced functions keep their type, name, length and instances, and classes that extend them", () => {
   const found = inProcess(`
     const { Socket: Stand } = require("net"); class Own extends PerformanceObserver {} class OwnSocket extends Stand {}
     console.log(JSON.stringify([Stand === Socket, socket instanceof Stand, socket.constructor === Socket, typeof Stand, Stand.name,

@@ -358,7 +358,7 @@ test("a timer runs when its time is reached and not before, one at a time", () =
   assert.equal(loop.timers.runImmediate(), false);
 });
 
-test("what keeps a thread alive is named, with its place", () => {
+test("a stuck program names what keeps each thread alive, with its place", () => {
   const timers2 = new Timers({ now: () => 0, changed: () => {}, here: () => "main.mjs:1:2" });
   const { functions: own } = timers2;
   own.setTimeout(() => {}, 7);
@@ -416,7 +416,7 @@ test("an immediate that an immediate makes belongs to the next round", () => {
   assert.deepEqual([own.immediates, own.inRound], [1, 0]);
 });
 
-test("what a callback throws is thrown to the loop, and the rest goes on", async () => {
+test("an error of a callback goes to the loop, and the other callbacks run", async () => {
   const loop = new Loop();
   const ran = [];
   const storage = new AsyncLocalStorage();
@@ -453,7 +453,7 @@ test("timers that node itself made before are cleared by the run's functions", a
   assert.equal(ran, 0);
 });
 
-test("of timers that are due at the same time, one whose milliseconds were asked for first comes first", () => {
+test("of timers that are due at the same time, the list of the duration that was asked for first comes first", () => {
   const loop = new Loop();
   const ran = [];
   loop.timers.functions.setTimeout(() => ran.push("10 at 0"), 10);

@@ -96,7 +96,7 @@ describe("a getter in what is sent or cloned", () => {
 });
 
 describe("memory that grows", () => {
-  it("is as in node where one thread has it alone", async (context) => {
+  it("is as in node if one thread has it alone", async (context) => {
     const outcomes = await runsOf(context, {
       "main.mjs": `const grows = new SharedArrayBuffer(4, { maxByteLength: 64 });
         const words = new Int32Array(grows);
@@ -153,7 +153,7 @@ ${behind}`,
   }, { seeds });
   const SEEDS = [1, 2, 3, 4, 5, 6];
 
-  it("orders what was done before it grew and what is done by who finds it longer", async (context) => {
+  it("orders what was done before it grew before what is done by a thread that finds it longer", async (context) => {
     assert.deepEqual(endingsOf(await grown(context, "words[1] = 5;", "", SEEDS)), ["finished: "]);
   });
 

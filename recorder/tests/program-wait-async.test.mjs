@@ -130,7 +130,7 @@ ${then}`,
 });
 
 describe("a run that uses it", () => {
-  it("is replayed, except where more are pending than there can be agents: the summary counts such runs", async (context) => {
+  it("is replayed, except if more are pending than agents can be: the summary counts such runs", async (context) => {
     const path = programOf(context, {
       "main.mjs": `${MAIN}started();
         // With the two threads there are 18 agents, or 3.
@@ -154,8 +154,8 @@ describe("a run that uses it", () => {
     };
     const seeds = seedsTo(6);
     const [once, again] = [await runsOf(context, files, { seeds }), await runsOf(context, files, { seeds: [...seeds].reverse() })];
-    const told = ({ ending, trace, detail }) => ({ ending, trace, detail });
-    assert.deepEqual(once.map(told), again.reverse().map(told));
+    const partsOf = ({ ending, trace, detail }) => ({ ending, trace, detail });
+    assert.deepEqual(once.map(partsOf), again.reverse().map(partsOf));
     assert.ok(new Set(once.map(({ trace }) => trace)).size > 3);
   });
 });

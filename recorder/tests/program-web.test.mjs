@@ -173,7 +173,7 @@ describe("how a run ends", () => {
   });
 });
 
-describe("what nobody listens to fails the run", () => {
+describe("events without a listener that fail the run", () => {
   /** @type {[string, Record<string, string>, RegExp][]} */
   const failing = [
     ["an error of the page", { "main.mjs": "setTimeout(() => { throw new Error(`no`); });" },
@@ -341,7 +341,7 @@ test("a thread's first run that fetches goes the same way again: node makes no t
   }
 });
 
-test("what is node's own, and browsers have too, still finds what it needs", async () => {
+test("functions that node shares with browsers still work", async () => {
   const [{ detail }] = await webRuns({
     "main.mjs": `const { port1 } = new MessageChannel();
       const [text, { a }, buffer] = await Promise.all([
@@ -367,7 +367,7 @@ test("a bare name leads to a package, and each file is a module whatever its nam
   assert.deepEqual([ending, detail], ["finished", ""]);
 });
 
-test("what a page's script that isn't a module declares, each run declares anew", async () => {
+test("each run declares anew what a page's classic script declares", async () => {
   const outcomes = await webRuns({
     "main.js": `var started = typeof started === "undefined" ? 1 : started + 1;
       const { port1, port2 } = new MessageChannel(); class Box {} function helps() { return "helped"; } let left = 2;

@@ -55,7 +55,7 @@ Atomics.notify(large, 0);`, `Atomics.wait(large, 0, 0);
 if (large[262_143] + large[100_001] !== 13) throw new Error("it isn't there");`);
 
 describe("a buffer of a mebibyte, touched at three places", { concurrency: 3 }, () => {
-  it("stands in three pages, with what was in them before it was shared", async (context) => {
+  it("takes three pages, with what was in them before it was shared", async (context) => {
     const [outcome] = await runsOf(context, FAR);
     const { blocks, calls, places, views } = readOf(outcome);
     // Byte 400,000 begins a page, and byte 1,048,572 is in the last one. Nobody touches element 200,000.
@@ -79,7 +79,7 @@ describe("a buffer of a mebibyte, touched at three places", { concurrency: 3 }, 
 });
 
 describe("small buffers", { concurrency: 2 }, () => {
-  it("stand one after another, each at a multiple of 8", async (context) => {
+  it("are packed one after another, each at a multiple of 8", async (context) => {
     const [outcome] = await runsOf(context, filesOf(
       "const shared = [4, 8, 12, 1, 16, 3, 64, 100].map((length) => new Uint8Array(new SharedArrayBuffer(length)));",
       "all", "", "for (const bytes of all) Atomics.add(bytes, bytes.length - 1, bytes.length);", "",
@@ -112,7 +112,7 @@ describe("small buffers", { concurrency: 2 }, () => {
 });
 
 describe("buffers that were filled before they were shared", { concurrency: 2 }, () => {
-  it("stand with what they had in them where they are touched, and else in one page at most", async (context) => {
+  it("have their content if they are touched, and else one page at most", async (context) => {
     const [outcome] = await runsOf(context, filesOf(
       "const shared = [1, 2, 3, 4].map((value) => new Uint8Array(new SharedArrayBuffer(65_536)).fill(value));",
       "all", "", "all.forEach((bytes, at) => Atomics.add(bytes, 1_000 * (at + 1), 1));", "",
@@ -131,7 +131,7 @@ describe("buffers that were filled before they were shared", { concurrency: 2 },
 });
 
 describe("operations on many bytes", { concurrency: 2 }, () => {
-  it("stay whole where they cross pages", async (context) => {
+  it("stay whole if they cross pages", async (context) => {
     const [outcome] = await runsOf(context, filesOf(
       `const shared = {
   bytes: new Uint8Array(new SharedArrayBuffer(100_000)), flag: new Int32Array(new SharedArrayBuffer(4)),
@@ -311,7 +311,7 @@ describe("unordered accesses", { concurrency: 2 }, () => {
 });
 
 describe("a kept run", { concurrency: 2 }, () => {
-  it("says which bytes stand where, is made again, and differs by the program's own bytes", async (context) => {
+  it("says which bytes are where, is made again, and differs by the program's own bytes", async (context) => {
     const main = programOf(context, RACING);
     const folder = join(dirname(main), "kept");
     const { status, stdout } = await ran("--program", main, "--seeds", "1..8", "--out", folder);
@@ -379,7 +379,7 @@ describe("windows", () => {
   const placesOf = (/** @type {Windows | undefined} */ windows) =>
     windows?.list.map(({ from, block, byte }) => [from, block, byte]);
 
-  it("are the pages that were touched, joined where they lie beside each other", () => {
+  it("are the touched pages; neighbours are joined", () => {
     const touched = new TouchedPages([0, 200, 0, 0, 1_000]);
     for (const [from, to] of [[999, 1_000], [63, 64], [64, 65], [256, 320]]) touched.add(4, from, to);
     touched.add(1, 150, 151);
@@ -405,7 +405,7 @@ describe("windows", () => {
     assert.equal(Windows.packed(pages(3_073)), undefined);
   });
 
-  it("are cut where nothing crosses, if no block has room for a stretch", () => {
+  it("are cut where no access crosses, if no block has room for the whole", () => {
     const touched = new TouchedPages([0, 0, 0, 0, 300_000]);
     touched.add(4, 0, 40_000);
     touched.add(4, 40_000, 80_000);

@@ -17,7 +17,7 @@ import { runsOf } from "./helpers/whole-programs.mjs";
 const notified = (agent, block, byte) =>
   /** @type {any} */ ({ what: "act", agent, does: ["notify", "Int32_b3", byte / 4, 0], place: { block, byte } });
 
-test("who sends a message is the thread that is first at its place; a place of several messages says nothing", () => {
+test("the sender of a message is the first thread at its place; a place of several messages says nothing", () => {
   const entries = [notified(0, 3, 0), notified(1, 3, 4), notified(1, 3, 0), notified(0, 0, 8), notified(1, 3, 4)];
   assert.deepEqual(sendersIn(entries), [0, 1]);
   assert.equal(sendersIn([...entries, notified(1, 3, 0)]), undefined);
@@ -65,7 +65,7 @@ setTimeout(() => Atomics.add(words, 0, 1), 4);
 Atomics.add(words, 0, 2);`,
 };
 
-test("tasks stand in the words, on the page and beside the trace, each with its line, and in no script or trace", async (context) => {
+test("tasks are in the words, on the page and beside the trace, but in no script or trace", async (context) => {
   const [outcome] = await runsOf(context, TASKS);
   const { tasks = [], trace = "", script = "" } = outcome;
   const texts = tasks.map(({ agent, text, source }) => `${agent} ${text}, at ${source}`);
@@ -88,7 +88,7 @@ test("tasks stand in the words, on the page and beside the trace, each with its 
   assert.deepEqual(run.rows.map(({ name }) => name), ["Int32_b0"]);
 });
 
-test("a task stands before the events behind it, also if some of these aren't shown", () => {
+test("a task comes before its events, also if some of these aren't shown", () => {
   const event = (number) => ({ event: number, agent: 0, call: 0, does: "read", block: 0, byte: 0, size: 4, read: true, write: false, source: null });
   const trace = [0, 3, 7].map((number) => `${JSON.stringify(event(number))}\n`).join("");
   const tasks = [0, 1, 4, 8].map((before) => ({ event: before, agent: 0, text: `task ${before}`, source: null }));

@@ -27,7 +27,7 @@ function run(words, options = {}) {
 
 const cases = (name, ...words) => [agentsPath("cases"), "--agents", "2", "--buffers", "12", ...words, "--", name];
 
-test("where no run fails, the status is 0", () => {
+test("if no run fails, the status is 0", () => {
   assert.deepEqual(run(cases("addition", "--seeds", "1..20", ...CHECKING)), {
     status: 0,
     stdout: [
@@ -43,7 +43,7 @@ test("where no run fails, the status is 0", () => {
   });
 });
 
-test("where some fail, the status is 1, and the first is kept in --out", (context) => {
+test("if some runs fail, the status is 1, and the first is kept in --out", (context) => {
   const folder = temporaryFolder(context);
   const out = join(folder, "a", "b");
   const { status, stdout, stderr } = run([agentsPath("naive-mutex"), "--seeds", "1..100", "--out", out, ...CHECKING]);
@@ -150,7 +150,7 @@ test("each wrong option is refused, with one line that names it", () => {
   }
 });
 
-test("what the command line leaves out has its default", () => {
+test("options that aren't given have their defaults", () => {
   const { first, last, jobs, maxMoves, seconds, fresh, args, noBlock, strategy, out } = optionsOf(["m.mjs"]);
   assert.deepEqual([first, last, jobs, maxMoves, seconds], [1, 100, undefined, 100_000, 10]);
   assert.deepEqual([fresh, args, noBlock, strategy, out], [false, [], undefined, "mixed", undefined]);
@@ -163,7 +163,7 @@ test("what the command line leaves out has its default", () => {
   assert.equal(optionsOf(["m.mjs", "--seeds", "8"]).last, 8);
 });
 
-test("what the command line says is taken", () => {
+test("options of the command line have their values", () => {
   const words = ["--ordinary=store", "--races", "allow", "--bounds=allow", "--clock", "real", "--timeouts", "0.25"];
   assert.equal(optionsOf(["m.mjs", "--timeouts", "never"]).timeouts, "never");
   const { ordinary, races, bounds, clock, timeouts, failFast } = optionsOf(["m.mjs", ...words, "--fail-fast"]);
@@ -234,7 +234,7 @@ test("help is on standard output, with status 0", () => {
   assert.match(stdout, /^usage: node recorder\/record\.mjs MODULE /);
 });
 
-test("where standard output fails, the status is 3, and a line on standard error says so", async (context) => {
+test("if standard output fails, the status is 3, and a line on standard error says so", async (context) => {
   const full = openSync("/dev/full", "w");
   context.after(() => closeSync(full));
   const stdio = ["ignore", full, "pipe"];
@@ -245,7 +245,7 @@ test("where standard output fails, the status is 3, and a line on standard error
   }
 });
 
-test("where nobody reads standard output, the status is 3, and what failed is kept", async (context) => {
+test("if standard output has no reader, the status is 3, and the failing run is kept", async (context) => {
   const out = temporaryFolder(context);
   const words = cases("waitsForEver", "--seeds", "1..3", "--check", "0", "--out", out);
   const child = spawn(process.execPath, [RECORD, ...words], { stdio: ["ignore", "pipe", "pipe"] });
@@ -262,7 +262,7 @@ test("where nobody reads standard output, the status is 3, and what failed is ke
   assert.ok(readdirSync(out).includes("seed-1.json"));
 });
 
-test("where a program is chosen that isn't there the status is 3, and with --check 0 it isn't needed", () => {
+test("if the chosen native program isn't there, the status is 3; with --check 0 it isn't needed", () => {
   const inEnvironment = { env: WITHOUT_SABSIM };
   for (const [words, options] of [[["--sabsim", NOWHERE], {}], [[], inEnvironment], [["--check", "7"], inEnvironment]]) {
     const { status, stdout, stderr } = run(cases("nothing", ...words), options);
@@ -286,7 +286,7 @@ test("with nothing built every run is checked, and explanation, picture and page
   assert.ok(stdout.split("\n").includes(checked), stdout);
 });
 
-test("a picture that sabsim doesn't make is told of", (context) => {
+test("a picture that sabsim doesn't make is reported", (context) => {
   const folder = temporaryFolder(context);
   const half = join(folder, "half");
   // It says the same of the run, whatever it was, and makes no picture.
@@ -345,7 +345,7 @@ test("a module that can't be loaded is refused with status 2", (context) => {
   assert.match(stderr, /^record: .*bad\.mjs can't be loaded: .*no function as its default export/);
 });
 
-test("what a worker dies of while its module is loaded is told", (context) => {
+test("the cause of a worker's death while its module is loaded is reported", (context) => {
   const folder = temporaryFolder(context);
   const deaths = {
     "Error: too late": 'setTimeout(() => { throw new Error("too late"); }); await new Promise(() => {});',

@@ -1,5 +1,5 @@
-// Random programs with ordinary accesses of all sizes, recorded: what is told of races is what a second judge finds in
-// the traces, and the traces say of each call what sabsim says.
+// Random programs with ordinary accesses of all sizes, recorded: the recorder reports the races that a second judge
+// finds in the traces, and the traces say about each call what sabsim says.
 
 import assert from "node:assert/strict";
 import { readFileSync } from "node:fs";
@@ -15,7 +15,7 @@ import { slowRaces } from "./helpers/second-detector.mjs";
 
 /**
  * How the agents keep out of each other's way, what else their runs are recorded with, and from how many to how many
- * of 500 runs race: neither hardly any nor nearly all, but where nobody keeps out of anybody's way.
+ * of 500 runs race: neither hardly any nor nearly all, except when no agent keeps out of another's way.
  */
 const WAYS = [
   { way: "wild", options: {}, racy: [400, 499] },
@@ -42,14 +42,14 @@ async function recorded(way, options) {
   return outcomes;
 }
 
-/** What the runs of each way came to, apart from their traces. @type {Map<string, ReturnType<typeof toldOf>[]>} */
-const told = new Map();
+/** The outcomes of each way, without their traces. @type {Map<string, ReturnType<typeof withoutTrace>[]>} */
+const recordedByWay = new Map();
 
 /** What is the same of a run whether its trace is wanted or not. @param {import("../lib/run/outcome.mjs").Outcome} of */
-const toldOf = ({ seed, ending, detail, moves, state, races }) => ({ seed, ending, detail, moves, state, races });
+const withoutTrace = ({ seed, ending, detail, moves, state, races }) => ({ seed, ending, detail, moves, state, races });
 
 /**
- * The events of a trace, with the source as it is told in short.
+ * The events of a trace, each with the short form of its source.
  * @returns {import("./helpers/second-detector.mjs").Event[]}
  */
 function eventsOf(trace) {
@@ -110,7 +110,7 @@ for (const { way, options, racy: [least, most] } of WAYS) {
   test(`clocks and the search agree on 500 random programs: ${way}`, async () => {
     let racy = 0;
     const outcomes = await recorded(way, options);
-    told.set(way, outcomes.map(toldOf));
+    recordedByWay.set(way, outcomes.map(withoutTrace));
     for (const { seed, ending, races, trace, script, report } of outcomes) {
       const events = eventsOf(trace);
       const expected = racingLines(events);
@@ -123,13 +123,13 @@ for (const { way, options, racy: [least, most] } of WAYS) {
   });
 }
 
-test("where no trace is wanted, and accesses are kept once, the same is told of the same runs", async () => {
+test("runs without a trace, which keep each access once, have the same outcomes", async () => {
   for (const { way, options } of WAYS) {
     const few = { ...options, last: 100, checkEvery: 0 };
     // The test before has made these runs, unless this one runs alone.
-    const traced = told.get(way)?.slice(0, 100) ?? (await recorded(way, few)).map(toldOf);
+    const traced = recordedByWay.get(way)?.slice(0, 100) ?? (await recorded(way, few)).map(withoutTrace);
     const untraced = await recorded(way, { ...few, trace: false });
-    assert.deepEqual(untraced.map(toldOf), traced, way);
+    assert.deepEqual(untraced.map(withoutTrace), traced, way);
   }
 });
 
@@ -152,18 +152,18 @@ async function sourcesOf(way) {
 }
 
 for (const way of NAMED) {
-  test(`the line of code of a read is told: ${way}`, async () => {
-    const told = await sourcesOf(way);
-    assert.ok(told.length > 0);
+  test(`the trace has the line of code of a read: ${way}`, async () => {
+    const sources = await sourcesOf(way);
+    assert.ok(sources.length > 0);
     const first = NAMED_LINES.findIndex((line) => line.startsWith(`  ${way}`));
     const last = way === "limited" ? first + 3 : first;
-    for (const source of told) {
+    for (const source of sources) {
       const [, line] = /named-lines\.mjs:(\d+):\d+$/.exec(source);
       assert.ok(first < line && line <= last + 1, `${source} isn't from line ${first + 1} to ${last + 1}`);
     }
   });
 }
 
-test("where the agents' code has frozen Error no line is told, and their code goes on", async () => {
+test("if the agents' code has frozen Error, the trace has no line of code, and their code goes on", async () => {
   assert.deepEqual(await sourcesOf("frozen"), [null]);
 });

@@ -39,22 +39,22 @@ const leave = (agent, byte, size = 4, block = 0) => event("leave", { waiters: tr
 
 const MORE_BLOCKS = 5;
 
-/** What a judgement by clocks says, as pairs of indices. */
+/** The races that the judge by clocks finds, as pairs of indices. */
 function pairsByClocks(events) {
   const agents = 1 + Math.max(...events.map(({ agent }) => agent));
   const log = logOf(events.map((one, index) => ({ call: 0, ...one, source: index + 1 })));
-  const told = racesOf(log, agents);
-  assert.equal(isRacy(log, agents), told.length > 0);
+  const found = racesOf(log, agents);
+  assert.equal(isRacy(log, agents), found.length > 0);
   // The same comes of ranges of bytes, by which runs are judged that have more blocks than a script.
-  assert.deepEqual(racesOf(log, agents, MORE_BLOCKS), told);
-  assert.equal(isRacy(log, agents, MORE_BLOCKS), told.length > 0);
-  for (const { one, other, block, byte } of told) {
+  assert.deepEqual(racesOf(log, agents, MORE_BLOCKS), found);
+  assert.equal(isRacy(log, agents, MORE_BLOCKS), found.length > 0);
+  for (const { one, other, block, byte } of found) {
     for (const index of [one, other]) {
       assert.equal(events[index].block, block);
       assert.ok(events[index].byte <= byte && byte < events[index].byte + events[index].size, "a byte that both touch");
     }
   }
-  return sorted(told.map(({ one, other }) => [one, other]));
+  return sorted(found.map(({ one, other }) => [one, other]));
 }
 
 const sorted = (pairs) => pairs.sort(([one, other], [first, second]) => one - first || other - second);
@@ -182,7 +182,7 @@ for (const [name, [events, expected]] of Object.entries(RUNS)) {
   });
 }
 
-test("what was handed on a thousand times is ordered, up to who takes it without being handed it", () => {
+test("a block handed on a thousand times is ordered, except for the agent that takes it by itself", () => {
   const turns = Array.from({ length: 1_000 }, (_, turn) => turn % 3);
   const events = turns.flatMap((agent) => [load(agent, 0), write(agent, 8), store(agent, 0)]);
   assert.deepEqual(pairsByClocks(events), []);
@@ -209,18 +209,18 @@ test("bytes far behind those that a script can have race like others, in whateve
   assert.deepEqual(found, [{ one: 3, other: 4, block, byte: far + 4 }]);
 });
 
-test("what one line of code does again and again is told once, and no pair of lines is left out", () => {
+test("races of repeated lines of code are reported once, and no pair of lines is left out", () => {
   for (let seed = 1; seed <= 500; seed += 1) {
     const events = randomEvents(seed).map((one, index) => ({ ...one, source: 1 + index % 3 }));
     const agents = 1 + Math.max(...events.map(({ agent }) => agent));
-    const told = racesOf(logOf(events), agents).map(({ one, other }) => [one, other]);
-    assert.deepEqual(racesOf(logOf(events), agents, MORE_BLOCKS).map(({ one, other }) => [one, other]), told);
+    const found = racesOf(logOf(events), agents).map(({ one, other }) => [one, other]);
+    assert.deepEqual(racesOf(logOf(events), agents, MORE_BLOCKS).map(({ one, other }) => [one, other]), found);
     const racing = slowRaces(events);
     const racingPairs = new Set(racing.map(String));
-    for (const pair of told) assert.ok(racingPairs.has(String(pair)), `seed ${seed}: ${pair} don't race`);
-    const spelled = told.map(([one, other]) => `${lineName(events[one])}, ${lineName(events[other])}`);
-    assert.equal(new Set(spelled).size, spelled.length, `seed ${seed}: one was told twice`);
-    assert.deepEqual(linesOf(events, told), linesOf(events, racing), `seed ${seed}`);
+    for (const pair of found) assert.ok(racingPairs.has(String(pair)), `seed ${seed}: ${pair} don't race`);
+    const spelled = found.map(([one, other]) => `${lineName(events[one])}, ${lineName(events[other])}`);
+    assert.equal(new Set(spelled).size, spelled.length, `seed ${seed}: one was reported twice`);
+    assert.deepEqual(linesOf(events, found), linesOf(events, racing), `seed ${seed}`);
   }
 });
 
@@ -233,7 +233,7 @@ function linesOf(events, pairs) {
   return [...new Set(spelled)].sort();
 }
 
-test("where no lines of code are known, each agent's reads and writes by a view race once with each other's", () => {
+test("without known lines of code, each agent's reads and writes by a view race once with each other's", () => {
   const view = (kind, offset) => ({ kind, offset, length: 4 });
   const log = new Log(Log.memory(64), new Int32Array(1), 0);
   const access = (agent, flag, byte, by) => {
@@ -250,7 +250,7 @@ test("where no lines of code are known, each agent's reads and writes by a view 
   assert.deepEqual(pairs, [[0, 4, 0], [2, 8, 2], [0, 10, 0]]);
 });
 
-test("reads and writes in turn are joined, and race as if they weren't", () => {
+test("alternating reads and writes are joined in the log, and race as before", () => {
   const log = new Log(Log.memory(64), new Int32Array(1), 0);
   const view = { kind: 1, offset: 0, length: 8 };
   const noted = (what, agent, byte, since, by = view) => {
@@ -278,7 +278,7 @@ test("reads and writes in turn are joined, and race as if they weren't", () => {
   assert.deepEqual(racesOf(log, 2), [{ one: 1, other: length + 1, block: 0, byte: 3 }]);
 });
 
-test("of the races of a run a thousand pairs of lines are told, and how many there are besides", () => {
+test("a run reports at most a thousand pairs of lines that race, and counts the others", () => {
   const LINES = 40;
   // Agent 0 writes a byte on each of 40 lines, and agent 1 reads it on each of 40 others: 1,600 pairs.
   const access = (agent, source) => ({ ...(agent === 0 ? write : read)(agent, 0, 1), source });
@@ -287,13 +287,13 @@ test("of the races of a run a thousand pairs of lines are told, and how many the
   const sources = [0, 1].map((agent) => ["", ...numbers.map((line) => `file:///a/agents.mjs:${line}:${agent + 1}`)]);
   const run = { log, records: [{}, {}], lengths: [4], canBlock: [true, true] };
   const sourceNames = new SourceNames("file:///a/agents.mjs");
-  const told = raceReports({ run, transcript: { calls: [[], []] }, sources, sourceNames });
-  assert.equal(told.length, 1_000);
-  assert.equal(new Set(told.map(({ lines }) => lines.join(" "))).size, 1_000);
-  assert.ok(told.at(-1).text.endsWith("\nand 600 more"), told.at(-1).text);
-  assert.ok(told.slice(0, -1).every(({ text }) => !text.includes("more")));
-  const [writes, reads] = told[0].sides;
+  const reports = raceReports({ run, transcript: { calls: [[], []] }, sources, sourceNames });
+  assert.equal(reports.length, 1_000);
+  assert.equal(new Set(reports.map(({ lines }) => lines.join(" "))).size, 1_000);
+  assert.ok(reports.at(-1).text.endsWith("\nand 600 more"), reports.at(-1).text);
+  assert.ok(reports.slice(0, -1).every(({ text }) => !text.includes("more")));
+  const [writes, reads] = reports[0].sides;
   assert.deepEqual([writes.agent, writes.access, reads.agent, reads.access], [0, "write", 1, "read"]);
   assert.equal(reads.source, "agents.mjs:1:2", "the first read comes first");
-  assert.deepEqual(told[0].lines, [writes.source, reads.source].sort());
+  assert.deepEqual(reports[0].lines, [writes.source, reads.source].sort());
 });

@@ -101,7 +101,7 @@ test("a script of another module is refused for that, and it is said what to do"
   assert.ok(errors.endsWith("Replay it with the module that it was kept from\n"), errors);
 });
 
-test("where already an agent's first call differs, the script may be of another module", async (context) => {
+test("if an agent's first call differs, the error says that the script may be of another module", async (context) => {
   const other = MODULE.replace("Atomics.store(", "Atomics.exchange(words, 0, 5);\n  Atomics.store(");
   const { status, errors } = await replayed(context, byHand(LOST_ADDITION), { code: other });
   assert.equal(status, 3);

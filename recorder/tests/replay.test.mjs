@@ -95,14 +95,14 @@ test("the seed is that of the file's name, or of --seeds, or else 1", async (con
   const given = replay([...words, "--seeds", "4"]);
   assert.equal(given.status, 1);
   assert.ok(given.stdout.startsWith(`replayed ${other}, with the clocks and random numbers of seed 4\n`));
-  // With seed 1 agent 1 adds another number, which is told.
+  // With seed 1 agent 1 adds another number, which is reported.
   const { status, stdout, stderr } = replay(words);
   assert.deepEqual([status, stdout], [3, ""]);
   assert.match(stderr, /^record: the code no longer does the same: agent 1's call \d was \["add", "Int32", 1, \d+\] /);
   await assert.rejects(replayed(module, file, "--seeds", "1"), NoLongerTheSame);
 });
 
-test("where the code now finishes with the same calls the status is 0", async (context) => {
+test("if the code now finishes with the same calls, the status is 0", async (context) => {
   const { module, file } = await keptRun(context);
   writeFileSync(module, CODE.replace("< 0", ">= 0"));
   const { status, stdout } = replay([module, "--replay", file, "--check", "0"]);
@@ -110,7 +110,7 @@ test("where the code now finishes with the same calls the status is 0", async (c
   assert.match(stdout, /^replayed [^\n]+\n1 run: 1 finished\n/);
 });
 
-test("the code's first difference from the script is told", async (context) => {
+test("the code's first difference from the script is reported", async (context) => {
   const { module, file, outcome } = await keptRun(context);
   const { draws, steps } = keptScript(outcome.script, file);
   assert.deepEqual(steps.slice(0, 1).map(({ text }) => text), ["Int32[5] = 77"]);
@@ -134,8 +134,8 @@ test("the code's first difference from the script is told", async (context) => {
     await assert.rejects(replayed(module, file), (error) => {
       assert.ok(error instanceof NoLongerTheSame, error.stack);
       const [start, end = ""] = how.split("[^\n]*");
-      const told = error.message.replace("the code no longer does the same: ", "");
-      assert.ok(told.startsWith(start) && told.includes(end), `${told}\nand not\n${how}`);
+      const difference = error.message.replace("the code no longer does the same: ", "");
+      assert.ok(difference.startsWith(start) && difference.includes(end), `${difference}\nand not\n${how}`);
       return true;
     });
   }
@@ -173,7 +173,7 @@ async function changedBefore(context, [before, after], joins) {
   return assert.fail("no seed does it");
 }
 
-test("an agent that goes on from a wait at once, or still waits, is told of", async (context) => {
+test("an agent that now goes on from a wait at once, or still waits, is reported", async (context) => {
   const write = "words[0] = 1;";
   const wait = 'agent 0 was still in its call 0, ["wait", "Int32", 0, 0], in the script, and now ';
   const load = 'agent 0\'s call 1 was ["load", "Int32", 1] in the script, and now ';
@@ -190,7 +190,7 @@ test("an agent that goes on from a wait at once, or still waits, is told of", as
   }
 });
 
-test("what is no script of the recorder's is refused, and options that aren't those of its run", async (context) => {
+test("a file that is no script of the recorder is refused, and options of another run", async (context) => {
   const { folder, module, file, outcome } = await keptRun(context);
   const script = JSON.parse(outcome.script);
   const { schedule: moves } = script;

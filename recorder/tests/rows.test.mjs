@@ -69,7 +69,7 @@ test("an agent that goes on and on behind the row's end leaves the turn to other
   assert.ok(Math.min(...longest.slice(0, -1)) >= 100, `${longest}`);
 });
 
-test("a row that can't be followed exactly ends the run, and it is told why", () => {
+test("a row that can't be followed exactly ends the run, and the row says why", () => {
   const strayed = (phases, row, times) => {
     const board = boardAt(phases, { row, isExact: true });
     drawn(board, times);

@@ -64,7 +64,7 @@ function resultOf(name, env) {
 }
 
 /** @param {FileResult} result */
-function tell({ name, passed, failed, skipped, problems, seconds }) {
+function printResult({ name, passed, failed, skipped, problems, seconds }) {
   const counts = [`${passed} passed`];
   if (failed > 0) counts.push(`${failed} failed`);
   if (skipped.length > 0) counts.push(`${skipped.length} skipped`);
@@ -73,7 +73,7 @@ function tell({ name, passed, failed, skipped, problems, seconds }) {
 }
 
 /**
- * Runs files of tests, and tells of each when it has ended.
+ * Runs files of tests, and prints each one's result when it has ended.
  * @param {string[]} names
  * @param {number} atOnce
  * @param {Record<string, string | undefined>} env
@@ -85,7 +85,7 @@ async function resultsOf(names, atOnce, env) {
     for (let name = waiting.shift(); name !== undefined; name = waiting.shift()) {
       const result = await resultOf(name, env);
       results.push(result);
-      tell(result);
+      printResult(result);
     }
   };
   await Promise.all(Array.from({ length: atOnce }, work));
@@ -101,8 +101,8 @@ async function finalResults(env) {
   return [...results.filter(({ failed }) => failed === 0), ...await resultsOf(failing, 1, env)];
 }
 
-/** Tells what tests of the recorder alone leave out, and how to run all. */
-function tellAlone() {
+/** Prints what tests of the recorder alone leave out, and how to run all. */
+function printLeftOut() {
   const how = existsSync(BUILT) ? "It is built, but `npm test` doesn't use it." : "`./build` builds it.";
   console.log(`The recorder was tested alone, with the simulator's module and not with the program. ${how}`);
   console.log("To test both together: tests/recorder crates/sabsim/out/sabsim");
@@ -117,7 +117,7 @@ async function main(sabsim) {
     SABSIM: isGiven ? resolve(sabsim) : undefined,
   });
   const { passed, failed, reasons, unwanted } = sumOf(results, isGiven);
-  if (!isGiven) tellAlone();
+  if (!isGiven) printLeftOut();
   if (unwanted > 0) console.log(`${unwanted} failed since they were skipped for lack of sabsim, though it is given`);
   console.log(skippedLine(reasons));
   console.log(`${passed} passed, ${failed} failed`);

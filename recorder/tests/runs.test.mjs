@@ -1,4 +1,4 @@
-// Runs of real agents: what they are answered, how they end, and what is told of it.
+// Runs of real agents: what their calls return, how the runs end, and what the recorder reports about it.
 
 import assert from "node:assert/strict";
 import { readFileSync, writeFileSync } from "node:fs";
@@ -43,7 +43,7 @@ test("an agent that can't block gets a TypeError of its wait, and the others wai
   assert.deepEqual((await recordChecked("setup", { noBlock: [] })).ending, "deadlock");
 });
 
-test("a run in which all agents come to their end has finished", async () => {
+test("a run in which all agents return has finished", async () => {
   const outcome = await recordCase("addition", { sabsim: CHECKER });
   assert.equal(outcome.ending, "finished");
   assert.equal(outcome.detail, "");
@@ -64,7 +64,7 @@ test("a run in which no agent calls Atomics is no pass, and its script has no ca
   assert.deepEqual(JSON.parse(outcome.script).agents.map((agent) => agent.calls), [[], []]);
 });
 
-test("a wait that nobody ends is a deadlock, which tells who waits where", async () => {
+test("a wait that nobody ends is a deadlock, reported with who waits where", async () => {
   const outcome = await recordCase("waitsForEver", { sabsim: CHECKER });
   assert.equal(outcome.ending, "deadlock");
   const [{ line, column }] = placesOf("cases", "wait(words(buffers), 1, 0)");
@@ -91,26 +91,26 @@ test("an agent that throws fails the run, with its message and stack", async () 
   assert.equal(noError.detail, "agent 0 threw an object");
 });
 
-test("what is thrown is told with its message and its causes", async (context) => {
-  const told = {
+test("what an agent throws is reported with its message and its causes", async (context) => {
+  const details = {
     "{ message: 'no Error' }": /^agent 0 threw an object with the message "no Error"$/,
     "new Error('one', { cause: new RangeError('two', { cause: 3 }) })":
       /^agent 0 threw Error: one\n +at [^\n]*agents\.mjs[^\n]*\ncaused by RangeError: two\n +at [^\n]*\ncaused by 3$/,
   };
-  for (const [thrown, detail] of Object.entries(told)) {
+  for (const [thrown, detail] of Object.entries(details)) {
     const agents = agentsOf(temporaryFolder(context), `throw ${thrown};`);
     const outcome = await record({ module: agents, agents: 1, buffers: [4], sabsim: false });
     assert.match(outcome.detail, detail);
   }
 });
 
-test("an agent that answers a promise fails the run", async () => {
+test("an agent that returns a promise fails the run", async () => {
   const outcome = await recordCase("promises");
   assert.deepEqual([outcome.ending, outcome.detail],
     ["failed", "agent 0 returned a promise, but an agent must be synchronous"]);
 });
 
-test("an agent that spins for ever comes to the bound of calls, or of moves", async () => {
+test("an agent that spins for ever meets the limit of calls, or of moves", async () => {
   const calls = await recordCase("spins", { sabsim: CHECKER });
   assert.equal(calls.ending, "bound");
   const [spin, other] = calls.detail.split("\n");
@@ -125,7 +125,7 @@ test("an agent that spins for ever comes to the bound of calls, or of moves", as
   ]);
 });
 
-test("an agent that makes no call comes to the bound of seconds", async () => {
+test("an agent that makes no call meets the limit of seconds", async () => {
   const outcome = await recordCase("loops", { sabsim: CHECKER, seconds: 1.5 });
   const detail = "agent 1 has made no call for 1.5 s: it is at cases.mjs:40:5";
   assert.deepEqual([outcome.ending, outcome.detail], ["bound", detail]);
@@ -146,7 +146,7 @@ test("a script that would be too long is a bound", async () => {
   assert.ok(outcome.script.length > 900_000 && outcome.script.length <= 1_048_576, `${outcome.script.length} bytes`);
 });
 
-test("where ordinary writes are refused they are found, with the agent and the place", async () => {
+test("with `ordinary: refuse` ordinary writes are found, with the agent and the place", async () => {
   const outcome = await recordCase("writesPlainly", { sabsim: CHECKER, ordinary: "refuse" });
   assert.equal(outcome.ending, "failed");
   assert.equal(outcome.detail, "agent 1 changed byte 6 of block 0 from 0 to 5 without a call of Atomics,"
@@ -162,7 +162,7 @@ test("a worker that dies fails the run", async () => {
   assert.match(outcome.detail, /^agent 1's worker died: .*exit code 7$/);
 });
 
-test("what an agent does when its run is over changes nothing that is told", async () => {
+test("what an agent does after its run changes nothing in the outcome", async () => {
   const outcome = await recordCase("cleansUp", { sabsim: CHECKER });
   assert.equal(outcome.ending, "deadlock");
   assert.deepEqual(outcome.bytes, ["000000000000000000000000"]);
@@ -171,7 +171,7 @@ test("what an agent does when its run is over changes nothing that is told", asy
   assert.match(endless.detail, /^agent 1 threw Error: the end/);
 });
 
-test("an ordinary write that the end of the stack has kept off is seen when it is made again", async () => {
+test("an ordinary write that failed for want of stack is seen when the agent repeats it", async () => {
   const outcomes = await recorded({ module: agentsPath("retried"), agents: 1 }, [1, 2, 3]);
   assert.equal(outcomes.length, 3);
   for (const { ending, detail, bytes, ordinary } of outcomes) {
@@ -180,10 +180,10 @@ test("an ordinary write that the end of the stack has kept off is seen when it i
   }
 });
 
-test("an agent whose stack comes to its end amid a call is told of, or not harmed", async () => {
+test("if an agent runs out of stack during a call, the run fails with that message, or isn't harmed", async () => {
   const outcome = await recordCase("deep", { sabsim: CHECKER, agents: 1, seconds: 1 });
-  const told = /^agent 0 (ran out of stack in|didn't come out of) a call/;
-  if (outcome.ending === "failed") assert.match(outcome.detail, told);
+  const outOfStack = /^agent 0 (ran out of stack in|didn't come out of) a call/;
+  if (outcome.ending === "failed") assert.match(outcome.detail, outOfStack);
   else assert.equal(outcome.bytes[0].slice(0, 8), "01000000");
 });
 
@@ -196,10 +196,10 @@ test("each call that no script can have is refused by name and line, even where 
   }));
   outcomes.forEach(({ ending, detail }, at) => {
     assert.equal(ending, "failed", NAMES[at]);
-    const told = /^agent 1 made a call that the recorder can't record: Error: Atomics\.[a-zA-Z]+: .*: .*\n +at /;
-    assert.match(detail, told, NAMES[at]);
+    const refusal = /^agent 1 made a call that the recorder can't record: Error: Atomics\.[a-zA-Z]+: .*: .*\n +at /;
+    assert.match(detail, refusal, NAMES[at]);
   });
-  const told = (name) => outcomes[NAMES.indexOf(name)].detail;
+  const detailOf = (name) => outcomes[NAMES.indexOf(name)].detail;
   const unsafe = "9007199254740992 isn't within ±\\(2\\^53 - 1\\): no script can hold it";
   const wide = "is a BigInt of more than 128 bits: no script can hold it";
   const SAID = {
@@ -224,11 +224,11 @@ test("each call that no script can have is refused by name and line, even where 
 
 test("the agents' Atomics look like the engine's", async (context) => {
   const agents = agentsOf(temporaryFolder(context), `
-    const told = Object.getOwnPropertyNames(Atomics).map((name) => [name, Atomics[name].name, Atomics[name].length]);
-    throw new Error(JSON.stringify([String(Atomics), told, Atomics.isLockFree(4)]));`);
+    const names = Object.getOwnPropertyNames(Atomics).map((name) => [name, Atomics[name].name, Atomics[name].length]);
+    throw new Error(JSON.stringify([String(Atomics), names, Atomics.isLockFree(4)]));`);
   const { detail } = await record({ module: agents, agents: 1, buffers: [4], sabsim: false });
-  const told = Object.getOwnPropertyNames(Atomics).map((name) => [name, Atomics[name].name, Atomics[name].length]);
-  assert.equal(detail.split("\n")[0], `agent 0 threw Error: ${JSON.stringify(["[object Atomics]", told, true])}`);
+  const names = Object.getOwnPropertyNames(Atomics).map((name) => [name, Atomics[name].name, Atomics[name].length]);
+  assert.equal(detail.split("\n")[0], `agent 0 threw Error: ${JSON.stringify(["[object Atomics]", names, true])}`);
 });
 
 test("sixteen agents, four buffers and the greatest buffer are served", async () => {
@@ -266,7 +266,7 @@ test("a module that can't be loaded is refused", async (context) => {
   await assert.rejects(Group.open(endless), /wasn't loaded within 1 s/);
 });
 
-test("a missing sabsim is told of before anything is run", async () => {
+test("a missing sabsim is reported before anything runs", async () => {
   const options = { sabsim: "/nowhere/sabsim" };
   await assert.rejects(recordCase("nothing", options), (error) => {
     assert.ok(error instanceof NoSabsim);

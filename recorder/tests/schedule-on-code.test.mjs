@@ -13,7 +13,7 @@ import { agentsOf, temporaryFolder } from "./helpers/common.mjs";
 import { runNode } from "./helpers/programs.mjs";
 import { simulate } from "./helpers/simulate.mjs";
 
-// Agent 1 tells agent 0 something. What agent 0 does then depends on it, where the last argument says so.
+// Agent 1 stores a word for agent 0. If the last argument says so, what agent 0 does depends on it.
 const BODY = `const words = new Int32Array(buffers[0]);
 if (agent === 1) Atomics.store(words, 0, 1);
 else if (args[0] === "reads") Atomics.store(words, Atomics.load(words, 0) + 1, 5);
@@ -44,7 +44,7 @@ test("code that makes the same calls makes them in the changed order", async (co
   assert.match(output, /1 run made 2 calls|finished/);
 });
 
-test("of code that takes another path it is said where", async (context) => {
+test("code that takes another path is reported with the place", async (context) => {
   const { moved, ended: { status, errors } } = await movedOnCode(context, ["reads"]);
   assert.ok(moved.differences.answers.length > 0);
   assert.equal(status, 3);

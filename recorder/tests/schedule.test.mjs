@@ -190,7 +190,7 @@ describe("by hand", () => {
     assert.deepEqual(editing.differences.woken.map(({ after }) => after), [[]]);
   });
 
-  it("the end of a wait's time stands right behind it, and takes the place of the end that it had", () => {
+  it("the end of a wait's time comes right after the wait, in place of the end that it had", () => {
     const editing = handed();
     assert.deepEqual(editing.change(timeEnded, 1), { at: 2 });
     assert.deepEqual(rowOf(editing.now), ["2", "0", "0 time up", "1", "1", "0"]);
@@ -211,7 +211,7 @@ describe("by hand", () => {
     assert.deepEqual(editing.differences.bytes, [{ block: 0, byte: 4, before: "01", after: "00" }]);
   });
 
-  it("what isn't a draw keeps its place, and an agent's calls their order", () => {
+  it("moves that aren't draws keep their place, and an agent's calls keep their order", () => {
     const editing = handed();
     const why = { why: "stores for ordinary writes, and for what init left, keep their place" };
     for (const [edit, at] of [[earlier, 1], [later, 0], [dropped, 0]]) assert.deepEqual(editing.change(edit, at), why);
@@ -242,7 +242,7 @@ describe("by hand", () => {
     assert.deepEqual([status, complaint], [1, "sabsim: 3 TooMany\n"]);
   });
 
-  it("what the program refuses isn't taken, and its line is told", () => {
+  it("a script that the program refuses isn't taken, and the error has the program's line", () => {
     assert.throws(() => new Editing("{}", simulate), (error) => {
       return error instanceof NotReplayed && error.message.startsWith("sabsim: 10 BadShape");
     });

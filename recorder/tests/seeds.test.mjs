@@ -42,14 +42,14 @@ test("the lost wake-up of a naive mutex is found within 200 seeds, and sabsim ag
   assert.equal(checked, failing.length + others.length);
 });
 
-test("the mutex of three states comes to its end under 200 seeds, each checked", async () => {
+test("the mutex of three states finishes under 200 seeds, each checked", async () => {
   const { outcomes, checked } = await outcomesOf("three-state-mutex", { last: 200, checkEvery: 1 });
   assert.deepEqual([...endingsOf(outcomes)], ["finished"]);
   assert.deepEqual([...new Set(bytesOf(outcomes))], ["0000000009000000"]);
   assert.equal(checked, 200);
 });
 
-test("random calls of all kinds, right and wrong, are answered as sabsim answers them", async () => {
+test("random calls of all kinds, right and wrong, return what sabsim returns", async () => {
   const seen = new Set();
   for (const start of ["1", "2"]) {
     const { outcomes, checked } = await outcomesOf("random", { args: [start], last: 60, checkEvery: 1 });
@@ -66,7 +66,7 @@ test("the same seeds give the same scripts byte for byte, whatever the jobs", as
   const again = await outcomesOf("naive-mutex", { checkEvery: 1 });
   const four = await outcomesOf("naive-mutex", { checkEvery: 1, jobs: 4 });
   assert.deepEqual(again.outcomes, one.outcomes);
-  // Each job tells the trace of its own first failing run, and the code that it names.
+  // Each job returns the trace of its own first failing run, and the code that it names.
   const untraced = ({ outcomes }) => outcomes.map((outcome) =>
     ({ ...outcome, trace: undefined, accesses: undefined, sources: undefined }));
   assert.deepEqual(untraced(four), untraced(one));
@@ -86,7 +86,7 @@ test("a value that is read and written gets lost under some seeds, and under oth
   assert.deepEqual([...new Set(bytesOf(outcomes))].sort(), ["01000000", "02000000", "03000000"]);
 });
 
-test("with switch:0 each agent comes to its end before the next one goes on", async () => {
+test("with switch:0 each agent ends before the next one goes on", async () => {
   const options = { args: ["racy"], agents: 3, buffers: [4], last: 30, strategy: "switch:0" };
   const { outcomes } = await outcomesOf("cases", options);
   assert.deepEqual([...new Set(bytesOf(outcomes))], ["03000000"]);
@@ -113,7 +113,7 @@ test("after an agent that has gone astray the next seeds are recorded all the sa
   }
 });
 
-test("seeds begin where they are told, up to the greatest", async () => {
+test("seeds begin at the first one asked for, up to the greatest", async () => {
   const most = Number.MAX_SAFE_INTEGER;
   const options = { args: ["racy"], agents: 3, buffers: [4], first: most - 1, last: most };
   assert.equal((await outcomesOf("cases", options)).outcomes.length, 2);

@@ -36,7 +36,7 @@ async function summaryOf(words) {
   return JSON.parse(stdout);
 }
 
-test("the shards of some seeds have each of them once, and as many as the others but for one", () => {
+test("each seed is in exactly one shard, and the sizes of shards differ by at most one", () => {
   const shards = (first, last, of) => {
     return Array.from({ length: of }, (_, at) => shardOf({ first, last }, { number: at + 1, of }));
   };
@@ -50,14 +50,14 @@ test("the shards of some seeds have each of them once, and as many as the others
   assert.deepEqual(united(shards(3, 99, 13)), [{ first: 3, last: 99 }]);
 });
 
-test("ranges are united and taken away", () => {
+test("`united` joins ranges of seeds, and `without` takes ranges away", () => {
   const [a, b, c] = [{ first: 1, last: 4 }, { first: 5, last: 6 }, { first: 9, last: 9 }];
   assert.deepEqual(united([c, a, b]), [{ first: 1, last: 6 }, c]);
   assert.deepEqual(without([{ first: 1, last: 10 }], [b, c]), [a, { first: 7, last: 8 }, { first: 10, last: 10 }]);
   assert.deepEqual(without([a, c], [{ first: 0, last: 20 }]), []);
 });
 
-test("a shard is what its words say, and others are refused", () => {
+test("`--shard` takes a number and a count, and refuses other words", () => {
   const { first, last, asked, shard } = optionsOf(["m.mjs", "--seeds", "1..1000", "--shard", "2/4"]);
   assert.deepEqual([first, last, asked, shard], [251, 500, { first: 1, last: 1_000 }, { number: 2, of: 4 }]);
   assert.equal(optionsOf(["m.mjs"]).shard, undefined);
@@ -116,7 +116,7 @@ before(async () => {
   }));
 });
 
-test("merge.mjs tells what all shards came to, and where the files of the first failing run lie", async () => {
+test("merge.mjs prints the summary of all shards, and names the folder of the first failing run", async () => {
   const { folder, files, words } = shared;
   const [plain, json, one] = await Promise.all([
     ran([MERGE, ...files]), ran([MERGE, "--format", "json", ...files]),
@@ -132,7 +132,7 @@ test("merge.mjs tells what all shards came to, and where the files of the first 
   assert.deepEqual(readdirSync(kept.path).sort(), [...kept.files].sort());
 });
 
-test("summaries may stand in one file, each on its line, and a joined one can be joined again", async () => {
+test("merge.mjs reads several summaries from one file, and its own output again", async () => {
   const { files: [first, ...others] } = shared;
   const lines = others.map((file) => `${readFileSync(file, "utf8")}\n`).join("\n");
   const [all, two] = await Promise.all([
@@ -144,7 +144,7 @@ test("summaries may stand in one file, each on its line, and a joined one can be
   assert.deepEqual(again, all);
 });
 
-test("where a shard is missing, or was stopped, that is told with status 3", async () => {
+test("merge.mjs reports a missing or stopped shard with status 3", async () => {
   const { folder, files: [first, second, third] } = shared;
   const missing = await ran([MERGE, third, first]);
   assert.deepEqual([missing.status, missing.stderr], [3, "merge: no summary has the seeds 11 to 20\n"]);
@@ -157,7 +157,7 @@ test("where a shard is missing, or was stopped, that is told with status 3", asy
   assert.match(stdout, /^interrupted by SIGINT after 30 of 45 runs\n/);
 });
 
-test("files that are no summaries, or don't fit together, are refused with one line", () => {
+test("merge.mjs refuses files that aren't summaries, or don't fit together, with one line", () => {
   const { folder, files: [first, second] } = shared;
   const summary = JSON.parse(readFileSync(second, "utf8"));
   const { asked } = summary;
@@ -194,7 +194,7 @@ test("files that are no summaries, or don't fit together, are refused with one l
   }
 });
 
-test("what merge.mjs can't do is told with status 2, and its help with 0", async () => {
+test("merge.mjs reports wrong words and files with status 2, and prints its help with status 0", async () => {
   const { files: [first] } = shared;
   const faults = [
     [[], /^merge: the summaries' files are missing; --help shows more\n$/],
@@ -203,16 +203,16 @@ test("what merge.mjs can't do is told with status 2, and its help with 0", async
     [[first, first], /^merge: .* don't fit together: both have seed 1\n$/],
   ];
   const all = [["--help"], ...faults.map(([words]) => words)];
-  const [help, ...told] = await Promise.all(all.map((words) => ran([MERGE, ...words])));
+  const [help, ...refusals] = await Promise.all(all.map((words) => ran([MERGE, ...words])));
   assert.equal(help.status, 0);
   assert.match(help.stdout, /^usage: node recorder\/merge\.mjs FILE\.\. /);
-  told.forEach(({ status, stdout, stderr }, at) => {
+  refusals.forEach(({ status, stdout, stderr }, at) => {
     assert.deepEqual([status, stdout], [2, ""]);
     assert.match(stderr, faults[at][1]);
   });
 });
 
-test("where no run of any shard failed the status is 0", async (context) => {
+test("merge.mjs ends with status 0 if no run of any shard failed", async (context) => {
   const folder = temporaryFolder(context);
   const module = agentsOf(folder, "Atomics.add(new Int32Array(buffers[0]), 0, 1);");
   const words = [module, "--agents", "2", "--buffers", "4", "--seeds", "1..4", "--check", "0"];
@@ -222,7 +222,7 @@ test("where no run of any shard failed the status is 0", async (context) => {
   assert.match(stdout, /^4 runs: 4 finished\n/);
 });
 
-test("what went wrong is a member of the summary too", async (context) => {
+test("the JSON summary reports a job that died, in its member `problems`", async (context) => {
   const module = agentsOf(temporaryFolder(context), `
     globalThis.seeds = (globalThis.seeds ?? 0) + 1;
     Atomics.add(new Int32Array(buffers[0]), 0, 1);
@@ -252,11 +252,11 @@ test("GNU parallel runs the shards, as docs/RECORDER.md shows it", withParallel,
   assert.equal(stdout, spawnSync(process.execPath, words, { encoding: "utf8" }).stdout);
 });
 
-test("what shards have covered is joined, and with it of how many accesses the line isn't known", () => {
-  const told = (pairs, unplaced, covered) => ({ pairs, last: 3, row: 500, unplaced, covered });
-  const one = Coverage.joined(undefined, told(["a > b"], 0, true));
+test("joined summaries join what the shards covered, and add up the accesses of unknown lines", () => {
+  const coverageOf = (pairs, unplaced, covered) => ({ pairs, last: 3, row: 500, unplaced, covered });
+  const one = Coverage.joined(undefined, coverageOf(["a > b"], 0, true));
   assert.deepEqual(one.data(), { pairs: ["a > b"], last: null, row: null, unplaced: 0, covered: true });
-  const both = Coverage.joined(one, told(["b > a", "a > b"], 7, false));
+  const both = Coverage.joined(one, coverageOf(["b > a", "a > b"], 7, false));
   assert.deepEqual(both.data(), { pairs: ["a > b", "b > a"], last: null, row: null, unplaced: 7, covered: false });
 });
 

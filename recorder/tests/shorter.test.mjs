@@ -88,7 +88,7 @@ test("a lost update: one loads, the other counts, and the first one stores", asy
   assert.deepEqual([outcome.ending, changesOf(outcome.row), outcome.calls], ["check", 2, 8]);
 });
 
-test("an agent that has nothing to do with it comes at once, or where the run ends before, never", async (context) => {
+test("an agent that has no part in the failure moves first, or never if the run ends before", async (context) => {
   const { outcome: counts } = await shortestOf(context, "count", 3);
   assert.deepEqual([counts.ending, changesOf(counts.row), counts.calls], ["check", 3, 14]);
   const { outcome: throws } = await shortestOf(context, "assertion", 3);
@@ -122,7 +122,7 @@ test("runs fail in the same way: by their ending, who waits where, the first pai
   assert.ok(!failsAlike(strayed, waits([0, 4])));
 });
 
-test("it ends after so many runs, or so much time, and says so", async (context) => {
+test("shortening ends after so many runs, or so much time, and says so", async (context) => {
   const group = await groupOf(context, MODULE, { args: ["count"] });
   const first = await firstFailing(group);
   const few = await shorten(group, first, { most: 2 });
@@ -171,7 +171,7 @@ test("a run that can't be made again stays as it was found", async (context) => 
   assert.deepEqual(readdirSync(out).sort(), endings.map((ending) => `seed-3.${ending}`));
 });
 
-/** Runs the command line on the program `bell` with an own folder, and tells what is kept there. */
+/** Runs the command line on the program `bell` with an own folder, and returns what it kept there. */
 function keptBy(context, ...words) {
   const out = temporaryFolder(context);
   const all = [RECORD, MODULE, "--seeds", "1..80", ...CHECKING, "--out", out, ...words, "--", "bell"];
@@ -206,7 +206,7 @@ test("the shortest run is kept with the original beside it, whatever the jobs; -
     assert.ok(Object.keys(unshortened.files).every((name) => !name.includes("original")));
   });
 
-test("what a summary says of it", () => {
+test("the summary's lines about a shortened run", () => {
   const changes = { before: 1_031, after: 4 };
   const calls = { before: 60, after: 22 };
   const about = { runs: 84, changes, calls };
@@ -227,7 +227,7 @@ test("what a summary says of it", () => {
     [[], ["  only if 1 ms passes"], ["  no timed wait ends early in it"]]);
 });
 
-test("on a terminal it is said how far it is", (context) => {
+test("a terminal shows how far the shortening is", (context) => {
   const { stderr } = process;
   const written = [];
   context.mock.method(stderr, "write", (text) => written.push(text));

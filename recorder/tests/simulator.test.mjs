@@ -63,7 +63,7 @@ describe("reports", () => {
   });
 });
 
-test("a call that hasn't returned ends with status 5 where all were to return", () => {
+test("with `--finish` a call that hasn't returned gives status 5", () => {
   const input = script({ agents: [{ block: true, calls: [] }] });
   assert.equal(simulator.run({ job: "replay", finish: true }, input).status, 0);
   assert.equal(simulator.run({ job: "replay", finish: true }, read("lost-wake-up.json")).status, 5);
@@ -190,7 +190,7 @@ describe("failures", () => {
   });
 });
 
-test("what is beside the module says what it was made of", () => {
+test("the file beside the module says what it was made of", () => {
   const origin = JSON.parse(readFileSync(new URL("sabsim.json", WASM), "utf8"));
   assert.deepEqual(Object.keys(origin).sort(), ["beforeBinaryen", "binaryen", "kit", "module", "sources"]);
 });

@@ -1,4 +1,4 @@
-// Places in code that was compiled, told as places of the code that people wrote.
+// Places in compiled code, reported as places in the code that people wrote.
 
 import assert from "node:assert/strict";
 import { mkdirSync, writeFileSync } from "node:fs";
@@ -46,7 +46,7 @@ const mapText = (members, segments) =>
   JSON.stringify({ version: 3, names: [], mappings: mappingsOf(segments), ...members });
 const inline = (text) => `//# sourceMappingURL=data:application/json;base64,${Buffer.from(text).toString("base64")}\n`;
 
-/** Writes files; answers their URLs by their names. */
+/** Writes files; returns their URLs by their names. */
 function filesIn(folder, texts) {
   mkdirSync(join(folder, "src"));
   return Object.fromEntries(Object.entries(texts).map(([name, text]) => {
@@ -82,7 +82,7 @@ test("a place is that of the file from which its own was made: by a map in it, o
   }
 });
 
-test("where there is no map, or one that can't be read, a place stays", (context) => {
+test("without a readable map a place stays as it is", (context) => {
   const urls = filesIn(temporaryFolder(context), {
     "plain.mjs": MADE,
     "gone.mjs": `${MADE}//# sourceMappingURL=gone.map\n`,
@@ -121,7 +121,7 @@ test("places are named as seen from the agents' module, with the code of their f
   assert.equal(names.withNames(`it spins at ${urls["code.mjs"]}:1:24: again`), "it spins at code.ts:4:3: again");
 });
 
-test("a run of compiled code tells its races and its trace by the lines that were written", async (context) => {
+test("the races and the trace of compiled code name the lines of the written code", async (context) => {
   // The agent as it was written stands on the lines 5 and 6, and as it was made on 2 and 3.
   const made = [
     "export default function agent({ buffers, agent }) { const words = new Int32Array(buffers[0]);",

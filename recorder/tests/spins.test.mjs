@@ -1,4 +1,4 @@
-// Agents that go on and on: a spin is told as one, with its place in the code, and what comes on isn't called one.
+// Agents that go on and on: a spin is reported with its place in the code, and progress isn't called one.
 
 import assert from "node:assert/strict";
 import { before, describe, it } from "node:test";
@@ -17,7 +17,7 @@ async function outcomesOf(ways, seconds) {
 const ENDING = ["load", "compareExchange", "ordinary", "strides", "counts", "deadline"];
 const ENDLESS = ["alternately", "nothing"];
 
-/** Where a text stands in the agents' code, as the recorder tells it. */
+/** The place of a text in the agents' code, as the recorder reports it. */
 function placeOf(text) {
   const [{ line, column }] = placesOf("spins", text);
   return `spins.mjs:${line}:${column}`;
@@ -25,14 +25,14 @@ function placeOf(text) {
 
 const { calls: MOST } = SCRIPT_LIMITS;
 
-/** An agent that comes on has met the bound of calls at a place. */
+/** An agent that makes progress has met the limit of calls at a place. */
 function meetsBound({ ending, detail, progress }, text) {
   assert.equal(ending, "bound");
   assert.equal(firstLine(detail), `agent 1 has made ${MOST} calls, and goes on at ${placeOf(text)}`);
   assert.deepEqual(progress[1], { returned: MOST, calls: MOST });
 }
 
-// Of calls the engine tells the place of the function's name, of an element that of its index.
+// The engine's place of a call is the function's name, and that of an element is its index.
 const SPINS = {
   load: ["load(words, 1) === 0", `it has made ${MOST} calls, and goes on`],
   compareExchange: ["compareExchange(words, 1, 1, 2)", `it has made ${MOST} calls, and goes on`],
@@ -48,7 +48,7 @@ describe("agents that go on and on", () => {
   });
 
   for (const [way, [text, what]] of Object.entries(SPINS)) {
-    it(`a spin is told with its place: ${way}`, () => {
+    it(`a spin is reported with its place: ${way}`, () => {
       const { ending, fails, detail } = outcomes[way];
       const [, place, rest] = /^agent 1 spins at (\S+:\d+:\d+): (.*)$/m.exec(detail) ?? assert.fail(detail);
       assert.deepEqual([ending, fails, rest], ["bound", true, what]);
@@ -56,7 +56,7 @@ describe("agents that go on and on", () => {
     });
   }
 
-  it("who reads several elements in turn is asked where it is when its time is up", () => {
+  it("an agent that reads several elements in turn reports its place when its time is up", () => {
     const { ending, detail } = outcomes.alternately;
     assert.equal(ending, "bound");
     const [, place] = /^agent 1 spins at (\S+): it has made no call for too long$/m.exec(detail) ?? assert.fail(detail);
@@ -87,22 +87,22 @@ describe("agents that go on and on", () => {
     assert.deepEqual(failure.sources.length, 3);
   });
 
-  it("who comes on from one to the next meets the bound of calls, and doesn't spin", () => {
+  it("an agent that goes from one element to the next meets the limit of calls, and doesn't spin", () => {
     meetsBound(outcomes.strides, "store(words, at % 16, at)");
   });
 
-  it("who counts meets the bound of calls, and doesn't spin", () => {
+  it("an agent that counts meets the limit of calls, and doesn't spin", () => {
     meetsBound(outcomes.counts, "add(words, 1, 1)");
   });
 
-  it("who waits for a time to come gets there, since to look at the time takes time", () => {
+  it("an agent that waits for a time reaches it, since each look at the clock takes time", () => {
     const { ending, bytes } = outcomes.deadline;
     assert.equal(ending, "finished");
     const [, reached] = new Int32Array(Uint8Array.from(Buffer.from(bytes[0], "hex")).buffer);
     assert.ok(reached >= 50 && reached < 53, `${reached} ms`);
   });
 
-  it("a bound that is allowed is no failure, and is told all the same", async () => {
+  it("an allowed limit that is met is no failure, and is reported all the same", async () => {
     const [outcome] = await recorded({ module: agentsPath("spins"), args: ["load"], bounds: "allow" });
     assert.deepEqual([outcome.ending, outcome.fails, outcome.detail], ["bound", false, outcomes.load.detail]);
     const [first, ...others] = summaryLines([outcome]);

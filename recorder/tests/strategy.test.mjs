@@ -192,7 +192,7 @@ test("each row of the table is named in the help, in the reference and in the de
   }
 });
 
-test("of a mixed run the seed says how it is drawn, and each strategy has its share", () => {
+test("the seed decides by which strategy a mixed run is drawn, and each strategy has its share", () => {
   const ways = waysOf("mixed", false);
   const names = ways.map(({ name }) => name);
   for (const name of ["partial-order", "switch"]) assert.ok(names.includes(name), name);

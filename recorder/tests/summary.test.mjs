@@ -1,4 +1,4 @@
-// What is told of many runs, by runs that were made up.
+// The summary of many runs. The runs are made up.
 
 import assert from "node:assert/strict";
 import { createHash } from "node:crypto";
@@ -46,7 +46,7 @@ const seeds = (first, last, parts) => {
 
 const race = (one, other) => ({ lines: [one, other], text: `${one} races with ${other}` });
 
-test("a summary tells first what failed, and it is the same in whatever order the runs come", () => {
+test("a summary reports failures first, and is the same in whatever order the runs come", () => {
   const ring = [race("ring.mjs:12:7", "ring.mjs:20:11")];
   const outcomes = [
     ...seeds(1, 185, { shown: ["0900"], calls: 40, ordinary: 5 }),
@@ -74,7 +74,7 @@ test("a summary tells first what failed, and it is the same in whatever order th
   assert.deepEqual(linesOf(outcomes.toReversed(), { checked: 28 }), expected);
 });
 
-test("where no run failed, the first line says how they ended", () => {
+test("if no run failed, the first line says how the runs ended", () => {
   assert.equal(linesOf(seeds(1, 200))[0], "200 runs: 200 finished");
   assert.equal(linesOf([outcome(5)])[0], "1 run: 1 finished");
   const allowed = [...seeds(1, 197), ...seeds(198, 200, { ending: "bound", fails: false })];
@@ -84,7 +84,7 @@ test("where no run failed, the first line says how they ended", () => {
   assert.ok(!lines.some((line) => line.includes("first failing seed")));
 });
 
-test("where all runs failed, none is said to have finished", () => {
+test("if all runs failed, the summary says that none has finished", () => {
   assert.equal(linesOf([outcome(5, { ending: "failed" })])[0], "1 of 1 run failed: 1 stopped");
   const both = [outcome(1, { ending: "check" }), outcome(2, { ending: "bound", detail: "too much" })];
   assert.equal(linesOf(both)[0], "2 of 2 runs failed: 1 check failed, 1 limit met");
@@ -107,7 +107,7 @@ test("failing states come before finished ones, eight at most", () => {
   ]);
 });
 
-test("a state is told by its hash: two that begin alike are two, and an empty buffer is a dash", () => {
+test("states are compared by their hashes, so two that begin alike are two; an empty buffer is a dash", () => {
   const alike = (seed, hash) => ({ ...outcome(seed), state: { hash, shown: ["00…", ""], named: null } });
   const lines = linesOf([alike(1, "x"), alike(2, "y"), alike(3, "y")]);
   assert.deepEqual(lines.slice(1, 4), [
@@ -117,7 +117,7 @@ test("a state is told by its hash: two that begin alike are two, and an empty bu
   ]);
 });
 
-test("each pair of lines is told once, with its first seed and its runs, and eight of them at most", () => {
+test("a summary lists each pair of lines once, with its first seed and its runs; it lists at most eight", () => {
   const often = race("a.mjs:1:1", "a.mjs:2:1");
   const outcomes = Array.from({ length: 10 }, (_, at) => {
     const own = race(`b.mjs:${at}:1`, "b.mjs:77:1");
@@ -132,7 +132,7 @@ test("each pair of lines is told once, with its first seed and its runs, and eig
   ]);
 });
 
-test("races that are allowed are told too, and races of runs that failed otherwise", () => {
+test("a summary lists races that are allowed too, and races of runs that failed otherwise", () => {
   const races = [race("a.mjs:1:1", "a.mjs:2:1")];
   const allowed = linesOf([outcome(1, { races }), outcome(2)], { races: "allow" });
   assert.equal(allowed[0], "2 runs: 2 finished");
@@ -143,7 +143,7 @@ test("races that are allowed are told too, and races of runs that failed otherwi
   assert.ok(failed.includes("unordered accesses: 1 run, 1 pair of lines"));
 });
 
-test("scripts that hold a part, and runs that have none, are told", () => {
+test("a summary reports scripts that hold only a part, and runs without a script", () => {
   const holding = { scriptHolds: "touched" };
   const whole = { scriptHolds: "all" };
   const none = { ending: "bound", detail: "it is too long", noScript: "it would have 2,000 calls" };
@@ -182,7 +182,7 @@ test("the last lines say what was not seen", () => {
   }
 });
 
-test("how many calls and accesses there were is told as it is said", () => {
+test("the last line counts calls and accesses in words, with their plurals", () => {
   const last = (calls, ordinary) => linesOf([outcome(1, { calls, ordinary })]).at(-1);
   assert.equal(last(0, 0), "1 run made no call of Atomics, and no ordinary read or write");
   assert.equal(last(1, 1), "1 run made 1 call of Atomics, and 1 ordinary read or write");
@@ -194,7 +194,7 @@ test("how many calls and accesses there were is told as it is said", () => {
   assert.deepEqual([1, 1_000].map((count) => counted(count, "access", "accesses")), ["1 access", "1,000 accesses"]);
 });
 
-test("where not all runs were made, the first line says so", () => {
+test("if not all runs were made, the first line says so", () => {
   const stop = { why: "interrupted by SIGINT", wanted: 1_000_000 };
   assert.deepEqual(linesOf(seeds(1, 3), { stop }).slice(0, 2), [
     "interrupted by SIGINT after 3 of 1,000,000 runs", "3 runs: 3 finished",
@@ -229,8 +229,8 @@ test("the object of a summary has all that its text has, and what the text leave
   }
   const kept = { folder: "found", path: "/tmp/found", files: ["seed-4.report"] };
   const stopped = { why: "stopped", wanted: 9 };
-  const told = summary.data({ stopped, kept, notKept: ["not kept: this"], problems: ["a job ended"] });
-  assert.deepEqual(told, {
+  const data = summary.data({ stopped, kept, notKept: ["not kept: this"], problems: ["a job ended"] });
+  assert.deepEqual(data, {
     stopped,
     missing: [],
     runs: 4,
@@ -273,18 +273,18 @@ test("the object of a summary has all that its text has, and what the text leave
     notKept: ["not kept: this"],
     problems: ["a job ended"],
   });
-  assert.deepEqual(JSON.parse(JSON.stringify(told)), told);
-  const lines = summaryText(told).split("\n");
+  assert.deepEqual(JSON.parse(JSON.stringify(data)), data);
+  const lines = summaryText(data).split("\n");
   assert.equal(lines[0], "stopped after 4 of 9 runs");
   assert.equal(lines[2], "1 failing run fails only after the early end of a timed wait (--timeouts)");
   const hidden = "agent 0 went on at ring.mjs:12:7 only because its 500 ms were over, in 1 of 4 runs";
   assert.ok(lines.includes(hidden), lines.join("\n"));
-  const asleep = { ...told, onlyByTime: { ...told.onlyByTime, served: [{ block: 1, byte: 8 }] } };
+  const asleep = { ...data, onlyByTime: { ...data.onlyByTime, served: [{ block: 1, byte: 8 }] } };
   assert.ok(!summaryText(asleep).includes("only because"));
   assert.deepEqual(lines.slice(-3), ["kept in found: seed-4.report", "not kept: this", ""]);
   const options = { ...SEEN, unrecorded: "fail", args: [], preloads: false };
   const asked = { module: "m.mjs", digest: "", seeds: [], shard: null, options };
-  assert.equal(whyNoSummary({ summary: 3, asked, seeds: [], ...told }), undefined);
+  assert.equal(whyNoSummary({ summary: 3, asked, seeds: [], ...data }), undefined);
 });
 
 /** Runs with races and states of which some come only after an early end of a timed wait. */
@@ -325,8 +325,8 @@ test("races, failures and states that come only after an early end stand behind 
   const from = (lines) => lines.slice(lines.indexOf(expected[0]), lines.indexOf(expected[0]) + expected.length);
   assert.deepEqual(from(whole.text().split("\n")), expected);
   assert.deepEqual(from(linesOf(outcomes.toReversed())), expected);
-  const told = whole.data();
-  assert.deepEqual(told.races.pairs.listed.map(({ runs, early, first }) => [runs, early, first]), [
+  const expectedData = whole.data();
+  assert.deepEqual(expectedData.races.pairs.listed.map(({ runs, early, first }) => [runs, early, first]), [
     [3, 2, 6], [1, 0, 5], [2, 2, 1],
   ]);
   // Whatever is joined with what, the first run of an entry is one without an early end.
@@ -338,7 +338,7 @@ test("races, failures and states that come only after an early end stand behind 
   for (const order of [[0, 1, 2], [2, 1, 0], [1, 2, 0]]) {
     const joined = new Summary(SEEN);
     for (const at of order) joined.join(parts[at]);
-    assert.deepEqual(joined.data(), told);
+    assert.deepEqual(joined.data(), expectedData);
   }
 });
 
@@ -446,7 +446,7 @@ test("summaries that are joined are the summary of all runs, in whatever order",
   }
 });
 
-test("the checks of summaries that are joined are told together, with each kind of simulator", () => {
+test("joined summaries report all checks in one line, with each kind of simulator", () => {
   const kinds = ["module 123", "program sabsim 0.1.0", undefined];
   const parts = kinds.map((checkedBy) => new Summary({ ...SEEN, checkedBy }));
   parts.forEach((summary, at) => summary.add(outcome(at, { checked: at < 2 })));

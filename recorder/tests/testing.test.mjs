@@ -189,8 +189,8 @@ test("assertAgents fails as an assertion does, in any test", async (the) => {
     return true;
   });
   assert.ok(existsSync(join(out, "seed-4.json")));
-  // A run that can't be kept is told all the same.
+  // A run that can't be kept is reported all the same.
   const nowhere = { ...options, args: ["waitsForEver"], seeds: "4", out: "/proc/self" };
-  const told = /: seed 4: deadlock\n.*\n\nIts last acts, [^]*\n\nnot kept: `out` \/proc\/self can't be used: /;
-  await assert.rejects(assertAgents(nowhere), told);
+  const message = /: seed 4: deadlock\n.*\n\nIts last acts, [^]*\n\nnot kept: `out` \/proc\/self can't be used: /;
+  await assert.rejects(assertAgents(nowhere), message);
 });

@@ -1,4 +1,4 @@
-// Workers, as those who start them see them: their messages, and what they died of.
+// Workers as their parent sees them: their messages, and what they died of.
 
 import assert from "node:assert/strict";
 import { existsSync, writeFileSync } from "node:fs";
@@ -29,8 +29,8 @@ function threadOf(context, code, options) {
   return thread;
 }
 
-/** All that is told of a thread until its end. */
-async function toldBy(thread) {
+/** All items that a thread's parent gets until the thread's end. */
+async function itemsOf(thread) {
   const items = [];
   for (;;) {
     const item = await thread.next();
@@ -42,26 +42,26 @@ async function toldBy(thread) {
 for (const ownPort of [false, true]) {
   const by = ownPort ? "by a port of its own" : "by the worker's port";
 
-  test(`messages go to and fro ${by}, and those before the end are all told`, async (context) => {
+  test(`messages go to and fro ${by}, and none that was sent before the end is lost`, async (context) => {
     const echo = 'port.once("message", (it) => { port.postMessage([it, workerData.number]); process.exit(3); });';
     const thread = threadOf(context, `port.postMessage("first"); ${echo}`, { ownPort });
     thread.post("there");
-    assert.deepEqual(await toldBy(thread), [
+    assert.deepEqual(await itemsOf(thread), [
       { message: "first" }, { message: ["there", 7] }, { ended: "it ended by itself, with exit code 3" },
     ]);
     assert.deepEqual(await thread.next(), { ended: "it ended by itself, with exit code 3" });
   });
 
-  test(`what a worker dies of is told ${by}`, async (context) => {
-    const told = async (code) => (await toldBy(threadOf(context, code, { ownPort }))).at(-1).ended;
-    assert.equal(await told('throw new RangeError("mine");'), "RangeError: mine");
-    assert.equal(await told('await Promise.reject(new Error("later"));'), "Error: later");
-    assert.equal(await told("throw undefined;"), "it threw undefined");
-    assert.equal(await told('throw "words";'), "it threw words");
+  test(`a worker's end says what it died of ${by}`, async (context) => {
+    const endOf = async (code) => (await itemsOf(threadOf(context, code, { ownPort }))).at(-1).ended;
+    assert.equal(await endOf('throw new RangeError("mine");'), "RangeError: mine");
+    assert.equal(await endOf('await Promise.reject(new Error("later"));'), "Error: later");
+    assert.equal(await endOf("throw undefined;"), "it threw undefined");
+    assert.equal(await endOf('throw "words";'), "it threw words");
   });
 }
 
-test("the error is kept, and who listens for the end gets it in words", async (context) => {
+test("the error is kept, and a listener for the end gets it as text", async (context) => {
   const thread = threadOf(context, 'throw new TypeError("mine");');
   const why = new Promise((done) => {
     thread.onEnd = done;
@@ -71,13 +71,13 @@ test("the error is kept, and who listens for the end gets it in words", async (c
   assert.equal(thread.ended, "TypeError: mine");
 });
 
-test("what other code sends by the worker's port isn't taken for a message", async (context) => {
+test("a message that other code sends by the worker's port is ignored", async (context) => {
   const code = 'parentPort.postMessage("false"); port.postMessage("true"); process.exit();';
-  const [first, second] = await toldBy(threadOf(context, code, { ownPort: true }));
+  const [first, second] = await itemsOf(threadOf(context, code, { ownPort: true }));
   assert.deepEqual([first, Object.keys(second)], [{ message: "true" }, ["ended"]]);
 });
 
-test("the end of a thread that native code holds is awaited no longer than is said", async (context) => {
+test("`stop` waits for a thread in native code no longer than its limit", async (context) => {
   const mark = join(temporaryFolder(context), "mark");
   const thread = threadOf(context, `execSync("touch ${mark}; sleep 2");`);
   while (!existsSync(mark)) await sleep(10);
@@ -87,18 +87,18 @@ test("the end of a thread that native code holds is awaited no longer than is sa
   assert.ok(took >= 95 && took < 1_500, `it took ${took} ms`);
 });
 
-test("a thread that loops is ended, and nothing is told of it", async (context) => {
+test("a thread that loops can be stopped, and its end isn't reported", async (context) => {
   const thread = threadOf(context, 'port.postMessage("looping"); for (;;);');
   await thread.next();
-  let told = false;
+  let isReported = false;
   thread.onEnd = () => {
-    told = true;
+    isReported = true;
   };
   assert.equal(await thread.stop(20_000), true);
-  assert.equal(told, false);
+  assert.equal(isReported, false);
 });
 
-test("each module that a worker is given is compiled already", async (context) => {
+test("each module is compiled before a worker gets it", async (context) => {
   const lib = new URL("../lib/", import.meta.url);
   const [board, player] = ["board/board.mjs", "agent/player.mjs"].map((path) => new URL(path, lib));
   const thread = begunThread(player);

@@ -138,17 +138,17 @@ describe("runs with timed waits", { concurrency: 2 }, () => {
   });
 
   it("the same seed gives the same run, and so does its row, with each of the rules", async (context) => {
-    const told = ({ ending, script, onlyIf, onlyByTime, served }) => ({ ending, script, onlyIf, onlyByTime, served });
+    const partOf = ({ ending, script, onlyIf, onlyByTime, served }) => ({ ending, script, onlyIf, onlyByTime, served });
     for (const [name, timeouts] of [["polls", 0], ["spins", 0.05], ["lost", "never"], ["lost", 0], ["early", 1]]) {
       const found = await outcomesOf(name, 5, { timeouts });
       const group = await groupOf(context, agentsPath("timed"), { args: [name], timeouts });
       for (const outcome of found) {
         const { seed } = outcome;
         const again = await group.one({ seed, whole: true, wantsRow: true });
-        assert.deepEqual(told(again.outcome), told(outcome));
+        assert.deepEqual(partOf(again.outcome), partOf(outcome));
         const { row } = again.outcome;
         const forced = await group.one({ seed, whole: true, row, isExact: true });
-        assert.deepEqual([forced.aside.stray, told(forced.outcome)], [undefined, told(outcome)]);
+        assert.deepEqual([forced.aside.stray, partOf(forced.outcome)], [undefined, partOf(outcome)]);
       }
     }
   });
@@ -168,12 +168,12 @@ describe("what comes first of failing runs", () => {
     assert.deepEqual([plain(1), early(2)].map((run) => other.takes(run)), [true, false]);
   });
 
-  it("has words with the time, the agent and how many more waits ended early", () => {
-    const told = { milliseconds: 5_000, other: 1, isCall: true, more: 0 };
-    assert.equal(earlyText(told), "only if 5 s pass before agent 1's next call");
-    assert.equal(earlyText({ ...told, isCall: false, milliseconds: 1, more: 1 }),
+  it("is described by the time, the agent and how many more waits ended early", () => {
+    const early = { milliseconds: 5_000, other: 1, isCall: true, more: 0 };
+    assert.equal(earlyText(early), "only if 5 s pass before agent 1's next call");
+    assert.equal(earlyText({ ...early, isCall: false, milliseconds: 1, more: 1 }),
       "only if 1 ms passes before agent 1 goes on (and 1 more wait ends early)");
-    assert.equal(earlyText({ ...told, more: 3 }),
+    assert.equal(earlyText({ ...early, more: 3 }),
       "only if 5 s pass before agent 1's next call (and 3 more waits end early)");
     const durations = [0.123456, 0.5, 999, 1_500, 60_000].map(durationText);
     assert.deepEqual(durations, ["0.123 ms", "0.5 ms", "999 ms", "1.5 s", "60 s"]);
@@ -224,13 +224,13 @@ describe("joined, kept and stopped", { concurrency: 2 }, () => {
 
   it("the command line keeps the first one, by one job and by two", async () => {
     const words = [both.module, "--seeds", "1..100", "--no-shorten", "--format", "json"];
-    const told = await Promise.all([1, 2].map(async (jobs) => {
+    const summaries = await Promise.all([1, 2].map(async (jobs) => {
       const out = join(folder, `jobs-${jobs}`);
       const more = ["--jobs", `${jobs}`, "--out", out, "--", "both"];
       const { output } = await runNode("recorder/record.mjs", [...words, ...more]);
       return { ...JSON.parse(output), files: readdirSync(out).sort() };
     }));
-    const [one, two] = told;
+    const [one, two] = summaries;
     assert.deepEqual([one.firstFailing, one.early, one.files], [two.firstFailing, two.early, two.files]);
     assert.equal(one.firstFailing.onlyIf, null);
     const { seed } = one.firstFailing;

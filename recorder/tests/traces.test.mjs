@@ -56,9 +56,9 @@ describe("traces", { concurrency: 2 }, () => {
     assert.equal(status, 1);
     const [, seed] = /^first failing seed: (\d+), race$/m.exec(stdout) ?? assert.fail(stdout);
     const events = eventsOf(readFileSync(join(out, `seed-${seed}.trace.jsonl`), "utf8"));
-    const told = [...stdout.matchAll(new RegExp(`^  seed ${seed} the first, \\d+ runs?: (.*)$`, "gm"))];
-    assert.ok(told.length > 0, stdout);
-    assert.deepEqual(told.map(([, pair]) => pair).sort(), racingPairs(events));
+    const printed = [...stdout.matchAll(new RegExp(`^  seed ${seed} the first, \\d+ runs?: (.*)$`, "gm"))];
+    assert.ok(printed.length > 0, stdout);
+    assert.deepEqual(printed.map(([, pair]) => pair).sort(), racingPairs(events));
     assert.ok(events.every(({ source }) => source.startsWith("ring-frees-first.mjs:")));
     const { agents } = JSON.parse(readFileSync(join(out, `seed-${seed}.json`), "utf8"));
     const own = agents.flatMap(({ calls }) => calls.filter(([, view]) => !view.startsWith("ordinary")));
@@ -84,17 +84,17 @@ describe("traces", { concurrency: 2 }, () => {
     assert.ok(seenEventsOf(outcome.trace).every(({ atomic, waiters }) => atomic || waiters));
   });
 
-  it("races that are allowed are told, with their lines, and the run passes", async () => {
+  it("races that are allowed are reported with their lines, and the run passes", async () => {
     const [outcome] = await recorded({ module: agentsPath("modes"), args: ["unlocked"], races: "allow" });
     assert.deepEqual([outcome.ending, outcome.fails, outcome.detail], ["finished", false, ""]);
     assert.ok(outcome.races.length > 0);
     for (const { lines } of outcome.races) for (const line of lines) assert.match(line, /^modes\.mjs:\d+:\d+$/);
   });
 
-  it("of a run that isn't made again as it was, races are told without their lines", async () => {
+  it("if a run can't be made again as it was, its races are reported without their lines", async () => {
     const [first, second] = await recorded({ module: agentsPath("remembers") }, [1, 2]);
     assert.equal(first.ending, "race");
-    // It was made once more, and that one differs: so what it did is told, and not where.
+    // The second run differs: so the report has what the first one did, and not where.
     const [{ lines, sides }] = first.races;
     assert.deepEqual([first.races.length, first.trace, lines], [
       1, undefined, ["agent 0's write of Int32[0]", "agent 1's write of Int32[0]"],
@@ -104,7 +104,7 @@ describe("traces", { concurrency: 2 }, () => {
     assert.ok(first.bytes[0].endsWith("0100000001000000"));
     // There was one more run of each worker between the two, and no other.
     assert.ok(second.bytes[0].endsWith("0300000003000000"), second.bytes[0]);
-    // After a race the lines are told at once.
+    // After a race the next run reports lines at once.
     for (const line of second.races[0].lines) assert.match(line, /^remembers\.mjs:\d+:\d+$/);
   });
 

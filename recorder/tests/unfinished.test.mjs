@@ -1,4 +1,4 @@
-// No run passes whose agents have left something undone: what they do later never comes to its turn.
+// No run passes whose agents have left something undone, since what they would do later never happens.
 
 import assert from "node:assert/strict";
 import { writeFileSync } from "node:fs";
@@ -34,11 +34,11 @@ it("what comes after a promise from before is left too, where the run settles th
   for (const way of EARLIER) {
     const options = { module: agentsPath("unfinished-earlier"), args: [way], trace: true };
     const outcomes = await recorded(options, [1, 2, 3]);
-    const told = outcomes.map(({ ending, detail }) => [ending, detail]);
+    const found = outcomes.map(({ ending, detail }) => [ending, detail]);
     const left = ["failed", LEFT_EARLIER];
     const right = ["finished", ""];
     // Under seed 2 it is settled; later that does nothing.
-    assert.deepEqual(told, NOTHING_AFTER.includes(way) ? [right, right, right] : [right, left, right], way);
+    assert.deepEqual(found, NOTHING_AFTER.includes(way) ? [right, right, right] : [right, left, right], way);
   }
 });
 

@@ -40,18 +40,18 @@ const SIDE_BY_SIDE = { concurrency: 4 };
  */
 function testFailing(cases, options = {}) {
   const tried = casesOf(Object.keys(cases), options);
-  for (const [at, [way, told]] of Object.entries(cases).entries()) {
+  for (const [at, [way, message]] of Object.entries(cases).entries()) {
     test(`${way} ${JSON.stringify(options)}`, async () => {
       const { ending, detail, checked, script } = await tried.outcomeOf(at);
       assert.deepEqual([ending, checked, script], ["failed", false, undefined], detail);
-      assert.match(detail, told);
+      assert.match(detail, message);
     });
   }
 }
 
-/** The same, each in workers of its own: what it does lasts, and is reported of the runs after it, too. */
+/** The same, each in workers of its own: what it does lasts, and is reported for the runs after it, too. */
 function testFailingApart(cases) {
-  for (const [way, told] of Object.entries(cases)) testFailing({ [way]: told });
+  for (const [way, message] of Object.entries(cases)) testFailing({ [way]: message });
 }
 
 /** @param {string[]} ways that finish @param {object} [options] */

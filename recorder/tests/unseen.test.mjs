@@ -153,8 +153,8 @@ describe("a script that is full of views", () => {
       const { ending, script, report, scriptHolds, noScript } = outcome;
       assert.deepEqual([ending, script, report, scriptHolds], ["finished", undefined, undefined, undefined]);
       assert.equal(noScript, WHY_NOT);
-      const told = summaryLines([outcome], { checkedBy: "module 1", ...options });
-      assert.ok(told.includes(`1 run has no script, and wasn't checked: ${WHY_NOT}`), told.join("\n"));
+      const lines = summaryLines([outcome], { checkedBy: "module 1", ...options });
+      assert.ok(lines.includes(`1 run has no script, and wasn't checked: ${WHY_NOT}`), lines.join("\n"));
     });
   }
 

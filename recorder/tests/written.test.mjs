@@ -24,12 +24,12 @@ const BITS = 4598175219545276416n;
 
 test("a value is written as JavaScript writes it, whatever its kind", () => {
   const bytesOf = (Kind, value) => new Uint8Array(Kind.of(value).buffer);
-  const told = [
+  const cases = [
     [Float64Array, 0.25, "0.25"], [Float64Array, -0, "-0"], [Float64Array, NaN, "NaN"], [Float32Array, 0.5, "0.5"],
     [Float64Array, -1.7976931348623157e308, "-1.7976931348623157e+308"], [Int8Array, -3, "-3"],
     [Uint8ClampedArray, 300, "255"], [BigInt64Array, -5n, "-5n"], [BigUint64Array, 2n ** 64n - 1n, `${2n ** 64n - 1n}n`],
   ];
-  for (const [Kind, value, text] of told) {
+  for (const [Kind, value, text] of cases) {
     assert.equal(elementText(Kind.name.replace("Array", ""), bytesOf(Kind, value)), text);
   }
   assert.deepEqual(KINDS.map((kind) => elementText(kind, new Uint8Array(8))), [...Array(9).fill("0"), "0n", "0n"]);
@@ -37,7 +37,7 @@ test("a value is written as JavaScript writes it, whatever its kind", () => {
   assert.deepEqual([...storedBytes("Int16", -2)], [254, 255]);
 });
 
-test("a store that stands for a write has the array and the value of the code", () => {
+test("a store that stands for an ordinary write shows the array and the value of the code", () => {
   const view = (name, kind, offset = 0, length = 4) => ({ name, kind, block: 0, offset, length });
   const list = [
     view("samples", "Float64", 8), view("ordinary_samples", "BigUint64", 8), view("LAST", "Float32", 0, 1),
@@ -45,10 +45,11 @@ test("a store that stands for a write has the array and the value of the code", 
     view("ordinary_Int8", "Int8"), view("ordinary_odd", "Uint8"), view("odd", "Int32"),
   ];
   const views = new Map(list.map((each) => [each.name, each]));
-  const told = (name, index, operand) => writtenText(views.get(name), views, index, operand);
+  const textOf = (name, index, operand) => writtenText(views.get(name), views, index, operand);
   assert.deepEqual([
-    told("ordinary_samples", 1, `${BITS}`), told("init_LAST", 0, 0x3fc00000), told("ordinary_Float64_b1", 2, `${BITS}`),
-    told("ordinary_BigUint64", 2, `${BITS}`), told("ordinary_Int8", 3, -3), told("ordinary_odd", 0, 7),
+    textOf("ordinary_samples", 1, `${BITS}`), textOf("init_LAST", 0, 0x3fc00000),
+    textOf("ordinary_Float64_b1", 2, `${BITS}`), textOf("ordinary_BigUint64", 2, `${BITS}`),
+    textOf("ordinary_Int8", 3, -3), textOf("ordinary_odd", 0, 7),
   ], [
     "samples[1] = 0.25", "LAST = 1.5", "Float64_b1[2] = 0.25", `BigUint64[2] = ${BITS}n`, "Int8[3] = -3", "odd[0] = 7",
   ]);
@@ -187,10 +188,10 @@ test("an element of each kind, a DataView's too, has the code's kind", async (co
   const [outcome] = await recorded({ module, trace: true }, [1]);
   const { output } = simulated(["replay", "--format", "json"], outcome.script);
   const { steps, rows } = new Run(pageData(outcome, output, pathToFileURL(module).href));
-  const told = steps.map(({ text, answer, changes }) => {
+  const lines = steps.map(({ text, answer, changes }) => {
     return [`${text} ${answer}`.trim(), ...changes.map(({ name, before, after }) => `${name} ${before} ${after}`)];
   });
-  assert.deepEqual(told, [
+  assert.deepEqual(lines, [
     ["the start", "ratio 0 0.125"],
     ["writes Int8_b1[1]", "Int8_b1[1] 0 -3"],
     ["writes Float32_b0_at8_x1[0]", "Float32_b0_at8_x1[0] 0 1.5"],

@@ -41,20 +41,20 @@ function written(edit) {
 }
 
 /**
- * What the runs of programs come to, some programs at a time.
+ * Counts the failures in the runs of programs, some programs at a time.
  * @param {[name: string, file: string][]} programs
  */
 async function countedOf(programs) {
   const left = [...programs];
   /** @type {[string, import("../bench/wrong.mjs").Counted][]} */
-  const told = [];
+  const counts = [];
   const work = async () => {
     for (let next = left.shift(); next !== undefined; next = left.shift()) {
-      told.push([next[0], await counted(next[1], AMOUNT, await withFewWorkers(next[1]))]);
+      counts.push([next[0], await counted(next[1], AMOUNT, await withFewWorkers(next[1]))]);
     }
   };
   await Promise.all(Array.from({ length: SIDE_BY_SIDE }, work));
-  return told;
+  return counts;
 }
 
 test("there are 81 wrong programs, one that starves, and 6 that are right in spite of the edit", () => {
@@ -88,12 +88,12 @@ test("an edit whose text occurs twice, or not at all, is refused", () => {
 });
 
 test("no run of a piece fails in 20 seeds", async () => {
-  const told = await countedOf(PIECES.map((piece) => [piece, fileURLToPath(fileOf(piece))]));
-  assert.deepEqual(told.filter(([, { failed }]) => failed > 0).map(([piece]) => piece), []);
-  assert.deepEqual(told.filter(([, { hidden }]) => hidden > 0).map(([piece]) => piece), []);
+  const counts = await countedOf(PIECES.map((piece) => [piece, fileURLToPath(fileOf(piece))]));
+  assert.deepEqual(counts.filter(([, { failed }]) => failed > 0).map(([piece]) => piece), []);
+  assert.deepEqual(counts.filter(([, { hidden }]) => hidden > 0).map(([piece]) => piece), []);
 });
 
-test("of the lost wake-ups that a time hides each is reported in most of 20 seeds, and no run fails", async () => {
+test("each lost wake-up that a timeout hides is reported in most of 20 seeds, and no run fails", async () => {
   const edits = EDITS.filter(({ kind }) => kind === HIDDEN);
   assert.deepEqual(edits.map(({ name }) => name), ["blocks-no-notify", "message-no-notify"]);
   for (const [name, { failed, hidden }] of await countedOf(edits.map((edit) => [edit.name, written(edit)]))) {
@@ -102,7 +102,7 @@ test("of the lost wake-ups that a time hides each is reported in most of 20 seed
   }
 });
 
-test("where a time ends nothing these are deadlocks, and the pieces that wait with a time are clean", async () => {
+test("with `timeouts: never` these are deadlocks, and the pieces that wait with a timeout are clean", async () => {
   const never = async (/** @type {string} */ file) => ({ ...await withFewWorkers(file), timeouts: "never" });
   for (const edit of EDITS.filter(({ kind }) => kind === HIDDEN)) {
     const file = written(edit);
@@ -119,8 +119,8 @@ test("where a time ends nothing these are deadlocks, and the pieces that wait wi
 test("wrong programs that fail in many runs are found in 20 seeds", async () => {
   const edits = EDITS.filter(({ name }) => OFTEN.includes(name));
   assert.equal(edits.length, OFTEN.length);
-  const told = await countedOf(edits.map((edit) => [edit.name, written(edit)]));
-  assert.deepEqual(told.filter(([, { failed }]) => failed === 0).map(([name]) => name), []);
+  const counts = await countedOf(edits.map((edit) => [edit.name, written(edit)]));
+  assert.deepEqual(counts.filter(([, { failed }]) => failed === 0).map(([name]) => name), []);
 });
 
 test("README's tables have each wrong program and each piece, most wrong ones found and all pieces clean", () => {

@@ -57,7 +57,7 @@ function succeeds(folder, command, words, input) {
   return output;
 }
 
-/** Makes the package; answers its path. */
+/** Makes the package; returns its path. */
 function packed(name, words) {
   const folder = join(room, name);
   mkdirSync(folder);
@@ -72,7 +72,7 @@ function filesOf(path) {
   return names.map((name) => name.replace(/^package\//, "")).sort();
 }
 
-/** A project of a user's own with some files and the package installed; answers its folder. */
+/** A project of a user's own with some files and the package installed; returns its folder. */
 function projectWith(name, path, files = readdirSync(PROJECT)) {
   const folder = join(room, name);
   mkdirSync(folder);
@@ -187,7 +187,7 @@ for (const words of [
   });
 }
 
-/** Records the lock until a run fails, and keeps that run; answers its seed. */
+/** Records the lock until a run fails, and keeps that run; returns its seed. */
 function recorded(folder, words) {
   const { status, output, errors } = npx(folder, ["sabsim-record", "lock.mjs", "--seeds", "1..50", ...words]);
   assert.equal(status, 1, errors);
@@ -197,8 +197,8 @@ function recorded(folder, words) {
 }
 
 test("sabsim-record finds the failing seed, and its script is what the engine says", () => {
-  const { seed, output: told } = recorded(project, ["--out", "found"]);
-  assert.match(told, CHECKED);
+  const { seed, output: summary } = recorded(project, ["--out", "found"]);
+  assert.match(summary, CHECKED);
   const kept = (ending) => readFileSync(join(project, `found/seed-${seed}.${ending}`), "utf8");
   if (seed > 1) {
     assert.equal(npx(project, ["sabsim-record", "lock.mjs", "--seeds", `1..${seed - 1}`]).status, 0);
@@ -229,7 +229,7 @@ test("in an empty folder README's first command checks every run, and keeps expl
   const words = ["sabsim-record", example, "--seeds", "1..200", "--out", "found"];
   const { status, output, errors } = npx(folder, words);
   assert.deepEqual([status, errors], [1, ""]);
-  assert.match(output, CHECKED);
+  assert.match(summary, CHECKED);
   const kept = (ending) => readFileSync(join(folder, `found/seed-13.${ending}`), "utf8");
   for (const [ending, format] of [["report", "plain"], ["explained", "explained"], ["svg", "svg"]]) {
     const replay = npx(folder, ["sabsim", "replay", "--format", format, "found/seed-13.json"]);
@@ -283,14 +283,14 @@ function withStandIn(script, mode = 0o755) {
 
 test("words, streams and the status are passed on", () => {
   withStandIn('printf "%s|" "$@"; cat; echo wrong >&2; exit 7');
-  const told = run(launched, launcher, ["a b", "", "--c=*"], "given");
-  assert.deepEqual(told, { status: 7, signal: null, output: "a b||--c=*|given", errors: "wrong\n" });
+  const result = run(launched, launcher, ["a b", "", "--c=*"], "given");
+  assert.deepEqual(result, { status: 7, signal: null, output: "a b||--c=*|given", errors: "wrong\n" });
 });
 
-test("it ends by the signal that the program ended by", () => {
+test("it ends by the signal that ended the program", () => {
   withStandIn('kill -"$1" $$');
   for (const signal of ["TERM", "KILL", "HUP"]) assert.equal(run(launched, launcher, [signal]).signal, `SIG${signal}`);
-  // Node itself goes on at this one, so the status tells it, as a shell's does.
+  // Node itself goes on at this one, so the status reports it, as a shell's does.
   assert.equal(run(launched, launcher, ["PIPE"]).status, 128 + 13);
 });
 
@@ -319,7 +319,7 @@ for (const signal of ["SIGHUP", "SIGINT", "SIGQUIT", "SIGTERM"]) {
   });
 }
 
-test("a program that can't be run is told of", () => {
+test("a program that can't be run is reported", () => {
   withStandIn("", 0o644);
   const { status, output, errors } = run(launched, launcher, []);
   assert.deepEqual([status, output], [2, ""]);
@@ -334,9 +334,9 @@ test("with a program it replays what was recorded, and checks", withProgram, asy
   await the.test("the package has two files more", () => {
     assert.deepEqual(filesOf(path), [...FILES, ...PROGRAM_FILES].sort());
     const digest = createHash("sha256").update(readFileSync(join(place, "sabsim"))).digest("hex");
-    const told = readFileSync(join(place, "sabsim.txt"), "utf8");
-    assert.ok(told.includes(`sha256: ${digest}\n`), told);
-    assert.match(told, /^kit: \S/m);
+    const text = readFileSync(join(place, "sabsim.txt"), "utf8");
+    assert.ok(text.includes(`sha256: ${digest}\n`), text);
+    assert.match(text, /^kit: \S/m);
   });
 
   await the.test("its version", () => {
@@ -347,7 +347,7 @@ test("with a program it replays what was recorded, and checks", withProgram, asy
     const chosen = recorded(folder, ["--sabsim", join(place, "sabsim")]);
     assert.match(chosen.output, /^every run .* by sabsim \(program\): it agrees with the recorder$/m);
     const { seed, output } = recorded(folder, ["--out", "found"]);
-    assert.match(output, CHECKED);
+    assert.match(summary, CHECKED);
     const kept = (ending) => join(folder, `found/seed-${seed}.${ending}`);
     const { status, output: report } = npx(folder, ["sabsim", "replay", kept("json")]);
     assert.equal(status, 0);

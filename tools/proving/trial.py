@@ -82,7 +82,7 @@ class Trial:
         found, why, unread = self.check_together(batch, kept) if batch else ({}, "", ())
         if not why:
             return found
-        self.report(f"{self.crate.name}: {len(batch)} edits together tell nothing: {why[:300]}")
+        self.report(f"{self.crate.name}: {len(batch)} edits together decide nothing: {why[:300]}")
         half, rest = len(batch) // 2, [edit for edit in batch if edit not in unread]
         parts = [rest] if len(rest) < len(batch) else [batch[:half], batch[half:]] if half else []
         return {name: result for part in parts for name, result in self.try_batch(part, kept).items()}

@@ -7,7 +7,7 @@ use crate::shadow::{Mark, Shadow};
 use crate::trace::{Event, Range};
 
 const AGENTS: usize = 16;
-const TOLD: usize = 100;
+const LISTED: usize = 100;
 
 /// Of each agent how many events of the trace have passed up to its last one that is known.
 #[derive(Clone, Copy, Default)]
@@ -119,7 +119,7 @@ impl Judge {
                 continue;
             }
             let is_data_race = earlier.write && (access.write || written.contains(&first));
-            if self.races.len() < TOLD {
+            if self.races.len() < LISTED {
                 self.races.push(Race { first, second, is_data_race, known });
             } else {
                 self.more += 1;
@@ -152,7 +152,7 @@ impl Judge {
         let both = Range { block, begin, end: first.range.end.min(second.range.end) };
         let what = if race.is_data_race { "data race" } else { "race" };
         write!(out, "{what} at {} of block {block}: ", bytes(both))?;
-        write!(out, "{} at {}, {} at {}; ", told(first), race.first, told(second), race.second)?;
+        write!(out, "{} at {}, {} at {}; ", described(first), race.first, described(second), race.second)?;
         match race.known.checked_sub(1) {
             None => write!(out, "nothing of agent {}", first.agent)?,
             Some(last) => write!(out, "of agent {} what it did up to {last}", first.agent)?,
@@ -162,7 +162,7 @@ impl Judge {
 }
 
 /// What an access does, in words.
-fn told(access: &Event) -> String {
+fn described(access: &Event) -> String {
     let does = match (access.read, access.write) {
         (true, true) => "changes",
         (true, false) => "reads",

@@ -62,7 +62,7 @@ pub enum What {
     Stuck(&'static str),
 }
 
-/// What a call that acts comes to.
+/// The result of a call that acts.
 enum Outcome {
     Answered(Answer),
     Waits { is_timed: bool },

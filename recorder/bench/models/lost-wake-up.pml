@@ -1,4 +1,4 @@
-/* lost-wake-up.mjs, by hand: a wait joins a line, and unlocking wakes whoever stands there. */
+/* lost-wake-up.mjs, by hand: a wait joins a line, and unlocking wakes those in the line. */
 byte lock, count;
 bool waits[2];
 

@@ -10,7 +10,7 @@ const LENGTH = 6;
 const BLOCK = 2;
 const BLOCKS = 4;
 
-/** Puts a block of frames, or answers false where there is no room. */
+/** Puts a block of frames, or returns false if there is no room. */
 function push(words, [left, right], frame) {
   const write = Atomics.load(words, WRITE);
   const room = (Atomics.load(words, READ) - write + LENGTH - 1) % LENGTH;
@@ -23,7 +23,7 @@ function push(words, [left, right], frame) {
   return true;
 }
 
-/** Takes a block of frames, or answers false where there isn't one. */
+/** Takes a block of frames, or returns false if there isn't one. */
 function pull(words, [left, right], frame) {
   const read = Atomics.load(words, READ);
   const there = (Atomics.load(words, WRITE) - read + LENGTH) % LENGTH;

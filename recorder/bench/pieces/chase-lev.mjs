@@ -9,7 +9,7 @@ const SIZE = 2;
 const DONE = SLOTS + SIZE;
 const TASKS = 6;
 
-/** The owner's. It answers false where the deque is full. */
+/** The owner's. It returns false if the deque is full. */
 function push(words, task) {
   const bottom = Atomics.load(words, BOTTOM);
   if (bottom - Atomics.load(words, TOP) >= SIZE) return false;

@@ -19,7 +19,7 @@ function send(words, message, number) {
   Atomics.notify(words, STATE, 1);
 }
 
-/** Waits for a message until the time is up, and answers undefined where there is none then. */
+/** Waits for a message until the time is up, and returns undefined if there is none then. */
 function receive(words, message, timeout) {
   let state = Atomics.load(words, STATE);
   if (state % 2 === 0) {

@@ -12,7 +12,7 @@ const TIMES = 4;
 const BATCH = 3;
 const BATCHES = 2;
 
-/** Takes a task out of the range and does it, or answers false where none is left. */
+/** Takes a task out of the range and does it, or returns false if none is left. */
 function work(words, self) {
   const range = Atomics.load(words, RANGE);
   const [first, end] = [range >> 4, range % 16];

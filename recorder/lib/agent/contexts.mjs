@@ -24,7 +24,7 @@ function optionsOf(options) {
  * @param {boolean} isGiven whether that is an object of the agents', which stays as it was
  * @param {Record<string, unknown>} theirs
  */
-function furnish(global, isGiven, theirs) {
+function installInContext(global, isGiven, theirs) {
   const define = runInContext(DEFINING, global);
   for (let at = 0; at < NAMES.length; at += 1) {
     const name = NAMES[at];
@@ -48,7 +48,7 @@ export function shareWithContexts(theirs) {
     if (typeof given === "object" && given !== null && isContext(given)) return given;
     const global = apply(createContext, vm, [given, ...others]);
     // A constant in place of an object stands for the context's own global object.
-    furnish(global, typeof given !== "symbol", theirs);
+    installInContext(global, typeof given !== "symbol", theirs);
     return global;
   };
   replaceNeeded(vm, "createContext", () => methodOf((_, [given, ...others]) => made(given, others)));

@@ -46,7 +46,7 @@ export function framesHere(from = framesHere, most = MOST_FRAMES) {
     const { stack } = holder;
     return typeof stack === "object" ? stack : [];
   } finally {
-    // Where the stack has come to its end nothing can be called.
+    // If the stack has run out, nothing can be called.
     if (EngineError.stackTraceLimit !== stackTraceLimit) EngineError.stackTraceLimit = stackTraceLimit;
     if (EngineError.prepareStackTrace !== prepareStackTrace) EngineError.prepareStackTrace = prepareStackTrace;
   }

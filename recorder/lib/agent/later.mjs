@@ -193,7 +193,7 @@ export class Later {
   /** @returns {string | undefined} what goes on when the agent's code has ended, in words */
   left() {
     const found = this.ongoing();
-    // A timer that was cleared never comes to its time.
+    // A cleared timer never fires.
     for (let at = 0; found === undefined && at < this.timers.length; at += 1) {
       const { timer, word } = this.timers[at];
       if (timer._destroyed !== true) return word;

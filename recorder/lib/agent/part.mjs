@@ -204,7 +204,7 @@ export class Part {
     try {
       sources.mark(numberHere(sources));
     } catch {
-      // The stack has come to its end: then it isn't known.
+      // The stack has run out, so the place isn't known.
     }
   }
 

@@ -364,7 +364,7 @@ export class Player {
     if (board.isOverFor(this.agent)) this.part.sentHome();
   }
 
-  /** @param {string | undefined} problem why the agent's code ended, where it didn't come to its end */
+  /** @param {string | undefined} problem why the agent's code ended early, if it did */
   #finish(problem) {
     const { board, later, messages, unseen } = this.table;
     later.end();

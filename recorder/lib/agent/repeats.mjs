@@ -59,7 +59,7 @@ export class Repeats {
 
   /**
    * Whether the agent has made an access since its last call. One that is new is added when it is in the log:
-   * where the stack comes to its end between, the agent may make it again.
+   * if the stack runs out in between, the agent may make it again.
    * @param {{ block: number }} place
    * @param {number} from
    * @param {number} to

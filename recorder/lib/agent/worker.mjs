@@ -34,7 +34,7 @@ import { Unseen } from "./unseen.mjs";
 
 const { Error: EngineError, String: text, structuredClone: cloned } = globalThis;
 
-// A worker's own streams are written by its event loop, which never comes to its turn again. What agents print goes to
+// A worker's own streams are written by its event loop, which never runs again. What agents print goes to
 // standard error at once: standard output is the recorder's.
 function printAtOnce() {
   /** @param {string | Uint8Array} chunk */
@@ -158,7 +158,7 @@ const watching = {
  * Replaces what shows an agent the world.
  * @returns {Noting} what notes from now on what is left for later, and what nobody serves
  */
-function furnish() {
+function installReplacements() {
   printAtOnce();
   // What the recorder has handed its worker is nothing for agents: a thread that was handed nothing has null.
   threads.workerData = null;
@@ -314,7 +314,7 @@ const nextMessage = () => new Promise((done) => {
 /** @param {(url: string) => Promise<any>} load imports a module */
 export async function main(load) {
   const numbered = nextMessage();
-  const noting = furnish();
+  const noting = installReplacements();
   port.postMessage({ begun: true });
   self.agent = (await numbered).agent;
   chance.agent = self.agent;

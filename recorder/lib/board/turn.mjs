@@ -233,7 +233,7 @@ export class Turn {
 
   /** @param {number} seconds */
   #endSilent(seconds) {
-    // An agent that makes ordinary accesses comes to the end by itself.
+    // An agent that makes ordinary accesses ends by itself.
     this.end.ask();
     this.end.await(MILLISECONDS_TO_ANSWER);
     const turn = load(this.words, WORD.TURN);

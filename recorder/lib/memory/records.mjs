@@ -214,8 +214,8 @@ export class Records {
   }
 
   /**
-   * Whether two calls are the same function on the same element, and come to the same. A load may find something else
-   * each time; who writes and is answered something else comes on.
+   * Whether two calls are the same function on the same element, with the same result. A load may find something else
+   * each time; an agent that writes and gets another answer makes progress.
    * @param {number} one
    * @param {number} other
    */

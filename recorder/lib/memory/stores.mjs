@@ -1,9 +1,9 @@
 // Ordinary writes as a script has them: stores by the agent that wrote, before its next call. They are taken when the
 // agent makes that call, and only what has changed is taken.
 //
-// A few elements stand as they were written; many stand as the largest whole aligned elements. Where more are taken
-// than a script can ever have, those of bytes that no call touches are thinned out: what the calls answer doesn't rest
-// on them. When a call comes to touch such a byte after all, what was last written there is taken up again.
+// A few elements stand as they were written; many stand as the largest whole aligned elements. If more are taken
+// than a script can ever have, those of bytes that no call touches are thinned out: what the calls return doesn't rest
+// on them. If a call touches such a byte after all, what was last written there is taken up again.
 
 import { KINDS, SIZES } from "../../script/kinds.mjs";
 import { SCRIPT_LIMITS } from "../../script/limits.mjs";

@@ -32,7 +32,7 @@ export class Children {
   }
 
   /** Replaces how processes begin. Call it once in a thread. */
-  furnish() {
+  install() {
     const { ChildProcess: { prototype }, spawnSync } = processes;
     const { spawn } = prototype;
     const begin = (/** @type {any} */ child, /** @type {any} */ options) => this.#begin(spawn, child, options);

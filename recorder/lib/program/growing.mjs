@@ -28,7 +28,7 @@ const getsLonger = (buffer, length) => {
  * @param {import("./moves.mjs").Moves} moves
  * @param {() => boolean} isPlaying whether the thread has a part in a run
  */
-export function furnishGrowing(buffers, moves, isPlaying) {
+export function installGrowing(buffers, moves, isPlaying) {
   /** @param {unknown} buffer @returns {number} its block, if it is one of a run and grows; else -1 */
   const blockOf = (buffer) => (isPlaying() ? buffers.growingBlock(buffer) : NO_BLOCK);
   replace(shared, "grow", (engine) => {

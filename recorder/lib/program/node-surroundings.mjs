@@ -4,7 +4,7 @@
 import process from "node:process";
 import { broadcastClass } from "./broadcast.mjs";
 import { Ends } from "./ends.mjs";
-import { furnishThreads } from "./furnish.mjs";
+import { installThreads } from "./install.mjs";
 import { Graph } from "./graph.mjs";
 import { PortEvents, servePorts } from "./port-events.mjs";
 import { KIND, channelClass } from "./ports.mjs";
@@ -23,7 +23,7 @@ const firstEnv = { ...process.env };
  * @property {typeof PortEvents} PortEvents
  * @property {(agent: number) => typeof Atomics} atomics the engine's own functions, for a thread
  * @property {(events: any) => void} serve puts methods in the place of those that the engine's ports have
- * @property {(parts: any, graph: any) => void} furnish is called once in a thread, when all else is replaced
+ * @property {(parts: any, graph: any) => void} install is called once in a thread, when all else is replaced
  * @property {(main: import("./mesh.mjs").Main) => any} mainStart what the first thread is to run
  * @property {(parts: any, start: any, parentPort: any) => void} begin is called for each run
  * @property {(start: any, graph: any, parts: any) => Promise<unknown>} evaluated evaluates the thread's module
@@ -42,7 +42,7 @@ function begin(parts, start, parentPort) {
   /** @type {any} */
   const { workerData, environment } = ports.unpacked({ workerData: start.workerData, environment: start.environment });
   const env = envOf(start.env, start.sharesEnv, refuse);
-  furnishThreads({ agent, workerData, parentPort, argv: argvOf(start), env, environment }, {
+  installThreads({ agent, workerData, parentPort, argv: argvOf(start), env, environment }, {
     Worker: workerClass({ ...parts, environment }), MessageChannel: channelClass(ports),
     receiveMessageOnPort: receiverOf(ports, moves),
     BroadcastChannel: broadcastClass({ ports, moves, mesh, buffers, uncaught: (thrown) => ends.uncaught(thrown) }),
@@ -58,7 +58,7 @@ export const NODE = {
   PortEvents,
   atomics: () => Atomics,
   serve: servePorts,
-  furnish: () => {},
+  install: () => {},
   mainStart: ({ program, args }) => ({
     url: program, isCode: false, workerData: null, argv: args, env: { ...firstEnv }, sharesEnv: false,
     environment: new Map(), where: "",

@@ -11,7 +11,7 @@ import { defineProperty } from "../primordials.mjs";
  * Puts functions that refuse in the place of those that aren't simulated.
  * @param {Refuse} refuse
  */
-export function furnishRefusals(refuse) {
+export function installRefusals(refuse) {
   // Node itself, and what lists the members of its modules, gets none.
   const get = () => (isCalledByAgents(get) ? refuse("read process.stdin, which isn't simulated") : undefined);
   defineProperty(process, "stdin", { configurable: true, get });

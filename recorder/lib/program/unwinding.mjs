@@ -7,7 +7,7 @@ import { Session } from "node:inspector";
 import timers from "node:timers";
 import { promiseHooks } from "node:v8";
 import { MessagePort } from "node:worker_threads";
-import { restoreProcess } from "./furnish.mjs";
+import { restoreProcess } from "./install.mjs";
 import { clearAsyncIdStack } from "./internals.mjs";
 
 const { setImmediate: turnLater } = timers;

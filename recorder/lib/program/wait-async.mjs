@@ -56,7 +56,7 @@ export class WaitAsync {
   }
 
   /** @param {object} atomics that gets the function of this thread */
-  furnish(atomics) {
+  install(atomics) {
     const waitAsync = (/** @type {any[]} */ ...given) => this.#wait(given, waitAsync);
     put(atomics, "waitAsync", likeEngine(waitAsync, engineWaitAsync));
   }

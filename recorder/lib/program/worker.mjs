@@ -32,10 +32,10 @@ import { onceMore } from "../processes/garbage.mjs";
 import { SourceNames } from "../run/source-names.mjs";
 import { Buffers } from "./buffers.mjs";
 import { Children } from "./children.mjs";
-import { furnishGrowing } from "./growing.mjs";
+import { installGrowing } from "./growing.mjs";
 import {
-  furnishCloning, furnishMemory, furnishProcess, furnishTimers, keepProcess, restoreProcess,
-} from "./furnish.mjs";
+  installCloning, installMemory, installProcess, installTimers, keepProcess, restoreProcess,
+} from "./install.mjs";
 import { Looking } from "./looking.mjs";
 import { Loop } from "./loop.mjs";
 import { listingOf } from "./member.mjs";
@@ -47,7 +47,7 @@ import { PortTable } from "../board/port-table.mjs";
 import { Ports } from "./ports.mjs";
 import { printAtOnce } from "./printing.mjs";
 import { RealWork } from "./real-work.mjs";
-import { furnishRefusals } from "./refusals.mjs";
+import { installRefusals } from "./refusals.mjs";
 import { refuseRest } from "./surface.mjs";
 import { takenStart } from "./thread-start.mjs";
 import { Threads } from "./threads.mjs";
@@ -55,7 +55,7 @@ import { Timers } from "./timers.mjs";
 import { putTwins } from "./twins.mjs";
 import { leaveOf } from "./unwinding.mjs";
 import { WaitAsync } from "./wait-async.mjs";
-import { furnishWebAssembly } from "./wasm/modules.mjs";
+import { installWebAssembly } from "./wasm/modules.mjs";
 import { WEB } from "./web/surroundings.mjs";
 
 const { Error: EngineError } = globalThis;
@@ -234,7 +234,7 @@ function partsOf(player, blocks, mesh) {
 /** @typedef {ReturnType<typeof partsOf>} Parts */
 
 /** @param {Parts} parts */
-function furnish({ moves, buffers, waits, ends, events, timers, later, late, spawned, isShown }) {
+function installReplacements({ moves, buffers, waits, ends, events, timers, later, late, spawned, isShown }) {
   const listAgain = listingOf([globalThis, buffer, crypto, process, util]);
   printAtOnce(isShown, printedName);
   simulateTime(() => (isPlaying() ? playing().look() : 0));
@@ -242,21 +242,21 @@ function furnish({ moves, buffers, waits, ends, events, timers, later, late, spa
   // Node makes a context of its own when a reader is released first. That isn't the program's, and so comes before.
   new (/** @type {any} */ (globalThis).ReadableStream)().getReader().releaseLock();
   const atomics = atomicsOf(moves, waits);
-  late.wasm = furnishWebAssembly({
+  late.wasm = installWebAssembly({
     buffers, moves, atomics, seen: watching.seen, here: sourceOfCall, refuse, isPlaying, isRelaxed,
   });
   watchRealm(watching);
   putTwins({ later, isPlaying });
-  furnishMemory((buffer) => buffers.made(buffer, sourceOfCall()));
-  furnishCloning(buffers);
-  furnishGrowing(buffers, moves, isPlaying);
+  installMemory((buffer) => buffers.made(buffer, sourceOfCall()));
+  installCloning(buffers);
+  installGrowing(buffers, moves, isPlaying);
   globalThis.Atomics = atomics;
-  waits.furnish(Atomics);
-  furnishTimers(timers);
+  waits.install(Atomics);
+  installTimers(timers);
   surroundings.serve(events);
-  furnishRefusals(refuse);
-  spawned.furnish();
-  furnishProcess((code) => ends.exit(code));
+  installRefusals(refuse);
+  spawned.install();
+  installProcess((code) => ends.exit(code));
   ends.guard();
   listAgain();
   keepProcess();
@@ -371,13 +371,13 @@ export async function main(load) {
   self.player = player;
   self.buffers = parts.buffers;
   self.moves = parts.moves;
-  furnish(parts);
+  installReplacements(parts);
   refuseRest({
     refuse: (/** @type {string} */ name) => refuse(`called ${name}, which isn't simulated`), isPlaying,
     used: (/** @type {string} */ name) => parts.real.note(name),
     loads: (/** @type {string} */ id) => graph.loads(id),
   });
-  surroundings.furnish(parts, graph);
+  surroundings.install(parts, graph);
   const home = () => {
     clear(parts);
     board.turn.goHome(agent);

@@ -1,4 +1,4 @@
-// Where agents are that haven't come to their end when their run is over: which wait, and which ask for a call.
+// Where agents are that haven't ended when their run is over: which wait, and which ask for a call.
 
 import { ownCalls } from "./transcript.mjs";
 
@@ -16,7 +16,7 @@ import { ownCalls } from "./transcript.mjs";
  */
 
 /**
- * @typedef {object} Standing what an agent is at that hasn't come to its end, as a program can use it
+ * @typedef {object} Standing where an agent is that hasn't ended, as a program can use it
  * @property {number} agent
  * @property {"waits" | "asks" | "spins" | "runs"} does it waits for a notify, asks for a call, has met a limit by doing
  * the same again and again, or by something else

@@ -1,4 +1,4 @@
-// Ranges of seeds: what a command line asks for, the shard of one machine, and what several of them come to.
+// Ranges of seeds: what a command line asks for, the shard of one machine, and the union of several.
 
 /**
  * @typedef {object} Range the seeds from the first to the last, both among them

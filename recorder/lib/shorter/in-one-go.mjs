@@ -1,5 +1,5 @@
-// Rows that come to the same with fewer changes of agents. Two draws of different agents can change places where they
-// touch no common byte, or only load: so an agent goes on as long as nothing that comes before its next call is left.
+// Equivalent rows with fewer changes of agents. Two draws of different agents can change places if they touch no common
+// byte, or only load. So an agent goes on as long as nothing that comes before its next call is left.
 
 /** @typedef {import("./kept-script.mjs").KeptScript} KeptScript */
 /** @typedef {import("./kept-script.mjs").Draw} Draw */
@@ -54,7 +54,7 @@ function orderOf({ draws }) {
 const isFree = (before, done) => before !== undefined && before.every((other) => done.has(other));
 
 /**
- * A row of a script's draws in another order that comes to the same, where each agent goes on as long as it can.
+ * A row of a script's draws in an equivalent order, in which each agent goes on as long as it can.
  * @param {KeptScript} kept
  * @param {number} first the agent that begins where it can
  * @returns {number[]}

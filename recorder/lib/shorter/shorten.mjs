@@ -120,7 +120,7 @@ class Search {
     }
   }
 
-  /** @returns {Stretch[][]} the found run's row in other orders that come to the same */
+  /** @returns {Stretch[][]} the found run's row in equivalent orders */
   #orders() {
     const { script } = this.first.outcome;
     if (script === undefined) return [];

@@ -27,7 +27,7 @@ const PROGRAMS = {
     for (let more = 0; more < seen; more += 1) words[more] = 7;
     for (let more = 0; more < unseen; more += 1) words[8 + more] = 8;
   },
-  // The agent's own calls alone: each answers something else, on one of 50 words in turn.
+  // The agent's own calls alone: each returns something else, on one of 50 words in turn.
   calls: ({ agent, words }, calls) => {
     if (agent !== 0) return;
     for (let call = 0; call < calls; call += 1) {

@@ -1,4 +1,4 @@
-// Agents whose time and chance come from the seed: what they store says which they were told.
+// Agents whose time and chance come from the seed: they store what they got.
 
 export const setup = { agents: 3, buffers: [48] };
 

@@ -55,11 +55,11 @@ const SERVERS = { loop: servesForEver, once: servesAndCleans, stay: servesAndSta
 /** How often the module was loaded for the agent that serves. */
 let runs = 0;
 
-export default function agent({ buffers: [buffer], agent, args: [how = "loop", tells] }) {
+export default function agent({ buffers: [buffer], agent, args: [how = "loop", prints] }) {
   const words = new Int32Array(buffer);
   runs += 1;
   if (agent === 1) {
-    if (tells !== undefined) console.error(`serves run ${runs} of its worker`);
+    if (prints !== undefined) console.error(`serves run ${runs} of its worker`);
     return SERVERS[how](words);
   }
   for (let job = 1; job <= LAST_JOB; job += 1) {

@@ -47,7 +47,7 @@ const PROGRAMS = {
     Atomics.wait(new Int32Array(new SharedArrayBuffer(4)), 0, 0, 60_000);
     Atomics.store(words, 0, Math.floor((performance.now() - begin) / 1_000));
   },
-  // What the clocks tell at first, and have told at loading.
+  // What the clocks show at first, and showed at loading.
   begins: ({ words }) => {
     const EPOCH = Date.UTC(2000, 0, 1);
     const now = performance.now();
@@ -65,7 +65,7 @@ const PROGRAMS = {
     }
   },
   // The time in seconds, and a draw of each agent.
-  tells: ({ words, agent }) => {
+  shows: ({ words, agent }) => {
     Atomics.store(words, 0, Math.floor(Date.now() / 1_000));
     Atomics.store(words, 1 + agent, DRAWS[0](1_000_000));
   },

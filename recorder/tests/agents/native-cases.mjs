@@ -29,7 +29,7 @@ const read = { reads: PART, writes: [] };
 const written = { reads: [], writes: PART };
 const untouched = { reads: [], writes: [] };
 
-/** What the cases that work do, what they are tried on, and what has to be told. */
+/** What the cases that work do, what they are tried on, and which accesses must be seen. */
 const WORKING = {
   "TextDecoder.decode": [bytes, (array) => new TextDecoder().decode(array), read],
   "TextDecoder.decode of a DataView": [view, (array) => new TextDecoder().decode(array), read],
@@ -286,7 +286,7 @@ function printed(print) {
   return [stream.read()?.toString(), chunks.join("")];
 }
 
-/** Of each name, a function that tells what is wrong. */
+/** By its name, a function for each case; it returns what is wrong. */
 export function cases() {
   const made = {};
   for (const [name, [make, body, wanted]] of Object.entries({ ...WORKING, ...BUFFER })) {

@@ -410,9 +410,9 @@ const OF_VIEWS = {
 function caseOf(kind, [body, reads, writes]) {
   const Kind = globalThis[`${kind}Array`];
   const value = kind.startsWith("Big") ? BigInt : Number;
-  const told = (indexes) => indexes && bytesOf({ at: OFFSET, size: Kind.BYTES_PER_ELEMENT }, indexes);
+  const bytesAt = (indexes) => indexes && bytesOf({ at: OFFSET, size: Kind.BYTES_PER_ELEMENT }, indexes);
   const make = (buffer) => new Kind(buffer, OFFSET, LENGTH);
-  const wanted = { reads: told(reads), writes: told(writes) };
+  const wanted = { reads: bytesAt(reads), writes: bytesAt(writes) };
   return () => difference(make, (array, buffer) => body(array, { value, Kind, buffer }), wanted);
 }
 
@@ -481,7 +481,7 @@ function randomCase(kind, seed) {
   });
 }
 
-/** Of each name, a function that tells what is wrong. */
+/** By its name, a function for each case; it returns what is wrong. */
 export function cases() {
   const made = {};
   for (const kind of KINDS) {

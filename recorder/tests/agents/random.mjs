@@ -13,7 +13,7 @@ const NUMBERS = [0, 1, -1, 2, 255, -128, 2 ** 31, 2 ** 32, -(2 ** 32) - 1, Numbe
 const BIGS = [0n, 1n, -1n, 2n ** 63n, -(2n ** 63n), 2n ** 64n, -(2n ** 127n), 2n ** 127n - 1n];
 const CALLS_MADE = 40;
 
-/** The numbers of a linear congruential generator, mixed with the answers that it is told. */
+/** The numbers of a linear congruential generator, mixed with the answers of the agent's calls. */
 class Dice {
   constructor(start) {
     this.state = start;

@@ -14,7 +14,7 @@ export default function agent({ buffers: [large, small], agent: number, args: [w
     Atomics.store(words, 1, 1);
     return;
   }
-  // Behind a call the same reads are told once more.
+  // After a call the recorder notes the same reads once more.
   for (let round = 0; round < ROUNDS; round += 1) {
     for (let at = 1; at < BYTES; at += 1) if (bytes[at] !== 0) throw new Error(`byte ${at} was written`);
     Atomics.add(words, 0, 1);

@@ -1,9 +1,9 @@
-// The watched realm itself: what `seen` is told of, what it throws, and agents that replace what the language has.
+// The watched realm itself: what `seen` gets, what it throws, and agents that replace what the language has.
 
 import assert from "node:assert/strict";
 import crypto from "node:crypto";
 import fs from "node:fs";
-import { KINDS, difference, doneThough, notRefused, toldOf, unwrapped } from "./watched-realm.mjs";
+import { KINDS, collectedOf, difference, doneThough, notRefused, unwrapped } from "./watched-realm.mjs";
 
 const words = (buffer) => new Int32Array(buffer, 8, 4);
 const view = (buffer) => new DataView(buffer, 8, 16);
@@ -49,7 +49,7 @@ const owners = [
   ArrayBuffer, Array,
 ];
 
-/** Replaces all functions that the language has there by ones that throw; answers what puts them back. */
+/** Replaces all functions that the language has there by ones that throw; returns what puts them back. */
 function spoil() {
   const { defineProperty, ownKeys, getOwnPropertyDescriptor } = Reflect;
   const kept = [];
@@ -110,9 +110,9 @@ const SPOILED = {
   "crypto": [bytes, (array) => crypto.timingSafeEqual(array, array)],
 };
 
-/** What one thing is told of. */
+/** What `seen` gets about one access. */
 function place() {
-  const { places } = toldOf(words, (array, buffer) => {
+  const { places } = collectedOf(words, (array, buffer) => {
     array[1] = array[2];
     new DataView(buffer, 3, 7).getInt8(0);
     buffer.slice();
@@ -127,7 +127,7 @@ function place() {
 
 /** The array behind what `structuredClone` answers is on the recorded buffer itself. */
 function cloned() {
-  toldOf(words, (array, buffer) => {
+  collectedOf(words, (array, buffer) => {
     const clone = structuredClone(structuredClone(array));
     const again = new Int16Array(clone.buffer, 2, 3);
     const behind = Object.getOwnPropertyDescriptor(Object.getPrototypeOf(Int8Array.prototype), "buffer").get;
@@ -160,7 +160,7 @@ const CLASSES = {
   },
 };
 
-/** Of each name, a function that tells what is wrong. */
+/** By its name, a function for each case; it returns what is wrong. */
 export function cases() {
   const made = { ...CLASSES };
   for (const [name, [make, body]] of Object.entries(OVER)) made[`over: ${name}`] = () => doneThough(make, body);

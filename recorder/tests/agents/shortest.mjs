@@ -1,4 +1,4 @@
-// Wrong programs whose shortest failing run can be told by reasoning; `args[0]` says which one.
+// Wrong programs whose shortest failing run is known by reasoning; `args[0]` says which one.
 
 export const setup = { agents: 2, buffers: [32] };
 

@@ -1,11 +1,11 @@
-// Agents that seem to have come to their end. Each run is the next of these ways; agent 1 goes it, after a call.
+// Agents that seem to have ended. Each run is the next of these ways; agent 1 goes it, after a call.
 
 import { readFile } from "node:fs";
 
 const call = ({ words }) => Atomics.add(words, 0, 1);
 const later = () => {};
 
-/** Of each way what is told of it; none where nothing is left undone. @type {[string | undefined, Function][]} */
+/** Each way with its report; none if it leaves nothing undone. @type {[string | undefined, Function][]} */
 export const WAYS = [
   ["returned an iterator", (own) => (function* iterate() {
     yield call(own);

@@ -1,5 +1,5 @@
 // A realm whose typed arrays are watched, for tests in a worker: what is tried on a recorded buffer is tried on a plain
-// one too, and what was told is collected.
+// one too, and the accesses that `seen` gets are collected.
 
 import { syncBuiltinESMExports } from "node:module";
 import { watchOrdinary } from "../../lib/agent/ordinary/watch.mjs";
@@ -17,8 +17,8 @@ export class Refusal extends Error {}
 export class Over extends Error {}
 
 const recorded = [];
-/** What was told: each byte that was read or written, and how many times anything was. */
-const told = { reads: new Set(), writes: new Set(), places: [], isOn: false, isOver: false };
+/** What `seen` got: each byte that was read or written, and the place of each access. */
+const collected = { reads: new Set(), writes: new Set(), places: [], isOn: false, isOver: false };
 
 const { apply } = Reflect;
 const { add } = Set.prototype;
@@ -27,10 +27,10 @@ const { add } = Set.prototype;
 watchOrdinary({
   blockOf: (buffer) => (buffer === recorded[0] && recorded.length > 0 ? 0 : -1),
   seen: (place, from, to, writes) => {
-    if (!told.isOn) return;
-    if (told.isOver) throw new Over();
-    told.places[told.places.length] = place;
-    for (let byte = from; byte < to; byte += 1) apply(add, told[writes ? "writes" : "reads"], [byte]);
+    if (!collected.isOn) return;
+    if (collected.isOver) throw new Over();
+    collected.places[collected.places.length] = place;
+    for (let byte = from; byte < to; byte += 1) apply(add, collected[writes ? "writes" : "reads"], [byte]);
   },
   refuse: (why) => {
     throw new Refusal(why);
@@ -54,12 +54,12 @@ function filledBuffer() {
 
 const hexOf = (buffer) => Buffer.from(new EngineBytes(buffer).slice().buffer).toString("hex");
 
-/** What is told while this runs is of the test's own. */
+/** Collects nothing while this runs, since its accesses are the test's own. */
 function quietly(body) {
-  const { isOn } = told;
-  told.isOn = false;
+  const { isOn } = collected;
+  collected.isOn = false;
   const answer = body();
-  told.isOn = isOn;
+  collected.isOn = isOn;
   return answer;
 }
 
@@ -84,7 +84,7 @@ function described(value, self) {
 }
 
 /**
- * @typedef {object} Trial what came of something that was tried
+ * @typedef {object} Trial the result of something that was tried
  * @property {string} answer or the name of what was thrown
  * @property {unknown} value
  * @property {string} bytes in the end
@@ -104,28 +104,28 @@ function tried(isRecorded, make, body) {
   const buffer = filledBuffer();
   recorded.length = 0;
   if (isRecorded) recorded.push(buffer);
-  Object.assign(told, { reads: new Set(), writes: new Set(), places: [] });
+  Object.assign(collected, { reads: new Set(), writes: new Set(), places: [] });
   const before = hexOf(buffer);
   const made = make(buffer);
   let value;
   let answer;
-  told.isOn = true;
+  collected.isOn = true;
   try {
     value = body(made, buffer);
     answer = quietly(() => described(value, made));
   } catch (error) {
-    told.isOn = false;
+    collected.isOn = false;
     if (error instanceof Refusal) throw error;
     answer = `throws ${error.name}`;
     value = error;
   }
-  told.isOn = false;
+  collected.isOn = false;
   const bytes = hexOf(buffer);
-  return { answer, value, bytes, reads: told.reads, writes: told.writes, places: told.places, before };
+  return { answer, value, bytes, reads: collected.reads, writes: collected.writes, places: collected.places, before };
 }
 
-/** The first byte that has changed and wasn't told, or -1. */
-function untold({ before, bytes, writes }) {
+/** The first byte that has changed and of which `seen` got no write, or -1. */
+function unseenWrite({ before, bytes, writes }) {
   for (let byte = 0; byte < BYTES; byte += 1) {
     const isSame = before.slice(2 * byte, 2 * byte + 2) === bytes.slice(2 * byte, 2 * byte + 2);
     if (!isSame && !writes.has(byte)) return byte;
@@ -139,7 +139,7 @@ const listed = (set) => [...set].sort((one, other) => one - other).join(" ");
  * Tries the same on a recorded buffer and on a plain one.
  * @param {(buffer: SharedArrayBuffer) => any} make
  * @param {(made: any, buffer: SharedArrayBuffer) => unknown} body
- * @param {{ reads?: number[], writes?: number[], works?: boolean }} [wanted] the bytes that must be told, and whether
+ * @param {{ reads?: number[], writes?: number[], works?: boolean }} [wanted] the bytes that must be seen, and whether
  *   the plain one must not throw
  * @returns {string | undefined} what is wrong
  */
@@ -156,7 +156,7 @@ export function difference(make, body, wanted) {
     return `answers ${watched.answer} ${watched.value?.stack ?? ""}, not ${plain.answer}`;
   }
   if (watched.bytes !== plain.bytes) return `leaves ${watched.bytes}, not ${plain.bytes}`;
-  const byte = untold(watched);
+  const byte = unseenWrite(watched);
   if (byte >= 0) return `wrote byte ${byte} unseen`;
   for (const what of ["reads", "writes"]) {
     if (wanted?.[what] === undefined) continue;
@@ -180,7 +180,7 @@ export function notRefused(make, body, hasWayOut = true) {
   } catch (error) {
     if (!(error instanceof Refusal)) return `${error}`;
     if (error.message.includes("--ordinary store") === hasWayOut) return undefined;
-    return `tells ${hasWayOut ? "no" : "a"} way out: ${error.message}`;
+    return `names ${hasWayOut ? "no" : "a"} way out: ${error.message}`;
   }
 }
 
@@ -191,15 +191,15 @@ export function notRefused(make, body, hasWayOut = true) {
  * @returns {string | undefined} what is wrong
  */
 export function doneThough(make, body) {
-  told.isOver = true;
+  collected.isOver = true;
   const { answer, value, before, bytes } = tried(true, make, body);
-  told.isOver = false;
+  collected.isOver = false;
   if (!(value instanceof Over)) return `goes on: ${answer}`;
   return bytes === before ? undefined : `leaves ${bytes}, not ${before}`;
 }
 
-/** What was told when something was tried on a recorded buffer. */
-export const toldOf = (make, body) => tried(true, make, body);
+/** What was collected when something was tried on a recorded buffer. */
+export const collectedOf = (make, body) => tried(true, make, body);
 
 /** Numbers from one to another, the last one left out. */
 export const range = (from, to) => Array.from({ length: Math.max(to - from, 0) }, (_, at) => from + at);

@@ -1,4 +1,4 @@
-// Runs the cases of a module in a watched realm, and tells what is wrong with each. The realm comes first.
+// Runs the cases of a module in a watched realm, and posts what is wrong with each. The realm comes first.
 
 import { parentPort, workerData } from "node:worker_threads";
 import "./watched-realm.mjs";
@@ -6,12 +6,12 @@ import "./watched-realm.mjs";
 const { cases } = await import(workerData.module);
 const results = [];
 for (const [name, problem] of Object.entries(cases())) {
-  let told;
+  let found;
   try {
-    told = problem();
+    found = problem();
   } catch (error) {
-    told = `${error?.stack ?? error}`;
+    found = `${error?.stack ?? error}`;
   }
-  results.push({ name, problem: told });
+  results.push({ name, problem: found });
 }
 parentPort.postMessage(results);

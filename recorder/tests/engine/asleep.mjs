@@ -1,5 +1,5 @@
-// Whether a thread sleeps. Nothing of the language tells that an agent stands in the engine's line; that its thread has
-// called `Atomics.wait`, hasn't answered and sleeps, does.
+// Whether a thread sleeps. Nothing of the language shows that an agent is in the engine's line. It is there if its
+// thread has called `Atomics.wait`, hasn't returned, and sleeps.
 
 import { readFileSync, readlinkSync } from "node:fs";
 

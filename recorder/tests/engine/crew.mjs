@@ -53,17 +53,17 @@ export class Hand {
   #answer = null;
   /** @type {Error | null} why the worker is no more */
   #death = null;
-  /** Goes on with whoever awaits that something is told. */
+  /** Resumes the caller that awaits a message of the worker. */
   #goOn = () => {};
   isBusy = false;
 
   constructor() {
     this.#worker.unref();
-    this.#worker.on("message", (told) => {
-      if ("stateFile" in told) {
-        this.#stateFile = told.stateFile;
+    this.#worker.on("message", (message) => {
+      if ("stateFile" in message) {
+        this.#stateFile = message.stateFile;
       } else {
-        this.#answer = told;
+        this.#answer = message;
         this.isBusy = false;
         this.#goOn();
       }
@@ -79,7 +79,7 @@ export class Hand {
   }
 
   /**
-   * Tells the worker on which typed arrays its next calls are.
+   * Gives the worker the typed arrays of its next calls.
    * @param {ArrayBufferView[]} views
    */
   take(views) {
@@ -100,7 +100,7 @@ export class Hand {
   }
 
   /**
-   * What the last call that was sent came to; null as long as it hasn't answered.
+   * The answer of the last call that was sent; null as long as there is none.
    * @returns {Answer | null}
    */
   get answer() {
@@ -114,7 +114,7 @@ export class Hand {
    * @returns {Promise<Answer>}
    */
   async answered(time = PATIENCE) {
-    if (this.answer === null) await this.#told(time);
+    if (this.answer === null) await this.#message(time);
     if (this.answer === null) throw new EngineFault("a call that has to answer doesn't");
     return this.answer;
   }
@@ -128,18 +128,18 @@ export class Hand {
     const end = performance.now() + PATIENCE;
     for (let looks = 0; looks < LOOKS * care && this.answer === null; ) {
       if (performance.now() >= end) throw new EngineFault("a wait neither answers nor comes to rest");
-      await this.#told(1);
+      await this.#message(1);
       looks = this.#isAtRest() ? looks + 1 : 0;
     }
     return this.answer;
   }
 
   /**
-   * Awaits that the worker tells something, or that a time is over.
+   * Awaits a message of the worker, or the end of a time.
    * @param {number} time in milliseconds
    * @returns {Promise<void>}
    */
-  #told(time) {
+  #message(time) {
     return new Promise((resolve) => {
       const timer = setTimeout(resolve, time);
       this.#goOn = () => {

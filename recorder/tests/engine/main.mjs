@@ -5,8 +5,8 @@
 //
 //     diff <(sabsim replay < script.json) <(node recorder/tests/engine/main.mjs script.json)
 //
-// Not all lines are the engine's answers: replay.mjs says which are the script's own, and how many there are of
-// each is told on standard error. This program isn't proved.
+// Not all lines are the engine's answers: replay.mjs says which are the script's own, and standard error counts
+// each kind of these. This program isn't proved.
 
 import { createReadStream } from "node:fs";
 import { Crew, EngineFault } from "./crew.mjs";
@@ -95,7 +95,7 @@ function write(text) {
 }
 
 /**
- * Replays the script of a file or of standard input. Answers the status to end with.
+ * Replays the script of a file or of standard input. Returns the status to end with.
  * @param {string} name
  * @param {Crew} crew
  */

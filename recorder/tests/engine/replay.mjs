@@ -186,7 +186,7 @@ class Run {
   }
 
   /**
-   * A wait of an agent that can block: it answers, or else it stands in the engine's line.
+   * A wait of an agent that can block: it returns, or else its agent is in the engine's line.
    * @param {Actor} actor
    * @param {Call} call
    * @param {number} position
@@ -251,8 +251,8 @@ class Run {
     const woken = left();
     this.#checkInStep(woken);
     if (woken.length !== count || woken.some((actor) => actor.hand.answer?.answer !== "ok")) {
-      const told = woken.map((actor) => `agent ${actor.number} with ${textOf(actor.hand.answer)}`);
-      throw new EngineFault(`a notify answered ${count}, and these left their waits: ${told.join(", ") || "nobody"}`);
+      const texts = woken.map((actor) => `agent ${actor.number} with ${textOf(actor.hand.answer)}`);
+      throw new EngineFault(`a notify answered ${count}, and these left their waits: ${texts.join(", ") || "nobody"}`);
     }
     for (const actor of woken) {
       actor.phase = "woken";
@@ -301,7 +301,7 @@ class Run {
     return engineLine("leave timed-out");
   }
 
-  /** Wakes whoever still waits as the script ends, so that the workers can serve the next one. */
+  /** Wakes the agents that still wait as the script ends, so that the workers can serve the next one. */
   async wakeAll() {
     for (const { hand, calls, returned } of this.actors) {
       if (!hand.isBusy || calls[returned].method !== "wait") continue;

@@ -1,4 +1,4 @@
-// Writes what a script came to as `sabsim replay` does (docs/FORMATS.md), and tells whose answers its lines are.
+// Writes a script's report as `sabsim replay` does (docs/FORMATS.md), and counts whose answers its lines are.
 
 import { reportOf } from "../../script/report.mjs";
 
@@ -30,7 +30,7 @@ export function summary({ entries }) {
     [own.filter(({ text }) => text.startsWith("stuck")).length, "stuck done, not-waiting or endless"],
     [own.filter(({ text }) => text.startsWith("act")).length, "a wait of an agent that can't block"],
   ];
-  const told = counts.filter(([count]) => count > 0).map(([count, what]) => `${count} (${what})`);
+  const kinds = counts.filter(([count]) => count > 0).map(([count, what]) => `${count} (${what})`);
   const asked = `${entries.length - own.length} of ${entries.length} moves are the engine's answers`;
-  return told.length === 0 ? asked : `${asked}; the script's own: ${told.join(", ")}`;
+  return kinds.length === 0 ? asked : `${asked}; the script's own: ${kinds.join(", ")}`;
 }

@@ -1,7 +1,7 @@
-// A worker makes one agent's calls with the engine's own `Atomics`, one at a time, as it is told.
+// A worker makes one agent's calls with the engine's own `Atomics`, one at a time, as its parent asks.
 //
-// It first tells `{ stateFile }`, where its thread's state can be read. It gets `{ views }`, the typed arrays that its
-// calls are on, and then `{ method, view, operands }` for each call, and answers each with `{ answer }`, or with
+// It first sends `{ stateFile }`, where its thread's state can be read. It gets `{ views }`, the typed arrays that its
+// calls are on, and then `{ method, view, operands }` for each call, and replies to each with `{ answer }`, or with
 // `{ threw, message }` and the error's name.
 
 import { parentPort as portOfParent, workerData } from "node:worker_threads";

@@ -6,19 +6,19 @@ import { pathOf } from "./programs.mjs";
 /** One of them. */
 class Asked {
   #child;
-  #tell = (_told) => {};
+  #resolve = (_answer) => {};
 
   /** @param {string} program */
   constructor(program) {
     this.#child = fork(pathOf(program), { serialization: "advanced" });
-    this.#child.on("message", (told) => this.#tell(told));
-    this.#child.on("exit", (status, signal) => this.#tell({ fault: `its process ended: ${signal ?? status}` }));
+    this.#child.on("message", (answer) => this.#resolve(answer));
+    this.#child.on("exit", (status, signal) => this.#resolve({ fault: `its process ended: ${signal ?? status}` }));
   }
 
   /** @param {unknown} question @returns {Promise<{ fault?: string }>} */
   ask(question) {
     return new Promise((resolve) => {
-      this.#tell = resolve;
+      this.#resolve = resolve;
       this.#child.send(question);
     });
   }
@@ -35,7 +35,8 @@ export class AskedProcesses {
   #waiting = [];
 
   /**
-   * @param {string} program its path in this repository; it answers each message by one, with a `fault` if it can't
+   * @param {string} program its path in this repository; it sends a message for each that it gets, and a `fault` if it
+   *   can't
    * @param {number} count how many processes
    */
   constructor(program, count) {

@@ -159,7 +159,7 @@ class Tab {
     await this.send("Input.dispatchMouseEvent", { type: "mouseReleased", ...at });
   }
 
-  /** What readers of screens are told: roles, names and what else is known of each. */
+  /** What a screen reader gets: roles, names and other properties. */
   async accessible() {
     const { nodes } = await this.send("Accessibility.getFullAXTree");
     return nodes.filter(({ ignored }) => !ignored).map(({ role, name, properties = [] }) => ({

@@ -1,5 +1,5 @@
-// What the recorder's own detector says of the events of a trace, where each access has a line of code of its own, so
-// that it tells of every race; and what it must say.
+// What the recorder's own detector says about the events of a trace, and what it must say. Each access has a line of
+// code of its own, so the detector reports every race.
 
 import { isRacy, racesOf } from "../../lib/run/races.mjs";
 import { logOf } from "./logs.mjs";

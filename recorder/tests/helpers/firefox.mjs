@@ -1,5 +1,5 @@
 // Firefox without a screen, for tests of pages, by its own protocol (Marionette) over a socket. It can do what
-// `browser.mjs` can, except telling what readers of screens are told.
+// `browser.mjs` can, except for what a screen reader gets.
 
 import { spawn, spawnSync } from "node:child_process";
 import { existsSync, mkdtempSync, readFileSync, rmSync, writeFileSync } from "node:fs";

@@ -39,7 +39,7 @@ function* partsOf(png) {
   }
 }
 
-/** What each byte of a line is told by: the one to its left, above it, and above that. */
+/** How a filter of PNG predicts each byte: by the one to its left, the one above it, and the one above that. */
 const PREDICTIONS = [
   () => 0, (left) => left, (_, up) => up, (left, up) => (left + up) >> 1,
   (left, up, corner) => {

@@ -1,4 +1,4 @@
-// What the runs of the table's programs come to in the recorder: all in one process and in the same threads, one
+// What the recorder finds in the runs of the table's programs: all in one process and in the same threads, one
 // program after the other.
 
 import { checkedBy } from "../../lib/check/check.mjs";

@@ -1,5 +1,5 @@
 // Traces from a seed, such as a run could have: agents touch few bytes in all ways, wait and are woken, and some of
-// their calls throw. What is read and written is told by no trace, so it is drawn as well.
+// their calls throw. No trace holds the values that are read and written, so these are drawn as well.
 
 import { Dice } from "./scripts.mjs";
 

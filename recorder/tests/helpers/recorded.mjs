@@ -1,4 +1,4 @@
-// Runs of one program under several seeds, by one group of workers, each told whole and checked by the simulator.
+// Runs of one program under several seeds, by one group of workers, each whole and checked by the simulator.
 
 import { readFileSync } from "node:fs";
 import { checkedBy } from "../../lib/check/check.mjs";

@@ -26,9 +26,9 @@ export function readReport(report, isWell) {
   const [passed, failed] = [count("pass"), count("fail") + count("cancelled")];
   const skipped = [...report.matchAll(/^ *ok \d+ - .* # SKIP (.*)$/gm)].map(([, why]) => why);
   const blocks = [...report.matchAll(/^( *)not ok [^]*?^\1 {2}\.\.\.$/gm)].map(([block]) => block);
-  const told = blocks.filter((block) => !block.includes("failureType: 'subtestsFailed'"));
+  const failures = blocks.filter((block) => !block.includes("failureType: 'subtestsFailed'"));
   const isSound = isWell ? failed === 0 && passed + skipped.length > 0 : failed > 0;
-  const problems = told.length > 0 ? told.join("\n") : withoutCounts(report);
+  const problems = failures.length > 0 ? failures.join("\n") : withoutCounts(report);
   return { passed, failed: isSound ? failed : failed + 1, skipped, problems };
 }
 

@@ -180,7 +180,7 @@ export function slowJudge(events) {
   const races = [];
   for (let j = 0; j < events.length; j += 1) {
     for (let i = 0; i < j; i += 1) {
-      if (race(events, before, i, j)) races.push(toldRace(events, writers, before, i, j));
+      if (race(events, before, i, j)) races.push(raceOf(events, writers, before, i, j));
     }
   }
   const made = events.filter(accesses);
@@ -195,13 +195,13 @@ export function slowJudge(events) {
  * @param {number} j
  * @returns {Race}
  */
-function toldRace(events, writers, before, i, j) {
+function raceOf(events, writers, before, i, j) {
   const [first, second] = [sideOf(events, i), sideOf(events, j)];
   const byte = Math.max(first.byte, second.byte);
   const size = Math.min(first.byte + first.size, second.byte + second.size) - byte;
   const seen = lastSeen(events, before, i, j);
-  const told = { block: events[i].block, byte, data_race: isDataRace(events, writers, before, i, j), first, second };
-  return seen < 0 ? { ...told, size } : { ...told, seen, size };
+  const parts = { block: events[i].block, byte, data_race: isDataRace(events, writers, before, i, j), first, second };
+  return seen < 0 ? { ...parts, size } : { ...parts, seen, size };
 }
 
 /** The events of a trace. @param {string} trace lines of JSON @returns {Event[]} */

@@ -1,9 +1,9 @@
-// What `sabsim judge --trace` must write, of what the slow judge has found.
+// What `sabsim judge --trace` must write about what the slow judge has found.
 
 /** @typedef {ReturnType<typeof import("./slow-judge.mjs").slowJudge>} Judged */
 /** @typedef {import("./slow-judge.mjs").Side} Side */
 
-const MOST_TOLD = 100;
+const MOST_LISTED = 100;
 const NO_RACE = 0;
 const RACES = 5;
 
@@ -12,18 +12,18 @@ export const statusOf = ({ races }) => (races.length === 0 ? NO_RACE : RACES);
 
 /** With `--format json`. @param {Judged} judged @returns {string} */
 export function jsonText({ accesses, agents, races }) {
-  const told = races.slice(0, MOST_TOLD);
+  const listed = races.slice(0, MOST_LISTED);
   const data_races = dataRacesIn(races);
-  const more = races.length - told.length;
-  const last = { accesses, agents, data_races, judged: "a trace", more, races: told.length };
-  return [...told, last].map((each) => `${JSON.stringify(each)}\n`).join("");
+  const more = races.length - listed.length;
+  const last = { accesses, agents, data_races, judged: "a trace", more, races: listed.length };
+  return [...listed, last].map((each) => `${JSON.stringify(each)}\n`).join("");
 }
 
 /** In plain words. @param {Judged} judged @returns {string} */
 export function plainText({ accesses, agents, races }) {
   if (races.length === 0) return `no data race: ${accessesOf(accesses)} by ${agentsOf(agents)}\n`;
-  const lines = races.slice(0, MOST_TOLD).map(raceLine);
-  const left = races.slice(MOST_TOLD);
+  const lines = races.slice(0, MOST_LISTED).map(raceLine);
+  const left = races.slice(MOST_LISTED);
   if (left.length > 0) lines.push(`${left.length} more, ${leftDataRaces(dataRacesIn(left))}`);
   return lines.map((line) => `${line}\n`).join("");
 }

@@ -34,7 +34,7 @@ async function serve(request, response) {
 }
 
 /**
- * The lines that a program has when it has come to its end.
+ * The lines that a program has written when it has ended.
  * @param {import("./browser.mjs").Browser} browser
  * @param {string} path of its main module from the folder `programs/web`
  * @returns {Promise<string[]>}

@@ -13,7 +13,7 @@ class Queue {
     this.numbers = numbers;
   }
 
-  /** Takes the next position, where its slot's sequence has come to it. */
+  /** Takes the next position, if its slot's sequence has reached it. */
   claim(index, ahead) {
     for (;;) {
       const position = Atomics.load(this.words, index);

@@ -1,5 +1,5 @@
-// Wrong: a record has six bytes, but they lie five apart. The first one's last byte is the second one's first. Who
-// writes both records comes to no harm.
+// Wrong: a record has six bytes, but they lie five apart. The first one's last byte is the second one's first. An
+// agent that writes both records loses nothing.
 
 export const setup = { agents: 2, buffers: [4, 11] };
 

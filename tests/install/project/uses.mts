@@ -90,7 +90,7 @@ function summary(outcome: Outcome): string {
     ...unrecorded, ...tasks, ...(outcome.threads ?? []), ...(outcome.windows ?? []).map(windowText), remembers?.seed, remembers?.differs, remembers?.was, remembers?.is, remembers?.threw].join(" ");
 }
 
-export async function told(): Promise<string> {
+export async function reported(): Promise<string> {
   try {
     const outcome: Outcome = await record(options);
     const shortened = outcome.shortened === undefined ? "" : shortening(outcome.shortened);

@@ -226,7 +226,7 @@ function putClass(engine, make) {
  * @param {Thread} thread
  * @returns {{ clear: () => void }} to be cleared when the thread's part in a run is over
  */
-export function furnishWebAssembly(thread) {
+export function installWebAssembly(thread) {
   const translating = new Translating(thread);
   putClass(EngineMemory, (given, asked) => {
     const memory = construct(EngineMemory, given, asked);

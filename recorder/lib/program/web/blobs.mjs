@@ -53,7 +53,7 @@ export class Blobs {
   }
 
   /** Puts the functions that make and revoke URLs in the place of node's. */
-  furnish() {
+  install() {
     const createObjectURL = (/** @type {unknown} */ blob) => this.#make(blob);
     const revokeObjectURL = (/** @type {unknown} */ url) => this.#revoke(`${url}`);
     for (const value of [createObjectURL, revokeObjectURL]) {

@@ -104,7 +104,7 @@ export class WebEnds extends Ends {
     if (agent === 0) player.table.board.words[WORD.MAY_REST] = 1;
   }
 
-  /** The program's code ends its thread, when the task has come to its end. */
+  /** The program's code ends its thread, when the task has ended. */
   close() {
     this.#isClosing = true;
   }

@@ -87,7 +87,7 @@ let type = "module";
  * @param {import("./targets.mjs").Targets} targets
  * @param {(url: string) => void} run runs a script in the global scope
  */
-export function furnishGlobals(parts, targets, run) {
+export function installGlobals(parts, targets, run) {
   const { timers, ends, refuse, moves: { agent } } = parts;
   /** What isn't simulated is there, and ends the run when it is called. */
   const refusing = (/** @type {string} */ name) => function () {

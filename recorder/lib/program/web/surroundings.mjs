@@ -8,7 +8,7 @@ import { Blobs } from "./blobs.mjs";
 import { webBroadcastClass } from "./broadcast.mjs";
 import { WebEnds } from "./ends.mjs";
 import { fetchOf } from "./fetch.mjs";
-import { beginGlobals, furnishGlobals } from "./globals.mjs";
+import { beginGlobals, installGlobals } from "./globals.mjs";
 import { Graph } from "./graph.mjs";
 import { WebPortEvents, messageOf, serveWebPorts } from "./ports.mjs";
 import { serveWorkers, workerClass } from "./worker-object.mjs";
@@ -33,14 +33,14 @@ function atomicsOf(agent) {
 }
 
 /** @param {WebParts} parts @param {Graph} graph */
-function furnish(parts, graph) {
+function install(parts, graph) {
   const { events: { targets }, ends, later } = parts;
   const blobs = new Blobs(parts);
   Object.assign(ends, { targets, later });
   Object.assign(parts, { blobs });
   Object.assign(graph, { blobs });
-  blobs.furnish();
-  furnishGlobals(parts, targets, (url) => graph.script(url)());
+  blobs.install();
+  installGlobals(parts, targets, (url) => graph.script(url)());
   member(globalThis, "fetch", fetchOf(parts));
   serveWorkers(targets);
 }
@@ -99,7 +99,7 @@ export const WEB = {
   PortEvents: WebPortEvents,
   atomics: atomicsOf,
   serve: serveWebPorts,
-  furnish,
+  install,
   mainStart: ({ program }) => ({ url: program, name: "", where: "" }),
   begin,
   evaluated,

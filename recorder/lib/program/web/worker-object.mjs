@@ -125,7 +125,7 @@ export function workerClass(given) {
   return Worker;
 }
 
-/** @param {import("./targets.mjs").Targets} targets by which events come to workers: once in a thread */
+/** @param {import("./targets.mjs").Targets} targets by which events reach workers: once in a thread */
 export function serveWorkers(targets) {
   putMethods(Worker.prototype, targets);
   for (const type of ["message", "messageerror", "error"]) putHandler(Worker.prototype, type, targets);

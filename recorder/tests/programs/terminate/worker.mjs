@@ -1,4 +1,4 @@
-// It tells that it has begun, and counts under the lock ten times.
+// It posts that it has begun, and counts under the lock ten times.
 import { parentPort, workerData as words } from "node:worker_threads";
 import { lock, unlock } from "./lock.mjs";
 

@@ -13,7 +13,7 @@ const plugin = await WorkerPlugin.create();
 await plugin.addRawModule("id", "", { url: "http://site/main.wasm", code: new ArrayBuffer(8) });
 const location = { rawModuleId: "id", codeOffset: 0 };
 for (const expression of ["local", "global", "operand", "memory"]) {
-  // Its backend finds what it was told, and then no value.
+  // Its backend finds the module that it was given, and then no value.
   if (await plugin.evaluate(expression, location, 1) !== null) throw new Error(`${expression} has a value`);
 }
 close();

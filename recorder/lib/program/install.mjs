@@ -20,7 +20,7 @@ const { syncBuiltinESMExports } = nodeModule;
  * Puts a run's timers in the place of node's.
  * @param {import("./timers.mjs").Timers} own
  */
-export function furnishTimers(own) {
+export function installTimers(own) {
   for (const [name, each] of Object.entries(own.functions)) {
     member(globalThis, name, each);
     member(timers, name, each);
@@ -31,10 +31,10 @@ export function furnishTimers(own) {
 }
 
 /**
- * Has each shared buffer known that the program makes.
- * @param {(buffer: SharedArrayBuffer) => void} made also gets those that grow
+ * Reports each shared buffer that the program makes.
+ * @param {(buffer: SharedArrayBuffer) => void} made gets each one, also those that grow
  */
-export function furnishMemory(made) {
+export function installMemory(made) {
   const traps = {
     /** @param {Function} target @param {any[]} given @param {Function} asked */
     construct(target, given, asked) {
@@ -50,7 +50,7 @@ export function furnishMemory(made) {
 }
 
 /** @param {import("./buffers.mjs").Buffers} buffers of the thread, which clones of their objects have too */
-export function furnishCloning(buffers) {
+export function installCloning(buffers) {
   const engine = globalThis.structuredClone;
   member(globalThis, "structuredClone", likeEngine((/** @type {any[]} */ ...given) => {
     return given.length === 0 ? apply(engine, undefined, given) : clonedValue(given[0], given[1], buffers);
@@ -72,7 +72,7 @@ export function furnishCloning(buffers) {
  * @param {Place} place
  * @param {Record<string, unknown>} classes of `worker_threads`
  */
-export function furnishThreads({ agent, workerData, parentPort, argv, env, environment }, classes) {
+export function installThreads({ agent, workerData, parentPort, argv, env, environment }, classes) {
   for (const [name, each] of Object.entries(classes)) member(threads, name, each);
   member(threads, "isMainThread", agent === 0);
   member(threads, "threadId", agent);
@@ -95,7 +95,7 @@ export function furnishThreads({ agent, workerData, parentPort, argv, env, envir
 /**
  * @param {(code: unknown) => void} exit
  */
-export function furnishProcess(exit) {
+export function installProcess(exit) {
   member(process, "exit", likeEngine((/** @type {unknown} */ code) => exit(code), process.exit));
   member(process, "reallyExit", (/** @type {unknown} */ code) => exit(code));
   member(process, "abort", () => exit(134));
