@@ -105,7 +105,7 @@ test("the summary has that of the first failing run as JSON, and so has a joined
   assert.match(summaryText(summary), /agent 0 waits at LOCK: its call 1, /);
 });
 
-test("an agent that meets another limit is named with its line; the limit of the moves is no agent's", async (context) => {
+test("an agent that meets another limit is named; the limit of the moves is no agent's", async (context) => {
   const module = moduleIn(context);
   const views = await waitingOutcome({ module, args: ["views"] });
   assert.match(views.detail, /^more than \d+ different typed arrays were used: agent 2 is at agents\.mjs:/);
