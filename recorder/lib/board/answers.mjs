@@ -16,6 +16,9 @@ const LONG_BY_ITSELF = 5_000;
 
 const NEVER = -1;
 
+/** Whether a row has an answer now: not; so that it can do without; or so that the agent moves on it. */
+export const DUE = Object.freeze({ NOT: 0, PERHAPS: 1, SURELY: 2 });
+
 export class Answers {
   /**
    * @param {Int32Array} words of the board
@@ -80,6 +83,12 @@ export class Answers {
     words[WORD.ANSWERED] |= 1 << agent;
     if (!isMove) words[WORD.MORE_ANSWERS] += 1;
     return isMove;
+  }
+
+  /** @param {number} agent whose answer is held back: others look before it comes all the same */
+  holds(agent) {
+    this.missed(agent);
+    this.words[WORD.LOOKS_LONG] = 0;
   }
 
   /** @param {number} agent that has looked in vain */
@@ -150,12 +159,13 @@ export class Answers {
   /**
    * How long an agent looks in a run that goes by a row exactly.
    * @param {boolean} byThemselves as above
-   * @param {boolean} isDue whether the row has it; else others may be looked for
+   * @param {number} due one of `DUE`
    * @returns {number} milliseconds
    */
-  patienceByRow(byThemselves, isDue) {
+  patienceByRow(byThemselves, due) {
+    if (due === DUE.PERHAPS) return LONG;
     if (this.words[WORD.LOOKS_LONG] === 1 || !this.#areSeveral()) return this.long(byThemselves);
-    return isDue ? LONG : this.short(byThemselves);
+    return due === DUE.SURELY ? LONG : this.short(byThemselves);
   }
 
   /** @param {boolean} byThemselves @returns {number} how long an agent looks while something else can move */

@@ -6,9 +6,9 @@
 // and behind the row's end the agent that moved last goes on as long as it can, then the next one in number. If all that
 // can only read the same again, the wait goes on whose time is up first.
 //
-// Of real answers a row has each one. They may come in other pieces when the run is made again: so answers that come to an
-// agent without a move of its own between are as good as the last of them. Before a run strays, agents look for answers,
-// since what has closed is seen only by those that look, and no row has it.
+// Of real answers a row has each one. They may come in other pieces when the run is made again: so it matters only behind
+// which answer an agent makes its next move. Before a run strays, agents look for answers, since what has closed is seen
+// only by those that look, and no row has it.
 //
 // All of it lies in shared memory. Only the thread that has the turn changes it, as the words of the board.
 
@@ -16,6 +16,7 @@ import { SCRIPT_LIMITS } from "../../script/limits.mjs";
 import { AGENT_WORD, NOBODY, PHASE, wordOf } from "../memory/layout.mjs";
 import { placedCallText } from "../memory/spelling.mjs";
 import { positionIn, uncurried } from "../primordials.mjs";
+import { DUE } from "./answers.mjs";
 
 // Agents may change what they find, so the engine's own functions are kept here, before.
 const { Int32Array, Uint8Array, SharedArrayBuffer } = globalThis;
@@ -53,7 +54,7 @@ const STRAY = 8;
 const STRAY_AGENT = 9;
 const STRAY_ABLE = 10;
 const LAST_DRAWN = 11;
-const DUE = 12;
+const IS_DUE = 12;
 const STATE_WORDS = 13;
 
 // The word HOW.
@@ -181,7 +182,7 @@ export class Row {
 
   /** @returns {number} who moves next by the row, or `NOBODY` where nobody can, or `STRAYS` */
   next() {
-    this.state[DUE] = 0;
+    this.state[IS_DUE] = DUE.NOT;
     return this.state[HOW] === EXACT ? this.#exactNext() : this.#lenientNext();
   }
 
@@ -208,7 +209,12 @@ export class Row {
 
   /** @param {number} agent @returns {boolean} whether a real answer to it comes now by the row; if there is none, it may */
   isDue(agent) {
-    return this.state[HOW] !== EXACT || this.state[DUE] === 1 || this.#hasNext(agent + LOOK);
+    return this.state[HOW] !== EXACT || this.due !== DUE.NOT || this.#hasNext(agent + LOOK);
+  }
+
+  /** One of `DUE`, about the agent that was drawn. */
+  get due() {
+    return this.state[IS_DUE];
   }
 
   /**
@@ -219,22 +225,22 @@ export class Row {
   admits(agent) {
     const { state } = this;
     const drawn = agent + LOOK;
-    const isDue = state[DUE] === 1;
-    state[DUE] = 0;
+    const isDue = this.due !== DUE.NOT;
+    state[IS_DUE] = DUE.NOT;
     if (isDue || state[HOW] === FREE) return true;
     if (this.#hasNext(drawn)) {
       state[AT] += 1;
       return true;
     }
-    if (state[HOW] !== EXACT || state[LAST_DRAWN] === drawn || this.#nextOf(agent) === drawn) return true;
+    if (state[HOW] !== EXACT || state[LAST_DRAWN] === drawn || !this.#movesItself(agent, state[AT])) return true;
     this.#stray("comes", agent);
     return false;
   }
 
   /** An agent that was drawn for a real answer has seen that something has closed, and is drawn for the answer once more. */
   takesBack() {
-    this.state[AT] -= this.state[DUE];
-    this.state[DUE] = 0;
+    if (this.due !== DUE.NOT) this.state[AT] -= 1;
+    this.state[IS_DUE] = DUE.NOT;
   }
 
   /** No real answer came to an agent that was drawn for one. */
@@ -263,8 +269,7 @@ export class Row {
     while (state[AT] < state[LENGTH]) {
       const drawn = this.forced[state[AT]];
       if (this.#canBeDrawn(drawn)) return this.#taken(drawn);
-      // Otherwise it came with the one before it.
-      if (!isLook(drawn) || state[LAST_DRAWN] !== drawn) return this.#missing(drawn);
+      if (!isLook(drawn) || this.#isNeeded(state[AT])) return this.#missing(drawn);
       state[AT] += 1;
     }
     const other = this.#able();
@@ -281,8 +286,9 @@ export class Row {
 
   /** @param {number} drawn what the row has as the next draw @returns {number} the same: the row goes on */
   #taken(drawn) {
-    this.state[AT] += 1;
-    this.state[DUE] = isLook(drawn) ? 1 : 0;
+    const { state } = this;
+    if (isLook(drawn)) state[IS_DUE] = this.#isNeeded(state[AT]) ? DUE.SURELY : DUE.PERHAPS;
+    state[AT] += 1;
     return drawn;
   }
 
@@ -291,12 +297,22 @@ export class Row {
     return this.state[AT] < this.state[LENGTH] && this.forced[this.state[AT]] === drawn;
   }
 
-  /** @param {number} agent @returns {number} its next move by the row, as it is drawn, or `NOBODY` */
-  #nextOf(agent) {
-    for (let at = this.state[AT]; at < this.state[LENGTH]; at += 1) {
-      if (moverOf(this.forced[at]) === agent) return this.forced[at];
+  /** @param {number} at where the row has an answer @returns {boolean} whether its agent moves on it, and not on one before */
+  #isNeeded(at) {
+    const drawn = this.forced[at];
+    return drawn !== this.state[LAST_DRAWN] && this.#movesItself(moverOf(drawn), at + 1);
+  }
+
+  /**
+   * @param {number} agent
+   * @param {number} from where in the row
+   * @returns {boolean} whether its next move from there on is none by an answer
+   */
+  #movesItself(agent, from) {
+    for (let at = from; at < this.state[LENGTH]; at += 1) {
+      if (moverOf(this.forced[at]) === agent) return !isLook(this.forced[at]);
     }
-    return NOBODY;
+    return false;
   }
 
   #lenientNext() {

@@ -191,8 +191,7 @@ export class Moves {
   isDue() {
     const { board: { answers, row }, agent } = this;
     if (row.isDue(agent)) return true;
-    // Others look before it comes all the same.
-    answers.missed(agent);
+    answers.holds(agent);
     return false;
   }
 
@@ -305,7 +304,7 @@ export class Moves {
    */
   #looks(byThemselves) {
     const { board: { answers, row }, agent } = this;
-    if (row.isExact) this.looksFor = answers.patienceByRow(byThemselves, row.isDue(agent));
+    if (row.isExact) this.looksFor = answers.patienceByRow(byThemselves, row.due);
     else this.looksFor = row.isForced() ? answers.long(byThemselves) : answers.patience(agent, byThemselves);
     this.#goesOn();
   }
