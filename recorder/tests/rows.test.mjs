@@ -75,11 +75,13 @@ test("a row that can't be followed exactly ends the run, and it is told why", ()
     drawn(board, times);
     return [board.end.hasEnded() && board.end.result().ending, board.row.strayed()];
   };
-  assert.deepEqual(strayed([ASKS, WAITS], [0, 1], 2), ["failed", { reason: "waits", agent: 1, draw: 1 }]);
-  assert.deepEqual(strayed([ASKS, FINISHED], [0, 0, 1], 3), ["failed", { reason: "ended", agent: 1, draw: 2 }]);
-  assert.deepEqual(strayed([ASKS, WOKEN], [1], 2), ["failed", { reason: "goes on", agent: 0, draw: 1 }]);
-  assert.deepEqual(strayed([WAITS_TIMED, FINISHED], [], 1), ["failed", { reason: "goes on", agent: 0, draw: 0 }]);
-  assert.deepEqual(strayed([WAITS, FINISHED], [0], 1), ["failed", { reason: "waits", agent: 0, draw: 0 }]);
+  const stray = (reason, agent, draw, able, wanted) =>
+    ["failed", { reason, agent, draw, able, ...(wanted === undefined ? {} : { wanted }) }];
+  assert.deepEqual(strayed([ASKS, WAITS], [0, 1], 2), stray("waits", 1, 1, [0], 1));
+  assert.deepEqual(strayed([ASKS, FINISHED], [0, 0, 1], 3), stray("ended", 1, 2, [0], 1));
+  assert.deepEqual(strayed([ASKS, WOKEN], [1], 2), stray("goes on", 0, 1, [0, 1]));
+  assert.deepEqual(strayed([WAITS_TIMED, FINISHED], [], 1), stray("goes on", 0, 0, []));
+  assert.deepEqual(strayed([WAITS, FINISHED], [0], 1), stray("waits", 0, 0, [], 0));
   assert.deepEqual(strayed([WAITS, FINISHED], [], 1), ["deadlock", undefined]);
   assert.deepEqual(strayed([FINISHED, FINISHED], [], 1), ["finished", undefined]);
 });

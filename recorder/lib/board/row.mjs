@@ -378,7 +378,9 @@ export class Row {
  * @param {Stray} stray
  * @param {string} call that the agent makes, where that is why
  */
-export function strayText({ reason, agent }, call) {
+export function strayText({ reason, agent, wanted = NOBODY }, call) {
+  if (reason === "comes") return `a real answer comes to agent ${agent}, and by the row none does`;
+  if (reason === "waits" && isLook(wanted)) return `a real answer is to come to agent ${agent} by the row, and none does`;
   if (reason === "call") return `agent ${agent} makes another call than by the row: ${call}`;
   if (reason === "goes on") return `the row has come to its end, and agent ${agent} goes on`;
   if (reason === "leaves") return `agent ${agent} is to make a call by the row, and goes on from a wait`;
