@@ -4,9 +4,12 @@
 import { AsyncResource, createHook, executionAsyncResource } from "node:async_hooks";
 import timers from "node:timers";
 import { MessagePort } from "node:worker_threads";
+import { Immediate, Timeout } from "./internals.mjs";
 
 const { clearTimeout: clear, setImmediate: turnLater, setTimeout: wake } = timers;
-const EnginePromise = Promise;
+
+/** The classes of what is no answer: timers and immediates, of node's and the recorder's own, and the recorder's ports. */
+const OWN = [Timeout, Immediate, MessagePort, Promise, AsyncResource];
 
 /**
  * How a look ends: something has come; nothing has, and all is as it was; or something that was waited for is no
@@ -41,15 +44,6 @@ export class Looking {
   /** What is done while an answer is held back isn't done on its behalf. */
   #outside = new AsyncResource("sabsim");
 
-  /** @type {Function[]} of what is no answer: timers and immediates of node's and the recorder's own */
-  #own;
-
-  constructor() {
-    const [timer, immediate] = [wake(() => {}, 0), turnLater(() => {})];
-    clear(timer);
-    this.#own = [timer.constructor, immediate.constructor, MessagePort, EnginePromise, AsyncResource];
-  }
-
   /** @param {Look} look begins; the caller returns to the real loop then */
   begin({ onCome, milliseconds, waitsFor, then }) {
     this.#then = then;
@@ -76,7 +70,7 @@ export class Looking {
   }
 
   #before() {
-    if (!this.#isAnswer(executionAsyncResource())) return;
+    if (!isAnswer(executionAsyncResource())) return;
     if (this.#guard !== undefined) {
       clear(this.#guard);
       this.#guard = undefined;
@@ -85,17 +79,20 @@ export class Looking {
     this.#outside.runInAsyncScope(this.#onCome);
   }
 
-  /**
-   * @param {any} resource of what node calls
-   * @returns {boolean} whether that is an answer: else it is a tick, or what was done on behalf of one
-   */
-  #isAnswer(resource) {
-    return !this.#own.some((Kind) => resource instanceof Kind) && !("callback" in resource && "args" in resource);
-  }
-
   /** @param {Found} found */
   #end(found) {
     this.close();
     this.#then(found);
   }
+}
+
+/**
+ * @param {any} resource of what node calls
+ * @returns {boolean} whether that is an answer: else it is a tick, or what was done on behalf of an answer
+ */
+function isAnswer(resource) {
+  for (let at = 0; at < OWN.length; at += 1) {
+    if (resource instanceof OWN[at]) return false;
+  }
+  return !("callback" in resource && "args" in resource);
 }
